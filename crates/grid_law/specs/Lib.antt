@@ -1,0 +1,4 @@
+pub mod Rules
+pub mod Numbers
+pub mod Line
+pub mod LineLaws

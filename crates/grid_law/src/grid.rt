@@ -1,0 +1,79 @@
+//! The trait of machines that are simulated cell by cell.
+ghost use Rattle.std.specs.Prelude.{◌≡◌, ℕ, ◌<◌, ◌↔◌, IsTrue, IfOk, map};
+ghost use Rattle.std.specs.Arc.{arc_value};
+ghost use Rattle.grid_law.specs.Rules.{Rules, Laws, Agrees};
+
+use crate::NoMemory;
+use arrayvec::ArrayVec;
+use std::alloc::Global;
+use std::sync::Arc;
+
+/// A machine as cells, one for each component and cycle.
+///
+/// A component is a number below `components`. Wherever a call takes `near`, it is the list of the
+/// states of the components `near(s, c)`, in that order, one cycle before the cell that is meant;
+/// an empty list stands for cycle 0, before which there is nothing. No call looks at any other
+/// state, so a cell can be computed again from its near states alone, also long after they were
+/// read and while the table that they came from goes on.
+///
+/// The calls are total: they answer for every value of the types, also for states that no run of
+/// these slots would reach. Only `start`, `step` and `share` take memory.
+pub trait Grid {
+    /// What a component is at one cycle.
+    type State: Drop;
+
+    /// The settings of the whole machine.
+    type Slots: Drop;
+
+    /// The name of one setting.
+    type Slot: Drop;
+
+    /// What the calls below mean.
+    ghost rules: { Rules Self.State Self.Slots Self.Slot };
+
+    /// What every grid keeps.
+    ghost laws: { Laws rules };
+
+    /// How many components there are. No edit of a slot changes it.
+    fn components(s: &Self::Slots) -> u32
+        ensures { result ≡ rules.components s.now };
+
+    /// The components whose states `c` reads, one cycle earlier: itself first, at most five in all.
+    fn near(s: &Self::Slots, c: u32) -> ArrayVec<u32, 5>
+        requires { c < rules.components s.now }
+        ensures { result.items ≡ rules.near s.now c };
+
+    /// Whether `c` reads `slot` when it starts, or when it steps from these near states.
+    fn reads(s: &Self::Slots, near: &[Arc<Self::State>], c: u32, slot: &Self::Slot) -> bool
+        requires { c < rules.components s.now }
+        ensures { result ≡ rules.reads s.now (map arc_value near.now) c slot.now };
+
+    /// The state of `c` at cycle 0.
+    fn start(alloc: Global, s: &Self::Slots, c: u32) -> Result<Self::State, NoMemory>
+        requires { c < rules.components s.now }
+        ensures { IfOk result (λ x. x ≡ rules.start s.now c) };
+
+    /// The state of `c` one cycle after these near states.
+    fn step(
+        alloc: Global,
+        s: &Self::Slots,
+        near: &[Arc<Self::State>],
+        c: u32,
+    ) -> Result<Self::State, NoMemory>
+        requires { c < rules.components s.now }
+        ensures { IfOk result (λ x. x ≡ rules.step s.now (map arc_value near.now) c) };
+
+    /// Whether two states are equal.
+    fn same(a: &Self::State, b: &Self::State) -> bool
+        ensures { IsTrue result ↔ (a.now ≡ b.now) };
+
+    /// Whether `a` and `b` have the same shape, and the same value in each slot that `c` reads
+    /// under `a` at these near states. Then `c` gets the same state under both.
+    fn agree(a: &Self::Slots, b: &Self::Slots, near: &[Arc<Self::State>], c: u32) -> bool
+        requires { c < rules.components a.now }
+        ensures { IsTrue result ↔ Agrees rules a.now b.now (map arc_value near.now) c };
+
+    /// An equal value, to be taken along.
+    fn share(alloc: Global, s: &Self::Slots) -> Result<Self::Slots, NoMemory>
+        ensures { IfOk result (λ t. t ≡ s.now) };
+}

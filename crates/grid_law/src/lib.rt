@@ -1,0 +1,34 @@
+//! Machines that are simulated cell by cell: the trait `Grid`, and `Line`, its smallest example.
+//!
+//! A grid has components, and each component has a state at every cycle. A component's first state
+//! follows from the grid's slots, which are its settings; a later one follows from the slots and
+//! from the states, one cycle earlier, of the few components near it. A table of such states need
+//! compute again only what an edit of a slot can have changed, so a grid also says which slots a
+//! component reads.
+//!
+//! What a grid's calls mean is one record of functions, its `rules` (`specs/Rules.antt`), and each
+//! grid proves the laws of that file for it:
+//!
+//! - agreement: `agree(a, b, near, c)` is true exactly where `a` and `b` have one shape and the
+//!   same value in each slot that `c` reads there; then `c` reads the same slots under both, and
+//!   gets the same state;
+//! - locality: `reads` and `step` see the states of `near(c)`, in that order, and no others;
+//! - `same` is equality of states, and `share` gives an equal value;
+//! - the cells near a component begin with the component itself, are at most five, and exist.
+//!
+//! The crate stands on `arrayvec` alone.
+#![tactic(auto)]
+
+mod changed;
+mod grid;
+mod line;
+mod no_memory;
+mod numbers;
+#[cfg(test)]
+mod tests;
+
+pub use changed::Changed;
+pub use grid::Grid;
+pub use line::Line;
+pub use no_memory::NoMemory;
+pub use numbers::{LONGEST, LineSlot, Number, Numbers, SlotFault};

@@ -1,0 +1,112 @@
+//! A line of numbers, the smallest grid.
+ghost use Rattle.std.specs.Prelude.{◌≡◌, ℕ, map, slice_get, sum, ◌%◌, ◌^◌};
+ghost use Rattle.std.specs.Arc.{arc_value};
+ghost use Rattle.grid_law.specs.Line.{same_read};
+
+use crate::{Grid, LineSlot, NoMemory, Number, Numbers};
+use arrayvec::ArrayVec;
+use std::alloc::Global;
+use std::sync::Arc;
+
+/// A line of places, each of which holds a 32-bit number and sees its two neighbours.
+///
+/// Place `c` starts with `Seed(c)`. From then on an odd number steps to itself plus `Add(c)`, and an
+/// even one to left neighbour plus itself plus right neighbour, where a missing neighbour counts 0
+/// and each sum wraps at 2^32. So a place reads `Seed(c)` at cycle 0 and nothing else; later it
+/// reads `Add(c)` exactly where its own number is odd, and otherwise no slot at all.
+pub struct Line;
+
+impl Grid for Line {
+    ghost use Rattle.grid_law.specs.Line.{line_rules};
+    ghost use Rattle.grid_law.specs.LineLaws.{line_laws};
+
+    type State = u32;
+
+    type Slots = Numbers;
+
+    type Slot = LineSlot;
+
+    ghost rules = { line_rules };
+
+    ghost laws = { line_laws };
+
+    fn components(s: &Numbers) -> u32 {
+        s.count()
+    }
+
+    fn near(s: &Numbers, c: u32) -> ArrayVec<u32, 5> {
+        let count = s.count();
+        let mut near = ArrayVec::new();
+        near.push(c);
+        if c != 0 {
+            near.push(c - 1);
+        }
+        if c + 1 < count {
+            near.push(c + 1);
+        }
+        near
+    }
+
+    fn reads(_s: &Numbers, near: &[Arc<u32>], c: u32, slot: &LineSlot) -> bool {
+        match (own_state(near), slot) {
+            (None, LineSlot::Seed(place)) => *place == c,
+            (Some(own), LineSlot::Add(place)) => *place == c && own % 2 == 1,
+            _ => false,
+        }
+    }
+
+    fn start(_alloc: Global, s: &Numbers, c: u32) -> Result<u32, NoMemory> {
+        Ok(s.at(c).seed)
+    }
+
+    fn step(_alloc: Global, s: &Numbers, near: &[Arc<u32>], c: u32) -> Result<u32, NoMemory> {
+        match own_state(near) {
+            Some(own) if own % 2 == 1 => Ok(own.wrapping_add(s.at(c).add)),
+            _ => Ok(wrapping_sum(near)),
+        }
+    }
+
+    fn same(a: &u32, b: &u32) -> bool {
+        *a == *b
+    }
+
+    #[tactic(auto, using(crate::specs::LineLaws::agrees_from_test, crate::specs::LineLaws::test_from_agrees))]
+    fn agree(a: &Numbers, b: &Numbers, near: &[Arc<u32>], c: u32) -> bool {
+        a.count() == b.count() && agree_at(a.at(c), b.at(c), own_state(near))
+    }
+
+    fn share(alloc: Global, s: &Numbers) -> Result<Numbers, NoMemory> {
+        Ok(s.copied(alloc)?)
+    }
+}
+
+/// The state of the place itself, one cycle earlier.
+fn own_state(near: &[Arc<u32>]) -> Option<u32>
+    ensures { result ≡ slice_get (map arc_value near.now) 0 }
+{
+    match near.first() {
+        Some(own) => Some(**own),
+        None => None,
+    }
+}
+
+/// The states nearby, added up without their carry.
+fn wrapping_sum(near: &[Arc<u32>]) -> u32
+    ensures { result ≡ sum (map arc_value near.now) % 2 ^ 32 }
+{
+    let mut total = 0u32;
+    for state in near {
+        total = total.wrapping_add(**state);
+    }
+    total
+}
+
+/// Whether what a place reads is the same in both.
+fn agree_at(mine: Number, other: Number, own: Option<u32>) -> bool
+    ensures { result ≡ same_read mine other own }
+{
+    match own {
+        None => mine.seed == other.seed,
+        Some(own) => own % 2 != 1 || mine.add == other.add,
+    }
+}
