@@ -1,0 +1,3 @@
+pub mod CombSwitch
+pub mod Texts
+pub mod Kept

@@ -1,0 +1,2 @@
+pub mod LowSwitch
+pub mod Texts

@@ -1,0 +1,157 @@
+//! One cycle of a module.
+ghost use Rattle.std.specs.Prelude.{◌≡◌, [], IfOk};
+ghost use Rattle.mem_module.specs.MemModule.{can_serve, served_net, is_net, served_on, answer_to, answer_if, words_after, turn_from, requests_after, replies_from, module_after};
+
+use crate::state::port_of;
+use crate::{ModuleState, SharedWords};
+use grid_law::NoMemory;
+use omega_net::{Net, Queue, Reply, Request, free, head, put_after};
+use std::alloc::Global;
+
+/// What a module is handed in one step, by network, the low one first: the requests that arrive, and whether the
+/// head of its replies leaves.
+#[derive(Clone, Copy, PartialEq, Eq, Debug)]
+pub struct ModuleTraffic {
+    pub requests: [Option<Request>; 2],
+    pub replies_leave: [bool; 2],
+}
+
+impl ModuleState {
+    /// The state one cycle later, at this depth of its four queues: heads leave, at most one request is served, and
+    /// requests arrive. It copies the words where the request that is served leaves another word.
+    pub fn step(
+        &self,
+        alloc: Global,
+        depth: u32,
+        traffic: &ModuleTraffic,
+    ) -> Result<ModuleState, NoMemory>
+        ensures { IfOk result (λ next. next ≡ module_after depth traffic.now self.now) }
+    {
+        let served = self.served_net(depth);
+        let (words, answer) = self.serving(alloc, self.served_on(served))?;
+        let mut next = ModuleState::holding(words);
+        self.put_requests(traffic, served, Net::Low, &mut next.requests[0]);
+        self.put_requests(traffic, served, Net::Comb, &mut next.requests[1]);
+        self.put_replies(traffic, served, answer, Net::Low, &mut next.replies[0]);
+        self.put_replies(traffic, served, answer, Net::Comb, &mut next.replies[1]);
+        next.turn = turn_from(self.turn, served);
+        next.served = served.is_some();
+        Ok(next)
+    }
+
+    /// Whether it can serve a network.
+    fn can_serve(&self, depth: u32, net: Net) -> bool
+        ensures { result ≡ can_serve self.now depth net }
+    {
+        let waits = head(&self.requests[port_of(net)]).is_some();
+        let room = free(&self.replies[port_of(net)], depth) >= 1;
+        waits && room
+    }
+
+    /// The network that it serves.
+    fn served_net(&self, depth: u32) -> Option<Net>
+        ensures { result ≡ served_net self.now depth }
+    {
+        match (
+            self.can_serve(depth, Net::Low),
+            self.can_serve(depth, Net::Comb),
+        ) {
+            (true, true) => Some(self.turn),
+            (true, false) => Some(Net::Low),
+            (false, true) => Some(Net::Comb),
+            (false, false) => None,
+        }
+    }
+
+    /// The request that it serves.
+    fn served_on(&self, served: Option<Net>) -> Option<Request>
+        ensures { result ≡ served_on self.now served }
+    {
+        head(&self.requests[port_of(served?)])
+    }
+
+    /// The words with the new one, and the reply with the old one.
+    fn serving(
+        &self,
+        alloc: Global,
+        request: Option<Request>,
+    ) -> Result<(SharedWords, Option<Reply>), NoMemory>
+        ensures words { IfOk result (λ made. made.0 ≡ words_after self.now.words request) }
+        ensures answer { IfOk result (λ made. made.1 ≡ answer_to self.now.words request) }
+    {
+        let Some(Request { tag, place, op }) = request else {
+            return Ok((self.words.share()?, None));
+        };
+        let (word, words) = self.words.fetch_and_op(alloc, place.row, op)?;
+        Ok((words, Some(Reply { tag, word })))
+    }
+
+    fn put_requests(
+        &self,
+        traffic: &ModuleTraffic,
+        served: Option<Net>,
+        net: Net,
+        next: &mut Queue<Request>,
+    )
+        requires { next.old.items ≡ [] }
+        ensures { next.new ≡ requests_after traffic.now self.now served net }
+    {
+        let port = port_of(net);
+        let leaves = is_net(net, served);
+        put_after(
+            &self.requests[port],
+            leaves,
+            traffic.requests[port],
+            None,
+            next,
+        );
+    }
+
+    fn put_replies(
+        &self,
+        traffic: &ModuleTraffic,
+        served: Option<Net>,
+        answer: Option<Reply>,
+        net: Net,
+        next: &mut Queue<Reply>,
+    )
+        requires { next.old.items ≡ [] }
+        ensures { next.new ≡ replies_from traffic.now self.now served answer net }
+    {
+        let port = port_of(net);
+        let reply = answer_if(is_net(net, served), answer);
+        put_after(
+            &self.replies[port],
+            traffic.replies_leave[port],
+            reply,
+            None,
+            next,
+        );
+    }
+}
+
+fn is_net(net: Net, served: Option<Net>) -> bool
+    ensures { result ≡ is_net net served }
+{
+    match served {
+        None => false,
+        Some(n) => port_of(n) == port_of(net),
+    }
+}
+
+fn answer_if(served: bool, reply: Option<Reply>) -> Option<Reply>
+    ensures { result ≡ answer_if served reply }
+{
+    if served { reply } else { None }
+}
+
+/// The turn goes to the network that wasn't served.
+fn turn_from(turn: Net, served: Option<Net>) -> Net
+    ensures { result ≡ turn_from turn served }
+{
+    match served {
+        None => turn,
+        Some(Net::Low) => Net::Comb,
+        Some(Net::Comb) => Net::Low,
+    }
+}

@@ -1,0 +1,10 @@
+pub mod Numbering
+pub mod Ends
+pub mod Neighbours
+pub mod Listing
+pub mod RouteLaws
+pub mod Same
+pub mod Mutual
+pub mod Wiring
+pub mod Keeping
+pub mod NameLaws

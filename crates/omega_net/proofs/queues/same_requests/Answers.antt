@@ -1,0 +1,6 @@
+use Rattle.std.proofs.lemmas.Slice.Eq.{slice_eq-Decides}
+use Rattle.omega_net.proofs.Same.{queue_decides, request_decides}
+use Rattle.omega_net.proofs.queues.same_requests.Goals as goal
+
+pub returns : goal.returns
+returns c = slice_eq-Decides (queue_decides request_decides) c.args.first.now c.args.second.now c.eq.result c.eq.ensures

@@ -1,0 +1,9 @@
+pub mod Numbers
+pub mod Wires
+pub mod Routes
+pub mod Near
+pub mod Queues
+pub mod Ports
+pub mod Texts
+pub mod Kept
+pub mod Names

@@ -1,0 +1,106 @@
+//! What components do with their queues and turns in a step.
+ghost use Rattle.std.specs.Prelude.{◌≡◌, ◌↔◌, IsTrue, []};
+ghost use Rattle.omega_net.specs.Queues.{free, has_room, head, joined, queue_after, turn_after, without_head};
+ghost use Rattle.omega_net.specs.Kept.{NothingIsLost};
+ghost use Rattle.omega_net.specs.Wires.{bit as bit_at};
+
+use crate::{Queue, Reply, Request};
+
+/// Bit `bit` of a number, the lowest being bit 0.
+pub fn bit_of(number: u8, bit: u32) -> u8
+    ensures { result ≡ bit_at bit number }
+{
+    if bit < 8 { (number >> bit) % 2 } else { 0 }
+}
+
+/// The free places of a queue of this depth.
+pub fn free<T>(queue: &Queue<T>, depth: u32) -> u32
+    ensures { result ≡ free depth queue.now }
+{
+    depth.saturating_sub(queue.len() as u32)
+}
+
+/// Whether the sender of that number may send: there are two free places, or one at its turn.
+pub fn has_room<T>(queue: &Queue<T>, depth: u32, turn: u8, sender: u8) -> bool
+    ensures { result ≡ has_room depth queue.now turn sender }
+{
+    let places = free(queue, depth);
+    places >= 2 || (places == 1 && turn == sender)
+}
+
+/// The head of a queue.
+pub fn head<T: Copy>(queue: &Queue<T>) -> Option<T>
+    ensures { result ≡ head queue.now }
+{
+    queue.first().copied()
+}
+
+/// Puts what a queue holds one cycle later into an empty one: its head leaves where it does, and the messages that
+/// come go last. A queue takes room for 16 messages, so a state is made once and its queues are filled where they
+/// stand.
+pub fn put_after<T: Copy>(
+    queue: &Queue<T>,
+    leaves: bool,
+    first: Option<T>,
+    second: Option<T>,
+    next: &mut Queue<T>,
+)
+    requires { next.old.items ≡ [] }
+    ensures { next.new ≡ queue_after leaves first second queue.now }
+{
+    put_rest(queue, leaves, next);
+    join(next, first);
+    join(next, second);
+}
+
+/// Puts what a queue holds after its head left, if it leaves, into an empty one.
+pub fn put_rest<T: Copy>(queue: &Queue<T>, leaves: bool, next: &mut Queue<T>)
+    requires { next.old.items ≡ [] }
+    ensures { next.new ≡ without_head leaves queue.now }
+{
+    let stays = match queue.as_slice() {
+        [_, rest @ ..] if leaves => rest,
+        all => all,
+    };
+    let _fits = next.try_extend_from_slice(stays);
+}
+
+/// Whether the queues of two ports hold the same requests in the same order.
+pub fn same_requests(first: &[Queue<Request>; 2], second: &[Queue<Request>; 2]) -> bool
+    ensures { IsTrue result ↔ (first.now ≡ second.now) }
+{
+    first == second
+}
+
+/// Whether the queues of two ports hold the same replies in the same order.
+pub fn same_replies(first: &[Queue<Reply>; 2], second: &[Queue<Reply>; 2]) -> bool
+    ensures { IsTrue result ↔ (first.now ≡ second.now) }
+{
+    first == second
+}
+
+/// Puts a message last, if one comes and there is room.
+pub fn join<T: Copy>(queue: &mut Queue<T>, message: Option<T>)
+    ensures { queue.new ≡ joined queue.old message }
+{
+    if let Some(message) = message {
+        let _ = queue.try_push(message);
+    }
+}
+
+/// Where each message comes only from a sender that may send, a queue of depth 16 at most loses none: all that stays
+/// and all that comes stand in it one cycle later.
+pub fn nothing_is_lost()
+    ensures { NothingIsLost }
+{}
+
+/// The turn after a step: that of the sender which nothing came from, where exactly one message came.
+pub fn turn_after(turn: u8, from_0: bool, from_1: bool) -> u8
+    ensures { result ≡ turn_after turn from_0 from_1 }
+{
+    match (from_0, from_1) {
+        (true, false) => 1,
+        (false, true) => 0,
+        _ => turn,
+    }
+}

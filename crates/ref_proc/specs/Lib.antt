@@ -1,0 +1,2 @@
+pub mod RefProc
+pub mod Texts
