@@ -1,0 +1,91 @@
+-- A pass over the due cells, by cycle and then component.
+use Rattle.std.proofs.Common.{◌≡◌, ℕ, ◌+◌, ◌*◌, ◌<◌, ◌≤◌, ◌∙◌, subst, refl, arith, ◌⊎◌, inl, inr, Option, None, Some, IfNone, IfSome, List, [], ◌∷◌, length}
+use Rattle.std.proofs.lemmas.Bool.{cases_lt}
+use Rattle.cell_table.specs.declared.cell.Cell.{Cell}
+use Rattle.grid_law.specs.Rules.{Rules, Laws}
+use Rattle.cell_table.specs.Seen.{Seen}
+use Rattle.cell_table.specs.Cells.{AtOrAfter, Before}
+use Rattle.cell_table.specs.Events.{Event, Edits, Claims, Stores, Start}
+use Rattle.cell_table.specs.Stands.{Stands}
+use Rattle.cell_table.specs.Run.{run}
+use Rattle.cell_table.specs.Settling.{NoneDueBefore, HoldsRunBefore, IsSettled, Settling, SettlesNext}
+use Rattle.cell_table.specs.Cost.{Settles, SettlesFirst}
+use Rattle.cell_table.proofs.Ordering.{before_along, before_next}
+use Rattle.cell_table.proofs.Costing.{settles_first, settles_all}
+
+none_first : (t c : ℕ) → Before t c 0 0 → ⊥
+none_first t c b = let l = b.1 (omega (arith, b.0)) in omega arith
+
+-- fewer cells were computed than stand before the next one
+pub few_next : (t0 c0 t c computed : ℕ) → AtOrAfter t0 c0 t c → computed ≤ 4294967296 * t0 + c0 → c0 < 4294967296 → computed ≤ 4294967296 * t + c
+few_next t0 c0 t c computed a few fits = by_cycle (cases_lt t0 t)
+  where
+    by_cycle : (t0 < t) ⊎ (t ≤ t0) → computed ≤ 4294967296 * t + c
+    by_cycle (inl l) = omega arith
+    by_cycle (inr l) = let same : t0 ≡ t = omega (arith, a.0) in let k = a.1 same in omega arith
+
+pub of_some : {X : Type 0} (P : X → Type 0) (r : Option X) (x : X) → r ≡ Some x → IfSome r P → P x
+of_some P None x e h = cc
+of_some P (Some y) x e h = let f : y ≡ x = cc in subst P f h
+
+pub of_none : {X : Type 0} (P : Type 0) (r : Option X) → r ≡ None → IfNone r P → P
+of_none P None e h = h
+of_none P (Some y) e h = cc
+
+module _ {State Slots Slot : Type 0} (R : Rules State Slots Slot) where
+  -- a pass has come to that cell: these cells were settled, and those before it hold the run
+  pub record IsAt (old now : Seen State Slots) (t0 c0 computed : ℕ) : Type 0 where
+    pub done : List (Event State Slots Slot)
+    pub settling : Settling R old done now t0 c0
+    pub number : length done ≡ computed
+    pub none_before : NoneDueBefore R now t0 c0
+    pub runs_before : HoldsRunBefore R now t0 c0
+    pub few : computed ≤ 4294967296 * t0 + c0
+    pub fits : c0 < 4294967296
+    pub slots : now.slots ≡ old.slots
+    pub horizon : now.horizon ≡ old.horizon
+
+  -- it begins before all cells
+  pub begins : (old : Seen State Slots) → IsAt old old 0 0 0
+  begins old = record {
+    done = [];
+    settling = refl;
+    number = refl;
+    none_before = λ t c there b. absurd (none_first t c b);
+    runs_before = λ t c there b. absurd (none_first t c b);
+    few = omega arith;
+    fits = omega arith;
+    slots = refl;
+    horizon = refl;
+  }
+
+  settling_along : (old v : Seen State Slots) (done : List (Event State Slots Slot)) (t0 c0 t c : ℕ) → Settling R old done v t0 c0 → AtOrAfter t0 c0 t c → Settling R old done v t c
+  settling_along old v [] t0 c0 t c e a = e
+  settling_along old v (Edits next listed to ∷ done) t0 c0 t c e a = e
+  settling_along old v (Claims t1 c1 ∷ done) t0 c0 t c e a = e
+  settling_along old v (Stores t1 c1 x changed ∷ done) t0 c0 t c e a = (e.0, e.1, e.2, before_along t1 c1 t0 c0 t c e.3 a)
+
+  -- and goes on behind the next cell that is settled
+  pub goes_on : (old now next : Seen State Slots) (t0 c0 computed : ℕ) (cell : Cell) → IsAt old now t0 c0 computed → SettlesNext R now next t0 c0 cell → cell.component + 1 < 4294967296 → IsAt old next cell.cycle (cell.component + 1) (computed + 1)
+  goes_on old now next t0 c0 computed cell is_at s fits = record {
+    done = Stores cell.cycle cell.component (run R now.slots cell.cycle cell.component) s.changed ∷ is_at.done;
+    settling = (now, settling_along old now is_at.done t0 c0 cell.cycle cell.component is_at.settling s.after, s.settled, before_next cell.cycle cell.component);
+    number = omega (arith, is_at.number);
+    none_before = s.none_before;
+    runs_before = s.runs_before;
+    few = omega (arith, few_next t0 c0 cell.cycle cell.component computed s.after is_at.few is_at.fits);
+    fits = fits;
+    slots = s.settled.after.slots ∙ is_at.slots;
+    horizon = s.settled.after.horizon ∙ is_at.horizon;
+  }
+
+module _ {State Slots Slot : Type 0} (R : Rules State Slots Slot) (laws : Laws R) (old now : Seen State Slots) (t0 c0 computed : ℕ) (is_at : IsAt R old now t0 c0 computed) where
+  -- where it stops, the cells settled are the first that cost
+  pub first_settled : (o : Start Slots) (h : List (Event State Slots Slot)) → Stands R o old h → SettlesFirst R o h now is_at.done computed
+  first_settled o h stands =
+      subst (SettlesFirst R o h now is_at.done) is_at.number (settles_first R laws o h old stands is_at.done now t0 c0 is_at.settling is_at.none_before is_at.runs_before)
+
+  -- where nothing is left, they are all of them
+  pub all_settled : IsSettled R now → (o : Start Slots) (h : List (Event State Slots Slot)) → Stands R o old h → Settles R o h now is_at.done computed
+  all_settled settled o h stands =
+      subst (Settles R o h now is_at.done) is_at.number (settles_all R laws o h old stands is_at.done now t0 c0 is_at.settling is_at.none_before is_at.runs_before settled)

@@ -1,0 +1,10 @@
+use Rattle.std.proofs.Common.{arith}
+use Rattle.std.proofs.lemmas.Bool.{false≢true}
+use Rattle.std.proofs.lemmas.List.{length-map}
+use Rattle.std.specs.Arc.{arc_value}
+use Rattle.cell_table.proofs.States.{length_states_of}
+use Rattle.cell_table.proofs.rows.are_held.Goals as goal
+
+pub returns-then-near-states : goal.returns-then-near-states
+returns-then-near-states g c =
+    (λ e. absurd (false≢true e), λ e. absurd (omega (arith, length_states_of c.args.row.now c.args.near.now _ e, length-map c.args.states.now arc_value)))

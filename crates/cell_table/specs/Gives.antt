@@ -1,0 +1,61 @@
+-- What a returned result does to a table.
+use Rattle.std.specs.Prelude.{◌≡◌, ◌≢◌, ◌↔◌, ℕ, ◌+◌, ◌-◌, ◌^◌, ◌<◌, ◌==◌, ◌&&◌, if◌then◌else◌, Bool, true, false, Some, List}
+use Rattle.grid_law.specs.Rules.{Rules, Agrees}
+use Rattle.cell_table.specs.declared.given.Given.{Given}
+use Rattle.cell_table.specs.declared.given.Given.TheVariants.{Gone, NotDue, Overtaken, Foreign, ClockSpent, Stored}
+use Rattle.cell_table.specs.Seen.{Held, Seen, stored, marked, held_at}
+use Rattle.cell_table.specs.Inputs.{inputs_of}
+use Rattle.cell_table.specs.Readers.{has}
+use Rattle.cell_table.specs.Cells.{IsThere}
+use Rattle.cell_table.specs.Claims.{Claimed, Computed}
+
+module _ {State Slots Slot : Type 0} (R : Rules State Slots Slot) where
+  -- what is held for a cell after x was stored for (t, c): one that reads it becomes due where it changed
+  abbrev pub held_after : Slots → List (List (Held State)) → ℕ → ℕ → State → Bool → ℕ → ℕ → ℕ → Held State
+  held_after s rows t c x changed version t1 c1 =
+      if (t1 == t) && (c1 == c) then stored (held_at rows t1 c1) x else (if changed && ((t1 == t + 1) && has (R.near s c1) c) then marked (held_at rows t1 c1) version else held_at rows t1 c1)
+
+  -- the new table has x for (t, c)
+  pub record IsAfterStore (old new : Seen State Slots) (t c : ℕ) (x : State) (changed : Bool) : Type 0 where
+    pub changes : (changed ≡ false) ↔ ((held_at old.rows t c).state ≡ Some x)
+    pub slots : new.slots ≡ old.slots
+    pub horizon : new.horizon ≡ old.horizon
+    pub clock : new.clock ≡ (if changed then old.clock + 1 else old.clock)
+    pub cells : (t1 c1 : ℕ) → IsThere R old t1 c1 → held_at new.rows t1 c1 ≡ held_after old.slots old.rows t c x changed new.clock t1 c1
+
+  -- what the claim was computed from is what is there now
+  pub record IsPresent (v : Seen State Slots) (claim : Claimed State Slots) : Type 0 where
+    pub inputs : inputs_of R v.slots v.rows claim.cell.cycle claim.cell.component ≡ Some claim.near
+    pub agrees : Agrees R claim.slots v.slots claim.near claim.cell.component
+
+  -- the cell is there, due, and of the claim's version
+  pub record IsOpen (v : Seen State Slots) (claim : Claimed State Slots) : Type 0 where
+    pub there : IsThere R v claim.cell.cycle claim.cell.component
+    pub due : (held_at v.rows claim.cell.cycle claim.cell.component).is_due ≡ true
+    pub version : (held_at v.rows claim.cell.cycle claim.cell.component).version ≡ claim.version
+
+  -- the answers, of which one comes exactly where those before it don't apply
+  abbrev pub GivesAs : Seen State Slots → Computed State Slots → Given (Computed State Slots) → Seen State Slots → Type 0
+  GivesAs old done Gone new = (IsThere R old done.claim.cell.cycle done.claim.cell.component → ⊥) × (new ≡ old)
+  GivesAs old done NotDue new =
+      IsThere R old done.claim.cell.cycle done.claim.cell.component
+      × ((held_at old.rows done.claim.cell.cycle done.claim.cell.component).is_due ≡ false)
+      × (new ≡ old)
+  GivesAs old done Overtaken new =
+      IsThere R old done.claim.cell.cycle done.claim.cell.component
+      × ((held_at old.rows done.claim.cell.cycle done.claim.cell.component).is_due ≡ true)
+      × ((held_at old.rows done.claim.cell.cycle done.claim.cell.component).version ≢ done.claim.version)
+      × (new ≡ old)
+  GivesAs old done Foreign new = IsOpen old done.claim × (IsPresent old done.claim → ⊥) × (new ≡ old)
+  GivesAs old done (ClockSpent back) new =
+      (back ≡ done)
+      × IsOpen old done.claim
+      × IsPresent old done.claim
+      × (old.clock ≡ 2 ^ 64 - 1)
+      × ((held_at old.rows done.claim.cell.cycle done.claim.cell.component).state ≢ Some done.state)
+      × (new ≡ old)
+  GivesAs old done (Stored changed) new =
+      IsOpen old done.claim
+      × IsPresent old done.claim
+      × IsAfterStore old new done.claim.cell.cycle done.claim.cell.component done.state changed
+      × (changed ≡ true → old.clock < 2 ^ 64 - 1)

@@ -1,0 +1,26 @@
+-- Which components read which, and what a table keeps of it.
+use Rattle.std.specs.Prelude.{◌≡◌, ℕ, ◌<◌, ◌==◌, Bool, List, [], length, slice_index_or, All}
+use Rattle.std.specs.List.{list_any}
+use Rattle.grid_law.specs.Rules.{Rules}
+use Rattle.cell_table.specs.Seen.{Held}
+use Rattle.cell_table.specs.Consistent.{IsTable}
+
+-- some of the numbers is c
+abbrev pub has : List ℕ → ℕ → Bool
+has ms c = list_any (λ m. m == c) ms
+
+-- the list for a component
+abbrev pub readers_at : List (List ℕ) → ℕ → List ℕ
+readers_at lists c = slice_index_or lists c []
+
+module _ {State Slots Slot : Type 0} (R : Rules State Slots Slot) where
+  -- for each component, the list has the components that have it among their near ones, and no others
+  pub record IsIndex (s : Slots) (lists : List (List ℕ)) : Type 0 where
+    pub one_each : length lists ≡ R.components s
+    pub readers : (c k : ℕ) → c < R.components s → k < R.components s → has (readers_at lists c) k ≡ has (R.near s k) c
+    pub within : (c : ℕ) → c < R.components s → All (λ k. k < R.components s) (readers_at lists c)
+
+  -- what is true of a table's fields
+  pub record IsKept (s : Slots) (horizon : ℕ) (rows : List (List (Held State))) (lists : List (List ℕ)) : Type 0 where
+    pub table : IsTable R s horizon rows
+    pub index : IsIndex s lists

@@ -1,0 +1,85 @@
+-- Settling a table, one due cell after another.
+use Rattle.std.specs.Prelude.{◌≡◌, ◌≢◌, ℕ, ◌+◌, ◌-◌, ◌^◌, ◌<◌, ◌≤◌, Some, Bool, true, false, List, [], ◌∷◌}
+use Rattle.cell_table.specs.declared.cell.Cell.{Cell}
+use Rattle.cell_table.specs.declared.given.SettleFault.{SettleFault}
+use Rattle.cell_table.specs.declared.given.SettleFault.TheVariants.{ClockSpent, Memory}
+use Rattle.grid_law.specs.Rules.{Rules}
+use Rattle.cell_table.specs.Seen.{Held, Seen, held_at, held_in}
+use Rattle.cell_table.specs.Cells.{IsThere, AtOrAfter, Before}
+use Rattle.cell_table.specs.Claims.{NoneDue}
+use Rattle.cell_table.specs.Gives.{IsAfterStore}
+use Rattle.cell_table.specs.Events.{Event, Edits, Claims, Stores}
+use Rattle.cell_table.specs.Run.{run}
+
+-- the first component of a row, at or after that one, that is due
+pub record IsNextDueInRow {State : Type 0} (row : List (Held State)) (c0 c : ℕ) : Type 0 where
+  pub due : (held_in row c).is_due ≡ true
+  pub after : c0 ≤ c
+  pub none_between : (k : ℕ) → c0 ≤ k → k < c → (held_in row k).is_due ≡ false
+
+module _ {State Slots Slot : Type 0} (R : Rules State Slots Slot) where
+  -- no cell before that one is due
+  abbrev pub NoneDueBefore : Seen State Slots → ℕ → ℕ → Type 0
+  NoneDueBefore v t0 c0 = (t c : ℕ) → IsThere R v t c → Before t c t0 c0 → (held_at v.rows t c).is_due ≡ false
+
+  -- each cell before that one holds the run
+  abbrev pub HoldsRunBefore : Seen State Slots → ℕ → ℕ → Type 0
+  HoldsRunBefore v t0 c0 = (t c : ℕ) → IsThere R v t c → Before t c t0 c0 → (held_at v.rows t c).state ≡ Some (run R v.slots t c)
+
+  -- no cell is due, and each holds the run
+  pub record IsSettled (v : Seen State Slots) : Type 0 where
+    pub none_due : NoneDue R v
+    pub runs : (t c : ℕ) → IsThere R v t c → (held_at v.rows t c).state ≡ Some (run R v.slots t c)
+
+  -- no cell at or after that one is due
+  abbrev pub NoneDueFrom : Seen State Slots → ℕ → ℕ → Type 0
+  NoneDueFrom v t0 c0 = (t c : ℕ) → IsThere R v t c → AtOrAfter t0 c0 t c → (held_at v.rows t c).is_due ≡ false
+
+  -- the first due cell at or after that one
+  pub record IsNextDue (v : Seen State Slots) (t0 c0 : ℕ) (cell : Cell) : Type 0 where
+    pub there : IsThere R v cell.cycle cell.component
+    pub due : (held_at v.rows cell.cycle cell.component).is_due ≡ true
+    pub after : AtOrAfter t0 c0 cell.cycle cell.component
+    pub none_between : (t c : ℕ) → IsThere R v t c → AtOrAfter t0 c0 t c → Before t c cell.cycle cell.component → (held_at v.rows t c).is_due ≡ false
+
+  -- the cell, which was the first of all that were due, was given the state of the run
+  pub record IsSettledCell (old new : Seen State Slots) (t c : ℕ) (x : State) (changed : Bool) : Type 0 where
+    pub there : IsThere R old t c
+    pub due : (held_at old.rows t c).is_due ≡ true
+    pub none_before : NoneDueBefore old t c
+    pub runs : x ≡ run R old.slots t c
+    pub after : IsAfterStore R old new t c x changed
+
+  -- the first due cell at or after that one was settled, and none before it or at it is due now
+  pub record SettlesNext (old new : Seen State Slots) (t0 c0 : ℕ) (cell : Cell) : Type 0 where
+    pub after : AtOrAfter t0 c0 cell.cycle cell.component
+    pub changed : Bool
+    pub settled : IsSettledCell old new cell.cycle cell.component (run R old.slots cell.cycle cell.component) changed
+    pub room : changed ≡ true → old.clock < 2 ^ 64 - 1
+    pub none_before : NoneDueBefore new cell.cycle (cell.component + 1)
+    pub runs_before : HoldsRunBefore new cell.cycle (cell.component + 1)
+
+  -- the run has another state for the first due cell at or after that one, and the clock is at its last value
+  pub record IsSpent (v : Seen State Slots) (t0 c0 : ℕ) : Type 0 where
+    pub clock : v.clock ≡ 2 ^ 64 - 1
+    pub cell : Cell
+    pub next : IsNextDue v t0 c0 cell
+    pub differs : (held_at v.rows cell.cycle cell.component).state ≢ Some (run R v.slots cell.cycle cell.component)
+
+  -- the second table is the first after these cells were settled, the newest first, all before that one
+  abbrev pub Settling : Seen State Slots → List (Event State Slots Slot) → Seen State Slots → ℕ → ℕ → Type 0
+  Settling old [] new t0 c0 = new ≡ old
+  Settling old (Edits next listed to ∷ done) new t0 c0 = ⊥
+  Settling old (Claims t c ∷ done) new t0 c0 = ⊥
+  Settling old (Stores t c x changed ∷ done) new t0 c0 =
+      (mid : Seen State Slots) × Settling old done mid t c × IsSettledCell mid new t c x changed × Before t c t0 c0
+
+-- how many cells were computed before the fault
+abbrev pub computed_of : SettleFault → ℕ
+computed_of (ClockSpent computed) = computed
+computed_of (Memory computed) = computed
+
+-- the fault is for want of a later clock
+abbrev pub IsClockSpent : SettleFault → Type 0
+IsClockSpent (ClockSpent computed) = Unit {0}
+IsClockSpent (Memory computed) = ⊥

@@ -1,0 +1,63 @@
+//! The cells of a simulated run, kept up to date as the project is edited.
+//!
+//! A cell is one component of a grid at one cycle from 0 to the horizon. A `Table` keeps for each
+//! cell its state and whether it is due. After an edit, `touch` makes due the cells that read what
+//! was edited and those that are new; a store of another state makes due the cells one cycle later
+//! that read it. So a cell is computed only if it is new or something that it read has changed.
+//!
+//! Due cells are computed in one of two ways. `settle` computes them all, by cycle and then
+//! component. Or they are claimed, computed elsewhere, and given back:
+//!
+//! ```text
+//! while let Some(claim) = table.claim(from)? {
+//!     match claim.compute() {
+//!         Ok(done) => match table.give(done) {
+//!             Given::Stored { changed } => ..
+//!             _ => ..
+//!         },
+//!         Err(claim) => .. // want of memory: it may be computed later
+//!     }
+//! }
+//! ```
+//!
+//! Claims may be dropped, given back late, or stand twice for one cell, while others are given back
+//! and the project is edited.
+//!
+//! # What is promised
+//!
+//! The promises are over every list of events: edits, claims and stores, in any order
+//! (`specs/Events.antt`). From the list alone follow each cell's value (`val`), whether it is `due`,
+//! which events change it, and whether a claim was `overtaken`. A table stands for the list of what
+//! happened to it (`Stands`), and every call keeps it so.
+//!
+//! - Every cell that isn't due holds its start, or the step of the present slots and near states
+//!   (`Table::consistent`); where none is due, the cells hold the run (`Table::settled`).
+//! - `claim` hands out the first claimable cell at or after a given one, and none exactly where no
+//!   cell is due; `Claim::compute` gives the start or the step of what the claim holds.
+//! - `give` stores the result of a claim exactly where the claim wasn't overtaken: since then no
+//!   event changed its cell, stored it or removed it. The one exception is a clock at its last
+//!   value. A result of another table is stored only where its cell is due and what it read is
+//!   present.
+//! - `settle` stores exactly the cells that cost (`specs/Cost.antt`), each once and in order.
+//!
+//! The crate stands on `grid_law` for grids and their laws, and on `arrayvec` for lists of near
+//! components.
+#![tactic(auto)]
+
+mod cell;
+mod claim;
+mod cone;
+mod given;
+mod marks;
+mod readers;
+mod row;
+mod rows;
+mod table;
+
+pub use cell::Cell;
+pub use claim::{Claim, Done};
+pub use given::{Given, SettleFault, Settled, StoreFault, TouchFault};
+pub use table::Table;
+
+#[cfg(test)]
+mod tests;

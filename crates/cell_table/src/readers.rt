@@ -1,0 +1,115 @@
+//! Which components read which.
+ghost use Rattle.std.specs.Prelude.{◌≡◌, ℕ, ◌+◌, ◌<◌, ◌≤◌, IfOk, OnOk, length, [], ◌∷◌, ◌++◌, false, replicate, slice_set, All};
+ghost use Rattle.cell_table.specs.Readers.{has, readers_at, IsIndex};
+
+use grid_law::{Grid, NoMemory};
+use std::alloc::Global;
+use std::marker::Model;
+
+/// The components that read one component.
+#[derive(Drop)]
+struct ReaderList {
+    components: Vec<u32>,
+}
+
+impl Model for ReaderList {
+    ghost use Rattle.std.specs.Prelude.{List, ℕ};
+
+    ghost Value = { List ℕ };
+
+    ghost view = { λ l. l.components.items };
+}
+
+impl ReaderList {
+    fn new(alloc: Global) -> ReaderList
+        ensures { result ≡ [] }
+    {
+        ReaderList {
+            components: Vec::new(alloc),
+        }
+    }
+
+    fn push(&mut self, k: u32) -> Result<(), NoMemory>
+        ensures { OnOk result (self.new ≡ self.old ++ k ∷ []) }
+    {
+        self.components.push(k)?;
+        Ok(())
+    }
+
+    fn components(&self) -> &[u32]
+        ensures { result.now ≡ self.now }
+    {
+        self.components.as_slice()
+    }
+}
+
+/// For each component, those that read it.
+#[derive(Drop)]
+pub struct Readers {
+    lists: Vec<ReaderList>,
+}
+
+impl Model for Readers {
+    ghost use Rattle.std.specs.Prelude.{List, ℕ};
+
+    ghost Value = { List (List ℕ) };
+
+    ghost view = { λ r. r.lists.items };
+}
+
+fn empty_lists(alloc: Global, count: u32) -> Result<Vec<ReaderList>, NoMemory>
+    ensures { IfOk result (λ lists. lists.items ≡ replicate count []) }
+{
+    let mut lists = Vec::new(alloc);
+    for _c in 0..count {
+        lists.push(ReaderList::new(alloc))?;
+    }
+    Ok(lists)
+}
+
+/// Adds `k` to the lists of its near components.
+fn add_reader(lists: &mut Vec<ReaderList>, near: &[u32], k: u32) -> Result<(), NoMemory>
+    requires { All (λ m. m < length lists.old.items) near.now }
+    ensures len { OnOk result (length lists.new.items ≡ length lists.old.items) }
+    ensures others { OnOk result ((c j : ℕ) → (j ≡ k → ⊥) → has (readers_at lists.new.items c) j ≡ has (readers_at lists.old.items c) j) }
+    ensures own { OnOk result ((c : ℕ) → has (readers_at lists.old.items c) k ≡ false → has (readers_at lists.new.items c) k ≡ has near.now c) }
+    ensures within { (n : ℕ) → k < n → OnOk result ((c : ℕ) → All (λ j. j < n) (readers_at lists.old.items c) → All (λ j. j < n) (readers_at lists.new.items c)) }
+{
+    for c in near {
+        lists[*c as usize].push(k)?;
+    }
+    Ok(())
+}
+
+/// Finds for each component those that have it among their near ones.
+fn lists_of<G: Grid>(alloc: Global, slots: &G::Slots) -> Result<Vec<ReaderList>, NoMemory>
+    ensures { IfOk result (λ lists. IsIndex G.rules slots.now lists.items) }
+{
+    let count = G::components(slots);
+    let mut lists = empty_lists(alloc, count)?;
+    for k in 0..count {
+        let near = G::near(slots, k);
+        add_reader(&mut lists, near.as_slice(), k)?;
+    }
+    Ok(lists)
+}
+
+impl Readers {
+    /// One look at each component's near ones.
+    pub fn new<G: Grid>(alloc: Global, slots: &G::Slots) -> Result<Readers, NoMemory>
+        ensures { IfOk result (λ lists. IsIndex G.rules slots.now lists) }
+    {
+        let lists = lists_of::<G>(alloc, slots)?;
+        Ok(Readers { lists })
+    }
+
+    /// The components that read `c`.
+    pub fn of(&self, c: u32) -> &[u32]
+        ensures { result.now ≡ readers_at self.now c }
+    {
+        match self.lists.get(c as usize) {
+            Some(list) => list.components(),
+            None => &[],
+        }
+    }
+}

@@ -1,0 +1,185 @@
+//! The table.
+ghost use Rattle.std.specs.Prelude.{◌≡◌, ℕ, ◌+◌, ◌<◌, ◌≤◌, IfOk, IfErr, replicate, Some, ◌↔◌, IsTrue, List, []};
+ghost use Rattle.std.specs.Option.{option_copied};
+ghost use Rattle.cell_table.specs.Seen.{held_at, fresh, due_up_to};
+ghost use Rattle.cell_table.specs.Cells.{IsThere};
+ghost use Rattle.cell_table.specs.Consistent.{IsWhole, IsConsistent};
+ghost use Rattle.cell_table.specs.Claims.{NoneDue};
+ghost use Rattle.cell_table.specs.Stands.{Stands};
+ghost use Rattle.cell_table.specs.Run.{run};
+
+mod claiming;
+mod cone;
+mod giving;
+mod settling;
+mod touching;
+
+use crate::Cell;
+use crate::readers::Readers;
+use crate::row::Row;
+use crate::rows::due_in;
+use grid_law::Grid;
+use std::alloc::Global;
+use std::marker::Model;
+
+/// The cells of the cycles from 0 to the horizon: for each a state, if it has one, and whether it
+/// is due. Each cell that isn't due holds its first state, or the step of the states near it.
+#[derive(Drop)]
+pub struct Table<G: Grid> {
+    slots: G::Slots,
+    horizon: u32,
+    clock: u64,
+    rows: Vec<Row<G::State>>,
+    readers: Readers,
+}
+
+impl<G: Grid> Model for Table<G> {
+    ghost use Rattle.cell_table.specs.Seen.{Seen};
+    ghost use Rattle.cell_table.specs.Readers.{IsKept};
+
+    ghost Value = { Seen G.State G.Slots };
+
+    ghost view = { λ t. record { slots = t.slots; horizon = t.horizon; clock = t.clock; rows = t.rows.items } };
+
+    ghost invariant = { λ t. IsKept G.rules t.slots t.horizon t.rows.items t.readers };
+}
+
+impl<G: Grid> Table<G> {
+    #[tactic(auto, using(crate::proofs::Tables::is_table_new))]
+    fn new_plain(
+        alloc: Global,
+        slots: G::Slots,
+        horizon: u32,
+        clock: u64,
+    ) -> Result<Table<G>, G::Slots>
+        ensures ok { IfOk result (λ t. t ≡ record {
+          slots = slots;
+          horizon = horizon;
+          clock = clock;
+          rows = replicate (horizon + 1) (replicate (G.rules.components slots) (fresh clock));
+        }) }
+        ensures err { IfErr result (λ s. s ≡ slots) }
+    {
+        let count = G::components(&slots);
+        let mut rows = Vec::new(alloc);
+        for _t in 0..u64::from(horizon) + 1 {
+            match Row::new(alloc, count, clock) {
+                Ok(row) => match rows.push(row) {
+                    Ok(()) => {}
+                    Err(_) => return Err(slots),
+                },
+                Err(_) => return Err(slots),
+            }
+        }
+        match Readers::new::<G>(alloc, &slots) {
+            Ok(readers) => Ok(Table {
+                slots,
+                horizon,
+                clock,
+                rows,
+                readers,
+            }),
+            Err(_) => Err(slots),
+        }
+    }
+
+    /// A table whose cells are all new and due, with `clock` as their version. Where memory is
+    /// wanting, the slots come back. It takes all the memory that `give` will ever need.
+    pub fn new(
+        alloc: Global,
+        slots: G::Slots,
+        horizon: u32,
+        clock: u64,
+    ) -> Result<Table<G>, G::Slots>
+        ensures slots { IfOk result (λ t. t.slots ≡ slots) }
+        ensures horizon { IfOk result (λ t. t.horizon ≡ horizon) }
+        ensures clock { IfOk result (λ t. t.clock ≡ clock) }
+        ensures cells { IfOk result (λ t. (t1 c : ℕ) → IsThere G.rules t t1 c → held_at t.rows t1 c ≡ fresh clock) }
+        ensures headline_stands { IfOk result (λ t. Stands G.rules (record { slots = slots; horizon = horizon; clock = clock }) t []) }
+        ensures err { IfErr result (λ s. s ≡ slots) }
+    {
+        Table::new_plain(alloc, slots, horizon, clock)
+    }
+
+    /// The first clock, one more for each edit and for each store that changed a state.
+    pub fn clock(&self) -> u64
+        ensures { result ≡ self.now.clock }
+    {
+        self.clock
+    }
+
+    /// The last cycle.
+    pub fn horizon(&self) -> u32
+        ensures { result ≡ self.now.horizon }
+    {
+        self.horizon
+    }
+
+    /// The slots after the last edit.
+    pub fn slots(&self) -> &G::Slots
+        ensures { result.now ≡ self.now.slots }
+    {
+        &self.slots
+    }
+
+    /// The state that the cell holds, up to date or not; a cell that isn't there has none.
+    pub fn state(&self, cell: Cell) -> Option<&G::State>
+        ensures { option_copied result ≡ (held_at self.now.rows cell.cycle cell.component).state }
+    {
+        match self.rows.get(cell.cycle as usize) {
+            Some(row) => row.state(cell.component),
+            None => None,
+        }
+    }
+
+    /// Whether the cell is due; one that isn't there isn't.
+    pub fn due(&self, cell: Cell) -> bool
+        ensures { result ≡ (held_at self.now.rows cell.cycle cell.component).is_due }
+    {
+        match self.rows.get(cell.cycle as usize) {
+            Some(row) => row.is_due(cell.component),
+            None => false,
+        }
+    }
+
+    /// How many cells are due at the cycles up to t. Each of these cycles is looked at once, and
+    /// no cell.
+    pub fn due_to(&self, t: u32) -> u64
+        ensures { result ≡ due_up_to self.now.rows (t + 1) }
+    {
+        due_in(self.rows.as_slice(), t)
+    }
+
+    fn has(&self, cell: Cell) -> bool
+        ensures { IsTrue result ↔ IsThere G.rules self.now cell.cycle cell.component }
+    {
+        cell.cycle <= self.horizon && cell.component < G::components(&self.slots)
+    }
+
+    fn version(&self, cell: Cell) -> u64
+        ensures { result ≡ (held_at self.now.rows cell.cycle cell.component).version }
+    {
+        match self.rows.get(cell.cycle as usize) {
+            Some(row) => row.version(cell.component),
+            None => 0,
+        }
+    }
+
+    /// Each cell that isn't due holds its first state, or the step of the present slots and the
+    /// present near states. This is so of every table, and no work is done.
+    pub fn consistent(&self)
+        ensures whole { IsWhole G.rules self.now.slots self.now.horizon self.now.rows }
+        ensures consistent { IsConsistent G.rules self.now.slots self.now.horizon self.now.rows }
+    {
+        let _ = &self.slots;
+    }
+
+    /// Where no cell is due, the cells hold the run of the present slots. No work is done.
+    #[tactic(auto, using(crate::proofs::Runs::holds_run))]
+    pub fn settled(&self)
+        ensures { NoneDue G.rules self.now → (t c : ℕ) → IsThere G.rules self.now t c
+            → (held_at self.now.rows t c).state ≡ Some (run G.rules self.now.slots t c) }
+    {
+        let _ = &self.slots;
+    }
+}

@@ -1,0 +1,31 @@
+//! The due cells that a cell's state rests on.
+ghost use Rattle.std.specs.Prelude.{◌≡◌, IfOk, Some};
+ghost use Rattle.cell_table.specs.Seen.{held_at};
+ghost use Rattle.cell_table.specs.Cells.{IsThere};
+ghost use Rattle.cell_table.specs.Cones.{due_in_cone};
+ghost use Rattle.cell_table.specs.Run.{run};
+
+use super::Table;
+use crate::Cell;
+use crate::cone::due_down;
+use grid_law::{Grid, NoMemory};
+
+impl<G: Grid> Table<G> {
+    /// How many cells are due in the cone of a cell: the cell itself, the cells near it one cycle
+    /// earlier, and so on down to cycle 0, each counted once. A cell that isn't there has an empty
+    /// cone. Where none is due, the cell holds the state of the run, whatever is due elsewhere.
+    ///
+    /// The components near those of the cone are looked up until they grow no more; each of them is
+    /// looked at once a cycle, and none at a cycle with nothing due.
+    pub fn due_cone(&self, cell: Cell) -> Result<u64, NoMemory>
+        ensures count { IfOk result (λ due. due ≡ due_in_cone G.rules self.now cell.cycle cell.component) }
+        ensures run { IfOk result (λ due. due ≡ 0 → IsThere G.rules self.now cell.cycle cell.component
+            → (held_at self.now.rows cell.cycle cell.component).state ≡ Some (run G.rules self.now.slots cell.cycle cell.component)) }
+    {
+        if !self.has(cell) {
+            return Ok(0);
+        }
+        let alloc = *self.rows.allocator();
+        due_down::<G>(alloc, &self.slots, self.rows.as_slice(), cell)
+    }
+}

@@ -1,0 +1,112 @@
+//! Giving a result back.
+ghost use Rattle.std.specs.Prelude.{◌≡◌, ℕ, ◌<◌, ◌-◌, ◌^◌, ◌↔◌, IsTrue, true, false, Some, map, List};
+ghost use Rattle.std.specs.Arc.{arc_value};
+ghost use Rattle.cell_table.specs.Seen.{held_at};
+ghost use Rattle.cell_table.specs.Inputs.{inputs_of};
+ghost use Rattle.cell_table.specs.Cells.{IsThere};
+ghost use Rattle.cell_table.specs.Consistent.{IsCurrentState};
+ghost use Rattle.cell_table.specs.Gives.{IsPresent, GivesAs, IsAfterStore};
+ghost use Rattle.cell_table.specs.Events.{Event, Start};
+ghost use Rattle.cell_table.specs.Stands.{Stands};
+ghost use Rattle.cell_table.specs.Made.{Made};
+ghost use Rattle.cell_table.specs.Answers.{AnswersMade, after_give};
+
+use super::Table;
+use crate::rows::{are_held, clock_after, store_in};
+use crate::{Cell, Claim, Done, Given};
+use grid_law::Grid;
+use std::sync::Arc;
+
+impl<G: Grid> Table<G> {
+    /// Whether these are the states that the cell is computed from now.
+    fn has_same_inputs(&self, cell: Cell, near: &[Arc<G::State>]) -> bool
+        requires { IsThere G.rules self.now cell.cycle cell.component }
+        ensures { IsTrue result
+            ↔ (inputs_of G.rules self.now.slots self.now.rows cell.cycle cell.component ≡ Some (map arc_value near.now)) }
+    {
+        if cell.cycle == 0 {
+            return near.is_empty();
+        }
+        let components = G::near(&self.slots, cell.component);
+        let row = &self.rows[cell.cycle as usize - 1];
+        are_held::<G>(row, components.as_slice(), near)
+    }
+
+    /// Whether what the claim was computed from is what is there now.
+    fn is_present(&self, claim: &Claim<G>) -> bool
+        requires { IsThere G.rules self.now claim.now.cell.cycle claim.now.cell.component }
+        ensures { IsTrue result ↔ IsPresent G.rules self.now claim.now }
+    {
+        self.has_same_inputs(claim.cell(), claim.near()) && claim.agrees_with(&self.slots)
+    }
+
+    /// Whether the cell holds this state, the whole of it.
+    pub(super) fn holds(&self, cell: Cell, state: &G::State) -> bool
+        ensures { IsTrue result ↔ ((held_at self.now.rows cell.cycle cell.component).state ≡ Some state.now) }
+    {
+        match self.state(cell) {
+            Some(held) => G::same(held, state),
+            None => false,
+        }
+    }
+
+    /// Stores a state that was computed from what is there now.
+    pub(super) fn store(&mut self, cell: Cell, state: Arc<G::State>, changed: bool)
+        requires there { IsThere G.rules self.old cell.cycle cell.component }
+        requires room { changed ≡ true → self.old.clock < 2 ^ 64 - 1 }
+        requires changes { (changed ≡ false) ↔ ((held_at self.old.rows cell.cycle cell.component).state ≡ Some (arc_value state)) }
+        requires computed { IsCurrentState G.rules self.old.slots self.old.rows cell.cycle cell.component (arc_value state) }
+        ensures { IsAfterStore G.rules self.old self.new cell.cycle cell.component (arc_value state) changed }
+    {
+        let clock = clock_after(self.clock, changed);
+        self.clock = clock;
+        store_in::<G>(
+            &mut self.rows,
+            &self.slots,
+            &self.readers,
+            cell,
+            state,
+            changed,
+            clock,
+        );
+    }
+
+    fn give_plain(&mut self, done: Done<G>) -> Given<Done<G>>
+        ensures { GivesAs G.rules self.old done result self.new }
+    {
+        let cell = done.cell();
+        if !self.has(cell) {
+            return Given::Gone;
+        }
+        if !self.due(cell) {
+            return Given::NotDue;
+        }
+        if self.version(cell) != done.claim().version() {
+            return Given::Overtaken;
+        }
+        if !self.is_present(done.claim()) {
+            return Given::Foreign;
+        }
+        let changed = !self.holds(cell, done.state());
+        if changed && self.clock == u64::MAX {
+            return Given::ClockSpent(done);
+        }
+        self.store(cell, done.into_state(), changed);
+        Given::Stored { changed }
+    }
+
+    /// Stores the result of a claim where, since the claim, its cell stayed due and nothing that it
+    /// read has changed. The answer is the first of `Given` that applies, in that order; all but
+    /// `Stored` change nothing. Where the state is another one than the cell held, the clock rises
+    /// by one, and the cells one cycle later that have this one among their near cells become due.
+    /// It takes no memory, and looks at this cell, those near it and those that read it.
+    pub fn give(&mut self, done: Done<G>) -> Given<Done<G>>
+        ensures headline_foreign { GivesAs G.rules self.old done result self.new }
+        ensures headline_stands { (o : Start G.Slots) (h : List (Event G.State G.Slots G.Slot)) → Stands G.rules o self.old h
+            → Stands G.rules o self.new (after_give result done h) }
+        ensures headline_gives { (o : Start G.Slots) (h : List (Event G.State G.Slots G.Slot)) (n : ℕ) → Stands G.rules o self.old h
+            → Made G.rules o done.claim h n → AnswersMade G.rules o h n done result }
+    {
+        self.give_plain(done)
+    }
+}

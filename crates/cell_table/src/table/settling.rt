@@ -1,0 +1,160 @@
+//! Settling: computing the due cells, by cycle and then component, until none is left.
+ghost use Rattle.std.specs.Prelude.{◌≡◌, ◌≢◌, ℕ, ◌+◌, ◌-◌, ◌^◌, ◌<◌, ◌≤◌, IfOk, IfErr, OnOk, OnErr, IfNone, IfSome, MatchOption, is_some, true, false, Some, List, ◌∷◌, Bool};
+ghost use Rattle.std.specs.Arc.{arc_value};
+ghost use Rattle.cell_table.specs.Seen.{held_at, row_at};
+ghost use Rattle.cell_table.specs.Cells.{IsThere};
+ghost use Rattle.cell_table.specs.Inputs.{inputs_of};
+ghost use Rattle.cell_table.specs.Consistent.{current_of};
+ghost use Rattle.cell_table.specs.Gives.{IsAfterStore};
+ghost use Rattle.cell_table.specs.Events.{Event, Start, Stores};
+ghost use Rattle.cell_table.specs.Run.{run};
+ghost use Rattle.cell_table.specs.Stands.{Stands};
+ghost use Rattle.cell_table.specs.Settling.{IsNextDueInRow, NoneDueBefore, NoneDueFrom, IsNextDue, IsSettled, SettlesNext, IsSpent, computed_of, IsClockSpent};
+ghost use Rattle.cell_table.specs.Cost.{Settles, SettlesFirst};
+
+use super::Table;
+use crate::{Cell, SettleFault, Settled, StoreFault};
+use grid_law::{Grid, NoMemory};
+use std::sync::Arc;
+
+impl<G: Grid> Table<G> {
+    /// The first due cell of a cycle, from a component on.
+    fn next_due_in(&self, cycle: u32, component: u32) -> Option<u32>
+        requires { cycle ≤ self.now.horizon }
+        ensures { MatchOption result
+            ((k : ℕ) → component ≤ k → (held_at self.now.rows cycle k).is_due ≡ false)
+            (λ c. IsNextDueInRow (row_at self.now.rows cycle) component c × (c < G.rules.components self.now.slots)) }
+    {
+        if !self.is_row_due(cycle) {
+            return None;
+        }
+        self.rows[cycle as usize].next_due(component)
+    }
+
+    /// The first due cell at or after `from`, by cycle and then component. It takes no memory, and
+    /// a cycle with nothing due is passed in one step.
+    pub fn next_due(&self, from: Cell) -> Option<Cell>
+        ensures { MatchOption result
+            (NoneDueFrom G.rules self.now from.cycle from.component)
+            (IsNextDue G.rules self.now from.cycle from.component) }
+    {
+        for cycle in u64::from(from.cycle)..u64::from(self.horizon) + 1 {
+            let cycle = cycle as u32;
+            let start = if cycle == from.cycle {
+                from.component
+            } else {
+                0
+            };
+            if let Some(component) = self.next_due_in(cycle, start) {
+                return Some(Cell { cycle, component });
+            }
+        }
+        None
+    }
+
+    /// The state that the present slots and near states give a cell.
+    fn computed(&self, cell: Cell) -> Result<Arc<G::State>, NoMemory>
+        requires there { IsThere G.rules self.now cell.cycle cell.component }
+        requires ready { is_some (inputs_of G.rules self.now.slots self.now.rows cell.cycle cell.component) ≡ true }
+        ensures { IfOk result (λ x. arc_value x ≡ current_of G.rules self.now.slots self.now.rows cell.cycle cell.component) }
+    {
+        let alloc = *self.rows.allocator();
+        let mut near = Vec::new(alloc);
+        if !self.inputs(cell, &mut near)? {
+            unreachable!()
+        }
+        let state = if near.is_empty() {
+            G::start(alloc, &self.slots, cell.component)?
+        } else {
+            G::step(alloc, &self.slots, &near, cell.component)?
+        };
+        Ok(Arc::new(alloc, state)?)
+    }
+
+    /// Computes the cell and stores its state; tells whether the cell held no state or another one.
+    #[tactic(auto, using(crate::proofs::Stores::current_of_inputs))]
+    fn settle_cell(&mut self, cell: Cell) -> Result<bool, StoreFault>
+        requires there { IsThere G.rules self.old cell.cycle cell.component }
+        requires ready { is_some (inputs_of G.rules self.old.slots self.old.rows cell.cycle cell.component) ≡ true }
+        ensures ok { IfOk result (λ changed. IsAfterStore G.rules self.old self.new cell.cycle cell.component
+            (current_of G.rules self.old.slots self.old.rows cell.cycle cell.component) changed) }
+        ensures room { IfOk result (λ changed. changed ≡ true → self.old.clock < 2 ^ 64 - 1) }
+        ensures err { OnErr result (self.new ≡ self.old) }
+        ensures spent { result ≡ Err StoreFault.ClockSpent → (self.old.clock ≡ 2 ^ 64 - 1)
+            × ((held_at self.old.rows cell.cycle cell.component).state ≢ Some (current_of G.rules self.old.slots self.old.rows cell.cycle cell.component)) }
+    {
+        match self.computed(cell) {
+            Ok(state) => {
+                let changed = !self.holds(cell, &state);
+                if changed && self.clock == u64::MAX {
+                    return Err(StoreFault::ClockSpent);
+                }
+                self.store(cell, state, changed);
+                Ok(changed)
+            }
+            Err(_) => Err(StoreFault::Memory),
+        }
+    }
+
+    /// Computes the first due cell at or after `from` and stores its state, which is that of the
+    /// run; the cell is told, or none where no cell is due. No cell before `from` may be due. To
+    /// settle a table, begin at component 0 of cycle 0, and go on each time at the component after
+    /// the cell told, in its cycle; the lemmas of `proofs/Passes.antt` give such a loop all that
+    /// `settle` promises. After a fault nothing is changed.
+    pub fn settle_next(&mut self, from: Cell) -> Result<Option<Cell>, StoreFault>
+        requires { NoneDueBefore G.rules self.old from.cycle from.component }
+        ensures none { IfOk result (λ o. IfNone o (IsSettled G.rules self.old × (self.new ≡ self.old))) }
+        ensures some { IfOk result (λ o. IfSome o (SettlesNext G.rules self.old self.new from.cycle from.component)) }
+        ensures headline_stands { IfOk result (λ r. IfSome r (λ cell. (changed : Bool) × ((o : Start G.Slots) (h : List (Event G.State G.Slots G.Slot)) → Stands G.rules o self.old h
+            → Stands G.rules o self.new (Stores cell.cycle cell.component (run G.rules self.old.slots cell.cycle cell.component) changed ∷ h)))) }
+        ensures fits { IfOk result (λ o. IfSome o (λ cell. (cell.cycle < 2 ^ 32) × (cell.component + 1 < 2 ^ 32))) }
+        ensures err { OnErr result (self.new ≡ self.old) }
+        ensures spent { result ≡ Err StoreFault.ClockSpent → IsSpent G.rules self.old from.cycle from.component }
+    {
+        let _count = G::components(&self.slots);
+        match self.next_due(from) {
+            Some(cell) => match self.settle_cell(cell) {
+                Ok(_changed) => Ok(Some(cell)),
+                Err(fault) => Err(fault),
+            },
+            None => Ok(None),
+        }
+    }
+
+    /// Computes and stores the first due cell until none is due. The cells stored are exactly those
+    /// that were due, or that had a near cell one cycle earlier with another state than that of the
+    /// run; each is stored once, by cycle and then component, and `computed` is their number.
+    /// Afterwards every cell holds the run. After a fault the cells computed stay stored and the
+    /// rest stays due, and a further call goes on. The cells are passed once in all, and a cycle
+    /// with nothing due in one step.
+    pub fn settle(&mut self) -> Result<Settled, SettleFault>
+        ensures headline_settles { IfOk result (λ s. (done : List (Event G.State G.Slots G.Slot)) × ((o : Start G.Slots) (h : List (Event G.State G.Slots G.Slot)) → Stands G.rules o self.old h
+            → Settles G.rules o h self.new done s.computed)) }
+        ensures after_fault { IfErr result (λ f. (done : List (Event G.State G.Slots G.Slot)) × ((o : Start G.Slots) (h : List (Event G.State G.Slots G.Slot)) → Stands G.rules o self.old h
+            → SettlesFirst G.rules o h self.new done (computed_of f))) }
+        ensures settled { OnOk result (IsSettled G.rules self.new) }
+        ensures slots { self.new.slots ≡ self.old.slots }
+        ensures horizon { self.new.horizon ≡ self.old.horizon }
+        ensures spent { IfErr result (λ f. IsClockSpent f → self.new.clock ≡ 2 ^ 64 - 1) }
+    {
+        let mut computed: u64 = 0;
+        let mut from = Cell {
+            cycle: 0,
+            component: 0,
+        };
+        loop {
+            match self.settle_next(from) {
+                Ok(Some(cell)) => {
+                    computed += 1;
+                    from = Cell {
+                        cycle: cell.cycle,
+                        component: cell.component + 1,
+                    };
+                }
+                Ok(None) => return Ok(Settled { computed }),
+                Err(StoreFault::ClockSpent) => return Err(SettleFault::ClockSpent { computed }),
+                Err(StoreFault::Memory) => return Err(SettleFault::Memory { computed }),
+            }
+        }
+    }
+}
