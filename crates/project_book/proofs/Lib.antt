@@ -1,0 +1,5 @@
+pub mod Listings
+pub mod Accepting
+pub mod Leaving
+pub mod Touching
+pub mod Texts

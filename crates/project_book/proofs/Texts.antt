@@ -1,0 +1,141 @@
+-- An entry's text is read as that entry.
+use Rattle.std.proofs.Common.{◌≡◌, ℕ, ◌^◌, ◌<◌, ◌≤◌, ◌==◌, Bool, true, false, not, cond, List, [], ◌∷◌, ◌++◌, filter, length, Some, codes, arith, rules, refl, ap, sym, ◌∙◌, lt-ltb}
+use Rattle.std.specs.Fmt.{decimal}
+use Rattle.std.specs.List.{list_all, slice_split}
+use Rattle.std.specs.Char.{is_ascii_digit}
+use Rattle.std.specs.Option.{option_map}
+use Rattle.std.proofs.lemmas.Bool.{and_parts, and_from, not-true, le-leb, eqb-true}
+use Rattle.std.proofs.lemmas.Bool.Decides.{nat_tests}
+use Rattle.std.proofs.lemmas.List.{append-nil}
+use Rattle.std.proofs.lemmas.Fmt.{digits_decimal, digits_value-decimal, decimal_nonempty, length-decimal-le}
+use Rattle.std.proofs.lemmas.Str.Parse.{IsNumeralModel, numerals_by_fold}
+use mathlib.Core.List.{append_assoc}
+use Rattle.line_words.specs.Words.{is_separator, is_nonempty, words_of}
+use Rattle.line_words.specs.Numbers.{value_after, is_number, number_of}
+use Rattle.word_ops.specs.declared.kind.Kind.{Kind}
+use Rattle.word_ops.specs.declared.kind.Kind.TheVariants.{Load, Add, And, Or, Min, Max, Store, StoreIfZero}
+use Rattle.word_ops.specs.declared.op.Op.{Op}
+use Rattle.word_ops.specs.Names.{kind_name, kind_named}
+use Rattle.omega_net.specs.declared.script.ScriptEntry.{ScriptEntry}
+use Rattle.omega_net.specs.declared.script.ScriptEntry.TheVariants.{Reference, Fence, Idle}
+use Rattle.project_book.specs.EntryTexts.{times_text, entry_text, times_of, reference_of, entry_of, IsNumbered}
+
+-- bytes among which no separator is
+abbrev is_plain : List ℕ → Bool
+is_plain w = list_all (λ b. not (is_separator b)) w
+
+record IsWord (w : List ℕ) : Type 0 where
+  some : 0 < length w
+  plain : is_plain w ≡ true
+
+split_on : (b : ℕ) (rest w : List ℕ) (parts : List (List ℕ)) → is_separator b ≡ false → slice_split is_separator rest ≡ w ∷ parts → slice_split is_separator (b ∷ rest) ≡ (b ∷ w) ∷ parts
+split_on b rest w parts e h = rw (e, h) refl
+
+split_first : (w rest : List ℕ) → is_plain w ≡ true → slice_split is_separator (w ++ 32 ∷ rest) ≡ w ∷ slice_split is_separator rest
+split_first [] rest e = refl
+split_first (b ∷ w) rest e =
+    let parts = and_parts (not (is_separator b)) (is_plain w) e in
+    split_on b (w ++ 32 ∷ rest) w _ (not-true _ parts.0) (split_first w rest parts.1)
+
+split_last : (w : List ℕ) → is_plain w ≡ true → slice_split is_separator w ≡ w ∷ []
+split_last [] e = refl
+split_last (b ∷ w) e =
+    let parts = and_parts (not (is_separator b)) (is_plain w) e in
+    split_on b w w _ (not-true _ parts.0) (split_last w parts.1)
+
+kept : (w : List ℕ) (parts : List (List ℕ)) → 0 < length w → filter is_nonempty (w ∷ parts) ≡ w ∷ filter is_nonempty parts
+kept w parts h = rw (lt-ltb 0 (length w) h) refl
+
+-- a word up to a space, and one up to the end
+first_word : (w rest : List ℕ) → IsWord w → words_of (w ++ 32 ∷ rest) ≡ w ∷ words_of rest
+first_word w rest h =
+    ap (filter is_nonempty) (split_first w rest h.plain) ∙ kept w (slice_split is_separator rest) h.some
+
+last_word : (w : List ℕ) → IsWord w → words_of w ≡ w ∷ []
+last_word w h = ap (filter is_nonempty) (split_last w h.plain) ∙ kept w [] h.some
+
+word_kind : (kind : Kind) → IsWord (kind_name kind)
+word_kind Load = record { some = omega arith; plain = refl }
+word_kind Add = record { some = omega arith; plain = refl }
+word_kind And = record { some = omega arith; plain = refl }
+word_kind Or = record { some = omega arith; plain = refl }
+word_kind Min = record { some = omega arith; plain = refl }
+word_kind Max = record { some = omega arith; plain = refl }
+word_kind Store = record { some = omega arith; plain = refl }
+word_kind StoreIfZero = record { some = omega arith; plain = refl }
+
+name_read : (kind : Kind) → kind_named (kind_name kind) ≡ Some kind
+name_read Load = refl
+name_read Add = refl
+name_read And = refl
+name_read Or = refl
+name_read Min = refl
+name_read Max = refl
+name_read Store = refl
+name_read StoreIfZero = refl
+
+-- decimal digits
+own : IsNumeralModel (λ ds. list_all is_ascii_digit ds ≡ true) (value_after 0)
+own = numerals_by_fold _ (search rules) value_after (search rules)
+
+plain_digit : (b : ℕ) → is_ascii_digit b ≡ true → not (is_separator b) ≡ true
+plain_digit b e = grind (arith, nat_tests)
+
+plain_digits : (w : List ℕ) → list_all is_ascii_digit w ≡ true → is_plain w ≡ true
+plain_digits [] e = refl
+plain_digits (b ∷ w) e =
+    let parts = and_parts (is_ascii_digit b) (list_all is_ascii_digit w) e in
+    and_from (not (is_separator b)) (is_plain w) (plain_digit b parts.0) (plain_digits w parts.1)
+
+number_read : (w : List ℕ) (n : ℕ) → list_all is_ascii_digit w ≡ true → value_after 0 w ≡ n → 0 < length w → length w ≤ 10 → n < 2 ^ 32 → number_of w ≡ Some n
+number_read w n digits value some short small =
+    let tests : is_number w ≡ true = and_from _ _ (and_from _ _ (and_from _ _ (lt-ltb 0 (length w) some) (le-leb (length w) 10 short)) digits) (le-leb (value_after 0 w) 4294967295 (omega arith)) in
+    rw tests (ap (λ (k : ℕ). Some k) value)
+
+number_decimal : (n : ℕ) → n < 2 ^ 32 → number_of (decimal n) ≡ Some n
+number_decimal n h =
+    let wide : n < 2 ^ 64 = omega arith in
+    number_read (decimal n) n (digits_decimal own n wide) (digits_value-decimal own n wide) (decimal_nonempty n wide) (length-decimal-le 10 n (omega arith) (omega arith) wide) h
+
+word_decimal : (n : ℕ) → n < 2 ^ 32 → IsWord (decimal n)
+word_decimal n h =
+    let wide : n < 2 ^ 64 = omega arith in
+    record { some = decimal_nonempty n wide; plain = plain_digits (decimal n) (digits_decimal own n wide) }
+
+-- an operand and the times behind it
+record ReadsTimes (v times : ℕ) (words : List (List ℕ)) : Type 0 where
+  more : List (List ℕ)
+  are : words ≡ decimal v ∷ more
+  read : times_of more ≡ Some times
+
+reads_times : (v times : ℕ) → v < 2 ^ 32 → times < 2 ^ 32 → ReadsTimes v times (words_of (decimal v ++ times_text times))
+reads_times v times hv ht = by_once (times == 1) refl
+  where
+    by_once : (once : Bool) → (times == 1) ≡ once → ReadsTimes v times (words_of (decimal v ++ cond once [] (codes " " ++ decimal times)))
+    by_once true e =
+        record { more = []; are = ap words_of (append-nil (decimal v)) ∙ last_word (decimal v) (word_decimal v hv); read = ap (λ (k : ℕ). Some k) (sym (eqb-true times 1 e)) }
+    by_once false e =
+        record { more = decimal times ∷ []; are = first_word (decimal v) (decimal times) (word_decimal v hv) ∙ ap (λ ws. decimal v ∷ ws) (last_word (decimal times) (word_decimal times ht)); read = number_decimal times ht }
+
+reference_read : (sync : Bool) (kind : Kind) (a v times : ℕ) (name address operand : List ℕ) (more : List (List ℕ)) → kind_named name ≡ Some kind → number_of address ≡ Some a → number_of operand ≡ Some v → times_of more ≡ Some times → reference_of sync (name ∷ address ∷ operand ∷ more) ≡ Some (Reference sync (record { kind = kind; operand = v }) a times)
+reference_read sync kind a v times name address operand more k m o t = rw (k, m, o, t) refl
+
+-- the words behind a reference's network
+behind_read : (sync : Bool) (op : Op) (a times : ℕ) → op.operand < 2 ^ 32 → a < 2 ^ 32 → times < 2 ^ 32 → reference_of sync (words_of (kind_name op.kind ++ 32 ∷ (decimal a ++ 32 ∷ (decimal op.operand ++ times_text times)))) ≡ Some (Reference sync op a times)
+behind_read sync op a times hv ha ht =
+    let last = reads_times op.operand times hv ht in
+    let address = first_word (decimal a) (decimal op.operand ++ times_text times) (word_decimal a ha) in
+    let kind = first_word (kind_name op.kind) (decimal a ++ 32 ∷ (decimal op.operand ++ times_text times)) (word_kind op.kind) in
+    rw (kind, address, last.are) (reference_read sync op.kind a op.operand times (kind_name op.kind) (decimal a) (decimal op.operand) last.more (name_read op.kind) (number_decimal a ha) (number_decimal op.operand hv) last.read)
+
+regroup : (n k a v t : List ℕ) → ((((((n ++ 32 ∷ []) ++ k) ++ 32 ∷ []) ++ a) ++ 32 ∷ []) ++ v) ++ t ≡ n ++ 32 ∷ (k ++ 32 ∷ (a ++ 32 ∷ (v ++ t)))
+regroup n k a v t = simp append_assoc
+
+pub entry_read : (entry : ScriptEntry) → IsNumbered entry → entry_of (words_of (entry_text entry)) ≡ Some entry
+entry_read (Reference true op a times) h =
+    ap (λ text. entry_of (words_of text)) (regroup (codes "sync") (kind_name op.kind) (decimal a) (decimal op.operand) (times_text times)) ∙ ap entry_of (first_word (codes "sync") (kind_name op.kind ++ 32 ∷ (decimal a ++ 32 ∷ (decimal op.operand ++ times_text times))) (record { some = omega arith; plain = refl })) ∙ behind_read true op a times h.0 h.1 h.2
+entry_read (Reference false op a times) h =
+    ap (λ text. entry_of (words_of text)) (regroup (codes "plain") (kind_name op.kind) (decimal a) (decimal op.operand) (times_text times)) ∙ ap entry_of (first_word (codes "plain") (kind_name op.kind ++ 32 ∷ (decimal a ++ 32 ∷ (decimal op.operand ++ times_text times))) (record { some = omega arith; plain = refl })) ∙ behind_read false op a times h.0 h.1 h.2
+entry_read Fence h = refl
+entry_read (Idle turns) h =
+    ap entry_of (first_word (codes "idle") (decimal turns) (record { some = omega arith; plain = refl }) ∙ ap (λ ws. codes "idle" ∷ ws) (last_word (decimal turns) (word_decimal turns h))) ∙ ap (λ o. option_map (λ t. Idle t) o) (number_decimal turns h)

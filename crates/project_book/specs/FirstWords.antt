@@ -1,0 +1,30 @@
+-- The first words: a list by addresses upwards, in which words of 0 are left out.
+use Rattle.std.specs.Prelude.{ℕ, ◌<◌, ◌==◌, nat_lt, if◌then◌else◌, List, [], ◌∷◌, ◌++◌, filter, find, All, AllPairs}
+use Rattle.std.specs.Option.{option_map_or}
+use Rattle.page_map.specs.declared.map.TheConstants.{ADDRESSES}
+use Rattle.project_book.specs.declared.words.FirstWord.{FirstWord}
+
+-- the word of an address, 0 where it isn't listed
+abbrev pub word_at : List FirstWord → ℕ → ℕ
+word_at ws a = option_map_or (λ w. w.word) (find (λ w. w.address == a) ws) 0
+
+-- one address and its word
+abbrev pub listed : ℕ → ℕ → List FirstWord
+listed a word = if word == 0 then [] else record { address = a; word = word } ∷ []
+
+-- the words below and above an address
+abbrev pub words_below : List FirstWord → ℕ → List FirstWord
+words_below ws a = filter (λ w. nat_lt w.address a) ws
+
+abbrev pub words_above : List FirstWord → ℕ → List FirstWord
+words_above ws a = filter (λ w. nat_lt a w.address) ws
+
+-- the words where this address has this word
+abbrev pub with_word : List FirstWord → ℕ → ℕ → List FirstWord
+with_word ws a word = words_below ws a ++ listed a word ++ words_above ws a
+
+-- the list is by addresses upwards, each of which exists, and has no 0
+pub record IsListing (ws : List FirstWord) : Type 0 where
+  pub ascending : AllPairs (λ v w. v.address < w.address) ws
+  pub within : All (λ w. w.address < ADDRESSES) ws
+  pub nonzero : All (λ w. 0 < w.word) ws

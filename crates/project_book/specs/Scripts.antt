@@ -1,0 +1,45 @@
+-- The scripts, by processor.
+use Rattle.std.specs.Prelude.{◌≡◌, ℕ, ◌+◌, ◌≤◌, ◌&&◌, nat_le, nat_lt, Bool, true, List, [], ◌∷◌, ◌++◌, length, take, drop, slice_index_or, slice_set, All}
+use Rattle.omega_net.specs.declared.script.ScriptEntry.{ScriptEntry}
+use Rattle.omega_net.specs.declared.script.ScriptEntry.TheVariants.{Reference, Fence, Idle}
+use Rattle.page_map.specs.declared.map.TheConstants.{ADDRESSES}
+use Rattle.project_book.specs.declared.limits.TheConstants.{SCRIPT_ENTRIES, MAX_TIMES}
+
+-- a processor's script, empty where there is no such processor
+abbrev pub script_of : List (List ScriptEntry) → ℕ → List ScriptEntry
+script_of scripts p = slice_index_or scripts p []
+
+-- a script with this entry at index i, which is within it or at its end
+abbrev pub put_entry : List ScriptEntry → ℕ → ScriptEntry → List ScriptEntry
+put_entry es i entry = take i es ++ entry ∷ drop (i + 1) es
+
+-- the scripts where a processor's has this entry, or its first entries alone
+abbrev pub with_entry : List (List ScriptEntry) → ℕ → ℕ → ScriptEntry → List (List ScriptEntry)
+with_entry scripts p i entry = slice_set scripts p (put_entry (script_of scripts p) i entry)
+
+abbrev pub with_cut : List (List ScriptEntry) → ℕ → ℕ → List (List ScriptEntry)
+with_cut scripts p n = slice_set scripts p (take n (script_of scripts p))
+
+-- whether an entry's address is there, if it names one
+abbrev pub is_addressed : ScriptEntry → Bool
+is_addressed (Reference sync op address times) = nat_lt address ADDRESSES
+is_addressed Fence = true
+is_addressed (Idle turns) = true
+
+-- whether a reference may be issued so often, or an idle last so long
+abbrev pub are_times : ℕ → Bool
+are_times n = nat_le 1 n && nat_le n MAX_TIMES
+
+abbrev pub is_timed : ScriptEntry → Bool
+is_timed (Reference sync op address times) = are_times times
+is_timed Fence = true
+is_timed (Idle turns) = are_times turns
+
+-- an entry is within the limits, and so is a script
+pub record IsEntry (entry : ScriptEntry) : Type 0 where
+  pub addressed : is_addressed entry ≡ true
+  pub timed : is_timed entry ≡ true
+
+pub record IsScript (es : List ScriptEntry) : Type 0 where
+  pub few : length es ≤ SCRIPT_ENTRIES
+  pub entries : All IsEntry es

@@ -1,0 +1,136 @@
+//! The texts of script entries.
+ghost use Rattle.std.specs.Prelude.{◌≡◌, Some, bytes_eq};
+ghost use Rattle.line_words.specs.Words.{words_of};
+ghost use Rattle.omega_net.specs.declared.script.ScriptEntry.{ScriptEntry};
+ghost use Rattle.word_ops.specs.Names.{kind_name, kind_named};
+ghost use Rattle.project_book.specs.EntryTexts.{entry_text, entry_of, IsNumbered, reference_of, times_of, fence_of, idle_of};
+
+use line_words::{number, split_word};
+use omega_net::ScriptEntry;
+use std::fmt;
+use word_ops::{Kind, Op};
+
+/// An entry as it is written: `sync KIND A V` or `plain KIND A V`, with a last word for its times
+/// where these aren't 1; `fence`; or `idle T`. [`read_entry`] reads it again.
+#[derive(Clone, Copy, PartialEq, Eq, Debug)]
+pub struct EntryText(pub ScriptEntry);
+
+impl fmt::Display for EntryText {
+    ghost output = { λ text. Some (entry_text text.0) };
+
+    fn fmt<W: fmt::Write>(&self, f: &mut fmt::Formatter<W>) -> fmt::Result {
+        match self.0 {
+            ScriptEntry::Reference {
+                sync,
+                op,
+                address,
+                times,
+            } => {
+                let network = if sync { "sync" } else { "plain" };
+                let kind = op.kind;
+                let operand = op.operand;
+                write!(f, "{network} {kind} {address} {operand}")?;
+                if times == 1 {
+                    Ok(())
+                } else {
+                    write!(f, " {times}")
+                }
+            }
+            ScriptEntry::Fence => f.write_str("fence"),
+            ScriptEntry::Idle(turns) => write!(f, "idle {turns}"),
+        }
+    }
+}
+
+/// The entry that the words of a text are, None where they are none: `sync KIND A V [T]`,
+/// `plain KIND A V [T]`, `fence` or `idle T`. Words are separated by spaces, tabs or CRs, which may
+/// also stand at both ends. A number is 1 to 10 digits of a value up to 4,294,967,295; whether it is
+/// within a project's limits isn't looked at here.
+#[tactic(auto, using(crate::proofs::Texts::entry_read))]
+pub fn read_entry(text: &[u8]) -> Option<ScriptEntry>
+    ensures entry { result ≡ entry_of (words_of text.now) }
+    ensures inverse { (entry : ScriptEntry) → IsNumbered entry → text.now ≡ entry_text entry → result ≡ Some entry }
+{
+    read_words(text)
+}
+
+fn read_words(text: &[u8]) -> Option<ScriptEntry>
+    ensures { result ≡ entry_of (words_of text.now) }
+{
+    let (word, rest) = split_word(text)?;
+    if word == b"sync".as_slice() {
+        read_reference(true, rest)
+    } else if word == b"plain".as_slice() {
+        read_reference(false, rest)
+    } else if word == b"fence".as_slice() {
+        read_fence(rest)
+    } else if word == b"idle".as_slice() {
+        read_idle(rest)
+    } else {
+        None
+    }
+}
+
+fn read_reference(sync: bool, text: &[u8]) -> Option<ScriptEntry>
+    ensures { result ≡ reference_of sync (words_of text.now) }
+{
+    let (kind, rest) = split_word(text)?;
+    let (address, rest) = split_word(rest)?;
+    let (operand, rest) = split_word(rest)?;
+    let kind = kind_of(kind)?;
+    let address = number(address)?;
+    let operand = number(operand)?;
+    let times = read_times(rest)?;
+    Some(ScriptEntry::Reference {
+        sync,
+        op: Op { kind, operand },
+        address,
+        times,
+    })
+}
+
+fn read_times(text: &[u8]) -> Option<u32>
+    ensures { result ≡ times_of (words_of text.now) }
+{
+    let Some((times, rest)) = split_word(text) else {
+        return Some(1);
+    };
+    if split_word(rest).is_some() {
+        return None;
+    }
+    number(times)
+}
+
+fn read_fence(text: &[u8]) -> Option<ScriptEntry>
+    ensures { result ≡ fence_of (words_of text.now) }
+{
+    match split_word(text) {
+        None => Some(ScriptEntry::Fence),
+        Some(_) => None,
+    }
+}
+
+fn read_idle(text: &[u8]) -> Option<ScriptEntry>
+    ensures { result ≡ idle_of (words_of text.now) }
+{
+    let (turns, rest) = split_word(text)?;
+    if split_word(rest).is_some() {
+        return None;
+    }
+    Some(ScriptEntry::Idle(number(turns)?))
+}
+
+fn has_name(kind: Kind, word: &[u8]) -> bool
+    ensures { result ≡ bytes_eq (kind_name kind) word.now }
+{
+    kind.name().as_bytes() == word
+}
+
+fn kind_of(word: &[u8]) -> Option<Kind>
+    ensures { result ≡ kind_named word.now }
+{
+    Kind::ALL
+        .iter()
+        .find(|kind| has_name(**kind, word))
+        .copied()
+}

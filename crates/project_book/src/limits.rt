@@ -1,0 +1,29 @@
+//! The limits of a project, beside those of its page map.
+
+/// The last cycle that a horizon may name.
+pub const MAX_HORIZON: u32 = 1_000;
+
+/// How many entries a script may have.
+pub const SCRIPT_ENTRIES: u32 = 256;
+
+/// How often a reference may be issued, and how long an idle may last, each from 1 on.
+pub const MAX_TIMES: u32 = 1_000;
+
+/// How many references of a processor may be unanswered at once, from 1 on.
+pub const MAX_WINDOW: u32 = 8;
+
+/// How many places a queue has at least.
+pub const MIN_DEPTH: u32 = 2;
+
+/// How many places a reverse queue of a combining switch has at least: one step can bring four
+/// replies, since each of two may be split in two.
+pub const MIN_COMB_REVERSE: u32 = 4;
+
+/// How many places a wait buffer has at least.
+pub const MIN_WAIT: u32 = 1;
+
+/// How many places a queue or a wait buffer has at most.
+pub const MAX_DEPTH: u32 = 16;
+
+/// How many edits a bench accepts.
+pub const MAX_EDITS: u32 = 65_535;

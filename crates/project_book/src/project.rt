@@ -1,0 +1,231 @@
+//! A project: a machine's settings, its scripts and its first words.
+ghost use Rattle.std.specs.Prelude.{◌≡◌, ℕ, ◌<◌, ◌≤◌, ◌^◌, ◌&&◌, nat_le, nat_lt, true, false, IfOk, IfSome, IfNone, if◌then◌else◌, Some, None};
+ghost use Rattle.page_map.specs.declared.map.TheConstants.{ADDRESSES, MAX_K};
+ghost use Rattle.project_book.specs.Queues.{is_depth, is_wait};
+ghost use Rattle.project_book.specs.Scripts.{IsEntry};
+ghost use Rattle.project_book.specs.FirstWords.{IsListing};
+
+use crate::depths::QueueDepths;
+use crate::edit::Depths;
+use crate::limits::{MAX_HORIZON, SCRIPT_ENTRIES};
+use crate::scripts::Scripts;
+use crate::words::{FirstWord, FirstWords};
+use grid_law::NoMemory;
+use omega_net::ScriptEntry;
+use page_map::{ADDRESSES, MAX_K, PageMap, Place};
+use std::alloc::Global;
+use std::marker::Model;
+use std::sync::Arc;
+
+const STAGES: usize = MAX_K as usize;
+
+/// A machine's settings, its scripts and its first words, each within its limits. An edited copy
+/// shares with its origin what the edit leaves alone.
+#[derive(Drop)]
+pub struct Project {
+    pub(crate) k: u32,
+    pub(crate) horizon: u32,
+    pub(crate) window: u32,
+    pub(crate) depths: QueueDepths,
+    pub(crate) wait: u32,
+    pub(crate) combine: [bool; STAGES],
+    pub(crate) pages: PageMap,
+    pub(crate) words: Arc<FirstWords>,
+    pub(crate) scripts: Arc<Scripts>,
+    pub(crate) alloc: Global,
+}
+
+impl Model for Project {
+    ghost use Rattle.std.specs.Arc.{arc_value};
+    ghost use Rattle.project_book.specs.Project.{Project as Settings, IsProject};
+
+    ghost Value = { Settings };
+
+    ghost view = { λ p. record { k = p.k; horizon = p.horizon; window = p.window; depths = p.depths; wait = p.wait; combine = p.combine; pages = p.pages; words = arc_value p.words; scripts = arc_value p.scripts } };
+
+    ghost invariant = { λ p. IsProject (record { k = p.k; horizon = p.horizon; window = p.window; depths = p.depths; wait = p.wait; combine = p.combine; pages = p.pages; words = arc_value p.words; scripts = arc_value p.scripts }) };
+}
+
+impl Project {
+    ghost use Rattle.project_book.specs.Project.{blank, entry_at, length_at, word_of, place_in, depth_of, combines_at, is_window};
+
+    /// The project of this size that says nothing else: window 1, no combining, every depth 4 but 8
+    /// in the reverse queues of combining switches, every page spread over all modules, first words
+    /// of 0, and no script entries. None exactly where k is above 5 or the horizon above 1,000.
+    pub fn new(alloc: Global, k: u32, horizon: u32) -> Result<Option<Project>, NoMemory>
+        ensures refused { (nat_le k MAX_K && nat_le horizon MAX_HORIZON) ≡ false → result ≡ Ok None }
+        ensures made { IfOk result (λ o. o ≡ (if nat_le k MAX_K && nat_le horizon MAX_HORIZON then Some (blank k horizon) else None)) }
+    {
+        if k > MAX_K || horizon > MAX_HORIZON {
+            return Ok(None);
+        }
+        Ok(Some(Project::blank(alloc, k, horizon)?))
+    }
+
+    /// The project with one processor, one module and the horizon 8 that says nothing else.
+    pub fn built_in(alloc: Global) -> Result<Project, NoMemory>
+        ensures { IfOk result (λ p. p ≡ blank 0 8) }
+    {
+        Project::blank(alloc, 0, 8)
+    }
+
+    fn blank(alloc: Global, k: u32, horizon: u32) -> Result<Project, NoMemory>
+        requires small { k ≤ MAX_K }
+        requires short { horizon ≤ MAX_HORIZON }
+        ensures { IfOk result (λ p. p ≡ blank k horizon) }
+    {
+        let words = Arc::new(alloc, FirstWords::new(alloc))?;
+        let scripts = Arc::new(alloc, Scripts::new(alloc, 1 << k)?)?;
+        Ok(Project {
+            k,
+            horizon,
+            window: 1,
+            depths: QueueDepths {
+                low_forward: 4,
+                low_reverse: 4,
+                comb_forward: 4,
+                comb_reverse: 8,
+                module_queue: 4,
+            },
+            wait: 4,
+            combine: [false; STAGES],
+            pages: PageMap::new(k),
+            words,
+            scripts,
+            alloc,
+        })
+    }
+
+    /// An equal project. Takes two more owners of what both share, and no other memory.
+    pub fn share(&self) -> Result<Project, NoMemory>
+        ensures { IfOk result (λ p. p ≡ self.now) }
+    {
+        let words = Arc::try_clone(&self.words)?;
+        let scripts = Arc::try_clone(&self.scripts)?;
+        Ok(Project {
+            k: self.k,
+            horizon: self.horizon,
+            window: self.window,
+            depths: self.depths,
+            wait: self.wait,
+            combine: self.combine,
+            pages: self.pages,
+            words,
+            scripts,
+            alloc: self.alloc,
+        })
+    }
+
+    /// There are 2^k processors and as many modules; k is at most 5.
+    pub fn k(&self) -> u32
+        ensures k { result ≡ self.now.k }
+        ensures small { result ≤ MAX_K }
+    {
+        self.k
+    }
+
+    /// How many processors there are, 1 to 32.
+    pub fn processors(&self) -> u32
+        ensures { result ≡ 2 ^ self.now.k }
+    {
+        1 << self.k
+    }
+
+    /// The last cycle, at most 1,000.
+    pub fn horizon(&self) -> u32
+        ensures horizon { result ≡ self.now.horizon }
+        ensures short { result ≤ MAX_HORIZON }
+    {
+        self.horizon
+    }
+
+    /// How many references of a processor may be unanswered at once, 1 to 8.
+    pub fn window(&self) -> u32
+        ensures window { result ≡ self.now.window }
+        ensures within { is_window result ≡ true }
+    {
+        self.window
+    }
+
+    /// How many places some queues have, 2 to 16; 4 to 16 in reverse queues of combining switches.
+    pub fn depth(&self, queue: Depths) -> u32
+        ensures depth { result ≡ depth_of self.now queue }
+        ensures within { is_depth queue result ≡ true }
+    {
+        self.depths.depth(queue)
+    }
+
+    /// How many places a wait buffer has, 1 to 16.
+    pub fn wait(&self) -> u32
+        ensures wait { result ≡ self.now.wait }
+        ensures within { is_wait result ≡ true }
+    {
+        self.wait
+    }
+
+    /// Whether the combining switches of a stage combine; false where there is no such stage.
+    pub fn combine(&self, stage: u32) -> bool
+        ensures { result ≡ combines_at self.now stage }
+    {
+        stage < self.k && self.combine[stage as usize]
+    }
+
+    /// How the pages are spread over the modules.
+    pub fn pages(&self) -> &PageMap
+        ensures pages { result.now ≡ self.now.pages }
+        ensures mapped { result.now.k ≡ self.now.k }
+    {
+        &self.pages
+    }
+
+    /// Where an address stands; None exactly from 16,384 on.
+    pub fn place(&self, address: u32) -> Option<Place>
+        ensures place { result ≡ (if nat_lt address ADDRESSES then Some (place_in self.now address) else None) }
+        ensures within { IfSome result (λ p. (p.module < 2 ^ self.now.k) × (p.row < ADDRESSES)) }
+    {
+        self.pages.place(address)
+    }
+
+    /// The first words that aren't 0, by address upwards.
+    pub fn words(&self) -> &[FirstWord]
+        ensures words { result.now ≡ self.now.words }
+        ensures listing { IsListing self.now.words }
+    {
+        self.words.as_slice()
+    }
+
+    /// The first word of an address, 0 from 16,384 on. Looks through the list of words.
+    pub fn word(&self, address: u32) -> u32
+        ensures { result ≡ word_of self.now address }
+    {
+        if address < ADDRESSES {
+            self.words.word(address)
+        } else {
+            0
+        }
+    }
+
+    /// How many entries a processor's script has, at most 256; 0 where there is no such processor.
+    pub fn length(&self, proc: u32) -> u32
+        ensures length { result ≡ length_at self.now proc }
+        ensures few { result ≤ SCRIPT_ENTRIES }
+    {
+        if proc < self.processors() {
+            self.scripts.script(proc).length()
+        } else {
+            0
+        }
+    }
+
+    /// The entry of a processor's script; None exactly where there is no such processor or entry.
+    pub fn entry(&self, proc: u32, index: u32) -> Option<ScriptEntry>
+        ensures entry { result ≡ entry_at self.now proc index }
+        ensures within { IfSome result IsEntry }
+    {
+        if proc < self.processors() && index < SCRIPT_ENTRIES {
+            self.scripts.script(proc).entry(index)
+        } else {
+            None
+        }
+    }
+}

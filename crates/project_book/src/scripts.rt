@@ -1,0 +1,147 @@
+//! The processors' scripts.
+ghost use Rattle.std.specs.Prelude.{◌≡◌, ◌≢◌, ◌<◌, ◌≤◌, IfOk, IfSome, [], map, length, take, slice_get, slice_set, replicate};
+ghost use Rattle.std.specs.Arc.{arc_value};
+ghost use Rattle.project_book.specs.Scripts.{put_entry, script_of, IsEntry};
+
+use crate::limits::SCRIPT_ENTRIES;
+use grid_law::NoMemory;
+use omega_net::ScriptEntry;
+use std::alloc::Global;
+use std::marker::Model;
+use std::sync::Arc;
+
+/// A processor's script: at most 256 entries, each within the limits.
+#[derive(Drop)]
+pub struct Script {
+    entries: Vec<ScriptEntry>,
+}
+
+impl Model for Script {
+    ghost use Rattle.std.specs.Prelude.{List};
+    ghost use Rattle.omega_net.specs.declared.script.ScriptEntry.{ScriptEntry as Line};
+
+    ghost Value = { List Line };
+
+    ghost use Rattle.project_book.specs.Scripts.{IsScript};
+
+    ghost view = { λ s. s.entries.items };
+
+    ghost invariant = { λ s. IsScript s.entries.items };
+}
+
+/// The scripts by processor. Those that an edit leaves alone are shared with its copy.
+#[derive(Drop)]
+pub struct Scripts {
+    scripts: Vec<Arc<Script>>,
+}
+
+impl Model for Scripts {
+    ghost use Rattle.std.specs.Prelude.{List, map};
+    ghost use Rattle.std.specs.Arc.{arc_value};
+    ghost use Rattle.omega_net.specs.declared.script.ScriptEntry.{ScriptEntry as Line};
+
+    ghost Value = { List (List Line) };
+
+    ghost view = { λ s. map arc_value s.scripts.items };
+}
+
+impl Script {
+    /// No entries. Takes no memory.
+    pub fn new(alloc: Global) -> Script
+        ensures { result ≡ [] }
+    {
+        Script {
+            entries: Vec::new(alloc),
+        }
+    }
+
+    /// How many entries there are.
+    pub fn length(&self) -> u32
+        ensures length { result ≡ length self.now }
+        ensures few { result ≤ SCRIPT_ENTRIES }
+    {
+        self.entries.len() as u32
+    }
+
+    /// The entry at an index, None exactly from the length on.
+    pub fn entry(&self, index: u32) -> Option<ScriptEntry>
+        ensures entry { result ≡ slice_get self.now index }
+        ensures within { IfSome result IsEntry }
+    {
+        self.entries.get(index as usize).copied()
+    }
+
+    /// The script with this entry at an index, which is within it or at its end. Copies the script.
+    pub fn with_entry(
+        &self,
+        alloc: Global,
+        index: u32,
+        entry: ScriptEntry,
+    ) -> Result<Script, NoMemory>
+        requires there { index ≤ length self.now }
+        requires room { index ≡ length self.now → index ≢ SCRIPT_ENTRIES }
+        requires entry { IsEntry entry }
+        ensures { IfOk result (λ s. s ≡ put_entry self.now index entry) }
+    {
+        let index = index as usize;
+        let mut entries = Vec::with_capacity(alloc, self.entries.len() + 1)?;
+        entries.extend_from_slice(&self.entries[..index])?;
+        entries.push(entry)?;
+        if index < self.entries.len() {
+            entries.extend_from_slice(&self.entries[index + 1..])?;
+        }
+        Ok(Script { entries })
+    }
+
+    /// The first entries of the script. Copies them.
+    pub fn cut(&self, alloc: Global, count: u32) -> Result<Script, NoMemory>
+        requires { count ≤ length self.now }
+        ensures { IfOk result (λ s. s ≡ take count self.now) }
+    {
+        let entries = Vec::from_slice(alloc, &self.entries[..count as usize])?;
+        Ok(Script { entries })
+    }
+}
+
+impl Scripts {
+    /// As many scripts with no entries.
+    pub fn new(alloc: Global, count: u32) -> Result<Scripts, NoMemory>
+        ensures { IfOk result (λ s. s ≡ replicate count []) }
+    {
+        let empty = Arc::new(alloc, Script::new(alloc))?;
+        let mut scripts = Vec::with_capacity(alloc, count as usize)?;
+        for _ in 0..count {
+            scripts.push(Arc::try_clone(&empty)?)?;
+        }
+        Ok(Scripts { scripts })
+    }
+
+    /// A processor's script.
+    pub fn script(&self, proc: u32) -> &Script
+        requires { proc < length self.now }
+        ensures { result.now ≡ script_of self.now proc }
+    {
+        &self.scripts[proc as usize]
+    }
+
+    /// The scripts where a processor's is another one. Takes another owner of each that stays.
+    pub fn with_script(&self, alloc: Global, proc: u32, script: Script) -> Result<Scripts, NoMemory>
+        requires { proc < length self.now }
+        ensures { IfOk result (λ s. s ≡ slice_set self.now proc script) }
+    {
+        let script = Arc::new(alloc, script)?;
+        let mut scripts = share_each(alloc, &self.scripts)?;
+        scripts[proc as usize] = script;
+        Ok(Scripts { scripts })
+    }
+}
+
+fn share_each(alloc: Global, scripts: &[Arc<Script>]) -> Result<Vec<Arc<Script>>, NoMemory>
+    ensures { IfOk result (λ v. map arc_value v.items ≡ map arc_value scripts.now) }
+{
+    let mut shared = Vec::with_capacity(alloc, scripts.len())?;
+    for script in scripts {
+        shared.push(Arc::try_clone(script)?)?;
+    }
+    Ok(shared)
+}
