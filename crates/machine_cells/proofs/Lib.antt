@@ -1,0 +1,10 @@
+pub mod Examples
+pub mod Lookups
+pub mod Parts
+pub mod Runs
+pub mod Views
+pub mod Heads
+pub mod FirstListings
+pub mod Putting
+pub mod Agreeing
+pub mod Rows

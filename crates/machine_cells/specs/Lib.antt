@@ -1,0 +1,14 @@
+pub mod Moves
+pub mod Cycle
+pub mod Run
+pub mod Putting
+pub mod Cells
+pub mod Reads
+pub mod EndLaws
+pub mod TrafficLaws
+pub mod ReadLaws
+pub mod StartLaws
+pub mod GridRules
+pub mod GridLaws
+pub mod Runs
+pub mod Texts

@@ -1,0 +1,139 @@
+//! The machine as a grid of cells.
+ghost use Rattle.std.specs.Prelude.{◌≡◌, ◌<◌, ◌↔◌, IsTrue, IfOk, IfSome, Some, map, []};
+ghost use Rattle.std.specs.Arc.{arc_value};
+ghost use Rattle.omega_net.specs.Numbers.{components, component_of, number_of, Exists};
+ghost use Rattle.grid_law.specs.Rules.{Agrees};
+ghost use Rattle.machine_cells.specs.GridRules.{rp3_rules, first_state, next_state};
+ghost use Rattle.machine_cells.specs.Reads.{reads, SameStart};
+ghost use Rattle.machine_cells.specs.Cells.{pulled};
+
+use crate::MachineState;
+use crate::agree::{agree_later, same_memory};
+use crate::near::{NearState, state_at};
+use crate::reads::{later_reads, start_reads};
+use crate::start::start_of;
+use crate::step::pulled;
+use arrayvec::ArrayVec;
+use grid_law::{Grid, NoMemory};
+use omega_net::{Component, Shape};
+use project_book::{Project, Slot};
+use std::alloc::Global;
+use std::sync::Arc;
+
+/// The RP3-like machine: 2^k processors and as many memory modules, joined by a low-latency network
+/// and a combining one, each an omega network of k stages of two-by-two switches, for k from 0 to 5.
+///
+/// Its cells are its components by number: processors, modules, then the switches of the low and of
+/// the combining network. A cell reads the settings that the crate's documentation lists.
+pub struct Rp3;
+
+/// How large a project's machine is.
+pub(crate) fn shape_of(project: &Project) -> Shape
+    ensures { result ≡ project.now.k }
+{
+    Shape::new(project.k()).unwrap()
+}
+
+/// The component of a number that is below their number.
+pub(crate) fn component_at(shape: Shape, c: u32) -> Component
+    requires { c < components shape }
+    ensures is { component_of shape c ≡ Some result }
+    ensures there { Exists shape result }
+    ensures number { number_of shape result ≡ c }
+{
+    shape.component(c).unwrap()
+}
+
+/// A component's state after these near states, its own first; its first state where there are none.
+pub(crate) fn next_state<S: NearState>(
+    alloc: Global,
+    project: &Project,
+    near: &[S],
+    c: u32,
+) -> Result<MachineState, NoMemory>
+    requires { c < components project.now.k }
+    ensures { IfOk result (λ s. s ≡ next_state project.now (map S.state near.now) c) }
+{
+    let shape = shape_of(project);
+    let component = component_at(shape, c);
+    match near.first() {
+        Some(own) => pulled(alloc, project, shape, near, component, own.state()),
+        None => start_of(alloc, project, component),
+    }
+}
+
+impl Grid for Rp3 {
+    ghost use Rattle.machine_cells.specs.GridRules.{rp3_rules};
+    ghost use Rattle.machine_cells.specs.GridLaws.{rp3_laws};
+
+    type State = MachineState;
+
+    type Slots = Project;
+
+    type Slot = Slot;
+
+    ghost rules = { rp3_rules };
+
+    ghost laws = { rp3_laws };
+
+    fn components(s: &Project) -> u32 {
+        shape_of(s).components()
+    }
+
+    #[tactic(auto, using(crate::specs::GridLaws::near_is))]
+    fn near(s: &Project, c: u32) -> ArrayVec<u32, 5> {
+        let shape = shape_of(s);
+        shape.near(component_at(shape, c))
+    }
+
+    fn reads(s: &Project, near: &[Arc<MachineState>], c: u32, slot: &Slot) -> bool {
+        let component = component_at(shape_of(s), c);
+        match (slot, near.first()) {
+            (Slot::Shape, _) => true,
+            (_, Some(own)) => later_reads(s, component, own, *slot),
+            (_, None) => start_reads(component, *slot),
+        }
+    }
+
+    fn start(alloc: Global, s: &Project, c: u32) -> Result<MachineState, NoMemory> {
+        start_of(alloc, s, component_at(shape_of(s), c))
+    }
+
+    fn step(
+        alloc: Global,
+        s: &Project,
+        near: &[Arc<MachineState>],
+        c: u32,
+    ) -> Result<MachineState, NoMemory> {
+        next_state(alloc, s, near, c)
+    }
+
+    fn same(a: &MachineState, b: &MachineState) -> bool {
+        a.same(b)
+    }
+
+    fn agree(a: &Project, b: &Project, near: &[Arc<MachineState>], c: u32) -> bool {
+        if a.k() != b.k() {
+            return false;
+        }
+        let component = component_at(shape_of(a), c);
+        match state_at(near, 0) {
+            Some(own) => agree_later(a, b, component, own),
+            None => agree_start(a, b, component),
+        }
+    }
+
+    fn share(_alloc: Global, s: &Project) -> Result<Project, NoMemory> {
+        s.share()
+    }
+}
+
+/// Whether two projects agree in what a component reads at cycle 0, beside the shape.
+fn agree_start(a: &Project, b: &Project, component: Component) -> bool
+    ensures { IsTrue result ↔ SameStart a.now b.now (Some component) }
+{
+    match component {
+        Component::Module(_) => same_memory(a, b),
+        _ => true,
+    }
+}

@@ -1,0 +1,15 @@
+//! What is true of the machine's cells, of every project and every whole state.
+ghost use Rattle.machine_cells.specs.Runs.{StartsAreParts, CellsAreParts, RunsAreOne};
+
+/// A cell's first state is its part of the machine's first states, and the step of its near states
+/// is its part of the whole machine's cycle, for every whole state and not only for those that a run
+/// reaches.
+pub fn steps_are_parts()
+    ensures starts { StartsAreParts }
+    ensures steps { CellsAreParts }
+{}
+
+/// The cells of the grid, computed one from another, are the whole states of the machine's run.
+pub fn runs_are_one()
+    ensures { RunsAreOne }
+{}

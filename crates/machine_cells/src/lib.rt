@@ -1,0 +1,48 @@
+//! The cells of an RP3-like machine: each component at each cycle, computed from the cells near it.
+//!
+//! The machine has 2^k processors and as many memory modules, for k from 0 to 5, joined by a
+//! low-latency network and by one that combines requests to one word (Pfister and others 1985;
+//! Gottlieb and others 1983), each an omega network of two-by-two switches (Lawrie 1975). The crate
+//! stands on the four components (`ref_proc`, `mem_module`, `low_switch`, `comb_switch`), on the
+//! wires of `omega_net`, on the settings of `project_book`, and on the trait of `grid_law`.
+//!
+//! It promises three things, of every project and of every whole state of the types:
+//! - A component's step from its near states is its part of the machine's cycle, in which all
+//!   messages move at once ([`steps_are_parts`], `specs/Cycle.antt`).
+//! - [`Rp3`] keeps the laws of a grid: a cell's state hangs on the slots that it reads and on the
+//!   near states, and on nothing else (`specs/Reads.antt`, `specs/GridLaws.antt`).
+//! - [`from_scratch`] is the run: the first states, then one cycle after another (`specs/Run.antt`),
+//!   which is also what the cells of the grid are, computed one from another ([`runs_are_one`]).
+//!
+//! What a cell reads of the project, beside its shape, which no edit changes:
+//!
+//! | Cell | Reads |
+//! |---|---|
+//! | module at cycle 0 | all first words, all pages |
+//! | processor or switch at cycle 0 | nothing |
+//! | processor later | the entry at its index, where that is below 256; where that is a reference, the window and the page of its address; where a request waits to leave, the depth of the queue that it would enter |
+//! | low switch later | the depths of its network; at the last stage, that of the modules' queues |
+//! | combining switch later | the depths of its network, that of the wait buffers, whether its stage combines; at the last stage, the depth of the modules' queues |
+//! | module later | the depth of the modules' queues; where there are switches, those of their reverse queues |
+//!
+//! The index and the request are those of the processor's state one cycle earlier.
+#![tactic(auto)]
+
+mod agree;
+mod grid;
+mod laws;
+mod near;
+mod pull;
+mod reads;
+mod scratch;
+mod start;
+mod state;
+mod step;
+#[cfg(test)]
+mod tests;
+mod text;
+
+pub use grid::Rp3;
+pub use laws::{runs_are_one, steps_are_parts};
+pub use scratch::from_scratch;
+pub use state::MachineState;

@@ -1,0 +1,159 @@
+//! What goes over a component's wires, pulled from its near states.
+ghost use Rattle.std.specs.Prelude.{◌≡◌, ◌≤◌, ◌-◌, map};
+ghost use Rattle.machine_cells.specs.Moves.{request_on, reply_on, takes_request, takes_reply};
+ghost use Rattle.machine_cells.specs.Cells.{request_pulled, reply_pulled};
+
+use crate::MachineState;
+use crate::near::{NearState, state_at};
+use omega_net::{Component, Net, Reply, Request, Shape, Wire};
+use project_book::{Depths, Project};
+
+/// The request that a component shows on a wire at its memory side.
+fn request_on(wire: Wire, state: &MachineState) -> Option<Request>
+    ensures { result ≡ request_on wire state.now }
+{
+    match state {
+        MachineState::Proc(s) => s.offer(wire.net),
+        MachineState::Module(_) => None,
+        MachineState::Low(s) => s.offer_forward(wire.output()),
+        MachineState::Comb(s) => s.offer_forward(wire.output()),
+    }
+}
+
+/// The reply that a component shows on a wire at its processor side.
+fn reply_on(shape: Shape, wire: Wire, state: &MachineState) -> Option<Reply>
+    ensures { result ≡ reply_on shape wire state.now }
+{
+    match state {
+        MachineState::Proc(_) => None,
+        MachineState::Module(s) => s.offer(wire.net),
+        MachineState::Low(s) => s.offer_reverse(shape.input(wire)),
+        MachineState::Comb(s) => s.offer_reverse(shape.input(wire)),
+    }
+}
+
+/// Whether the component at a wire's memory side takes this request from it.
+fn takes_request(
+    project: &Project,
+    shape: Shape,
+    wire: Wire,
+    request: &Request,
+    state: &MachineState,
+) -> bool
+    requires shape { shape ≡ project.now.k }
+    requires stage { wire.stage ≤ shape }
+    ensures { result ≡ takes_request project.now wire request.now state.now }
+{
+    match (shape.lower_end(wire), state) {
+        (Component::Module(_), MachineState::Module(s)) => {
+            s.ready(project.depth(Depths::ModuleQueue), wire.net)
+        }
+        (
+            Component::Switch {
+                net: Net::Low,
+                stage,
+                ..
+            },
+            MachineState::Low(s),
+        ) => {
+            let depth = project.depth(Depths::LowForward);
+            s.ready_forward(depth, stage_bit(shape, stage), shape.input(wire), request)
+        }
+        (
+            Component::Switch {
+                net: Net::Comb,
+                stage,
+                ..
+            },
+            MachineState::Comb(s),
+        ) => {
+            let depth = project.depth(Depths::CombForward);
+            s.ready_forward(depth, stage_bit(shape, stage), shape.input(wire), request)
+        }
+        _ => false,
+    }
+}
+
+/// Whether the component at a wire's processor side takes this reply from it.
+fn takes_reply(
+    project: &Project,
+    shape: Shape,
+    wire: Wire,
+    reply: &Reply,
+    state: &MachineState,
+) -> bool
+    requires { shape ≡ project.now.k }
+    ensures { result ≡ takes_reply project.now wire reply.now state.now }
+{
+    match (wire.upper_end(), state) {
+        (Component::Proc(_), MachineState::Proc(_)) => true,
+        (
+            Component::Switch {
+                net: Net::Low,
+                stage,
+                ..
+            },
+            MachineState::Low(s),
+        ) => {
+            let depth = project.depth(Depths::LowReverse);
+            s.ready_reverse(depth, stage_bit(shape, stage), wire.output(), reply)
+        }
+        (Component::Switch { net: Net::Comb, .. }, MachineState::Comb(s)) => s.ready_reverse(
+            project.depth(Depths::CombReverse),
+            wire.output(),
+        ),
+        _ => false,
+    }
+}
+
+/// The bit of a module or of a processor by which a stage decides.
+pub(crate) fn stage_bit(shape: Shape, stage: u8) -> u32
+    ensures { result ≡ shape - 1 - stage }
+{
+    shape.k().saturating_sub(1).saturating_sub(u32::from(stage))
+}
+
+/// The request that goes over a wire between the near states at these two places.
+pub(crate) fn request_pulled<S: NearState>(
+    project: &Project,
+    shape: Shape,
+    near: &[S],
+    wire: Wire,
+    upper: usize,
+    lower: usize,
+) -> Option<Request>
+    requires shape { shape ≡ project.now.k }
+    requires stage { wire.stage ≤ shape }
+    ensures { result ≡ request_pulled project.now (map S.state near.now) wire upper lower }
+{
+    let from = state_at(near, upper)?;
+    let to = state_at(near, lower)?;
+    let request = request_on(wire, from)?;
+    if takes_request(project, shape, wire, &request, to) {
+        Some(request)
+    } else {
+        None
+    }
+}
+
+/// The reply that goes over a wire between the near states at these two places.
+pub(crate) fn reply_pulled<S: NearState>(
+    project: &Project,
+    shape: Shape,
+    near: &[S],
+    wire: Wire,
+    upper: usize,
+    lower: usize,
+) -> Option<Reply>
+    requires { shape ≡ project.now.k }
+    ensures { result ≡ reply_pulled project.now (map S.state near.now) wire upper lower }
+{
+    let to = state_at(near, upper)?;
+    let from = state_at(near, lower)?;
+    let reply = reply_on(shape, wire, from)?;
+    if takes_reply(project, shape, wire, &reply, to) {
+        Some(reply)
+    } else {
+        None
+    }
+}

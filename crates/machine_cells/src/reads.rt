@@ -1,0 +1,136 @@
+//! What a cell reads of its project.
+ghost use Rattle.std.specs.Prelude.{◌≡◌, ◌<◌, map, [], ◌∷◌, Some, length};
+ghost use Rattle.std.specs.Arc.{arc_value};
+ghost use Rattle.omega_net.specs.Numbers.{Exists};
+ghost use Rattle.project_book.specs.declared.slot.Slot.TheVariants.{Depth, Wait, Combine};
+ghost use Rattle.project_book.specs.declared.edit.Depths.TheVariants.{LowForward, LowReverse, CombForward, CombReverse, ModuleQueue};
+ghost use Rattle.machine_cells.specs.Reads.{is_listed, index_reads, entry_reads, out_reads, last_reads, back_reads, later_reads, start_reads};
+
+use crate::MachineState;
+use omega_net::{Component, Net, ScriptEntry};
+use page_map::{ADDRESSES, PAGE_WORDS, PAGES};
+use project_book::{Depths, Project, SCRIPT_ENTRIES, Slot};
+use ref_proc::{Outgoing, ProcState};
+
+/// Whether a component reads a slot at cycle 0, beside the shape: a module all first words and pages.
+pub(crate) fn start_reads(component: Component, slot: Slot) -> bool
+    ensures { result ≡ start_reads (Some component) slot }
+{
+    match (component, slot) {
+        (Component::Module(_), Slot::Word(address)) => address < ADDRESSES,
+        (Component::Module(_), Slot::Page(page)) => page < PAGES,
+        _ => false,
+    }
+}
+
+/// Whether a component reads a slot after cycle 0, beside the shape, where its own state one cycle
+/// earlier was this.
+pub(crate) fn later_reads(
+    project: &Project,
+    component: Component,
+    own: &MachineState,
+    slot: Slot,
+) -> bool
+    ensures { result ≡ is_listed (later_reads project.now (Some component) own.now) slot }
+{
+    match (component, own) {
+        (Component::Proc(proc), MachineState::Proc(s)) => proc_reads(project, proc, s, slot),
+        (Component::Module(_), MachineState::Module(_)) => module_reads(project.k(), slot),
+        (
+            Component::Switch {
+                net: Net::Low,
+                stage,
+                ..
+            },
+            MachineState::Low(_),
+        ) => { low_reads(project.k(), stage, slot) }
+        (
+            Component::Switch {
+                net: Net::Comb,
+                stage,
+                ..
+            },
+            MachineState::Comb(_),
+        ) => { comb_reads(project.k(), stage, slot) }
+        _ => false,
+    }
+}
+
+fn proc_reads(project: &Project, proc: u8, own: &ProcState, slot: Slot) -> bool
+    ensures { result ≡ is_listed (later_reads project.now (Some (Component.Proc proc)) (MachineState.Proc own.now)) slot }
+{
+    index_reads(proc, own.index, slot)
+        || entry_reads(project.entry(u32::from(proc), u32::from(own.index)), slot)
+        || out_reads(project.k(), &own.out, slot)
+}
+
+/// The entry at the processor's index, where there can be one.
+fn index_reads(proc: u8, index: u16, slot: Slot) -> bool
+    ensures { result ≡ is_listed (index_reads proc index) slot }
+{
+    match slot {
+        Slot::Entry(p, i) => {
+            u32::from(index) < SCRIPT_ENTRIES && p == u32::from(proc) && i == u32::from(index)
+        }
+        _ => false,
+    }
+}
+
+/// Where that is a reference, the window and the page of its address.
+fn entry_reads(entry: Option<ScriptEntry>, slot: Slot) -> bool
+    ensures { result ≡ is_listed (entry_reads entry) slot }
+{
+    match (entry, slot) {
+        (Some(ScriptEntry::Reference { .. }), Slot::Window) => true,
+        (Some(ScriptEntry::Reference { address, .. }), Slot::Page(page)) => {
+            page == address / PAGE_WORDS
+        }
+        _ => false,
+    }
+}
+
+/// Where a request waits to leave, the depth of the queue that it would enter.
+fn out_reads(k: u32, out: &Option<Outgoing>, slot: Slot) -> bool
+    ensures { result ≡ is_listed (out_reads k out.now) slot }
+{
+    match (out, slot) {
+        (Some(_), Slot::Depth(queue)) if k == 0 => queue == Depths::ModuleQueue,
+        (Some(held), Slot::Depth(queue)) => queue == Depths::forward(held.net),
+        _ => false,
+    }
+}
+
+/// The depth of the modules' queues; where there are switches, those of their reverse queues.
+fn module_reads(k: u32, slot: Slot) -> bool
+    ensures { result ≡ is_listed (Depth ModuleQueue ∷ back_reads k) slot }
+{
+    match slot {
+        Slot::Depth(Depths::ModuleQueue) => true,
+        Slot::Depth(Depths::LowReverse | Depths::CombReverse) => k > 0,
+        _ => false,
+    }
+}
+
+/// The depths of the low network; at the last stage, that of the modules' queues.
+fn low_reads(k: u32, stage: u8, slot: Slot) -> bool
+    ensures { result ≡ is_listed (Depth LowForward ∷ Depth LowReverse ∷ last_reads k stage) slot }
+{
+    match slot {
+        Slot::Depth(Depths::LowForward | Depths::LowReverse) => true,
+        Slot::Depth(Depths::ModuleQueue) => u32::from(stage) + 1 == k,
+        _ => false,
+    }
+}
+
+/// The depths of the combining network, that of the wait buffers, and whether the stage combines; at
+/// the last stage, the depth of the modules' queues.
+fn comb_reads(k: u32, stage: u8, slot: Slot) -> bool
+    ensures { result ≡ is_listed (Depth CombForward ∷ Depth CombReverse ∷ Wait ∷ Combine stage ∷ last_reads k stage) slot }
+{
+    match slot {
+        Slot::Depth(Depths::CombForward | Depths::CombReverse) | Slot::Wait => true,
+        Slot::Combine(s) => s == u32::from(stage),
+        Slot::Depth(Depths::ModuleQueue) => u32::from(stage) + 1 == k,
+        _ => false,
+    }
+}

@@ -1,0 +1,61 @@
+//! A component's state at cycle 0.
+ghost use Rattle.std.specs.Prelude.{◌≡◌, IfOk, Some, [], true, false, ◌<◌};
+ghost use Rattle.page_map.specs.declared.map.TheConstants.{ADDRESSES};
+ghost use Rattle.mem_module.specs.Memory.{with_word};
+ghost use Rattle.machine_cells.specs.Run.{start_of, stands_in, words_in};
+ghost use Rattle.machine_cells.specs.Putting.{put_each, put_first};
+
+use crate::MachineState;
+use comb_switch::CombState;
+use grid_law::NoMemory;
+use low_switch::LowState;
+use mem_module::{ModuleState, Words};
+use omega_net::{Component, Net};
+use project_book::{FirstWord, Project};
+use ref_proc::ProcState;
+use std::alloc::Global;
+
+/// The state of a component at cycle 0. Only a module takes memory, for the first words that stand in it.
+pub(crate) fn start_of(
+    alloc: Global,
+    project: &Project,
+    component: Component,
+) -> Result<MachineState, NoMemory>
+    ensures { IfOk result (λ s. s ≡ start_of project.now (Some component)) }
+{
+    Ok(match component {
+        Component::Proc(_) => MachineState::Proc(ProcState::start()),
+        Component::Module(number) => {
+            let words = words_in(alloc, project, number)?;
+            MachineState::Module(ModuleState::start(alloc, words)?)
+        }
+        Component::Switch { net: Net::Low, .. } => MachineState::Low(LowState::start()),
+        Component::Switch { net: Net::Comb, .. } => MachineState::Comb(CombState::start()),
+    })
+}
+
+/// The first words that stand in a module, by row.
+fn words_in(alloc: Global, project: &Project, number: u8) -> Result<Words, NoMemory>
+    ensures { IfOk result (λ ws. ws ≡ words_in project.now number project.now.words) }
+{
+    let mut words = Words::new(alloc);
+    for first in project.words() {
+        put_first(project, number, *first, &mut words)?;
+    }
+    Ok(words)
+}
+
+/// Leaves a first word in its row, where it stands in that module.
+fn put_first(
+    project: &Project,
+    number: u8,
+    first: FirstWord,
+    words: &mut Words,
+) -> Result<(), NoMemory>
+    ensures { IfOk result (λ _. words.new ≡ put_first project.now number words.old first) }
+{
+    match project.place(first.address) {
+        Some(place) if place.module == number => words.put(place.row, first.word),
+        _ => Ok(()),
+    }
+}

@@ -1,0 +1,122 @@
+//! A worked example, and each call that takes memory.
+
+use super::*;
+use grid_law::Grid;
+use omega_net::ScriptEntry;
+use project_book::{Edit, Project};
+use std::alloc::Global;
+use std::sync::Arc;
+use std::test::Fail;
+use word_ops::{Kind, Op};
+
+/// The machine of one processor, with 20 in word 0 and the one reference `sync add 0 1`. Its request is
+/// out at cycle 1, at the module at 2 and served at 3; the reply is received at 4.
+fn one_reference(alloc: Global) -> Result<Project, Fail> {
+    let entry = ScriptEntry::Reference {
+        sync: true,
+        op: Op {
+            kind: Kind::Add,
+            operand: 1,
+        },
+        address: 0,
+        times: 1,
+    };
+    let edits = [
+        Edit::Word {
+            address: 0,
+            word: 20,
+        },
+        Edit::Entry {
+            proc: 0,
+            index: 0,
+            entry,
+        },
+    ];
+    let mut project = Project::built_in(alloc)?;
+    for edit in edits {
+        project = project.apply(edit)?.0;
+    }
+    Ok(project)
+}
+
+/// The states near a component, shared.
+fn near_states(
+    alloc: Global,
+    project: &Project,
+    row: &[Arc<MachineState>],
+    c: u32,
+) -> Result<Vec<Arc<MachineState>>, Fail> {
+    let mut near = Vec::new(alloc);
+    if c < Rp3::components(project) {
+        for number in &Rp3::near(project, c) {
+            if let Some(state) = row.get(*number as usize) {
+                near.push(Arc::try_clone(state)?)?;
+            }
+        }
+    }
+    Ok(near)
+}
+
+/// The text of a component's state at a cycle; empty where it isn't there.
+fn printed(
+    alloc: Global,
+    rows: &[Vec<MachineState>],
+    cycle: usize,
+    component: usize,
+) -> Result<String, Fail> {
+    match rows.get(cycle).and_then(|row| row.get(component)) {
+        Some(state) => Ok(format!(in alloc; "{state}")?),
+        None => Ok(String::new(alloc)),
+    }
+}
+
+#[test]
+fn one_reference_is_answered_at_cycle_4(rt: HostRuntime) -> Result<(), Fail> {
+    let alloc = rt.alloc();
+    let rows = from_scratch(alloc, &one_reference(alloc)?)?;
+    assert_eq!(rt; rows.len(), 9);
+    for (cycle, component, text) in [
+        (
+            3,
+            1,
+            "mod q0 [] q1 [] a0 [] a1 [0.0=20] turn 0 served 1 mem [0=21]",
+        ),
+        (
+            4,
+            0,
+            "proc index 1 spent 0 issued 1 pending 0 out - got - 0=20 sent 0",
+        ),
+        (
+            4,
+            1,
+            "mod q0 [] q1 [] a0 [] a1 [] turn 0 served 0 mem [0=21]",
+        ),
+    ] {
+        assert_eq!(rt; printed(alloc, &rows, cycle, component)?.as_str(), text);
+    }
+    Ok(())
+}
+
+#[test]
+fn cells_give_the_run(rt: HostRuntime) -> Result<(), Fail> {
+    let alloc = rt.alloc();
+    let project = Rp3::share(alloc, &one_reference(alloc)?)?;
+    let rows = from_scratch(alloc, &project)?;
+    let mut row = Vec::new(alloc);
+    for c in 0..Rp3::components(&project) {
+        row.push(Arc::new(alloc, Rp3::start(alloc, &project, c)?)?)?;
+    }
+    for states in &rows {
+        assert_eq!(rt; states.len(), row.len());
+        for (plain, cell) in states.iter().zip(&row) {
+            assert!(rt; Rp3::same(plain, cell));
+        }
+        let mut next = Vec::new(alloc);
+        for c in 0..Rp3::components(&project) {
+            let near = near_states(alloc, &project, &row, c)?;
+            next.push(Arc::new(alloc, Rp3::step(alloc, &project, &near, c)?)?)?;
+        }
+        row = next;
+    }
+    Ok(())
+}
