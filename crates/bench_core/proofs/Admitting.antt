@@ -1,0 +1,81 @@
+-- The verdict on an edit, by its tests in turn.
+use Rattle.std.proofs.Common.{◌≡◌, ℕ, ◌-◌, ◌^◌, ◌<◌, ◌≤◌, ◌∙◌, sym, ap, refl, arith, Bool, true, false, cond, None, Some, List, [], ◌∷◌, Result, Ok, Err}
+use Rattle.std.specs.Prelude.{nat_le, find, ◌==◌}
+use Rattle.std.proofs.lemmas.Bool.Decides.{nat_tests}
+use Rattle.project_book.specs.Project.{Project}
+use Rattle.project_book.specs.Edits.{accepts, applies, verdict}
+use Rattle.project_book.specs.declared.limits.TheConstants.{MAX_EDITS}
+use Rattle.project_book.specs.declared.edit.Edit.{Edit}
+use Rattle.project_book.specs.declared.fault.EditFault.{EditFault}
+use Rattle.project_book.specs.declared.fault.EditFault.TheVariants.{JournalFull, BadProcessor, BadEntry, ScriptFull, BadAddress, BadPage, BadInterleave, BadStage, BadDepth, BadWindow, BadTimes, BadHorizon, ClockSpent}
+use Rattle.bench_core.specs.Shown.{Shown, project_of, version_of}
+use Rattle.bench_core.specs.Edits.{admits, unless_spent}
+
+-- the faults behind JournalFull
+abbrev others : List EditFault
+others = BadProcessor ∷ BadEntry ∷ ScriptFull ∷ BadAddress ∷ BadPage ∷ BadInterleave ∷ BadStage ∷ BadDepth ∷ BadWindow ∷ BadTimes ∷ BadHorizon ∷ []
+
+by_length : Project → Edit → Bool → Result (Unit {0}) EditFault
+by_length P e full = verdict (cond full (Some JournalFull) (find (applies P 0 e) others))
+
+pub accepts_full : (P : Project) (v : ℕ) (e : Edit) → MAX_EDITS ≤ v → accepts P v e ≡ Err JournalFull
+accepts_full P v e h =
+    let t : nat_le MAX_EDITS v ≡ true = grind (arith, nat_tests) in
+    ap (λ full. verdict (cond full (Some JournalFull) (find (applies P v e) others))) t
+
+pub accepts_counted : (P : Project) (v : ℕ) (e : Edit) → v < MAX_EDITS → accepts P v e ≡ accepts P 0 e
+accepts_counted P v e h =
+    let t : nat_le MAX_EDITS v ≡ false = grind (arith, nat_tests) in
+    ap (λ full. verdict (cond full (Some JournalFull) (find (applies P v e) others))) t
+
+ok_and_err : (fault : EditFault) → verdict (Some fault) ≡ verdict None → ⊥
+ok_and_err fault h = cc
+
+-- an accepted edit finds room in the journal
+pub accepted_room : (P : Project) (v : ℕ) (e : Edit) → accepts P v e ≡ Ok tt → v < MAX_EDITS
+accepted_room P v e h = by_test (nat_le MAX_EDITS v) refl
+  where
+    by_test : (t : Bool) → nat_le MAX_EDITS v ≡ t → v < MAX_EDITS
+    by_test true t =
+        let full : MAX_EDITS ≤ v = grind (arith, nat_tests) in
+        absurd (ok_and_err JournalFull (sym (accepts_full P v e full) ∙ h))
+    by_test false t = grind (arith, nat_tests)
+
+-- the verdict on an edit of a bench
+pub admits_full : (b : Shown) (e : Edit) → MAX_EDITS ≤ version_of b → admits b e ≡ Err JournalFull
+admits_full b e h = ap (unless_spent b.table.clock) (accepts_full (project_of b) (version_of b) e h)
+
+pub admits_checked : (b : Shown) (e : Edit) (r : Result (Unit {0}) EditFault) → version_of b < MAX_EDITS → r ≡ accepts (project_of b) 0 e
+    → admits b e ≡ unless_spent b.table.clock r
+admits_checked b e r h k = ap (unless_spent b.table.clock) (accepts_counted (project_of b) (version_of b) e h ∙ sym k)
+
+pub unless_last : (clock : ℕ) → clock ≡ 2 ^ 64 - 1 → unless_spent clock (Ok tt) ≡ Err ClockSpent
+unless_last clock h =
+    let t : (clock == 2 ^ 64 - 1) ≡ true = grind (arith, nat_tests) in
+    ap (λ spent. cond spent (Err ClockSpent) (Ok tt)) t
+
+pub unless_earlier : (clock : ℕ) → (clock ≡ 2 ^ 64 - 1 → ⊥) → unless_spent clock (Ok tt) ≡ Ok tt
+unless_earlier clock h =
+    let t : (clock == 2 ^ 64 - 1) ≡ false = grind (arith, nat_tests) in
+    ap (λ spent. cond spent (Err ClockSpent) (Ok tt)) t
+
+-- what an admitted edit is known by
+pub admitted_clock : (b : Shown) (e : Edit) → admits b e ≡ Ok tt → b.table.clock ≡ 2 ^ 64 - 1 → ⊥
+admitted_clock b e h spent = by_verdict (accepts (project_of b) (version_of b) e) refl
+  where
+    by_verdict : (r : Result (Unit {0}) EditFault) → accepts (project_of b) (version_of b) e ≡ r → ⊥
+    by_verdict (Err fault) k = ok_and_err fault (sym (ap (unless_spent b.table.clock) k) ∙ h)
+    by_verdict (Ok u) k = ok_and_err ClockSpent (sym (unless_last b.table.clock spent) ∙ sym (ap (unless_spent b.table.clock) k) ∙ h)
+
+pub admitted : (b : Shown) (e : Edit) → admits b e ≡ Ok tt → accepts (project_of b) (version_of b) e ≡ Ok tt
+admitted b e h = by_verdict (accepts (project_of b) (version_of b) e) refl
+  where
+    by_verdict : (r : Result (Unit {0}) EditFault) → accepts (project_of b) (version_of b) e ≡ r → accepts (project_of b) (version_of b) e ≡ Ok tt
+    by_verdict (Err fault) k = absurd (ok_and_err fault (sym (ap (unless_spent b.table.clock) k) ∙ h))
+    by_verdict (Ok u) k = k
+
+pub admitted_room : (b : Shown) (e : Edit) → admits b e ≡ Ok tt → version_of b < MAX_EDITS
+admitted_room b e h = accepted_room (project_of b) (version_of b) e (admitted b e h)
+
+pub admitted_plainly : (b : Shown) (e : Edit) → admits b e ≡ Ok tt → accepts (project_of b) 0 e ≡ Ok tt
+admitted_plainly b e h = sym (accepts_counted (project_of b) (version_of b) e (admitted_room b e h)) ∙ admitted b e h

@@ -1,0 +1,58 @@
+-- A bench stands for its events.
+use Rattle.std.proofs.Common.{◌≡◌, ℕ, ◌∙◌, ap, subst, refl, List, [], ◌∷◌, ◌++◌, length, Result, Ok, Err}
+use Rattle.std.specs.Prelude.{OnOk}
+use Rattle.grid_law.specs.Rules.{Differ}
+use Rattle.cell_table.specs.Seen.{Seen}
+use Rattle.cell_table.specs.Touches.{IsAfterTouch}
+use Rattle.cell_table.specs.Events.{slots_of}
+use Rattle.cell_table.specs.Stands.{Stands as TableStands}
+use Rattle.cell_table.proofs.Standing.{stands_touched}
+use Rattle.machine_cells.specs.declared.state.MachineState.{MachineState}
+use Rattle.machine_cells.specs.GridRules.{rp3_rules}
+use Rattle.machine_cells.specs.GridLaws.{rp3_laws}
+use Rattle.project_book.specs.Project.{Project}
+use Rattle.project_book.specs.Slots.{Touches}
+use Rattle.project_book.specs.Edits.{accepts, edited}
+use Rattle.project_book.specs.declared.edit.Edit.{Edit}
+use Rattle.project_book.specs.declared.slot.Slot.{Slot}
+use Rattle.bench_core.specs.Shown.{Shown, project_of, version_of}
+use Rattle.bench_core.specs.Events.{Event, Edited, Claimed, Stored, Opening, version_after, project_after, on_table, table_start}
+use Rattle.bench_core.specs.Stands.{Stands}
+use Rattle.bench_core.specs.Edits.{admits, IsAfterEdit}
+use Rattle.bench_core.proofs.Admitting.{admitted}
+use Rattle.bench_core.proofs.Touching.{differ}
+
+pub stands_new : (o : Opening) (table : Seen MachineState Project) → TableStands rp3_rules (table_start o) table [] → Stands o (record { table = table; journal = [] }) []
+stands_new o table stands = record { accepted = tt; journal = refl; table = stands }
+
+-- the table's slots are the project after the events
+pub slots_are : (o : Opening) (h : List Event) → slots_of (table_start o) (on_table o h) ≡ project_after o h
+slots_are o [] = refl
+slots_are o (Edited author e listed ∷ h) = refl
+slots_are o (Claimed t c ∷ h) = slots_are o h
+slots_are o (Stored t c x changed ∷ h) = slots_are o h
+
+module _ (o : Opening) (b : Shown) (h : List Event) (stands : Stands o b h) where
+  pub project_is : project_of b ≡ project_after o h
+  project_is = stands.table.slots ∙ slots_are o h
+
+  pub version_is : version_of b ≡ version_after h
+  version_is = ap length stands.journal
+
+  -- an edit
+  pub stands_edited : (new : Shown) (author : ℕ) (e : Edit) → admits b e ≡ Ok tt → (after : IsAfterEdit b new author e) → Stands o new (Edited author e after.listed ∷ h)
+  stands_edited new author e ok after = record {
+    accepted = (
+      subst (λ v. accepts (project_after o h) v e ≡ Ok tt) version_is (subst (λ P. accepts P (version_of b) e ≡ Ok tt) project_is (admitted b e ok)),
+      subst (λ P. Touches P (edited P e) after.listed) project_is after.touches,
+      stands.accepted,
+    );
+    journal = after.journal ∙ ap (λ noted. noted ++ record { author = author; edit = e } ∷ []) stands.journal;
+    table = stands_touched rp3_rules rp3_laws (table_start o) b.table new.table (on_table o h) stands.table (edited (project_after o h) e) after.listed (edited (project_after o h) e).horizon (subst (λ P. Differ rp3_rules (project_of b) (edited P e) after.listed) project_is (differ (project_of b) (edited (project_of b) e) after.listed after.touches)) (subst (λ P. IsAfterTouch rp3_rules b.table new.table (edited P e) after.listed (edited P e).horizon) project_is after.table);
+  }
+
+-- the same, as it comes from a call
+pub edit_stands : (old new : Shown) (author : ℕ) (e : Edit) {E : Type 0} (r : Result ℕ E) → OnOk r (admits old e ≡ Ok tt) → OnOk r (IsAfterEdit old new author e)
+    → OnOk r ((listed : List Slot) × ((o : Opening) (h : List Event) → Stands o old h → Stands o new (Edited author e listed ∷ h)))
+edit_stands old new author e (Ok v) ok after = (after.listed, λ o h stands. stands_edited o old h stands new author e ok after)
+edit_stands old new author e (Err fault) ok after = tt

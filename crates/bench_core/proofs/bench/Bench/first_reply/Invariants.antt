@@ -1,0 +1,7 @@
+use Rattle.std.proofs.Common.{◌≡◌, None}
+use Rattle.run_queries.specs.Answers.{first_reply}
+use Rattle.bench_core.specs.Asks.{held}
+use Rattle.bench_core.proofs.bench.Bench.first_reply.Given as goal
+
+abbrev pub invariant-loop-cycle : goal.invariant-loop-cycle
+invariant-loop-cycle l = first_reply (λ t. held l.self.table t l.proc) l.issue l.cycle ≡ None

@@ -1,0 +1,55 @@
+-- What calls of a bench do, in the words of its events.
+use Rattle.std.specs.Prelude.{◌≡◌, ℕ, List, [], ◌∷◌, Ok}
+use Rattle.cell_table.specs.declared.given.Given.{Given}
+use Rattle.cell_table.specs.declared.given.Given.TheVariants.{Stored as GivenStored}
+use Rattle.cell_table.specs.Claims.{Claimed as ClaimOf, Computed}
+use Rattle.cell_table.specs.Events.{Event as TableEvent, Edits, Claims, Stores}
+use Rattle.cell_table.specs.Made.{Made as MadeOnTable}
+use Rattle.cell_table.specs.Answers.{AnswersMade as AnswersOnTable}
+use Rattle.cell_table.specs.Cost.{Settles as SettlesTable, SettlesFirst as SettlesTableFirst}
+use Rattle.machine_cells.specs.declared.state.MachineState.{MachineState}
+use Rattle.machine_cells.specs.GridRules.{rp3_rules}
+use Rattle.project_book.specs.Project.{Project}
+use Rattle.project_book.specs.declared.slot.Slot.{Slot}
+use Rattle.run_queries.specs.declared.query.Query.{Query}
+use Rattle.run_queries.specs.Answers.{answer}
+use Rattle.bench_core.specs.declared.asked.Asked.{Asked}
+use Rattle.bench_core.specs.declared.asked.Asked.TheVariants.{Answer}
+use Rattle.bench_core.specs.Shown.{Shown}
+use Rattle.bench_core.specs.Events.{Event, Stored, Opening, version_after, project_after, on_table, table_start}
+use Rattle.bench_core.specs.Stands.{Stands}
+
+-- a claim was made at place n: it is that of event n, and holds its cell's version, the project and the near values then
+abbrev pub Made : Opening → ClaimOf MachineState Project → List Event → ℕ → Type 0
+Made o claim h n = MadeOnTable rp3_rules (table_start o) claim (on_table o h) n
+
+-- the cases in which a result whose claim was made at place n gets each answer
+abbrev pub AnswersMade : Opening → List Event → ℕ → Computed MachineState Project → Given (Computed MachineState Project) → Type 0
+AnswersMade o h n done given = AnswersOnTable rp3_rules (table_start o) (on_table o h) n done given
+
+-- the events after a result was given: one more where it was stored
+abbrev pub after_give : Given (Computed MachineState Project) → Computed MachineState Project → List Event → List Event
+after_give (GivenStored changed) done h = Stored done.claim.cell.cycle done.claim.cell.component done.state changed ∷ h
+after_give _ done h = h
+
+-- the events after some stores
+abbrev pub after_stores : List (TableEvent MachineState Project Slot) → List Event → List Event
+after_stores [] h = h
+after_stores (Stores t c x changed ∷ done) h = Stored t c x changed ∷ after_stores done h
+after_stores (Edits next listed to ∷ done) h = after_stores done h
+after_stores (Claims t c ∷ done) h = after_stores done h
+
+-- the bench stands for h and for these stores after it, which are n, in order, and of the first cells that cost
+pub record SettlesFirst (o : Opening) (h : List Event) (b : Shown) (done : List (TableEvent MachineState Project Slot)) (n : ℕ) : Type 0 where
+  pub stands : Stands o b (after_stores done h)
+  pub table : SettlesTableFirst rp3_rules (table_start o) (on_table o h) b.table done n
+
+-- and these are all of them
+pub record Settles (o : Opening) (h : List Event) (b : Shown) (done : List (TableEvent MachineState Project Slot)) (n : ℕ) : Type 0 where
+  pub stands : Stands o b (after_stores done h)
+  pub table : SettlesTable rp3_rules (table_start o) (on_table o h) b.table done n
+
+-- an answer is that of the project after the events, at its version
+abbrev pub AnswersRun : Opening → List Event → Query → Asked → Type 0
+AnswersRun o h q (Answer version body) = (version ≡ version_after h) × (answer (project_after o h) q ≡ Ok body)
+AnswersRun o h q _ = Unit {0}

@@ -1,0 +1,17 @@
+//! What a bench answers at once.
+
+use run_queries::Body;
+
+/// What a bench answers without computing anything.
+#[derive(Drop)]
+pub enum Asked {
+    /// The answer for the project as it stands; the version is the number of accepted edits.
+    Answer { version: u32, body: Body },
+    /// So many due cells come before the answer, one at least.
+    Pending(u64),
+    /// The query has no answer: 1 no such component or processor, 2 a cycle past the horizon, 3 no such address, 4 no
+    /// such issue number.
+    BadQuery(u8),
+    /// A growth was refused.
+    Memory,
+}

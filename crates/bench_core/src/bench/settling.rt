@@ -1,0 +1,96 @@
+//! Computing due cells.
+ghost use Rattle.std.specs.Prelude.{◌≡◌, ℕ, ◌+◌, ◌-◌, ◌^◌, IfOk, IfErr, IfNone, IfSome, OnOk, List, ◌∷◌, length, Some};
+ghost use Rattle.cell_table.specs.Seen.{held_at};
+ghost use Rattle.cell_table.specs.Cells.{IsThere};
+ghost use Rattle.cell_table.specs.Claims.{NoneDue, IsNextRound, IsClaim};
+ghost use Rattle.cell_table.specs.Gives.{GivesAs};
+ghost use Rattle.cell_table.specs.Settling.{IsSettled, computed_of, IsClockSpent};
+ghost use Rattle.cell_table.specs.Events.{Event as TableEvent, Start};
+ghost use Rattle.cell_table.specs.Stands.{Stands as TableStands};
+ghost use Rattle.cell_table.specs.Cost.{Settles as SettlesTable, SettlesFirst as SettlesTableFirst};
+ghost use Rattle.machine_cells.specs.declared.state.MachineState.{MachineState as CellState};
+ghost use Rattle.machine_cells.specs.GridRules.{rp3_rules};
+ghost use Rattle.project_book.specs.Project.{Project as ProjectValue};
+ghost use Rattle.project_book.specs.declared.slot.Slot.{Slot as ReadSlot};
+ghost use Rattle.bench_core.specs.Shown.{project_of, version_of};
+ghost use Rattle.bench_core.specs.Events.{Event, Claimed, Opening};
+ghost use Rattle.bench_core.specs.Stands.{Stands};
+ghost use Rattle.bench_core.specs.Answers.{Made, AnswersMade, after_give, Settles, SettlesFirst};
+
+use super::Bench;
+use cell_table::{Cell, Claim, Done, Given, SettleFault, Settled};
+use grid_law::NoMemory;
+use machine_cells::Rp3;
+
+impl Bench {
+    fn claim_plain(&self, from: Cell) -> Result<Option<Claim<Rp3>>, NoMemory>
+        ensures none { IfOk result (λ r. IfNone r (NoneDue rp3_rules self.now.table)) }
+        ensures next { IfOk result (λ r. IfSome r (λ claim. IsNextRound rp3_rules self.now.table from.cycle from.component claim.cell)) }
+        ensures holds { IfOk result (λ r. IfSome r (IsClaim rp3_rules self.now.table)) }
+    {
+        self.table.claim(from)
+    }
+
+    /// A claim of the first cell at or after `from`, by cycle and then component, that is due and whose near cells one
+    /// cycle earlier all hold a state, wrapping round once; none exactly where no cell is due. Nothing is changed.
+    pub fn claim(&self, from: Cell) -> Result<Option<Claim<Rp3>>, NoMemory>
+        ensures none { IfOk result (λ r. IfNone r (NoneDue rp3_rules self.now.table)) }
+        ensures next { IfOk result (λ r. IfSome r (λ claim. IsNextRound rp3_rules self.now.table from.cycle from.component claim.cell)) }
+        ensures holds { IfOk result (λ r. IfSome r (IsClaim rp3_rules self.now.table)) }
+        ensures headline_claims { IfOk result (λ r. IfSome r (λ claim. (o : Opening) (h : List Event) → Stands o self.now h
+            → Stands o self.now (Claimed claim.cell.cycle claim.cell.component ∷ h)
+            × Made o claim (Claimed claim.cell.cycle claim.cell.component ∷ h) (length h))) }
+    {
+        self.claim_plain(from)
+    }
+
+    fn give_plain(&mut self, done: Done<Rp3>) -> Given<Done<Rp3>>
+        ensures gives { GivesAs rp3_rules self.old.table done result self.new.table }
+        ensures journal { self.new.journal ≡ self.old.journal }
+    {
+        self.table.give(done)
+    }
+
+    /// Stores the result of a claim where, since the claim, its cell stayed due and nothing that it read has changed.
+    /// The answer is the first of `Given` that applies, in that order; all but `Stored` change nothing. It takes no
+    /// memory.
+    pub fn give(&mut self, done: Done<Rp3>) -> Given<Done<Rp3>>
+        ensures headline_foreign { GivesAs rp3_rules self.old.table done result self.new.table }
+        ensures journal { self.new.journal ≡ self.old.journal }
+        ensures headline_stands { (o : Opening) (h : List Event) → Stands o self.old h → Stands o self.new (after_give result done h) }
+        ensures headline_gives { (o : Opening) (h : List Event) (n : ℕ) → Stands o self.old h → Made o done.claim h n
+            → AnswersMade o h n done result }
+    {
+        self.give_plain(done)
+    }
+
+    fn settle_plain(&mut self) -> Result<Settled, SettleFault>
+        ensures settles { IfOk result (λ s. (done : List (TableEvent CellState ProjectValue ReadSlot)) × ((o : Start ProjectValue) (h : List (TableEvent CellState ProjectValue ReadSlot)) → TableStands rp3_rules o self.old.table h
+            → SettlesTable rp3_rules o h self.new.table done s.computed)) }
+        ensures after_fault { IfErr result (λ f. (done : List (TableEvent CellState ProjectValue ReadSlot)) × ((o : Start ProjectValue) (h : List (TableEvent CellState ProjectValue ReadSlot)) → TableStands rp3_rules o self.old.table h
+            → SettlesTableFirst rp3_rules o h self.new.table done (computed_of f))) }
+        ensures settled { OnOk result (IsSettled rp3_rules self.new.table) }
+        ensures project { project_of self.new ≡ project_of self.old }
+        ensures journal { self.new.journal ≡ self.old.journal }
+        ensures spent { IfErr result (λ f. IsClockSpent f → self.new.table.clock ≡ 2 ^ 64 - 1) }
+    {
+        self.table.settle()
+    }
+
+    /// Computes the first due cell, by cycle and then component, until none is due. The cells stored are exactly those
+    /// that were due, or that had a near cell one cycle earlier with another state than that of the run; each is stored
+    /// once, and `computed` is their number. Afterwards every cell holds the run. After a fault the cells computed stay
+    /// stored and the rest stays due, and a further call goes on.
+    pub fn settle(&mut self) -> Result<Settled, SettleFault>
+        ensures headline_settles { IfOk result (λ s. (done : List (TableEvent CellState ProjectValue ReadSlot)) × ((o : Opening) (h : List Event) → Stands o self.old h
+            → Settles o h self.new done s.computed)) }
+        ensures after_fault { IfErr result (λ f. (done : List (TableEvent CellState ProjectValue ReadSlot)) × ((o : Opening) (h : List Event) → Stands o self.old h
+            → SettlesFirst o h self.new done (computed_of f))) }
+        ensures settled { OnOk result (IsSettled rp3_rules self.new.table) }
+        ensures project { project_of self.new ≡ project_of self.old }
+        ensures journal { self.new.journal ≡ self.old.journal }
+        ensures spent { IfErr result (λ f. IsClockSpent f → self.new.table.clock ≡ 2 ^ 64 - 1) }
+    {
+        self.settle_plain()
+    }
+}

@@ -1,0 +1,268 @@
+//! Worked examples, and one happy path of each call that takes memory.
+
+use super::*;
+use cell_table::{Cell, Claim, Done, Given, SettleFault};
+use machine_cells::Rp3;
+use omega_net::ScriptEntry;
+use page_map::Place;
+use project_book::{Edit, EditFault, Project};
+use run_queries::{Body, Query, Received};
+use std::alloc::Global;
+use std::test::Fail;
+use word_ops::{Kind, Op};
+
+/// Two processors and the horizon 10; page 0 on module 0, page 1 on module 1; word 0 is 10. Its components are the
+/// processors 0 and 1, the modules 2 and 3, the low switch 4 and the combining switch 5: 66 cells.
+fn base(alloc: Global) -> Result<Project, Fail> {
+    let mut project = Project::new(alloc, 1, 10)?.ok_or("within the limits")?;
+    for edit in [
+        Edit::Page {
+            page: 0,
+            amount: 0,
+            base: 0,
+        },
+        Edit::Page {
+            page: 1,
+            amount: 0,
+            base: 1,
+        },
+        word(0, 10),
+    ] {
+        project = project.apply(edit)?.0;
+    }
+    Ok(project)
+}
+
+fn fresh(alloc: Global, clock: u64) -> Result<Bench, Fail> {
+    Ok(
+        Bench::new(alloc, base(alloc)?, clock)
+            .ok()
+            .ok_or("no memory")?,
+    )
+}
+
+fn settled(alloc: Global) -> Result<Bench, Fail> {
+    let mut bench = fresh(alloc, 0)?;
+    bench.settle().ok().ok_or("not settled")?;
+    Ok(bench)
+}
+
+fn word(address: u32, word: u32) -> Edit {
+    Edit::Word { address, word }
+}
+
+fn add(proc: u32, operand: u32) -> Edit {
+    let op = Op {
+        kind: Kind::Add,
+        operand,
+    };
+    Edit::Entry {
+        proc,
+        index: 0,
+        entry: ScriptEntry::Reference {
+            sync: true,
+            op,
+            address: 0,
+            times: 1,
+        },
+    }
+}
+
+fn pending(asked: Asked) -> Option<u64> {
+    match asked {
+        Asked::Pending(due) => Some(due),
+        _ => None,
+    }
+}
+
+fn bad(asked: Asked) -> Option<u8> {
+    match asked {
+        Asked::BadQuery(number) => Some(number),
+        _ => None,
+    }
+}
+
+fn answer(asked: Asked) -> Result<(u32, Body), Fail> {
+    match asked {
+        Asked::Answer { version, body } => Ok((version, body)),
+        _ => Err(Fail::from("no answer")),
+    }
+}
+
+fn reply(bench: &mut Bench, proc: u32) -> Result<Option<Received>, Fail> {
+    match answer(bench.ask(Query::Reply { proc, issue: 0 }))?.1 {
+        Body::Reply(received) => Ok(received),
+        _ => Err(Fail::from("another body")),
+    }
+}
+
+fn memory(bench: &mut Bench, cycle: u32) -> Result<u32, Fail> {
+    match answer(bench.ask(Query::Memory { address: 0, cycle }))?.1 {
+        Body::Word(word) => Ok(word),
+        _ => Err(Fail::from("another body")),
+    }
+}
+
+// A processor's near cells are its own and those of the two switches, so its cone at cycle 1 has four cells.
+#[test]
+fn a_fresh_bench(rt: HostRuntime) -> Result<(), Fail> {
+    let mut bench = fresh(rt.alloc(), 0)?;
+    for (query, due) in [
+        (
+            Query::State {
+                component: 0,
+                cycle: 0,
+            },
+            1,
+        ),
+        (
+            Query::State {
+                component: 0,
+                cycle: 1,
+            },
+            4,
+        ),
+        (Query::Reply { proc: 0, issue: 0 }, 66),
+    ] {
+        assert_eq!(rt; pending(bench.ask(query)), Some(due), "{query:?}");
+    }
+    match answer(bench.ask(Query::Place { address: 300 }))?.1 {
+        Body::Place(place) => assert_eq!(rt;
+            place,
+            Place {
+                module: 1,
+                row: 300
+            }
+        ),
+        _ => return Err(Fail::from("another body")),
+    }
+    Ok(())
+}
+
+#[test]
+fn a_settled_bench(rt: HostRuntime) -> Result<(), Fail> {
+    let mut bench = fresh(rt.alloc(), 0)?;
+    assert_eq!(rt; bench.settle().ok().map(|s| s.computed), Some(66));
+    for (query, number) in [
+        (
+            Query::State {
+                component: 6,
+                cycle: 0,
+            },
+            1,
+        ),
+        (
+            Query::State {
+                component: 0,
+                cycle: 11,
+            },
+            2,
+        ),
+        (
+            Query::Memory {
+                address: 16_384,
+                cycle: 0,
+            },
+            3,
+        ),
+        (Query::Reply { proc: 2, issue: 0 }, 1),
+        // no script, so nothing was issued
+        (Query::Reply { proc: 0, issue: 0 }, 4),
+    ] {
+        assert_eq!(rt; bad(bench.ask(query)), Some(number), "{query:?}");
+    }
+    let query = Query::State {
+        component: 0,
+        cycle: 10,
+    };
+    match answer(bench.ask(query))? {
+        (0, Body::State(state)) => assert!(rt; !run_queries::has_sent(Some(state.state()))),
+        _ => return Err(Fail::from("another body")),
+    }
+    Ok(())
+}
+
+// Without contention a reply comes at cycle 4 + 2k, which is 6, with the old word; the new word stands from the cycle
+// after the one in which it was served, 3 + k. Of two the second is served one cycle later.
+#[test]
+fn answers_after_edits(rt: HostRuntime) -> Result<(), Fail> {
+    let mut bench = settled(rt.alloc())?;
+    assert_eq!(rt; bench.edit(7, add(0, 1)), Ok(1));
+    bench.settle().ok().ok_or("not settled")?;
+    let first = Received { cycle: 6, word: 10 };
+    assert_eq!(rt; reply(&mut bench, 0)?, Some(first));
+    assert_eq!(rt; (memory(&mut bench, 3)?, memory(&mut bench, 4)?), (10, 11));
+    assert_eq!(rt; bench.edit(8, add(1, 2)), Ok(2));
+    bench.settle().ok().ok_or("not settled")?;
+    let second = Received { cycle: 7, word: 11 };
+    assert_eq!(rt; reply(&mut bench, 1)?, Some(second));
+    assert_eq!(rt; memory(&mut bench, 10)?, 13);
+    let noted = [
+        Noted {
+            author: 7,
+            edit: add(0, 1),
+        },
+        Noted {
+            author: 8,
+            edit: add(1, 2),
+        },
+    ];
+    assert_eq!(rt; bench.journal(), noted.as_slice());
+    assert_eq!(rt; (bench.version(), bench.project().length(1)), (2, 1));
+    Ok(())
+}
+
+// Both modules read every first word at cycle 0, which makes 2 cells. Address 300 stands in module 1, whose state then
+// differs at each cycle, so at the cycles 1 to 10 it is computed again, and the two switches beside it: 2 + 10 * 3.
+#[test]
+fn settles_what_an_edit_reaches(rt: HostRuntime) -> Result<(), Fail> {
+    let mut bench = settled(rt.alloc())?;
+    assert_eq!(rt; bench.edit(0, word(300, 5)), Ok(1));
+    assert_eq!(rt; bench.settle().ok().map(|s| s.computed), Some(32));
+    let clock = bench.clock();
+    assert_eq!(rt; bench.edit(0, word(300, 5)), Ok(2));
+    assert_eq!(rt; bench.settle().ok().map(|s| s.computed), Some(0));
+    assert_eq!(rt; bench.clock(), clock.saturating_add(1));
+    Ok(())
+}
+
+fn claimed(bench: &Bench) -> Result<Done<Rp3>, Fail> {
+    let from = Cell {
+        cycle: 0,
+        component: 0,
+    };
+    let claim: Claim<Rp3> = bench.claim(from)?.ok_or("nothing due")?;
+    Ok(claim.compute().ok().ok_or("no memory")?)
+}
+
+// Two claims of one cell: the first result is stored, and then the cell isn't due.
+#[test]
+fn two_claims_of_a_cell(rt: HostRuntime) -> Result<(), Fail> {
+    let mut bench = fresh(rt.alloc(), 0)?;
+    let first = claimed(&bench)?;
+    let second = claimed(&bench)?;
+    assert!(rt; matches!(&bench.give(first), Given::Stored { changed: true }));
+    assert!(rt; matches!(&bench.give(second), Given::NotDue));
+    Ok(())
+}
+
+#[test]
+fn a_spent_clock(rt: HostRuntime) -> Result<(), Fail> {
+    let mut bench = fresh(rt.alloc(), u64::MAX)?;
+    let fence = Edit::Entry {
+        proc: 2,
+        index: 0,
+        entry: ScriptEntry::Fence,
+    };
+    assert_eq!(rt; bench.edit(0, fence), Err(EditFault::BadProcessor));
+    assert_eq!(rt; bench.edit(0, word(0, 10)), Err(EditFault::ClockSpent));
+    let done = claimed(&bench)?;
+    assert!(rt; matches!(&bench.give(done), Given::ClockSpent(_)));
+    assert!(rt;
+        matches!(
+            &bench.settle(),
+            Err(SettleFault::ClockSpent { computed: 0 })
+        )
+    );
+    Ok(())
+}

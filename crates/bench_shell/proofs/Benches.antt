@@ -1,0 +1,108 @@
+-- What a bench does is what a desk is to do.
+use Rattle.std.proofs.Common.{◌≡◌, ℕ, zero, suc, ◌+◌, ◌^◌, ◌-◌, Bool, true, false, cond, List, [], ◌∷◌, ◌++◌, length, refl, sym, ◌∙◌, ap, length-append}
+use Rattle.std.specs.Prelude.{◌==◌, Option, Some, None, Result, Ok, Err, IfOk, OnOk, OnErr, IsOkUnless}
+use Rattle.project_book.specs.Project.{Project}
+use Rattle.project_book.specs.Edits.{accepts, edited}
+use Rattle.project_book.specs.declared.edit.Edit.{Edit}
+use Rattle.project_book.specs.declared.fault.EditFault.{EditFault}
+use Rattle.project_book.specs.declared.fault.EditFault.TheVariants.{JournalFull, BadProcessor, BadEntry, ScriptFull, BadAddress, BadPage, BadInterleave, BadStage, BadDepth, BadWindow, BadTimes, BadHorizon, ClockSpent, Memory}
+use Rattle.run_queries.specs.declared.query.Query.{Query}
+use Rattle.run_queries.specs.declared.body.Body.{Body}
+use Rattle.run_queries.specs.Answers.{answer, bad_query, unless}
+use Rattle.bench_core.specs.declared.noted.Noted.{Noted}
+use Rattle.bench_core.specs.declared.asked.Asked.{Asked}
+use Rattle.bench_core.specs.declared.asked.Asked.TheVariants as asked
+use Rattle.bench_core.specs.Shown.{Shown, project_of, version_of}
+use Rattle.bench_core.specs.Edits.{admits, unless_spent}
+use Rattle.bench_core.specs.Asks.{asked as asked_of, asked_unless, told_unless, told, pending}
+use Rattle.bench_shell.specs.Store.{Store, store_of, edited_store, Refuses, EditGives}
+
+refuses : (s : Store) (e : Edit) (f : EditFault) → accepts s.project s.version e ≡ Err f → Refuses s e f
+refuses s e JournalFull h = h
+refuses s e BadProcessor h = h
+refuses s e BadEntry h = h
+refuses s e ScriptFull h = h
+refuses s e BadAddress h = h
+refuses s e BadPage h = h
+refuses s e BadInterleave h = h
+refuses s e BadStage h = h
+refuses s e BadDepth h = h
+refuses s e BadWindow h = h
+refuses s e BadTimes h = h
+refuses s e BadHorizon h = h
+refuses s e ClockSpent h = tt
+refuses s e Memory h = tt
+
+-- a refusal by the first fault that applies
+refused_by : (s t : Store) (e : Edit) (f : EditFault) (r : Result ℕ EditFault) → accepts s.project s.version e ≡ Err f → r ≡ Err f → OnErr r (t ≡ s) → EditGives s e r t
+refused_by s t e f (Ok v) is r_is err = cc
+refused_by s t e f (Err g) is r_is err =
+    let same : g ≡ f = cc in
+    (refuses s e g (rw same is), err)
+
+-- a refusal by the clock
+spent_by : (s t : Store) (e : Edit) (r : Result ℕ EditFault) → r ≡ Err ClockSpent → OnErr r (t ≡ s) → EditGives s e r t
+spent_by s t e (Ok v) r_is err = cc
+spent_by s t e (Err ClockSpent) r_is err = (tt, err)
+spent_by s t e (Err g) r_is err = cc
+
+-- an accepted edit
+accepted_by : (s t : Store) (e : Edit) (r : Result ℕ EditFault) → accepts s.project s.version e ≡ Ok tt → IsOkUnless r Memory
+    → IfOk r (λ v. v ≡ s.version + 1) → OnOk r (t ≡ edited_store s e) → OnErr r (t ≡ s) → EditGives s e r t
+accepted_by s t e (Ok v) is unless version after err = (is, after, version)
+accepted_by s t e (Err Memory) is unless version after err = (tt, err)
+accepted_by s t e (Err g) is unless version after err = cc
+
+-- the store after a noted edit
+noted : (b b' : Shown) (e : Edit) (author : ℕ) (r : Result ℕ EditFault)
+    → OnOk r (b'.journal ≡ b.journal ++ record { author = author; edit = e } ∷ []) → OnOk r (project_of b' ≡ edited (project_of b) e)
+    → OnOk r (store_of b' ≡ edited_store (store_of b) e)
+noted b b' e author (Ok v) journal project =
+    let n : length b'.journal ≡ length b.journal + 1 = ap length journal ∙ length-append b.journal (record { author = author; edit = e } ∷ []) in
+    rw (project, n) refl
+noted b b' e author (Err f) journal project = tt
+
+kept : (b b' : Shown) (r : Result ℕ EditFault) → OnErr r (b' ≡ b) → OnErr r (store_of b' ≡ store_of b)
+kept b b' (Ok v) h = tt
+kept b b' (Err f) h = ap store_of h
+
+edit_by : (b b' : Shown) (e : Edit) (r : Result ℕ EditFault) (verdict : Result (Unit {0}) EditFault) (spent : Bool)
+    → accepts (project_of b) (version_of b) e ≡ verdict → (b.table.clock == 2 ^ 64 - 1) ≡ spent
+    → ((f : EditFault) → admits b e ≡ Err f → r ≡ Err f) → (admits b e ≡ Ok tt → IsOkUnless r Memory)
+    → IfOk r (λ v. v ≡ version_of b + 1) → OnOk r (store_of b' ≡ edited_store (store_of b) e) → OnErr r (store_of b' ≡ store_of b)
+    → EditGives (store_of b) e r (store_of b')
+edit_by b b' e r (Err f) spent is clock refused accepted version after err =
+    refused_by (store_of b) (store_of b') e f r is (refused f (rw is refl)) err
+edit_by b b' e r (Ok u) true is clock refused accepted version after err =
+    spent_by (store_of b) (store_of b') e r (refused ClockSpent (rw (is, clock) refl)) err
+edit_by b b' e r (Ok u) false is clock refused accepted version after err =
+    accepted_by (store_of b) (store_of b') e r is (accepted (rw (is, clock) refl)) version after err
+
+pub edit_gives : (b b' : Shown) (e : Edit) (author : ℕ) (r : Result ℕ EditFault)
+    → ((f : EditFault) → admits b e ≡ Err f → r ≡ Err f) → (admits b e ≡ Ok tt → IsOkUnless r Memory)
+    → IfOk r (λ v. v ≡ version_of b + 1) → OnOk r (b'.journal ≡ b.journal ++ record { author = author; edit = e } ∷ [])
+    → OnOk r (project_of b' ≡ edited (project_of b) e) → OnErr r (b' ≡ b) → EditGives (store_of b) e r (store_of b')
+edit_gives b b' e author r refused accepted version journal project err =
+    edit_by b b' e r (accepts (project_of b) (version_of b) e) (b.table.clock == 2 ^ 64 - 1) refl refl refused accepted version
+    (noted b b' e author r journal project) (kept b b' r err)
+
+-- what is asked, by its parts
+answer_of : (bad : Option ℕ) (n : ℕ) (version v : ℕ) (found says : Result Body ℕ) (body : Body) → says ≡ unless bad found
+    → asked.Answer v body ≡ asked_unless bad (told_unless n (told version says)) → (says ≡ Ok body) × (v ≡ version)
+answer_of (Some k) n version v found says body is h = cc
+answer_of None (suc n) version v found says body is h = cc
+answer_of None zero version v found (Err k) body is h = cc
+answer_of None zero version v found (Ok b) body is h = (cc, cc)
+
+bad_of : (bad : Option ℕ) (n : ℕ) (version k : ℕ) (found says : Result Body ℕ) → says ≡ unless bad found
+    → asked.BadQuery k ≡ asked_unless bad (told_unless n (told version says)) → says ≡ Err k
+bad_of (Some j) n version k found says is h = cc
+bad_of None (suc n) version k found says is h = cc
+bad_of None zero version k found (Err j) is h = cc
+bad_of None zero version k found (Ok b) is h = cc
+
+pub answer_told : (b : Shown) (q : Query) (v : ℕ) (body : Body) → asked.Answer v body ≡ asked_of b q → (answer (project_of b) q ≡ Ok body) × (v ≡ version_of b)
+answer_told b q v body h = answer_of (bad_query (project_of b) q) (pending b q) (version_of b) v _ (answer (project_of b) q) body refl h
+
+pub bad_told : (b : Shown) (q : Query) (k : ℕ) → asked.BadQuery k ≡ asked_of b q → answer (project_of b) q ≡ Err k
+bad_told b q k h = bad_of (bad_query (project_of b) q) (pending b q) (version_of b) k _ (answer (project_of b) q) refl h

@@ -1,0 +1,4 @@
+mod Benches
+mod Lines
+mod Printing
+mod Writes

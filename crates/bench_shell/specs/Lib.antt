@@ -1,0 +1,5 @@
+pub mod Store
+pub mod Text
+pub mod Lines
+pub mod Output
+pub mod Cause

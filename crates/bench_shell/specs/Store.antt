@@ -1,0 +1,43 @@
+-- What a desk stands for, and what it answers by it.
+use Rattle.std.specs.Prelude.{◌≡◌, ℕ, ◌+◌, Option, None, Some, Result, Ok, Err}
+use Rattle.project_book.specs.Project.{Project}
+use Rattle.project_book.specs.Edits.{accepts, edited}
+use Rattle.project_book.specs.declared.edit.Edit.{Edit}
+use Rattle.project_book.specs.declared.fault.EditFault.{EditFault}
+use Rattle.project_book.specs.declared.fault.EditFault.TheVariants.{ClockSpent, Memory}
+use Rattle.run_queries.specs.Answers.{answer}
+use Rattle.run_queries.specs.declared.query.Query.{Query}
+use Rattle.bench_core.specs.Shown.{Shown, project_of, version_of}
+use Rattle.bench_core.specs.declared.told.Told.{Told}
+use Rattle.bench_core.specs.declared.told.Told.TheVariants as told
+
+-- a project, and its version: the number of edits that were accepted
+pub record Store : Type 0 where
+  pub project : Project
+  pub version : ℕ
+
+-- the store after an accepted edit
+abbrev pub edited_store : Store → Edit → Store
+edited_store s e = record { project = edited s.project e; version = s.version + 1 }
+
+-- a refusal is the first fault that applies; want of memory and a spent clock aside
+abbrev pub Refuses : Store → Edit → EditFault → Type 0
+Refuses s e ClockSpent = Unit {0}
+Refuses s e Memory = Unit {0}
+Refuses s e fault = accepts s.project s.version e ≡ Err fault
+
+-- what an edit answers, and what the store is afterwards
+abbrev pub EditGives : Store → Edit → Result ℕ EditFault → Store → Type 0
+EditGives s e (Ok v) t = (accepts s.project s.version e ≡ Ok tt) × (t ≡ edited_store s e) × (v ≡ s.version + 1)
+EditGives s e (Err fault) t = Refuses s e fault × (t ≡ s)
+
+-- what is told of a query
+abbrev pub Tells : Store → Query → Told → Type 0
+Tells s q (told.Answer v body) = (answer s.project q ≡ Ok body) × (v ≡ s.version)
+Tells s q (told.BadQuery n) = answer s.project q ≡ Err n
+Tells s q told.ClockSpent = Unit {0}
+Tells s q told.Memory = Unit {0}
+
+-- what a bench stands for as a desk
+abbrev pub store_of : Shown → Store
+store_of b = record { project = project_of b; version = version_of b }

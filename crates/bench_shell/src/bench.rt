@@ -1,0 +1,42 @@
+//! A bench as a desk: one editor alone.
+ghost use Rattle.std.specs.Prelude.{◌≡◌};
+
+use crate::desk::Desk;
+use bench_core::{Asked, Bench, Told};
+use cell_table::SettleFault;
+use project_book::{Edit, EditFault};
+use run_queries::Query;
+
+/// The author of the edits of a run on a bench.
+const AUTHOR: u32 = 0;
+
+impl Desk for Bench {
+    ghost use Rattle.bench_shell.specs.Store.{store_of};
+
+    ghost store = { store_of };
+
+    ghost is_alone = { λ _. Unit {0} };
+
+    fn opened(&self) -> (u32, u32) {
+        (self.project().k(), self.version())
+    }
+
+    fn edit(&mut self, edit: Edit) -> Result<u32, EditFault> {
+        Bench::edit(self, AUTHOR, edit)
+    }
+
+    /// Settles the bench, and asks it.
+    #[tactic(auto, using(crate::proofs::Benches::bad_told))]
+    fn ask(&mut self, query: Query) -> Told {
+        match self.settle() {
+            Ok(_) => {}
+            Err(SettleFault::ClockSpent { .. }) => return Told::ClockSpent,
+            Err(SettleFault::Memory { .. }) => return Told::Memory,
+        }
+        match Bench::ask(self, query) {
+            Asked::Answer { version, body } => Told::Answer { version, body },
+            Asked::BadQuery(number) => Told::BadQuery(number),
+            Asked::Pending(_) | Asked::Memory => Told::Memory,
+        }
+    }
+}

@@ -1,0 +1,38 @@
+//! What a run drives.
+ghost use Rattle.std.specs.Prelude.{◌≡◌, ◌+◌, ◌≤◌, IfOk, OnErr};
+ghost use Rattle.page_map.specs.declared.map.TheConstants.{MAX_K};
+
+use bench_core::Told;
+use project_book::{Edit, EditFault};
+use run_queries::Query;
+
+/// What takes edits and is asked. Others may edit beside it.
+pub trait Desk {
+    ghost use Rattle.bench_shell.specs.Store.{Store, EditGives, Tells};
+
+    /// The project and the version, where nobody else has edited.
+    ghost store: { Self → Store };
+
+    /// Nobody else has edited, as far as the desk has seen.
+    ghost is_alone: { Self → Type 0 };
+
+    /// The k of the machine, and the version.
+    fn opened(&self) -> (u32, u32)
+        ensures both { result ≡ ((store self.now).project.k, (store self.now).version) }
+        ensures small { result.0 ≤ MAX_K };
+
+    /// Makes an edit: the new version, or why it was refused.
+    fn edit(&mut self, edit: Edit) -> Result<u32, EditFault>
+        ensures earlier { is_alone self.new → is_alone self.old }
+        ensures gives { is_alone self.new → EditGives (store self.old) edit result (store self.new) }
+        // A version that is one more than the edits of this desk alone says that there are no others.
+        ensures alone { IfOk result (λ v. v ≡ (store self.old).version + 1 → is_alone self.new) }
+        ensures counts { IfOk result (λ v. (store self.new).version ≡ (store self.old).version + 1) }
+        ensures kept { OnErr result ((store self.new).version ≡ (store self.old).version) };
+
+    /// Brings the run up to date, and answers a question about it.
+    fn ask(&mut self, query: Query) -> Told
+        ensures earlier { is_alone self.new → is_alone self.old }
+        ensures told { is_alone self.new → Tells (store self.old) query result }
+        ensures same { store self.new ≡ store self.old };
+}

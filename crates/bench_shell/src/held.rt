@@ -1,0 +1,50 @@
+//! The line that has begun, in bounded memory.
+ghost use Rattle.std.specs.Prelude.{◌≡◌, ◌≢◌, ℕ, List, ◌∷◌, [], false};
+ghost use Rattle.bench_shell.specs.Store.{Store};
+ghost use Rattle.bench_shell.specs.Output.{has_lf, output_from};
+
+use arrayvec::ArrayVec;
+
+/// The longest line that is read as a command.
+pub const LONGEST: usize = 4096;
+
+/// What has come of a line: its bytes, or that it is too long.
+#[derive(Drop)]
+pub struct Held {
+    pub bytes: ArrayVec<u8, LONGEST>,
+    pub is_long: bool,
+}
+
+impl Held {
+    pub fn new() -> Self
+        ensures bytes { result.bytes.items ≡ [] }
+        ensures is_long { result.is_long ≡ false }
+    {
+        Held {
+            bytes: ArrayVec::new(),
+            is_long: false,
+        }
+    }
+
+    pub fn clear(&mut self)
+        ensures bytes { self.new.bytes.items ≡ [] }
+        ensures is_long { self.new.is_long ≡ false }
+    {
+        self.bytes.clear();
+        self.is_long = false;
+    }
+
+    /// Takes one byte more of the line.
+    pub fn hold(&mut self, byte: u8)
+        requires no_lf { has_lf self.old.bytes.items ≡ false }
+        requires byte { byte ≢ 10 }
+        ensures no_lf { has_lf self.new.bytes.items ≡ false }
+        ensures same { (s : Store) (more : List ℕ) → output_from s self.old.is_long self.old.bytes.items (byte ∷ more)
+            ≡ output_from s self.new.is_long self.new.bytes.items more }
+    {
+        match self.bytes.try_push(byte) {
+            Ok(()) => {}
+            Err(_) => self.is_long = true,
+        }
+    }
+}

@@ -1,0 +1,288 @@
+//! From a reader to a writer, line by line.
+ghost use Rattle.std.specs.Prelude.{◌≡◌, ℕ, List, [], ◌∷◌, ◌++◌, false, OnOk, OnErr, IfOk, IfErr, IfSome, ◌≤◌};
+ghost use Rattle.std.specs.Io.KnownBytes.{Appends, Keeps};
+ghost use Rattle.bench_shell.specs.Cause.{HasCause, HasCauseOr, IsOfDesk};
+ghost use Rattle.bench_shell.specs.Text.{line_text};
+ghost use Rattle.bench_shell.specs.Output.{reply, after, command_in, output, output_from, has_lf, TellsOn, TellsPart, WritesPart};
+
+use crate::answer::Answer;
+use crate::desk::Desk;
+use crate::fault::RunFault;
+use crate::held::Held;
+use crate::watch::Watch;
+use bench_core::Told;
+use commands::Command;
+use omega_net::Shape;
+use project_book::EditFault;
+use std::alloc::Global;
+use std::io::{Read, Write};
+
+/// Writes all of the bytes.
+fn write_bytes<W: Write>(watch: &mut Watch, writer: &mut W, bytes: &[u8]) -> Result<(), RunFault>
+    ensures ok { OnOk result (Appends (W.contents writer.old) (W.contents writer.new) bytes.now) }
+    ensures err { OnErr result ((told later : List ℕ) × Appends (W.contents writer.old) (W.contents writer.new) told × (bytes.now ≡ told ++ later)) }
+    ensures reads { watch.new.reads ≡ watch.old.reads }
+    ensures cause { HasCause result watch.new }
+{
+    let mut rest = bytes;
+    while !rest.is_empty() {
+        match watch.write(writer, rest) {
+            Ok(count) => rest = rest.split_at(count).1,
+            Err(fault) => return Err(fault),
+        }
+    }
+    Ok(())
+}
+
+/// Writes the line of an answer, and flushes.
+fn tell<W: Write>(
+    alloc: Global,
+    watch: &mut Watch,
+    writer: &mut W,
+    answer: Answer,
+) -> Result<(), RunFault>
+    ensures ok { OnOk result (Appends (W.contents writer.old) (W.contents writer.new) (line_text answer)) }
+    ensures err { OnErr result ((told later : List ℕ) × Appends (W.contents writer.old) (W.contents writer.new) told × (line_text answer ≡ told ++ later)) }
+    ensures reads { watch.new.reads ≡ watch.old.reads }
+    ensures cause { HasCause result watch.new }
+{
+    let Ok(text) = format!(in alloc; "{answer}\n") else {
+        return Err(RunFault::Memory);
+    };
+    match write_bytes(watch, writer, text.as_bytes()) {
+        Ok(()) => watch.flush(writer),
+        Err(fault) => Err(fault),
+    }
+}
+
+/// Does what a command says. The version is that of this run's own edits.
+fn obey<D: Desk>(
+    desk: &mut D,
+    version: &mut u32,
+    command: Option<Command>,
+) -> Result<Answer, RunFault>
+    requires { version.old ≡ (D.store desk.old).version }
+    ensures version { OnOk result (version.new ≡ (D.store desk.new).version) }
+    ensures earlier { D.is_alone desk.new → D.is_alone desk.old }
+    ensures fault { IfErr result (λ f. IsOfDesk f (D.is_alone desk.new)) }
+    ensures answer { D.is_alone desk.new → IfOk result (λ a. a ≡ reply (D.store desk.old) command) }
+    ensures store { D.is_alone desk.new → OnOk result (D.store desk.new ≡ after (D.store desk.old) command) }
+{
+    match command {
+        None => Ok(Answer::BadCommand),
+        Some(Command::Edit(edit)) => match desk.edit(edit) {
+            Ok(now) => {
+                if *version == u32::MAX || now != *version + 1 {
+                    return Err(RunFault::OtherEditor);
+                }
+                *version = now;
+                Ok(Answer::Accepted(now))
+            }
+            Err(EditFault::ClockSpent) => Err(RunFault::Clock),
+            Err(EditFault::Memory) => Err(RunFault::Memory),
+            Err(fault) => Ok(Answer::Refused(fault.number())),
+        },
+        Some(Command::Query(query)) => match desk.ask(query) {
+            Told::Answer { version: at, body } => {
+                if at != *version {
+                    return Err(RunFault::OtherEditor);
+                }
+                Ok(Answer::Told(at, body))
+            }
+            Told::BadQuery(number) => Ok(Answer::Bad(number)),
+            Told::ClockSpent => Err(RunFault::Clock),
+            Told::Memory => Err(RunFault::Memory),
+        },
+    }
+}
+
+/// The command that a line is for this desk's machine.
+fn command_in<D: Desk>(desk: &D, line: &[u8]) -> Option<Command>
+    ensures { result ≡ command_in (D.store desk.now) line.now }
+{
+    let shape = Shape::new(desk.opened().0)?;
+    Command::parse(shape, line)
+}
+
+/// The answer to the line that is held, which has ended.
+fn line_answer<D: Desk>(held: &Held, desk: &mut D, version: &mut u32) -> Result<Answer, RunFault>
+    requires no_lf { has_lf held.now.bytes.items ≡ false }
+    requires version { version.old ≡ (D.store desk.old).version }
+    ensures version { OnOk result (version.new ≡ (D.store desk.new).version) }
+    ensures earlier { D.is_alone desk.new → D.is_alone desk.old }
+    ensures fault { IfErr result (λ f. IsOfDesk f (D.is_alone desk.new)) }
+    ensures answer { D.is_alone desk.new → IfOk result (λ a. (more : List ℕ) →
+        output_from (D.store desk.old) held.now.is_long held.now.bytes.items (10 ∷ more)
+        ≡ line_text a ++ output (D.store desk.new) more) }
+{
+    if held.is_long {
+        return Ok(Answer::BadLine);
+    }
+    let command = command_in(desk, held.bytes.as_slice());
+    obey(desk, version, command)
+}
+
+/// Takes one byte of the input.
+fn take_byte<W: Write, D: Desk>(
+    alloc: Global,
+    held: &mut Held,
+    byte: u8,
+    watch: &mut Watch,
+    writer: &mut W,
+    desk: &mut D,
+    version: &mut u32,
+) -> Result<(), RunFault>
+    requires no_lf { has_lf held.old.bytes.items ≡ false }
+    requires version { version.old ≡ (D.store desk.old).version }
+    ensures version { OnOk result (version.new ≡ (D.store desk.new).version) }
+    ensures earlier { D.is_alone desk.new → D.is_alone desk.old }
+    ensures reads { watch.new.reads ≡ watch.old.reads }
+    ensures cause { HasCauseOr result watch.new (D.is_alone desk.new) }
+    ensures no_lf { OnOk result (has_lf held.new.bytes.items ≡ false) }
+    ensures ok { D.is_alone desk.new → OnOk result (TellsOn (W.contents writer.old) (W.contents writer.new)
+        (output_from (D.store desk.old) held.old.is_long held.old.bytes.items) (byte ∷ [])
+        (output_from (D.store desk.new) held.new.is_long held.new.bytes.items)) }
+    ensures err { D.is_alone desk.new → OnErr result (TellsPart (W.contents writer.old) (W.contents writer.new)
+        (output_from (D.store desk.old) held.old.is_long held.old.bytes.items) (byte ∷ [])) }
+{
+    if byte != b'\n' {
+        held.hold(byte);
+        return Ok(());
+    }
+    match line_answer(held, desk, version) {
+        Ok(answer) => {
+            held.clear();
+            tell(alloc, watch, writer, answer)
+        }
+        Err(fault) => Err(fault),
+    }
+}
+
+/// Takes a piece of the input.
+fn take_piece<W: Write, D: Desk>(
+    alloc: Global,
+    held: &mut Held,
+    piece: &[u8],
+    watch: &mut Watch,
+    writer: &mut W,
+    desk: &mut D,
+    version: &mut u32,
+) -> Result<(), RunFault>
+    requires no_lf { has_lf held.old.bytes.items ≡ false }
+    requires version { version.old ≡ (D.store desk.old).version }
+    ensures version { OnOk result (version.new ≡ (D.store desk.new).version) }
+    ensures earlier { D.is_alone desk.new → D.is_alone desk.old }
+    ensures reads { watch.new.reads ≡ watch.old.reads }
+    ensures cause { HasCauseOr result watch.new (D.is_alone desk.new) }
+    ensures no_lf { OnOk result (has_lf held.new.bytes.items ≡ false) }
+    ensures ok { D.is_alone desk.new → OnOk result (TellsOn (W.contents writer.old) (W.contents writer.new)
+        (output_from (D.store desk.old) held.old.is_long held.old.bytes.items) piece.now
+        (output_from (D.store desk.new) held.new.is_long held.new.bytes.items)) }
+    ensures err { D.is_alone desk.new → OnErr result (TellsPart (W.contents writer.old) (W.contents writer.new)
+        (output_from (D.store desk.old) held.old.is_long held.old.bytes.items) piece.now) }
+{
+    for byte in piece {
+        match take_byte(alloc, held, *byte, watch, writer, desk, version) {
+            Ok(()) => {}
+            Err(fault) => return Err(fault),
+        }
+    }
+    Ok(())
+}
+
+/// Answers the line that the end of the input cuts.
+fn finish<W: Write, D: Desk>(
+    alloc: Global,
+    held: &Held,
+    watch: &mut Watch,
+    writer: &mut W,
+    desk: &D,
+) -> Result<(), RunFault>
+    requires { has_lf held.now.bytes.items ≡ false }
+    ensures reads { watch.new.reads ≡ watch.old.reads }
+    ensures cause { HasCause result watch.new }
+    ensures ok { OnOk result (Appends (W.contents writer.old) (W.contents writer.new)
+        (output_from (D.store desk.now) held.now.is_long held.now.bytes.items [])) }
+    ensures err { OnErr result ((told later : List ℕ) × Appends (W.contents writer.old) (W.contents writer.new) told
+        × (output_from (D.store desk.now) held.now.is_long held.now.bytes.items [] ≡ told ++ later)) }
+{
+    if held.is_long {
+        return tell(alloc, watch, writer, Answer::BadLine);
+    }
+    if held.bytes.as_slice().is_empty() {
+        return Ok(());
+    }
+    tell(alloc, watch, writer, Answer::BadCut)
+}
+
+/// Answers each line that comes, until the input ends or no read is left.
+pub fn run_watched<R: Read, W: Write, D: Desk>(
+    alloc: Global,
+    watch: &mut Watch,
+    reader: &mut R,
+    writer: &mut W,
+    desk: &mut D,
+) -> Result<(), RunFault>
+    ensures ok { D.is_alone desk.new → OnOk result (IfSome (R.remaining reader.old) (λ input.
+        Appends (W.contents writer.old) (W.contents writer.new) (output (D.store desk.old) input))) }
+    ensures fault { D.is_alone desk.new → OnErr result (WritesPart (R.remaining reader.old) (R.remaining reader.new)
+        (W.contents writer.old) (W.contents writer.new) (output (D.store desk.old))) }
+    ensures cause { HasCauseOr result watch.new (D.is_alone desk.new) }
+    ensures bound { watch.new.reads ≤ watch.old.reads }
+{
+    let mut held = Held::new();
+    let mut buffer = [0u8; 4096];
+    let mut version = desk.opened().1;
+    'pieces: loop {
+        let count = match watch.read(reader, &mut buffer) {
+            Ok(count) => count,
+            Err(fault) => return Err(fault),
+        };
+        if count == 0 {
+            return finish(alloc, &held, watch, writer, desk);
+        }
+        match take_piece(
+            alloc,
+            &mut held,
+            buffer.split_at(count).0,
+            watch,
+            writer,
+            desk,
+            &mut version,
+        ) {
+            Ok(()) => {}
+            Err(fault) => return Err(fault),
+        }
+    }
+}
+
+/// As `run`; a read beyond that number of reads is refused as `Read`.
+pub fn run_within<R: Read, W: Write, D: Desk>(
+    alloc: Global,
+    reader: &mut R,
+    writer: &mut W,
+    desk: &mut D,
+    reads: u32,
+) -> Result<(), RunFault>
+    ensures ok { D.is_alone desk.new → OnOk result (IfSome (R.remaining reader.old) (λ input.
+        Appends (W.contents writer.old) (W.contents writer.new) (output (D.store desk.old) input))) }
+    ensures fault { D.is_alone desk.new → OnErr result (WritesPart (R.remaining reader.old) (R.remaining reader.new)
+        (W.contents writer.old) (W.contents writer.new) (output (D.store desk.old))) }
+{
+    run_watched(alloc, &mut Watch::new(reads), reader, writer, desk)
+}
+
+/// Answers each line that comes, until the input ends.
+pub fn run<R: Read, W: Write, D: Desk>(
+    alloc: Global,
+    reader: &mut R,
+    writer: &mut W,
+    desk: &mut D,
+) -> Result<(), RunFault>
+    ensures ok { D.is_alone desk.new → OnOk result (IfSome (R.remaining reader.old) (λ input.
+        Appends (W.contents writer.old) (W.contents writer.new) (output (D.store desk.old) input))) }
+    ensures fault { D.is_alone desk.new → OnErr result (WritesPart (R.remaining reader.old) (R.remaining reader.new)
+        (W.contents writer.old) (W.contents writer.new) (output (D.store desk.old))) }
+{
+    run_within(alloc, reader, writer, desk, u32::MAX)
+}

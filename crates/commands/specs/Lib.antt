@@ -1,0 +1,5 @@
+pub mod Keywords
+pub mod Numbers
+pub mod Components
+pub mod Queues
+pub mod Commands

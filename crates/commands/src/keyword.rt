@@ -1,0 +1,81 @@
+//! The first words of commands.
+ghost use Rattle.std.specs.Prelude.{◌≡◌};
+ghost use Rattle.commands.specs.Keywords.{keyword_name, keyword_of, is_query};
+
+/// The first word of a command.
+#[derive(Clone, Copy, PartialEq, Eq, Debug)]
+pub enum Keyword {
+    Entry,
+    Cut,
+    Word,
+    Page,
+    Depth,
+    Wait,
+    Combine,
+    Window,
+    Horizon,
+    Reply,
+    State,
+    Memory,
+    Place,
+}
+
+impl Keyword {
+    /// All of them, in the order of the command table.
+    pub const ALL: [Keyword; 13] = [
+        Keyword::Entry,
+        Keyword::Cut,
+        Keyword::Word,
+        Keyword::Page,
+        Keyword::Depth,
+        Keyword::Wait,
+        Keyword::Combine,
+        Keyword::Window,
+        Keyword::Horizon,
+        Keyword::Reply,
+        Keyword::State,
+        Keyword::Memory,
+        Keyword::Place,
+    ];
+
+    /// The word as it is written.
+    pub fn name(self) -> &'static [u8]
+        ensures { result.now ≡ keyword_name self }
+    {
+        match self {
+            Keyword::Entry => b"entry",
+            Keyword::Cut => b"cut",
+            Keyword::Word => b"word",
+            Keyword::Page => b"page",
+            Keyword::Depth => b"depth",
+            Keyword::Wait => b"wait",
+            Keyword::Combine => b"combine",
+            Keyword::Window => b"window",
+            Keyword::Horizon => b"horizon",
+            Keyword::Reply => b"reply",
+            Keyword::State => b"state",
+            Keyword::Memory => b"memory",
+            Keyword::Place => b"place",
+        }
+    }
+
+    /// Whether its command is a query.
+    pub fn is_query(self) -> bool
+        ensures { result ≡ is_query self }
+    {
+        matches!(
+            self,
+            Keyword::Reply | Keyword::State | Keyword::Memory | Keyword::Place
+        )
+    }
+
+    /// The keyword that a word is, if it is one.
+    pub fn read(word: &[u8]) -> Option<Keyword>
+        ensures { result ≡ keyword_of word.now }
+    {
+        Keyword::ALL
+            .iter()
+            .find(|keyword| keyword.name() == word)
+            .copied()
+    }
+}
