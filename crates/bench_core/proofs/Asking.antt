@@ -3,17 +3,17 @@ use Rattle.std.proofs.Common.{◌≡◌, ℕ, zero, suc, ◌∙◌, sym, ap, sub
 use Rattle.machine_cells.specs.Run.{run}
 use Rattle.machine_cells.specs.Runs.{state_in}
 use Rattle.run_queries.specs.declared.query.Query.{Query}
-use Rattle.run_queries.specs.declared.query.Query.TheVariants.{Reply, State, Memory as MemoryAt, Place}
+use Rattle.run_queries.specs.declared.query.Query.TheVariants.{Reply, State, Memory as MemoryAt, Counter, Profile, Tree, Level, Bound, Place}
 use Rattle.run_queries.specs.declared.body.Body.{Body}
-use Rattle.run_queries.specs.Answers.{bad_query, found_in, unless, answer}
+use Rattle.run_queries.specs.Bad.{bad_query}
+use Rattle.run_queries.specs.Answers.{found_in, unless, answer}
 use Rattle.bench_core.specs.declared.asked.Asked.{Asked}
 use Rattle.bench_core.specs.declared.asked.Asked.TheVariants.{Answer, Pending, BadQuery, Memory}
-use Rattle.bench_core.specs.Shown.{Shown, IsBench, project_of, version_of}
+use Rattle.bench_core.specs.Shown.{Shown, project_of, version_of}
 use Rattle.bench_core.specs.Events.{Event, Opening}
 use Rattle.bench_core.specs.Stands.{Stands}
-use Rattle.bench_core.specs.Asks.{held, pending, told, told_unless, asked_unless, asked, MayWant, IsOrWants, AsksAs, TellsAs, IsUpToDate, LooksAtCell}
+use Rattle.bench_core.specs.Asks.{pending, told, told_unless, asked_unless, asked, MayWant, IsOrWants, AsksAs, TellsRun, LooksAtCell}
 use Rattle.bench_core.specs.Answers.{AnswersRun}
-use Rattle.bench_core.proofs.Looking.{found_same}
 use Rattle.bench_core.proofs.Standing.{project_is, version_is}
 
 module _ (b : Shown) (q : Query) where
@@ -44,15 +44,18 @@ pub asks_wanting : (b : Shown) (q : Query) → bad_query (project_of b) q ≡ No
 asks_wanting b (Reply p n) good h = absurd h
 asks_wanting b (State c t) good h = subst MayWant (sym (asked_good b (State c t) good)) (may_want (pending b (State c t)) _ _)
 asks_wanting b (MemoryAt a t) good h = subst MayWant (sym (asked_good b (MemoryAt a t) good)) (may_want (pending b (MemoryAt a t)) _ _)
+asks_wanting b (Counter counter who from to) good h = absurd h
+asks_wanting b (Profile net s) good h = absurd h
+asks_wanting b (Tree net m) good h = absurd h
+asks_wanting b (Level net m t) good h = absurd h
+asks_wanting b (Bound x y p) good h = absurd h
 asks_wanting b (Place a) good h = absurd h
 
--- what the states held say
-pub asks_found : (b : Shown) (q : Query) (result : Asked) → IsBench b.table b.journal → bad_query (project_of b) q ≡ None
-    → pending b q ≡ 0 → IsUpToDate b q → TellsAs (version_of b) (found_in (held b.table) (project_of b) q) result → AsksAs b q result
-asks_found b q result bench good none ready tells =
+-- what the run says, where nothing is due that it rests on
+pub asks_found : (b : Shown) (q : Query) (result : Asked) → bad_query (project_of b) q ≡ None → pending b q ≡ 0 → TellsRun b q result → AsksAs b q result
+asks_found b q result good none tells =
     let says : asked b q ≡ told (version_of b) (found_in (state_in (run (project_of b))) (project_of b) q) = asked_good b q good ∙ ap (λ n. told_unless n (told (version_of b) (found_in (state_in (run (project_of b))) (project_of b) q))) none in
-    let same : told (version_of b) (found_in (held b.table) (project_of b) q) ≡ asked b q = ap (told (version_of b)) (found_same b bench q good ready) ∙ sym says in
-    subst (λ a. IsOrWants a result) same tells
+    subst (λ a. IsOrWants a result) (sym says) tells
 
 -- an answer is that of the project, at the version
 answer_from : (x : Option ℕ) (n ver : ℕ) (a : Result Body ℕ) (v : ℕ) (body : Body) → Answer v body ≡ asked_unless x (told_unless n (told ver a)) → (v ≡ ver) × (a ≡ Ok body)

@@ -1,6 +1,12 @@
+pub mod Good
+pub mod Looking
+pub mod Ready
+pub mod Rows
+pub mod Counting
+pub mod Reporting
+pub mod Waiting
+pub mod Asking
 pub mod Admitting
 pub mod Touching
 pub mod Standing
-pub mod Looking
-pub mod Asking
 pub mod Happening

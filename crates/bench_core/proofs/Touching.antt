@@ -1,5 +1,5 @@
 -- An edit touches the table.
-use Rattle.std.proofs.Common.{◌≡◌, ℕ, ◌<◌, ◌∙◌, sym, ap, subst, refl, arith, Bool, true, false, cond, Option, None, Some, List, [], ◌∷◌, ◌++◌, length}
+use Rattle.std.proofs.Common.{◌≡◌, ℕ, ◌<◌, ◌≤◌, ◌∙◌, sym, ap, subst, refl, arith, Bool, true, false, cond, Option, None, Some, List, [], ◌∷◌, ◌++◌, length}
 use Rattle.std.specs.Prelude.{◌==◌}
 use Rattle.std.specs.Option.{unwrap_or}
 use Rattle.std.proofs.lemmas.Bool.{eqb-true}
@@ -12,7 +12,7 @@ use Rattle.machine_cells.specs.GridRules.{rp3_rules}
 use Rattle.project_book.specs.Project.{Project}
 use Rattle.project_book.specs.Slots.{Touches}
 use Rattle.project_book.specs.Edits.{edited, new_horizon}
-use Rattle.project_book.specs.declared.limits.TheConstants.{MAX_EDITS}
+use Rattle.project_book.specs.declared.limits.TheConstants.{MAX_EDITS, MAX_HORIZON}
 use Rattle.project_book.specs.declared.edit.Edit.{Edit}
 use Rattle.project_book.specs.declared.slot.Slot.{Slot}
 use Rattle.bench_core.specs.declared.noted.Noted.{Noted}
@@ -32,7 +32,7 @@ to_horizon P Q horizon h = by_test (P.horizon == Q.horizon) refl
     by_test false e = refl
 
 module _ (old new : Seen MachineState Project) (journal : List Noted) (author : ℕ) (e : Edit) (next : Project) (listed : List Slot) (horizon : Option ℕ) (bench : IsBench old journal) (is : next ≡ edited old.slots e) (touches : Touches old.slots next listed) (moved : horizon ≡ new_horizon old.slots next) (touched : IsAfterTouch rp3_rules old new next listed (unwrap_or horizon old.horizon)) where
-  to : unwrap_or horizon old.horizon ≡ next.horizon
+  pub to : unwrap_or horizon old.horizon ≡ next.horizon
   to = ap (λ m. unwrap_or m old.horizon) moved ∙ to_horizon old.slots next old.horizon bench.horizon
 
   pub after_edit : IsAfterEdit (record { table = old; journal = journal }) (record { table = new; journal = journal ++ record { author = author; edit = e } ∷ [] }) author e
@@ -43,8 +43,9 @@ module _ (old new : Seen MachineState Project) (journal : List Noted) (author : 
     table = subst (λ Q. IsAfterTouch rp3_rules old new Q listed Q.horizon) is (subst (λ n. IsAfterTouch rp3_rules old new next listed n) to touched);
   }
 
-  pub bench_edited : length journal < MAX_EDITS → IsBench new (journal ++ record { author = author; edit = e } ∷ [])
-  bench_edited room = record {
+  pub bench_edited : next.horizon ≤ MAX_HORIZON → length journal < MAX_EDITS → IsBench new (journal ++ record { author = author; edit = e } ∷ [])
+  bench_edited short room = record {
     horizon = touched.horizon ∙ to ∙ sym (ap (λ (Q : Project). Q.horizon) touched.slots);
+    short = omega (arith, short, touched.horizon, to);
     few = omega (arith, length_push journal (record { author = author; edit = e }));
   }

@@ -1,36 +1,43 @@
 -- What a query of a bench is answered.
-use Rattle.std.specs.Prelude.{◌≡◌, ℕ, zero, suc, ◌+◌, ◌<◌, Option, None, Some, Result, Ok, Err}
-use Rattle.cell_table.specs.Seen.{Seen, held_at, due_up_to}
-use Rattle.cell_table.specs.Cells.{IsThere}
+use Rattle.std.specs.Prelude.{◌≡◌, ℕ, zero, suc, ◌+◌, ◌<◌, ◌≤◌, Option, None, Some, Result, Ok, Err}
+use Rattle.cell_table.specs.Seen.{due_up_to}
 use Rattle.cell_table.specs.Cones.{due_in_cone}
-use Rattle.cell_table.specs.Run.{run}
+use Rattle.grid_law.specs.Run.{run}
 use Rattle.omega_net.specs.Numbers.{lines, components}
-use Rattle.machine_cells.specs.declared.state.MachineState.{MachineState}
 use Rattle.machine_cells.specs.GridRules.{rp3_rules}
+use Rattle.machine_cells.specs.Run.{run as machine_run}
+use Rattle.machine_cells.specs.Runs.{state_in}
 use Rattle.project_book.specs.Project.{Project, place_in}
 use Rattle.run_queries.specs.declared.query.Query.{Query}
-use Rattle.run_queries.specs.declared.query.Query.TheVariants.{Reply, State, Memory as MemoryAt, Place}
+use Rattle.run_queries.specs.declared.query.Query.TheVariants.{Reply, State, Memory as MemoryAt, Counter, Profile, Tree, Level, Bound, Place}
 use Rattle.run_queries.specs.declared.body.Body.{Body}
-use Rattle.run_queries.specs.Answers.{bad_query, answer}
+use Rattle.run_queries.specs.Bad.{bad_query}
+use Rattle.run_queries.specs.Answers.{found_in, answer}
 use Rattle.bench_core.specs.declared.asked.Asked.{Asked}
 use Rattle.bench_core.specs.declared.asked.Asked.TheVariants.{Answer, Pending, BadQuery, Memory}
-use Rattle.bench_core.specs.Shown.{Shown, project_of, version_of}
+use Rattle.bench_core.specs.Shown.{Shown, project_of, version_of, held}
 
 -- the number of the module in which an address stands
 abbrev pub module_of : Project → ℕ → ℕ
 module_of P a = lines P.k + (place_in P a).«module»
 
--- how many due cells the answer waits for: all of the run for a reply, those in the cone of the component's or the
--- module's cell, none for a place
+-- how many cells up to a cycle are due
+abbrev pub due_to : Shown → ℕ → ℕ
+due_to b t = due_up_to b.table.rows (t + 1)
+
+-- how many due cells the answer waits for: those in the cone of the component's or the module's cell for a state or a
+-- word; those up to its last cycle for a counter or a level; all of the run for a reply, a profile or a tree; none for
+-- what doesn't look at the run
 abbrev pub pending : Shown → Query → ℕ
-pending b (Reply p n) = due_up_to b.table.rows (b.table.horizon + 1)
+pending b (Reply p n) = due_to b (project_of b).horizon
 pending b (State c t) = due_in_cone rp3_rules b.table t c
 pending b (MemoryAt a t) = due_in_cone rp3_rules b.table t (module_of (project_of b) a)
+pending b (Counter counter who from to) = due_to b to
+pending b (Profile net s) = due_to b (project_of b).horizon
+pending b (Tree net m) = due_to b (project_of b).horizon
+pending b (Level net m t) = due_to b t
+pending b (Bound x y p) = 0
 pending b (Place a) = 0
-
--- the state that a cell holds
-abbrev pub held : Seen MachineState Project → ℕ → ℕ → Option MachineState
-held v t c = (held_at v.rows t c).state
 
 -- an answer at a version
 abbrev pub told : ℕ → Result Body ℕ → Asked
@@ -68,18 +75,30 @@ AsksAs b q result = IsOrWants (asked b q) result
 abbrev pub TellsAs : ℕ → Result Body ℕ → Asked → Type 0
 TellsAs version says result = IsOrWants (told version says) result
 
+-- what the run says to the query, at the present version
+abbrev pub TellsRun : Shown → Query → Asked → Type 0
+TellsRun b q result = TellsAs (version_of b) (found_in (state_in (machine_run (project_of b))) (project_of b) q) result
+
+-- each cell up to a cycle holds the run
+abbrev pub HoldsRunTo : Shown → ℕ → Type 0
+HoldsRunTo b end = (t c : ℕ) → t ≤ end → c < components (project_of b).k → held b.table t c ≡ Some (run rp3_rules (project_of b) t c)
+
 -- the cells that the answer looks at hold the run
 abbrev pub IsUpToDate : Shown → Query → Type 0
-IsUpToDate b (Reply p n) = (t c : ℕ) → IsThere rp3_rules b.table t c → held b.table t c ≡ Some (run rp3_rules (project_of b) t c)
+IsUpToDate b (Reply p n) = HoldsRunTo b (project_of b).horizon
 IsUpToDate b (State c t) = held b.table t c ≡ Some (run rp3_rules (project_of b) t c)
 IsUpToDate b (MemoryAt a t) =
     (module_of (project_of b) a < components (project_of b).k)
     × (held b.table t (module_of (project_of b) a) ≡ Some (run rp3_rules (project_of b) t (module_of (project_of b) a)))
+IsUpToDate b (Counter counter who from to) = HoldsRunTo b to
+IsUpToDate b (Profile net s) = HoldsRunTo b (project_of b).horizon
+IsUpToDate b (Tree net m) = HoldsRunTo b (project_of b).horizon
+IsUpToDate b (Level net m t) = HoldsRunTo b t
+IsUpToDate b (Bound x y p) = Unit {0}
 IsUpToDate b (Place a) = Unit {0}
 
 -- the query is about one cell
 abbrev pub LooksAtCell : Query → Type 0
-LooksAtCell (Reply p n) = ⊥
 LooksAtCell (State c t) = Unit {0}
 LooksAtCell (MemoryAt a t) = Unit {0}
-LooksAtCell (Place a) = ⊥
+LooksAtCell _ = ⊥

@@ -1,9 +1,10 @@
 -- What a contract sees of a bench.
-use Rattle.std.specs.Prelude.{◌≡◌, ℕ, ◌≤◌, List, length}
-use Rattle.cell_table.specs.Seen.{Seen}
+use Rattle.std.specs.Prelude.{◌≡◌, ℕ, ◌≤◌, nat_le, if◌then◌else◌, Option, None, List, length}
+use Rattle.cell_table.specs.Seen.{Seen, held_at}
 use Rattle.machine_cells.specs.declared.state.MachineState.{MachineState}
+use Rattle.monitor_sums.specs.Kept.{Kept, StandsFor}
 use Rattle.project_book.specs.Project.{Project}
-use Rattle.project_book.specs.declared.limits.TheConstants.{MAX_EDITS}
+use Rattle.project_book.specs.declared.limits.TheConstants.{MAX_EDITS, MAX_HORIZON}
 use Rattle.bench_core.specs.declared.noted.Noted.{Noted}
 
 -- its table of cells, and the edits that it accepted, the oldest first
@@ -18,7 +19,22 @@ project_of b = b.table.slots
 abbrev pub version_of : Shown → ℕ
 version_of b = length b.journal
 
--- what is true of every bench: its table ends at the project's horizon, and its journal isn't overfull
+-- the state that a cell holds
+abbrev pub held : Seen MachineState Project → ℕ → ℕ → Option MachineState
+held v t c = (held_at v.rows t c).state
+
+-- the same, and none past the horizon
+abbrev pub present : Seen MachineState Project → ℕ → ℕ → Option MachineState
+present v t c = if nat_le t v.horizon then held v t c else None
+
+-- what is true of every bench: its table ends at the project's horizon, which is within its limit, and its journal isn't
+-- overfull
 pub record IsBench (table : Seen MachineState Project) (journal : List Noted) : Type 0 where
   pub horizon : table.horizon ≡ table.slots.horizon
+  pub short : table.horizon ≤ MAX_HORIZON
   pub few : length journal ≤ MAX_EDITS
+
+-- and its counters count the states that are held now
+pub record IsCounted (sums : Kept) (table : Seen MachineState Project) : Type 0 where
+  pub shape : sums.k ≡ table.slots.k
+  pub counts : StandsFor sums (present table)

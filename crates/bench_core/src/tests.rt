@@ -3,12 +3,14 @@
 use super::*;
 use cell_table::{Cell, Claim, Done, Given, SettleFault};
 use machine_cells::Rp3;
+use monitor_sums::Counter;
 use omega_net::ScriptEntry;
 use page_map::Place;
 use project_book::{Edit, EditFault, Project};
 use run_queries::{Body, Query, Received};
 use std::alloc::Global;
 use std::test::Fail;
+use std::thread::Threads;
 use word_ops::{Kind, Op};
 
 /// Two processors and the horizon 10; page 0 on module 0, page 1 on module 1; word 0 is 10. Its components are the
@@ -68,6 +70,16 @@ fn add(proc: u32, operand: u32) -> Edit {
     }
 }
 
+/// How many requests were served in all, from one cycle to another.
+fn served(from: u32, to: u32) -> Query {
+    Query::Counter {
+        counter: Counter::Served,
+        who: None,
+        from,
+        to,
+    }
+}
+
 fn pending(asked: Asked) -> Option<u64> {
     match asked {
         Asked::Pending(due) => Some(due),
@@ -89,15 +101,19 @@ fn answer(asked: Asked) -> Result<(u32, Body), Fail> {
     }
 }
 
-fn reply(bench: &mut Bench, proc: u32) -> Result<Option<Received>, Fail> {
-    match answer(bench.ask(Query::Reply { proc, issue: 0 }))?.1 {
+fn reply<R: Threads + Sync>(
+    rt: &R,
+    bench: &mut Bench,
+    proc: u32,
+) -> Result<Option<Received>, Fail> {
+    match answer(bench.ask(rt, Query::Reply { proc, issue: 0 }))?.1 {
         Body::Reply(received) => Ok(received),
         _ => Err(Fail::from("another body")),
     }
 }
 
-fn memory(bench: &mut Bench, cycle: u32) -> Result<u32, Fail> {
-    match answer(bench.ask(Query::Memory { address: 0, cycle }))?.1 {
+fn memory<R: Threads + Sync>(rt: &R, bench: &mut Bench, cycle: u32) -> Result<u32, Fail> {
+    match answer(bench.ask(rt, Query::Memory { address: 0, cycle }))?.1 {
         Body::Word(word) => Ok(word),
         _ => Err(Fail::from("another body")),
     }
@@ -123,10 +139,12 @@ fn a_fresh_bench(rt: HostRuntime) -> Result<(), Fail> {
             4,
         ),
         (Query::Reply { proc: 0, issue: 0 }, 66),
+        (served(0, 10), 66),
+        (served(0, 1), 12),
     ] {
-        assert_eq!(rt; pending(bench.ask(query)), Some(due), "{query:?}");
+        assert_eq!(rt; pending(bench.ask(&rt, query)), Some(due), "{query:?}");
     }
-    match answer(bench.ask(Query::Place { address: 300 }))?.1 {
+    match answer(bench.ask(&rt, Query::Place { address: 300 }))?.1 {
         Body::Place(place) => assert_eq!(rt;
             place,
             Place {
@@ -166,16 +184,19 @@ fn a_settled_bench(rt: HostRuntime) -> Result<(), Fail> {
             3,
         ),
         (Query::Reply { proc: 2, issue: 0 }, 1),
+        (served(3, 2), 5),
+        (served(3, 11), 2),
+        (Query::Bound { a: 2, b: 1, p: 4 }, 6),
         // no script, so nothing was issued
         (Query::Reply { proc: 0, issue: 0 }, 4),
     ] {
-        assert_eq!(rt; bad(bench.ask(query)), Some(number), "{query:?}");
+        assert_eq!(rt; bad(bench.ask(&rt, query)), Some(number), "{query:?}");
     }
     let query = Query::State {
         component: 0,
         cycle: 10,
     };
-    match answer(bench.ask(query))? {
+    match answer(bench.ask(&rt, query))? {
         (0, Body::State(state)) => assert!(rt; !run_queries::has_sent(Some(state.state()))),
         _ => return Err(Fail::from("another body")),
     }
@@ -190,13 +211,16 @@ fn answers_after_edits(rt: HostRuntime) -> Result<(), Fail> {
     assert_eq!(rt; bench.edit(7, add(0, 1)), Ok(1));
     bench.settle().ok().ok_or("not settled")?;
     let first = Received { cycle: 6, word: 10 };
-    assert_eq!(rt; reply(&mut bench, 0)?, Some(first));
-    assert_eq!(rt; (memory(&mut bench, 3)?, memory(&mut bench, 4)?), (10, 11));
+    assert_eq!(rt; reply(&rt, &mut bench, 0)?, Some(first));
+    assert_eq!(rt;
+        (memory(&rt, &mut bench, 3)?, memory(&rt, &mut bench, 4)?),
+        (10, 11)
+    );
     assert_eq!(rt; bench.edit(8, add(1, 2)), Ok(2));
     bench.settle().ok().ok_or("not settled")?;
     let second = Received { cycle: 7, word: 11 };
-    assert_eq!(rt; reply(&mut bench, 1)?, Some(second));
-    assert_eq!(rt; memory(&mut bench, 10)?, 13);
+    assert_eq!(rt; reply(&rt, &mut bench, 1)?, Some(second));
+    assert_eq!(rt; memory(&rt, &mut bench, 10)?, 13);
     let noted = [
         Noted {
             author: 7,

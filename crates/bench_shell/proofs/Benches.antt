@@ -1,19 +1,17 @@
 -- What a bench does is what a desk is to do.
-use Rattle.std.proofs.Common.{◌≡◌, ℕ, zero, suc, ◌+◌, ◌^◌, ◌-◌, Bool, true, false, cond, List, [], ◌∷◌, ◌++◌, length, refl, sym, ◌∙◌, ap, length-append}
+use Rattle.std.proofs.Common.{◌≡◌, ℕ, zero, suc, ◌+◌, ◌^◌, ◌-◌, Bool, true, false, [], ◌∷◌, ◌++◌, length, refl, ◌∙◌, ap, length-append}
 use Rattle.std.specs.Prelude.{◌==◌, Option, Some, None, Result, Ok, Err, IfOk, OnOk, OnErr, IsOkUnless}
-use Rattle.project_book.specs.Project.{Project}
 use Rattle.project_book.specs.Edits.{accepts, edited}
 use Rattle.project_book.specs.declared.edit.Edit.{Edit}
 use Rattle.project_book.specs.declared.fault.EditFault.{EditFault}
 use Rattle.project_book.specs.declared.fault.EditFault.TheVariants.{JournalFull, BadProcessor, BadEntry, ScriptFull, BadAddress, BadPage, BadInterleave, BadStage, BadDepth, BadWindow, BadTimes, BadHorizon, ClockSpent, Memory}
 use Rattle.run_queries.specs.declared.query.Query.{Query}
 use Rattle.run_queries.specs.declared.body.Body.{Body}
-use Rattle.run_queries.specs.Answers.{answer, bad_query, unless}
-use Rattle.bench_core.specs.declared.noted.Noted.{Noted}
-use Rattle.bench_core.specs.declared.asked.Asked.{Asked}
+use Rattle.run_queries.specs.Bad.{bad_query}
+use Rattle.run_queries.specs.Answers.{answer, unless}
 use Rattle.bench_core.specs.declared.asked.Asked.TheVariants as asked
 use Rattle.bench_core.specs.Shown.{Shown, project_of, version_of}
-use Rattle.bench_core.specs.Edits.{admits, unless_spent}
+use Rattle.bench_core.specs.Edits.{admits}
 use Rattle.bench_core.specs.Asks.{asked as asked_of, asked_unless, told_unless, told, pending}
 use Rattle.bench_shell.specs.Store.{Store, store_of, edited_store, Refuses, EditGives}
 
@@ -106,3 +104,14 @@ answer_told b q v body h = answer_of (bad_query (project_of b) q) (pending b q) 
 
 pub bad_told : (b : Shown) (q : Query) (k : ℕ) → asked.BadQuery k ≡ asked_of b q → answer (project_of b) q ≡ Err k
 bad_told b q k h = bad_of (bad_query (project_of b) q) (pending b q) (version_of b) k _ (answer (project_of b) q) refl h
+
+waits_of : (bad : Option ℕ) (n due : ℕ) (version : ℕ) (says : Result Body ℕ) → n ≡ 0
+    → asked.Pending due ≡ asked_unless bad (told_unless n (told version says)) → ⊥
+waits_of (Some j) n due version says none h = absurd cc
+waits_of None (suc n) due version says none h = absurd cc
+waits_of None zero due version (Err k) none h = absurd cc
+waits_of None zero due version (Ok b) none h = absurd cc
+
+-- a query that waits for none isn't answered Pending
+pub never_pending : (b : Shown) (q : Query) (due : ℕ) → pending b q ≡ 0 → asked.Pending due ≡ asked_of b q → ⊥
+never_pending b q due none h = waits_of (bad_query (project_of b) q) (pending b q) due (version_of b) (answer (project_of b) q) none h

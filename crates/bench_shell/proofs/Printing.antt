@@ -1,12 +1,10 @@
 -- Every answer prints.
-use Rattle.std.proofs.Common.{◌≡◌, ℕ, List, [], ◌∷◌, ◌++◌, refl, sym}
+use Rattle.std.proofs.Common.{◌≡◌, ℕ, List, [], ◌∷◌, ◌++◌, refl}
 use Rattle.std.specs.Prelude.{Option, Some, None, IfSome, codes, decimal}
 use Rattle.std.specs.Option.{unwrap_or}
 use Rattle.std.specs.Fmt.{◌++?◌}
 use Rattle.omega_net.specs.Texts.{later_items_text, listed_text, request_text, reply_text}
 use Rattle.omega_net.specs.Ports.{queue_at}
-use Rattle.omega_net.specs.declared.message.Request.{Request}
-use Rattle.omega_net.specs.declared.message.Reply.{Reply}
 use Rattle.low_switch.specs.declared.state.LowState.{LowState}
 use Rattle.low_switch.specs.Texts.{low_text, low_forward_text, low_reverse_text}
 use Rattle.comb_switch.specs.declared.state.CombState.{CombState}
@@ -88,6 +86,11 @@ body_shows (body.Reply None) = some _
 body_shows (body.Reply (Some r)) = some _
 body_shows (body.State s) = state_shows s
 body_shows (body.Word w) = some _
+body_shows (body.Count n) = some _
+body_shows (body.Profile ns) = some _
+body_shows (body.Tree tree) = some _
+body_shows (body.Level n) = some _
+body_shows (body.Fraction n d) = some _
 body_shows (body.Place p) = some _
 
 pub answer_shows : (a : Answer) → Shows (text_of a)

@@ -1,8 +1,8 @@
 -- Lemmas on an output of which a part is written.
-use Rattle.std.proofs.Common.{◌≡◌, ℕ, suc, ◌+◌, ◌<◌, List, [], ◌∷◌, ◌++◌, length, get_or, take, drop, ap, sym, refl, subst, ◌∙◌, append_assoc, take-append-drop, append-nil, drop-cons, add-one, rules}
+use Rattle.std.proofs.Common.{◌≡◌, ℕ, ◌+◌, ◌<◌, List, [], ◌∷◌, ◌++◌, length, get_or, take, drop, ap, sym, refl, subst, ◌∙◌, append_assoc, take-append-drop, append-nil, drop-cons, add-one}
 use Rattle.std.specs.Prelude.{Option, Some, None, Result, Ok, Err, OnOk, OnErr, IfSome}
 use Rattle.std.specs.Io.KnownBytes.{Appends, Consumes, Keeps, IsAtEnd}
-use Rattle.std.proofs.KnownBytes.{Appends-trans, Appends-nil, Consumes-nil, Consumes-trans, Consumes-kept, Keeps-refl}
+use Rattle.std.proofs.KnownBytes.{Appends-trans, Appends-nil, Consumes-nil, Consumes-trans, Consumes-kept}
 use Rattle.bench_shell.specs.Output.{Told, TellsOn, TellsPart, WritesPart}
 
 -- a part of a text is written

@@ -1,21 +1,24 @@
 //! A bench as a desk: one editor alone.
-ghost use Rattle.std.specs.Prelude.{◌≡◌};
 
 use crate::desk::Desk;
 use bench_core::{Asked, Bench, Told};
 use cell_table::SettleFault;
 use project_book::{Edit, EditFault};
 use run_queries::Query;
+use std::thread::Threads;
 
 /// The author of the edits of a run on a bench.
 const AUTHOR: u32 = 0;
 
 impl Desk for Bench {
+    ghost use Rattle.std.specs.Prelude.{◌≡◌, ◌-◌, ◌^◌};
     ghost use Rattle.bench_shell.specs.Store.{store_of};
 
     ghost store = { store_of };
 
     ghost is_alone = { λ _. Unit {0} };
+
+    ghost clock_is_spent = { λ b. b.table.clock ≡ 2 ^ 64 - 1 };
 
     fn opened(&self) -> (u32, u32) {
         (self.project().k(), self.version())
@@ -26,17 +29,18 @@ impl Desk for Bench {
     }
 
     /// Settles the bench, and asks it.
-    #[tactic(auto, using(crate::proofs::Benches::bad_told))]
-    fn ask(&mut self, query: Query) -> Told {
+    #[tactic(auto, using(crate::proofs::Benches::bad_told, crate::proofs::Benches::never_pending))]
+    fn ask<T: Threads + Sync>(&mut self, rt: &T, query: Query) -> Told {
         match self.settle() {
             Ok(_) => {}
             Err(SettleFault::ClockSpent { .. }) => return Told::ClockSpent,
             Err(SettleFault::Memory { .. }) => return Told::Memory,
         }
-        match Bench::ask(self, query) {
+        match Bench::ask(self, rt, query) {
             Asked::Answer { version, body } => Told::Answer { version, body },
             Asked::BadQuery(number) => Told::BadQuery(number),
-            Asked::Pending(_) | Asked::Memory => Told::Memory,
+            Asked::Pending(_) => unreachable!(),
+            Asked::Memory => Told::Memory,
         }
     }
 }

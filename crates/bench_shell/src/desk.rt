@@ -1,13 +1,15 @@
 //! What a run drives.
-ghost use Rattle.std.specs.Prelude.{◌≡◌, ◌+◌, ◌≤◌, IfOk, OnErr};
+ghost use Rattle.std.specs.Prelude.{◌≡◌, ◌+◌, ◌≤◌, IfOk, OnErr, Err};
 ghost use Rattle.page_map.specs.declared.map.TheConstants.{MAX_K};
 
 use bench_core::Told;
 use project_book::{Edit, EditFault};
 use run_queries::Query;
+use std::thread::Threads;
 
 /// What takes edits and is asked. Others may edit beside it.
 pub trait Desk {
+    ghost use Rattle.std.specs.Thread.{IsSync};
     ghost use Rattle.bench_shell.specs.Store.{Store, EditGives, Tells};
 
     /// The project and the version, where nobody else has edited.
@@ -15,6 +17,9 @@ pub trait Desk {
 
     /// Nobody else has edited, as far as the desk has seen.
     ghost is_alone: { Self → Type 0 };
+
+    /// The clock behind the desk is at its last value, so that no edit and no new state is taken any more.
+    ghost clock_is_spent: { Self → Type 0 };
 
     /// The k of the machine, and the version.
     fn opened(&self) -> (u32, u32)
@@ -28,11 +33,15 @@ pub trait Desk {
         // A version that is one more than the edits of this desk alone says that there are no others.
         ensures alone { IfOk result (λ v. v ≡ (store self.old).version + 1 → is_alone self.new) }
         ensures counts { IfOk result (λ v. (store self.new).version ≡ (store self.old).version + 1) }
-        ensures kept { OnErr result ((store self.new).version ≡ (store self.old).version) };
+        ensures kept { OnErr result ((store self.new).version ≡ (store self.old).version) }
+        ensures spent { result ≡ Err EditFault.ClockSpent → clock_is_spent self.new };
 
-    /// Brings the run up to date, and answers a question about it.
-    fn ask(&mut self, query: Query) -> Told
+    /// Brings the run up to date, and answers a question about it. Threads may take part.
+    fn ask<T: Threads + Sync>(&mut self, rt: &T, query: Query) -> Told
+        // Calls of a trait have such bounds by a clause alone.
+        requires { IsSync T.row }
         ensures earlier { is_alone self.new → is_alone self.old }
         ensures told { is_alone self.new → Tells (store self.old) query result }
+        ensures spent { result ≡ Told.ClockSpent → clock_is_spent self.new }
         ensures same { store self.new ≡ store self.old };
 }

@@ -5,7 +5,7 @@ use std::fmt;
 /// Why a run ended before its input did. The edits that were accepted stand, and so do the cells that were stored.
 #[derive(Clone, Copy, PartialEq, Eq, Debug)]
 pub enum RunFault {
-    /// The reader failed, or so many reads were not enough.
+    /// The reader failed, or no read was left.
     Read,
     /// The writer failed, or took nothing.
     Write,
@@ -18,14 +18,19 @@ pub enum RunFault {
 }
 
 impl fmt::Display for RunFault {
+    ghost use Rattle.std.specs.Prelude.{Some};
+    ghost use Rattle.bench_shell.specs.Cause.{fault_text};
+
+    ghost output = { λ f. Some (fault_text f) };
+
     fn fmt<W: fmt::Write>(&self, f: &mut fmt::Formatter<W>) -> fmt::Result {
-        f.write_str(match self {
-            RunFault::Read => "read failed",
-            RunFault::Write => "write failed",
-            RunFault::OtherEditor => "other editor",
-            RunFault::Memory => "no memory",
-            RunFault::Clock => "clock spent",
-        })
+        match self {
+            RunFault::Read => write!(f, "read failed"),
+            RunFault::Write => write!(f, "write failed"),
+            RunFault::OtherEditor => write!(f, "other editor"),
+            RunFault::Memory => write!(f, "no memory"),
+            RunFault::Clock => write!(f, "clock spent"),
+        }
     }
 }
 

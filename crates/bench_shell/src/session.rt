@@ -1,62 +1,59 @@
 //! From a reader to a writer, line by line.
-ghost use Rattle.std.specs.Prelude.{◌≡◌, ℕ, List, [], ◌∷◌, ◌++◌, false, OnOk, OnErr, IfOk, IfErr, IfSome, ◌≤◌};
-ghost use Rattle.std.specs.Io.KnownBytes.{Appends, Keeps};
-ghost use Rattle.bench_shell.specs.Cause.{HasCause, HasCauseOr, IsOfDesk};
+ghost use Rattle.std.specs.Prelude.{◌≡◌, ℕ, List, [], ◌∷◌, ◌++◌, true, false, OnOk, OnErr, IfOk, IfSome, ◌≤◌};
+ghost use Rattle.std.specs.Io.KnownBytes.{Appends};
+ghost use Rattle.bench_shell.specs.Cause.{HasCause, CantRead};
 ghost use Rattle.bench_shell.specs.Text.{line_text};
 ghost use Rattle.bench_shell.specs.Output.{reply, after, command_in, output, output_from, has_lf, TellsOn, TellsPart, WritesPart};
 
 use crate::answer::Answer;
 use crate::desk::Desk;
+use crate::ends::{Sink, Source};
 use crate::fault::RunFault;
 use crate::held::Held;
-use crate::watch::Watch;
 use bench_core::Told;
 use commands::Command;
 use omega_net::Shape;
 use project_book::EditFault;
 use std::alloc::Global;
-use std::io::{Read, Write};
+use std::thread::Threads;
 
 /// Writes all of the bytes.
-fn write_bytes<W: Write>(watch: &mut Watch, writer: &mut W, bytes: &[u8]) -> Result<(), RunFault>
+fn write_bytes<W: Sink>(writer: &mut W, bytes: &[u8]) -> Result<(), RunFault>
     ensures ok { OnOk result (Appends (W.contents writer.old) (W.contents writer.new) bytes.now) }
     ensures err { OnErr result ((told later : List ℕ) × Appends (W.contents writer.old) (W.contents writer.new) told × (bytes.now ≡ told ++ later)) }
-    ensures reads { watch.new.reads ≡ watch.old.reads }
-    ensures cause { HasCause result watch.new }
+    ensures cause { HasCause result ⊥ (W.has_failed writer.new ≡ true) ⊥ ⊥ }
 {
     let mut rest = bytes;
     while !rest.is_empty() {
-        match watch.write(writer, rest) {
+        match writer.write(rest) {
             Ok(count) => rest = rest.split_at(count).1,
-            Err(fault) => return Err(fault),
+            Err(_) => return Err(RunFault::Write),
         }
     }
     Ok(())
 }
 
 /// Writes the line of an answer, and flushes.
-fn tell<W: Write>(
-    alloc: Global,
-    watch: &mut Watch,
-    writer: &mut W,
-    answer: Answer,
-) -> Result<(), RunFault>
+fn tell<W: Sink>(alloc: Global, writer: &mut W, answer: Answer) -> Result<(), RunFault>
     ensures ok { OnOk result (Appends (W.contents writer.old) (W.contents writer.new) (line_text answer)) }
     ensures err { OnErr result ((told later : List ℕ) × Appends (W.contents writer.old) (W.contents writer.new) told × (line_text answer ≡ told ++ later)) }
-    ensures reads { watch.new.reads ≡ watch.old.reads }
-    ensures cause { HasCause result watch.new }
+    ensures cause { HasCause result ⊥ (W.has_failed writer.new ≡ true) ⊥ ⊥ }
 {
     let Ok(text) = format!(in alloc; "{answer}\n") else {
         return Err(RunFault::Memory);
     };
-    match write_bytes(watch, writer, text.as_bytes()) {
-        Ok(()) => watch.flush(writer),
+    match write_bytes(writer, text.as_bytes()) {
+        Ok(()) => match writer.flush() {
+            Ok(()) => Ok(()),
+            Err(_) => Err(RunFault::Write),
+        },
         Err(fault) => Err(fault),
     }
 }
 
 /// Does what a command says. The version is that of this run's own edits.
-fn obey<D: Desk>(
+fn obey<T: Threads + Sync, D: Desk>(
+    rt: &T,
     desk: &mut D,
     version: &mut u32,
     command: Option<Command>,
@@ -64,7 +61,7 @@ fn obey<D: Desk>(
     requires { version.old ≡ (D.store desk.old).version }
     ensures version { OnOk result (version.new ≡ (D.store desk.new).version) }
     ensures earlier { D.is_alone desk.new → D.is_alone desk.old }
-    ensures fault { IfErr result (λ f. IsOfDesk f (D.is_alone desk.new)) }
+    ensures cause { HasCause result ⊥ ⊥ (¬ D.is_alone desk.new) (D.clock_is_spent desk.new) }
     ensures answer { D.is_alone desk.new → IfOk result (λ a. a ≡ reply (D.store desk.old) command) }
     ensures store { D.is_alone desk.new → OnOk result (D.store desk.new ≡ after (D.store desk.old) command) }
 {
@@ -82,7 +79,7 @@ fn obey<D: Desk>(
             Err(EditFault::Memory) => Err(RunFault::Memory),
             Err(fault) => Ok(Answer::Refused(fault.number())),
         },
-        Some(Command::Query(query)) => match desk.ask(query) {
+        Some(Command::Query(query)) => match desk.ask(rt, query) {
             Told::Answer { version: at, body } => {
                 if at != *version {
                     return Err(RunFault::OtherEditor);
@@ -105,12 +102,17 @@ fn command_in<D: Desk>(desk: &D, line: &[u8]) -> Option<Command>
 }
 
 /// The answer to the line that is held, which has ended.
-fn line_answer<D: Desk>(held: &Held, desk: &mut D, version: &mut u32) -> Result<Answer, RunFault>
+fn line_answer<T: Threads + Sync, D: Desk>(
+    rt: &T,
+    held: &Held,
+    desk: &mut D,
+    version: &mut u32,
+) -> Result<Answer, RunFault>
     requires no_lf { has_lf held.now.bytes.items ≡ false }
     requires version { version.old ≡ (D.store desk.old).version }
     ensures version { OnOk result (version.new ≡ (D.store desk.new).version) }
     ensures earlier { D.is_alone desk.new → D.is_alone desk.old }
-    ensures fault { IfErr result (λ f. IsOfDesk f (D.is_alone desk.new)) }
+    ensures cause { HasCause result ⊥ ⊥ (¬ D.is_alone desk.new) (D.clock_is_spent desk.new) }
     ensures answer { D.is_alone desk.new → IfOk result (λ a. (more : List ℕ) →
         output_from (D.store desk.old) held.now.is_long held.now.bytes.items (10 ∷ more)
         ≡ line_text a ++ output (D.store desk.new) more) }
@@ -119,15 +121,15 @@ fn line_answer<D: Desk>(held: &Held, desk: &mut D, version: &mut u32) -> Result<
         return Ok(Answer::BadLine);
     }
     let command = command_in(desk, held.bytes.as_slice());
-    obey(desk, version, command)
+    obey(rt, desk, version, command)
 }
 
 /// Takes one byte of the input.
-fn take_byte<W: Write, D: Desk>(
+fn take_byte<T: Threads + Sync, W: Sink, D: Desk>(
+    rt: &T,
     alloc: Global,
     held: &mut Held,
     byte: u8,
-    watch: &mut Watch,
     writer: &mut W,
     desk: &mut D,
     version: &mut u32,
@@ -136,8 +138,7 @@ fn take_byte<W: Write, D: Desk>(
     requires version { version.old ≡ (D.store desk.old).version }
     ensures version { OnOk result (version.new ≡ (D.store desk.new).version) }
     ensures earlier { D.is_alone desk.new → D.is_alone desk.old }
-    ensures reads { watch.new.reads ≡ watch.old.reads }
-    ensures cause { HasCauseOr result watch.new (D.is_alone desk.new) }
+    ensures cause { HasCause result ⊥ (W.has_failed writer.new ≡ true) (¬ D.is_alone desk.new) (D.clock_is_spent desk.new) }
     ensures no_lf { OnOk result (has_lf held.new.bytes.items ≡ false) }
     ensures ok { D.is_alone desk.new → OnOk result (TellsOn (W.contents writer.old) (W.contents writer.new)
         (output_from (D.store desk.old) held.old.is_long held.old.bytes.items) (byte ∷ [])
@@ -149,21 +150,21 @@ fn take_byte<W: Write, D: Desk>(
         held.hold(byte);
         return Ok(());
     }
-    match line_answer(held, desk, version) {
+    match line_answer(rt, held, desk, version) {
         Ok(answer) => {
             held.clear();
-            tell(alloc, watch, writer, answer)
+            tell(alloc, writer, answer)
         }
         Err(fault) => Err(fault),
     }
 }
 
 /// Takes a piece of the input.
-fn take_piece<W: Write, D: Desk>(
+fn take_piece<T: Threads + Sync, W: Sink, D: Desk>(
+    rt: &T,
     alloc: Global,
     held: &mut Held,
     piece: &[u8],
-    watch: &mut Watch,
     writer: &mut W,
     desk: &mut D,
     version: &mut u32,
@@ -172,8 +173,7 @@ fn take_piece<W: Write, D: Desk>(
     requires version { version.old ≡ (D.store desk.old).version }
     ensures version { OnOk result (version.new ≡ (D.store desk.new).version) }
     ensures earlier { D.is_alone desk.new → D.is_alone desk.old }
-    ensures reads { watch.new.reads ≡ watch.old.reads }
-    ensures cause { HasCauseOr result watch.new (D.is_alone desk.new) }
+    ensures cause { HasCause result ⊥ (W.has_failed writer.new ≡ true) (¬ D.is_alone desk.new) (D.clock_is_spent desk.new) }
     ensures no_lf { OnOk result (has_lf held.new.bytes.items ≡ false) }
     ensures ok { D.is_alone desk.new → OnOk result (TellsOn (W.contents writer.old) (W.contents writer.new)
         (output_from (D.store desk.old) held.old.is_long held.old.bytes.items) piece.now
@@ -182,7 +182,7 @@ fn take_piece<W: Write, D: Desk>(
         (output_from (D.store desk.old) held.old.is_long held.old.bytes.items) piece.now) }
 {
     for byte in piece {
-        match take_byte(alloc, held, *byte, watch, writer, desk, version) {
+        match take_byte(rt, alloc, held, *byte, writer, desk, version) {
             Ok(()) => {}
             Err(fault) => return Err(fault),
         }
@@ -191,34 +191,40 @@ fn take_piece<W: Write, D: Desk>(
 }
 
 /// Answers the line that the end of the input cuts.
-fn finish<W: Write, D: Desk>(
+fn finish<W: Sink, D: Desk>(
     alloc: Global,
     held: &Held,
-    watch: &mut Watch,
     writer: &mut W,
     desk: &D,
 ) -> Result<(), RunFault>
     requires { has_lf held.now.bytes.items ≡ false }
-    ensures reads { watch.new.reads ≡ watch.old.reads }
-    ensures cause { HasCause result watch.new }
+    ensures cause { HasCause result ⊥ (W.has_failed writer.new ≡ true) ⊥ ⊥ }
     ensures ok { OnOk result (Appends (W.contents writer.old) (W.contents writer.new)
         (output_from (D.store desk.now) held.now.is_long held.now.bytes.items [])) }
     ensures err { OnErr result ((told later : List ℕ) × Appends (W.contents writer.old) (W.contents writer.new) told
         × (output_from (D.store desk.now) held.now.is_long held.now.bytes.items [] ≡ told ++ later)) }
 {
     if held.is_long {
-        return tell(alloc, watch, writer, Answer::BadLine);
+        return tell(alloc, writer, Answer::BadLine);
     }
     if held.bytes.as_slice().is_empty() {
         return Ok(());
     }
-    tell(alloc, watch, writer, Answer::BadCut)
+    tell(alloc, writer, Answer::BadCut)
 }
 
-/// Answers each line that comes, until the input ends or no read is left.
-pub fn run_watched<R: Read, W: Write, D: Desk>(
+/// Answers each line that comes, until the input ends. Each answer is one line, and is flushed before the next line is
+/// looked at. A line of any length takes bounded memory, and no byte is looked at twice. Threads take part in reports
+/// alone.
+///
+/// # Errors
+///
+/// `Read` where the reader failed or no read was left, `Write` where the writer failed or took nothing, `OtherEditor`
+/// where somebody else has edited the project, `Memory` where a growth was refused, and `Clock` where the desk's clock is
+/// at its last value. What was written then is a beginning of the output of what was read.
+pub fn run<T: Threads + Sync, R: Source, W: Sink, D: Desk>(
+    rt: &T,
     alloc: Global,
-    watch: &mut Watch,
     reader: &mut R,
     writer: &mut W,
     desk: &mut D,
@@ -227,62 +233,25 @@ pub fn run_watched<R: Read, W: Write, D: Desk>(
         Appends (W.contents writer.old) (W.contents writer.new) (output (D.store desk.old) input))) }
     ensures fault { D.is_alone desk.new → OnErr result (WritesPart (R.remaining reader.old) (R.remaining reader.new)
         (W.contents writer.old) (W.contents writer.new) (output (D.store desk.old))) }
-    ensures cause { HasCauseOr result watch.new (D.is_alone desk.new) }
-    ensures bound { watch.new.reads ≤ watch.old.reads }
+    ensures cause { HasCause result (CantRead (R.has_failed reader.new) (R.left reader.new)) (W.has_failed writer.new ≡ true)
+        (¬ D.is_alone desk.new) (D.clock_is_spent desk.new) }
+    ensures bound { R.left reader.new ≤ R.left reader.old }
 {
     let mut held = Held::new();
     let mut buffer = [0u8; 4096];
     let mut version = desk.opened().1;
     'pieces: loop {
-        let count = match watch.read(reader, &mut buffer) {
+        let count = match reader.read(&mut buffer) {
             Ok(count) => count,
-            Err(fault) => return Err(fault),
+            Err(_) => return Err(RunFault::Read),
         };
         if count == 0 {
-            return finish(alloc, &held, watch, writer, desk);
+            return finish(alloc, &held, writer, desk);
         }
-        match take_piece(
-            alloc,
-            &mut held,
-            buffer.split_at(count).0,
-            watch,
-            writer,
-            desk,
-            &mut version,
-        ) {
+        let piece = buffer.split_at(count).0;
+        match take_piece(rt, alloc, &mut held, piece, writer, desk, &mut version) {
             Ok(()) => {}
             Err(fault) => return Err(fault),
         }
     }
-}
-
-/// As `run`; a read beyond that number of reads is refused as `Read`.
-pub fn run_within<R: Read, W: Write, D: Desk>(
-    alloc: Global,
-    reader: &mut R,
-    writer: &mut W,
-    desk: &mut D,
-    reads: u32,
-) -> Result<(), RunFault>
-    ensures ok { D.is_alone desk.new → OnOk result (IfSome (R.remaining reader.old) (λ input.
-        Appends (W.contents writer.old) (W.contents writer.new) (output (D.store desk.old) input))) }
-    ensures fault { D.is_alone desk.new → OnErr result (WritesPart (R.remaining reader.old) (R.remaining reader.new)
-        (W.contents writer.old) (W.contents writer.new) (output (D.store desk.old))) }
-{
-    run_watched(alloc, &mut Watch::new(reads), reader, writer, desk)
-}
-
-/// Answers each line that comes, until the input ends.
-pub fn run<R: Read, W: Write, D: Desk>(
-    alloc: Global,
-    reader: &mut R,
-    writer: &mut W,
-    desk: &mut D,
-) -> Result<(), RunFault>
-    ensures ok { D.is_alone desk.new → OnOk result (IfSome (R.remaining reader.old) (λ input.
-        Appends (W.contents writer.old) (W.contents writer.new) (output (D.store desk.old) input))) }
-    ensures fault { D.is_alone desk.new → OnErr result (WritesPart (R.remaining reader.old) (R.remaining reader.new)
-        (W.contents writer.old) (W.contents writer.new) (output (D.store desk.old))) }
-{
-    run_within(alloc, reader, writer, desk, u32::MAX)
 }

@@ -1,5 +1,5 @@
 //! Sessions at the built-in project: in one piece, byte by byte, and with faults.
-use crate::{RunFault, run, run_within};
+use crate::{Reading, RunFault, Writing, run};
 use bench_core::Bench;
 use project_book::Project;
 use std::alloc::Global;
@@ -66,13 +66,13 @@ const ANSWERS: &[u8] =
 fn sessions_in_any_pieces(rt: HostRuntime) -> std::result::Result<(), Fail> {
     for most in [1, 7, 5000] {
         let mut desk = bench(rt.alloc(), 0)?;
-        let mut written = Vec::new(rt.alloc());
-        let mut reader = Slow {
+        let mut reader = Reading::new(Slow {
             bytes: SESSION,
             most,
-        };
-        assert!(rt; run(rt.alloc(), &mut reader, &mut written, &mut desk).is_ok());
-        assert_eq!(rt; written.as_slice(), ANSWERS);
+        });
+        let mut writer = Writing::new(Vec::new(rt.alloc()));
+        assert!(rt; run(&rt, rt.alloc(), &mut reader, &mut writer, &mut desk).is_ok());
+        assert_eq!(rt; writer.into_inner().as_slice(), ANSWERS);
     }
     Ok(())
 }
@@ -82,16 +82,17 @@ fn sessions_in_any_pieces(rt: HostRuntime) -> std::result::Result<(), Fail> {
 fn reads_are_counted(rt: HostRuntime) -> std::result::Result<(), Fail> {
     for (reads, want) in [(11, Ok(())), (10, Err(RunFault::Read))] {
         let mut desk = bench(rt.alloc(), 0)?;
-        let mut written = Vec::new(rt.alloc());
-        let mut reader = Slow {
+        let slow = Slow {
             bytes: b"word 0 10\n",
             most: 1,
         };
+        let mut reader = Reading::within(slow, reads);
+        let mut writer = Writing::new(Vec::new(rt.alloc()));
         assert_eq!(rt;
-            run_within(rt.alloc(), &mut reader, &mut written, &mut desk, reads),
+            run(&rt, rt.alloc(), &mut reader, &mut writer, &mut desk),
             want
         );
-        assert_eq!(rt; written.as_slice(), b"ok 1\n".as_slice());
+        assert_eq!(rt; writer.into_inner().as_slice(), b"ok 1\n".as_slice());
     }
     Ok(())
 }
@@ -105,10 +106,11 @@ fn long_lines_are_skipped(rt: HostRuntime) -> std::result::Result<(), Fail> {
     input.extend_from_slice(b"\nplace 5\nx")?;
     input.extend_from_slice(vec![in rt.alloc(); b'x'; 9000]?.as_slice())?;
     let mut desk = bench(rt.alloc(), 0)?;
-    let mut written = Vec::new(rt.alloc());
-    assert!(rt; run(rt.alloc(), &mut input.as_slice(), &mut written, &mut desk).is_ok());
+    let mut reader = Reading::new(input.as_slice());
+    let mut writer = Writing::new(Vec::new(rt.alloc()));
+    assert!(rt; run(&rt, rt.alloc(), &mut reader, &mut writer, &mut desk).is_ok());
     assert_eq!(rt;
-        written.as_slice(),
+        writer.into_inner().as_slice(),
         b"bad command\nbad line\nok 0 0:5\nbad line\n".as_slice()
     );
     Ok(())
@@ -119,24 +121,21 @@ fn a_writer_fails_at_each_call(rt: HostRuntime) -> std::result::Result<(), Fail>
     let output = b"ok 1\nok 1 0:0\n".as_slice();
     for calls in 0..15 {
         let mut desk = bench(rt.alloc(), 0)?;
-        let mut writer = Failing {
+        let mut reader = Reading::new(b"word 0 10\nplace 0\n".as_slice());
+        let mut writer = Writing::new(Failing {
             bytes: Vec::new(rt.alloc()),
             calls,
-        };
-        let ended = run(
-            rt.alloc(),
-            &mut b"word 0 10\nplace 0\n".as_slice(),
-            &mut writer,
-            &mut desk,
-        );
+        });
+        let ended = run(&rt, rt.alloc(), &mut reader, &mut writer, &mut desk);
+        let written = writer.into_inner().bytes;
         let want = if calls >= 14 {
             Ok(())
         } else {
             Err(RunFault::Write)
         };
         assert_eq!(rt; ended, want);
-        assert!(rt; output.starts_with(writer.bytes.as_slice()));
-        assert_eq!(rt; writer.bytes.len(), (calls as usize).min(14));
+        assert!(rt; output.starts_with(written.as_slice()));
+        assert_eq!(rt; written.len(), (calls as usize).min(14));
     }
     Ok(())
 }
@@ -145,18 +144,10 @@ fn a_writer_fails_at_each_call(rt: HostRuntime) -> std::result::Result<(), Fail>
 #[test]
 fn a_spent_clock_ends_the_run(rt: HostRuntime) -> std::result::Result<(), Fail> {
     let mut desk = bench(rt.alloc(), u64::MAX)?;
-    let mut written = Vec::new(rt.alloc());
-    let ended = run(
-        rt.alloc(),
-        &mut b"word 0 10\n".as_slice(),
-        &mut written,
-        &mut desk,
-    );
+    let mut reader = Reading::new(b"word 0 10\n".as_slice());
+    let mut writer = Writing::new(Vec::new(rt.alloc()));
+    let ended = run(&rt, rt.alloc(), &mut reader, &mut writer, &mut desk);
     assert_eq!(rt; ended, Err(RunFault::Clock));
-    assert!(rt; written.is_empty());
-    assert_eq!(rt;
-        format!(in rt.alloc(); "{}", RunFault::Clock)?.as_str(),
-        "clock spent"
-    );
+    assert!(rt; writer.into_inner().is_empty());
     Ok(())
 }

@@ -1,64 +1,132 @@
 //! What the parts of the workbench cost.
 //!
-//! `benchmarks` measures a run small enough for a test; `benchmarks from-scratch K H` the plain
-//! simulation of 2^K processors up to horizon H, in which every processor adds to one word a thousand
-//! times and every stage combines. Standard output gets one line of what was computed, which hangs on
-//! nothing but the words given; standard error gets the figures.
+//! `benchmarks` measures every group of rows, small enough for a test; `benchmarks from-scratch K H`
+//! the plain simulation of 2^K processors up to horizon H; `benchmarks parts N` N steps of each
+//! component by itself; `benchmarks bench K H` a bench that is settled and edited; `benchmarks words N`
+//! N edits of one word, each with a question after it. Standard output gets one line of what was computed, which hangs on nothing
+//! but the words given; standard error gets the figures, a row each.
+//!
+//! A further group of rows is a module with a call that takes the runtime and the group's numbers,
+//! writes its rows, and returns its part of the line; [`Asked`] gets its word.
 #![tactic(auto)]
 
+mod clock;
+mod edits;
 mod load;
+mod parts;
+mod scratch;
+#[cfg(test)]
+mod tests;
 
-use anyhow::{Context, Result, bail};
+use anyhow::Result;
 use line_words::number;
-use load::hot_spot;
-use machine_cells::{MachineState, from_scratch};
 use std::env;
-use std::time::Instant;
+use std::process::ExitCode;
+use std::thread::Threads;
 
-fn main(rt: HostRuntime) -> Result<()> {
-    let mut words = env::args(&rt)?;
+/// The words are none of those above.
+const WRONG_WORDS: u8 = 2;
+
+/// The clock, the terminal or the memory failed.
+const FAILED: u8 = 1;
+
+/// What is to be measured.
+enum Asked {
+    Everything,
+    FromScratch { k: u32, horizon: u32 },
+    Parts { steps: u32 },
+    Edits { k: u32, horizon: u32 },
+    Words { edits: u32 },
+}
+
+fn main(rt: HostRuntime) -> ExitCode {
+    let asked = match words(&rt) {
+        Ok(Some(asked)) => asked,
+        Ok(None) => {
+            let _ = eprintln!(rt;
+                "usage: benchmarks [from-scratch K H | parts N | bench K H | words N], K from 0 to 5, H to 1000, N of words to 65535"
+            );
+            return ExitCode::from(WRONG_WORDS);
+        }
+        Err(error) => return failed(&rt, error),
+    };
+    match measure(&rt, &rt, asked) {
+        Ok(()) => ExitCode::from(0),
+        Err(error) => failed(&rt, error),
+    }
+}
+
+fn failed(rt: &HostRuntime, error: anyhow::Error) -> ExitCode {
+    let _ = eprintln!(rt; "benchmarks: {error}");
+    ExitCode::from(FAILED)
+}
+
+/// What the program's words ask for; None where they say nothing that there is.
+fn words(rt: &HostRuntime) -> Result<Option<Asked>> {
+    let mut words = env::args(rt)?;
     words.next();
     let Some(what) = words.next() else {
-        return measure_from_scratch(&rt, 0, 8);
+        return Ok(Some(Asked::Everything));
     };
-    if what.as_str() != "from-scratch" {
-        bail!("usage: benchmarks [from-scratch K H]");
-    }
-    let k = read_number(words.next())?;
-    let horizon = read_number(words.next())?;
-    measure_from_scratch(&rt, k, horizon)
+    let (first, second, more) = (words.next(), words.next(), words.next());
+    let asked = match what.as_str() {
+        "from-scratch" if more.is_none() => {
+            sized(first, second).map(|(k, horizon)| Asked::FromScratch { k, horizon })
+        }
+        "bench" if more.is_none() => {
+            sized(first, second).map(|(k, horizon)| Asked::Edits { k, horizon })
+        }
+        "words" if second.is_none() => first
+            .and_then(number_in)
+            .map(|edits| Asked::Words { edits }),
+        "parts" if second.is_none() => first
+            .and_then(number_in)
+            .map(|steps| Asked::Parts { steps }),
+        _ => None,
+    };
+    Ok(asked)
 }
 
-fn read_number(word: Option<String>) -> Result<u32> {
-    let word = word.context("a number is missing")?;
-    number(word.as_bytes()).context("not a number")
+/// The k and the horizon that these words are.
+fn sized(k: Option<String>, horizon: Option<String>) -> Option<(u32, u32)> {
+    let k = number_in(k?)?;
+    let horizon = number_in(horizon?)?;
+    if k <= 5 && horizon <= 1000 {
+        Some((k, horizon))
+    } else {
+        None
+    }
 }
 
-/// Simulates a hot spot from cycle 0, and says how long a cell took.
-fn measure_from_scratch(rt: &HostRuntime, k: u32, horizon: u32) -> Result<()> {
-    let project = hot_spot(rt.alloc(), k, horizon)?;
-    let start = Instant::now(rt)?;
-    let rows = from_scratch(rt.alloc(), &project)?;
-    let time = start.elapsed(rt)?;
-    let mut cells: u64 = 0;
-    for row in &rows {
-        cells = cells.saturating_add(row.len() as u64);
+fn number_in(word: String) -> Option<u32> {
+    number(word.as_bytes())
+}
+
+fn measure<T: Threads + Sync>(rt: &HostRuntime, threads: &T, asked: Asked) -> Result<()> {
+    match asked {
+        Asked::Everything => {
+            let run = scratch::measure(rt, 0, 8)?;
+            let sums = parts::measure(rt, 1000)?;
+            let told = edits::measure(rt, threads, 0, 8)?;
+            let word = edits::words(rt, threads, 10)?;
+            println!(rt; "{run}; {sums}; {told}; word {word} after 10 edits")?;
+        }
+        Asked::FromScratch { k, horizon } => {
+            let run = scratch::measure(rt, k, horizon)?;
+            println!(rt; "{run}")?;
+        }
+        Asked::Parts { steps } => {
+            let sums = parts::measure(rt, steps)?;
+            println!(rt; "{sums}")?;
+        }
+        Asked::Edits { k, horizon } => {
+            let told = edits::measure(rt, threads, k, horizon)?;
+            println!(rt; "{told}")?;
+        }
+        Asked::Words { edits } => {
+            let word = edits::words(rt, threads, edits)?;
+            println!(rt; "word {word} after {edits} edits")?;
+        }
     }
-    let word = rows.last().map_or(0, |row| word_of(row, project.k()));
-    println!(rt;
-        "from-scratch k {k} horizon {horizon}: {cells} cells, word 0 is {word} at the end"
-    )?;
-    let nanoseconds = time.as_nanos();
-    let each = nanoseconds.checked_div(u128::from(cells)).unwrap_or(0);
-    eprintln!(rt; "{nanoseconds} ns, {each} ns a cell")?;
     Ok(())
-}
-
-/// The word of address 0, which stands in row 0 of the first module.
-fn word_of(row: &[MachineState], k: u32) -> u32 {
-    let first = 1usize.checked_shl(k).unwrap_or(0);
-    match row.get(first) {
-        Some(MachineState::Module(holder)) => holder.word(0),
-        _ => 0,
-    }
 }

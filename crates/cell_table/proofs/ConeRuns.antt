@@ -12,7 +12,7 @@ use Rattle.cell_table.specs.Seen.{Held, Seen, row_at, held_at, held_in}
 use Rattle.cell_table.specs.Cells.{IsThere}
 use Rattle.cell_table.specs.Inputs.{states_of}
 use Rattle.cell_table.specs.Consistent.{IsConsistent}
-use Rattle.cell_table.specs.Run.{run}
+use Rattle.grid_law.specs.Run.{run}
 use Rattle.cell_table.specs.Readers.{has}
 use Rattle.cell_table.specs.Cones.{every, earlier, due_among, due_below}
 use Rattle.cell_table.proofs.Tables.{inputs_first, inputs_later}

@@ -11,7 +11,7 @@ use Rattle.cell_table.specs.Events.{Event, Edits, Claims, Stores, Start, slots_o
 use Rattle.cell_table.specs.Values.{val}
 use Rattle.cell_table.specs.Due.{due, changes}
 use Rattle.cell_table.specs.Stands.{Stands}
-use Rattle.cell_table.specs.Run.{run}
+use Rattle.grid_law.specs.Run.{run}
 use Rattle.cell_table.specs.Settling.{NoneDueBefore, HoldsRunBefore, IsSettled, IsSettledCell, Settling}
 use Rattle.cell_table.specs.Cost.{is_stored, IsInOrder, HasStaleNear, Costs, SettlesFirst, Settles}
 use Rattle.cell_table.proofs.States.{neither}

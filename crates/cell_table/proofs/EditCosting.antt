@@ -13,7 +13,7 @@ use Rattle.cell_table.specs.Events.{Event, Edits, Start, slots_of, horizon_of}
 use Rattle.cell_table.specs.Values.{val, vals, near_vals}
 use Rattle.cell_table.specs.Due.{due}
 use Rattle.cell_table.specs.Stands.{Stands}
-use Rattle.cell_table.specs.Run.{run, run_inputs}
+use Rattle.grid_law.specs.Run.{run, run_inputs}
 use Rattle.cell_table.specs.Settling.{IsSettled}
 use Rattle.cell_table.specs.Cost.{Costs, CostsAnEdit}
 use Rattle.cell_table.proofs.Costing.{has_item, or_left, or_right}

@@ -3,6 +3,7 @@ pub mod Tables
 pub mod States
 pub mod Stores
 pub mod Touched
+pub mod Marking
 pub mod Standing
 pub mod Overtaking
 pub mod Answering
@@ -13,6 +14,5 @@ pub mod Settling
 pub mod Costing
 pub mod EditCosting
 pub mod Passes
-pub mod Expanded
 pub mod Cones
 pub mod ConeRuns

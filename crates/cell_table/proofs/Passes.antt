@@ -1,16 +1,16 @@
 -- A pass over the due cells, by cycle and then component.
-use Rattle.std.proofs.Common.{◌≡◌, ℕ, ◌+◌, ◌*◌, ◌<◌, ◌≤◌, ◌∙◌, subst, refl, arith, ◌⊎◌, inl, inr, Option, None, Some, IfNone, IfSome, List, [], ◌∷◌, length}
+use Rattle.std.proofs.Common.{◌≡◌, ℕ, ◌+◌, ◌*◌, ◌<◌, ◌≤◌, ◌∙◌, subst, refl, arith, ◌⊎◌, inl, inr, Option, None, Some, IfNone, IfSome, List, [], ◌∷◌, length, false}
 use Rattle.std.proofs.lemmas.Bool.{cases_lt}
 use Rattle.cell_table.specs.declared.cell.Cell.{Cell}
 use Rattle.grid_law.specs.Rules.{Rules, Laws}
-use Rattle.cell_table.specs.Seen.{Seen}
-use Rattle.cell_table.specs.Cells.{AtOrAfter, Before}
+use Rattle.cell_table.specs.Seen.{Seen, held_at}
+use Rattle.cell_table.specs.Cells.{IsThere, AtOrAfter, Before}
 use Rattle.cell_table.specs.Events.{Event, Edits, Claims, Stores, Start}
 use Rattle.cell_table.specs.Stands.{Stands}
-use Rattle.cell_table.specs.Run.{run}
-use Rattle.cell_table.specs.Settling.{NoneDueBefore, HoldsRunBefore, IsSettled, Settling, SettlesNext}
+use Rattle.grid_law.specs.Run.{run}
+use Rattle.cell_table.specs.Settling.{NoneDueBefore, HoldsRunBefore, IsSettled, IsSpent, Settling, SettlesNext}
 use Rattle.cell_table.specs.Cost.{Settles, SettlesFirst}
-use Rattle.cell_table.proofs.Ordering.{before_along, before_next}
+use Rattle.cell_table.proofs.Ordering.{before_or_after, before_along, before_next}
 use Rattle.cell_table.proofs.Costing.{settles_first, settles_all}
 
 none_first : (t c : ℕ) → Before t c 0 0 → ⊥
@@ -78,6 +78,24 @@ module _ {State Slots Slot : Type 0} (R : Rules State Slots Slot) where
     slots = s.settled.after.slots ∙ is_at.slots;
     horizon = s.settled.after.horizon ∙ is_at.horizon;
   }
+
+  -- where none before a cell is due, the first due cell from there on is the first of all
+  pub spent_first : (v : Seen State Slots) (t0 c0 : ℕ) → NoneDueBefore R v t0 c0 → IsSpent R v t0 c0 → IsSpent R v 0 0
+  spent_first v t0 c0 none spent = record {
+    clock = spent.clock;
+    cell = spent.cell;
+    next = record {
+      there = spent.next.there;
+      due = spent.next.due;
+      after = (omega arith, λ e. omega arith);
+      none_between = λ t c there a b. by_place t c there b (before_or_after t0 c0 t c);
+    };
+    differs = spent.differs;
+  }
+    where
+      by_place : (t c : ℕ) → IsThere R v t c → Before t c spent.cell.cycle spent.cell.component → Before t c t0 c0 ⊎ AtOrAfter t0 c0 t c → (held_at v.rows t c).is_due ≡ false
+      by_place t c there b (inl before) = none t c there before
+      by_place t c there b (inr after) = spent.next.none_between t c there after b
 
 module _ {State Slots Slot : Type 0} (R : Rules State Slots Slot) (laws : Laws R) (old now : Seen State Slots) (t0 c0 computed : ℕ) (is_at : IsAt R old now t0 c0 computed) where
   -- where it stops, the cells settled are the first that cost

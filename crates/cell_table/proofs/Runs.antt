@@ -8,7 +8,7 @@ use Rattle.cell_table.specs.Cells.{IsThere}
 use Rattle.cell_table.specs.Inputs.{states_of}
 use Rattle.cell_table.specs.Consistent.{IsTable, IsCurrentState}
 use Rattle.cell_table.specs.Claims.{NoneDue}
-use Rattle.cell_table.specs.Run.{run}
+use Rattle.grid_law.specs.Run.{run}
 use Rattle.cell_table.proofs.Tables.{inputs_first, inputs_later}
 
 states_known : {State : Type 0} (row : List (Held State)) (f : ℕ → State) (ms : List ℕ) → AllByRecursion (λ m. (held_in row m).state ≡ Some (f m)) ms → states_of row ms ≡ Some (map f ms)

@@ -10,7 +10,7 @@ use Rattle.cell_table.specs.Inputs.{inputs_of}
 use Rattle.cell_table.specs.Consistent.{IsTable, IsCurrentState, current_of}
 use Rattle.cell_table.specs.Readers.{has}
 use Rattle.cell_table.specs.Gives.{IsAfterStore, GivesAs}
-use Rattle.cell_table.specs.Run.{run}
+use Rattle.grid_law.specs.Run.{run}
 use Rattle.cell_table.specs.Claims.{Computed, NoneDue, result_for}
 use Rattle.cell_table.specs.Settling.{NoneDueBefore, NoneDueFrom, HoldsRunBefore, IsSettled, IsNextDue, SettlesNext, IsSpent}
 use Rattle.cell_table.proofs.Ordering.{before_or_after}

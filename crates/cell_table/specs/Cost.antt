@@ -9,7 +9,7 @@ use Rattle.cell_table.specs.Events.{Event, Edits, Claims, Stores, Start, slots_o
 use Rattle.cell_table.specs.Values.{val}
 use Rattle.cell_table.specs.Due.{due, stores}
 use Rattle.cell_table.specs.Reads.{reads_any}
-use Rattle.cell_table.specs.Run.{run, run_inputs}
+use Rattle.grid_law.specs.Run.{run, run_inputs}
 use Rattle.cell_table.specs.Stands.{Stands}
 
 module _ {State Slots Slot : Type 0} where

@@ -15,7 +15,6 @@ pub mod Stands
 pub mod Overtaken
 pub mod Made
 pub mod Answers
-pub mod Run
 pub mod Cones
 pub mod Settling
 pub mod Cost

@@ -8,3 +8,7 @@ module _ {State Slots Slot : Type 0} (R : Rules State Slots Slot) where
   abbrev pub reads_any : Slots → ℕ → List Slot → Option (List State) → Bool
   reads_any s c listed None = false
   reads_any s c listed (Some near) = list_any (λ slot. R.reads s near c slot) listed
+
+  -- whether it may read one of these slots, at cycle 0 or at a later one
+  abbrev pub may_read_any : Slots → ℕ → Bool → List Slot → Bool
+  may_read_any s c first listed = list_any (λ slot. R.may_read s c first slot) listed

@@ -9,7 +9,7 @@ use Rattle.cell_table.specs.Cells.{IsThere, AtOrAfter, Before}
 use Rattle.cell_table.specs.Claims.{NoneDue}
 use Rattle.cell_table.specs.Gives.{IsAfterStore}
 use Rattle.cell_table.specs.Events.{Event, Edits, Claims, Stores}
-use Rattle.cell_table.specs.Run.{run}
+use Rattle.grid_law.specs.Run.{run}
 
 -- the first component of a row, at or after that one, that is due
 pub record IsNextDueInRow {State : Type 0} (row : List (Held State)) (c0 c : ℕ) : Type 0 where

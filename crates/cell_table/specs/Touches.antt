@@ -1,17 +1,18 @@
 -- What an edit does to a table.
-use Rattle.std.specs.Prelude.{◌≡◌, ℕ, ◌+◌, if◌then◌else◌, nat_lt, Bool, false, List, [], length, slice_index_or}
+use Rattle.std.specs.Prelude.{◌≡◌, ℕ, ◌+◌, if◌then◌else◌, nat_lt, Bool, List, length}
 use Rattle.grid_law.specs.Rules.{Rules}
 use Rattle.cell_table.specs.Seen.{Held, Seen, fresh, marked, held_at}
 use Rattle.cell_table.specs.Inputs.{inputs_of}
 use Rattle.cell_table.specs.Reads.{reads_any}
+use Rattle.cell_table.specs.Readers.{has, readers_at}
 use Rattle.cell_table.specs.Cells.{IsThere}
 
--- whether these marks have the cell
-abbrev pub is_marked : List (List Bool) → ℕ → ℕ → Bool
-is_marked marks t c = slice_index_or (slice_index_or marks t []) c false
+-- whether these marks, a list of components for each cycle, have the cell
+abbrev pub is_marked : List (List ℕ) → ℕ → ℕ → Bool
+is_marked marks t c = has (readers_at marks t) c
 
 -- what is held for a cell after an edit with these marks
-abbrev pub held_marked : {State : Type 0} → List (List (Held State)) → List (List Bool) → ℕ → ℕ → ℕ → Held State
+abbrev pub held_marked : {State : Type 0} → List (List (Held State)) → List (List ℕ) → ℕ → ℕ → ℕ → Held State
 held_marked rows marks version t c =
     if nat_lt t (length rows) then (if is_marked marks t c then marked (held_at rows t c) version else held_at rows t c) else fresh version
 

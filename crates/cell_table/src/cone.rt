@@ -1,5 +1,5 @@
 //! The components of a cone, and their due cells, from cycle to cycle.
-ghost use Rattle.std.specs.Prelude.{◌≡◌, ℕ, ◌+◌, ◌<◌, ◌≤◌, ◌==◌, ◌||◌, ◌&&◌, ◌^◌, ◌↔◌, IsTrue, IfOk, true, false, length, vec_len, slice_index_or, count_by};
+ghost use Rattle.std.specs.Prelude.{◌≡◌, ℕ, ◌+◌, ◌<◌, ◌==◌, ◌||◌, ◌&&◌, ◌^◌, ◌↔◌, IsTrue, IfOk, true, false, length, vec_len, slice_index_or, count_by};
 ghost use Rattle.std.specs.List.{range_with_len};
 ghost use Rattle.cell_table.specs.Seen.{held_in};
 ghost use Rattle.cell_table.specs.Readers.{has};

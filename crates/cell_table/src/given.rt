@@ -7,9 +7,10 @@ pub enum Given<D> {
     Gone,
     /// The cell isn't due.
     NotDue,
-    /// The cell is due with another version: since the claim, something that it reads has changed.
+    /// The cell is due with another version: since the claim, something that it reads has changed,
+    /// or it was removed and is new.
     Overtaken,
-    /// The slots or the states that it was computed from aren't the present ones.
+    /// The near states, or the slots read, that it was computed from aren't the present ones.
     Foreign,
     /// The state is another one, and the clock is at its last value. The result comes back.
     ClockSpent(D),

@@ -21,7 +21,8 @@
 //! ```
 //!
 //! Claims may be dropped, given back late, or stand twice for one cell, while others are given back
-//! and the project is edited.
+//! and the project is edited. A state is lent by `state`; `shared` gives one more owner of it, who
+//! keeps it while the table goes on.
 //!
 //! # What is promised
 //!
@@ -46,6 +47,7 @@
 
 mod cell;
 mod claim;
+mod components;
 mod cone;
 mod given;
 mod marks;

@@ -1,46 +1,17 @@
 //! Following an edit: which cells it marks, and the rows up to its horizon.
-ghost use Rattle.std.specs.Prelude.{◌≡◌, ℕ, ◌+◌, ◌++◌, ◌<◌, ◌≤◌, IfOk, OnOk, OnErr, length, map, replicate, false, List, [], Some, slice_index_or, if◌then◌else◌, nat_lt, ◌^◌};
+ghost use Rattle.std.specs.Prelude.{◌≡◌, ℕ, ◌+◌, ◌++◌, ◌<◌, ◌≤◌, IfOk, OnOk, OnErr, length, map, replicate, All, Some, if◌then◌else◌, nat_lt, ◌^◌};
 ghost use Rattle.std.specs.Arc.{arc_value};
-ghost use Rattle.cell_table.specs.Seen.{held_in, held_at, row_at, marked, fresh};
-ghost use Rattle.cell_table.specs.Reads.{reads_any};
+ghost use Rattle.cell_table.specs.Seen.{held_at, row_at, marked, fresh};
+ghost use Rattle.cell_table.specs.Readers.{has, readers_at};
+ghost use Rattle.cell_table.specs.Reads.{reads_any, may_read_any};
 ghost use Rattle.cell_table.specs.Touches.{is_marked, held_marked};
 
+use crate::components::Components;
 use crate::row::Row;
+use crate::rows::mark_each;
 use grid_law::{Grid, NoMemory};
 use std::alloc::Global;
-use std::marker::Model;
 use std::sync::Arc;
-
-/// Which cells of a cycle to mark.
-#[derive(Drop)]
-pub(crate) struct Marks {
-    cells: Vec<bool>,
-}
-
-impl Model for Marks {
-    ghost use Rattle.std.specs.Prelude.{List, Bool};
-
-    ghost Value = { List Bool };
-
-    ghost view = { λ m. m.cells.items };
-}
-
-impl Marks {
-    pub(crate) fn new(cells: Vec<bool>) -> Marks
-        ensures { result ≡ cells.items }
-    {
-        Marks { cells }
-    }
-
-    fn has(&self, c: u32) -> bool
-        ensures { result ≡ slice_index_or self.now c false }
-    {
-        match self.cells.get(c as usize) {
-            Some(mark) => *mark,
-            None => false,
-        }
-    }
-}
 
 /// Whether a component reads one of these slots.
 pub(crate) fn reads_some<G: Grid>(
@@ -60,21 +31,41 @@ pub(crate) fn reads_some<G: Grid>(
     false
 }
 
-/// Marks the cells of a row.
-fn mark_row<S: Drop>(row: &mut Row<S>, marks: &Marks, version: u64)
-    ensures len { length row.new ≡ length row.old }
-    ensures at { (k : ℕ) → k < length row.old → held_in row.new k
-        ≡ (if slice_index_or marks.now k false then marked (held_in row.old k) version else held_in row.old k) }
+/// Whether a component may read one of these slots, at cycle 0 or at a later one.
+fn may_read_some<G: Grid>(slots: &G::Slots, c: u32, first: bool, listed: &[G::Slot]) -> bool
+    requires { c < G.rules.components slots.now }
+    ensures { result ≡ may_read_any G.rules slots.now c first listed.now }
 {
-    for k in 0..row.len() {
-        if marks.has(k) {
-            row.mark(k, version);
+    for slot in listed {
+        if G::may_read(slots, c, first, slot) {
+            return true;
         }
     }
+    false
 }
 
-/// Marks the cells of the rows.
-pub(crate) fn mark_rows<S: Drop>(rows: &mut Vec<Row<S>>, marks: &Vec<Marks>, version: u64)
+/// The components that may read one of these slots, at cycle 0 or at a later one.
+pub(crate) fn those_that_may_read<G: Grid>(
+    alloc: Global,
+    slots: &G::Slots,
+    first: bool,
+    listed: &[G::Slot],
+) -> Result<Components, NoMemory>
+    ensures has { IfOk result (λ cs. (c : ℕ) → c < G.rules.components slots.now → has cs c ≡ may_read_any G.rules slots.now c first listed.now) }
+    ensures within { IfOk result (λ cs. All (λ c. c < G.rules.components slots.now) cs) }
+{
+    let mut components = Components::new(alloc);
+    for c in 0..G::components(slots) {
+        if may_read_some::<G>(slots, c, first, listed) {
+            components.push(c)?;
+        }
+    }
+    Ok(components)
+}
+
+/// Marks in each row the cells of its components.
+pub(crate) fn mark_rows<S: Drop>(rows: &mut Vec<Row<S>>, marks: &Vec<Components>, version: u64)
+    requires within { (t : ℕ) → t < length rows.old.items → All (λ k. k < length (row_at rows.old.items t)) (readers_at marks.now.items t) }
     ensures len { length rows.new.items ≡ length rows.old.items }
     ensures lens { (t : ℕ) → t < length rows.old.items → length (row_at rows.new.items t) ≡ length (row_at rows.old.items t) }
     ensures at { (t c : ℕ) → t < length rows.old.items → c < length (row_at rows.old.items t) → held_at rows.new.items t c
@@ -83,7 +74,7 @@ pub(crate) fn mark_rows<S: Drop>(rows: &mut Vec<Row<S>>, marks: &Vec<Marks>, ver
     for t in 0..rows.len() {
         if t < marks.len() {
             let row = &mut rows[t];
-            mark_row(row, &marks[t], version);
+            mark_each(row, marks[t].as_slice(), version);
         }
     }
 }
@@ -153,13 +144,14 @@ fn resize<S: Drop>(
 pub(crate) fn retouch<S: Drop>(
     alloc: Global,
     rows: &mut Vec<Row<S>>,
-    marks: &Vec<Marks>,
+    marks: &Vec<Components>,
     horizon: u32,
     count: u32,
     version: u64,
 ) -> Result<(), NoMemory>
     requires few { length rows.old.items ≤ 2 ^ 32 }
     requires marks { length marks.now.items ≤ length rows.old.items }
+    requires within { (t : ℕ) → All (λ k. k < count) (readers_at marks.now.items t) }
     requires whole { (t : ℕ) → t < length rows.old.items → length (row_at rows.old.items t) ≡ count }
     ensures len { OnOk result (length rows.new.items ≡ horizon + 1) }
     ensures whole { OnOk result ((t : ℕ) → t ≤ horizon → length (row_at rows.new.items t) ≡ count) }

@@ -1,52 +1,16 @@
 //! Which components read which.
-ghost use Rattle.std.specs.Prelude.{◌≡◌, ℕ, ◌+◌, ◌<◌, ◌≤◌, IfOk, OnOk, length, [], ◌∷◌, ◌++◌, false, replicate, slice_set, All};
+ghost use Rattle.std.specs.Prelude.{◌≡◌, ℕ, ◌<◌, IfOk, OnOk, length, [], false, replicate, All};
 ghost use Rattle.cell_table.specs.Readers.{has, readers_at, IsIndex};
 
+use crate::components::Components;
 use grid_law::{Grid, NoMemory};
 use std::alloc::Global;
 use std::marker::Model;
 
-/// The components that read one component.
-#[derive(Drop)]
-struct ReaderList {
-    components: Vec<u32>,
-}
-
-impl Model for ReaderList {
-    ghost use Rattle.std.specs.Prelude.{List, ℕ};
-
-    ghost Value = { List ℕ };
-
-    ghost view = { λ l. l.components.items };
-}
-
-impl ReaderList {
-    fn new(alloc: Global) -> ReaderList
-        ensures { result ≡ [] }
-    {
-        ReaderList {
-            components: Vec::new(alloc),
-        }
-    }
-
-    fn push(&mut self, k: u32) -> Result<(), NoMemory>
-        ensures { OnOk result (self.new ≡ self.old ++ k ∷ []) }
-    {
-        self.components.push(k)?;
-        Ok(())
-    }
-
-    fn components(&self) -> &[u32]
-        ensures { result.now ≡ self.now }
-    {
-        self.components.as_slice()
-    }
-}
-
 /// For each component, those that read it.
 #[derive(Drop)]
 pub struct Readers {
-    lists: Vec<ReaderList>,
+    lists: Vec<Components>,
 }
 
 impl Model for Readers {
@@ -57,18 +21,18 @@ impl Model for Readers {
     ghost view = { λ r. r.lists.items };
 }
 
-fn empty_lists(alloc: Global, count: u32) -> Result<Vec<ReaderList>, NoMemory>
+fn empty_lists(alloc: Global, count: u32) -> Result<Vec<Components>, NoMemory>
     ensures { IfOk result (λ lists. lists.items ≡ replicate count []) }
 {
     let mut lists = Vec::new(alloc);
     for _c in 0..count {
-        lists.push(ReaderList::new(alloc))?;
+        lists.push(Components::new(alloc))?;
     }
     Ok(lists)
 }
 
 /// Adds `k` to the lists of its near components.
-fn add_reader(lists: &mut Vec<ReaderList>, near: &[u32], k: u32) -> Result<(), NoMemory>
+fn add_reader(lists: &mut Vec<Components>, near: &[u32], k: u32) -> Result<(), NoMemory>
     requires { All (λ m. m < length lists.old.items) near.now }
     ensures len { OnOk result (length lists.new.items ≡ length lists.old.items) }
     ensures others { OnOk result ((c j : ℕ) → (j ≡ k → ⊥) → has (readers_at lists.new.items c) j ≡ has (readers_at lists.old.items c) j) }
@@ -82,7 +46,7 @@ fn add_reader(lists: &mut Vec<ReaderList>, near: &[u32], k: u32) -> Result<(), N
 }
 
 /// Finds for each component those that have it among their near ones.
-fn lists_of<G: Grid>(alloc: Global, slots: &G::Slots) -> Result<Vec<ReaderList>, NoMemory>
+fn lists_of<G: Grid>(alloc: Global, slots: &G::Slots) -> Result<Vec<Components>, NoMemory>
     ensures { IfOk result (λ lists. IsIndex G.rules slots.now lists.items) }
 {
     let count = G::components(slots);
@@ -108,7 +72,7 @@ impl Readers {
         ensures { result.now ≡ readers_at self.now c }
     {
         match self.lists.get(c as usize) {
-            Some(list) => list.components(),
+            Some(list) => list.as_slice(),
             None => &[],
         }
     }

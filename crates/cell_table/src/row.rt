@@ -49,10 +49,13 @@ impl<S> Kept<S> {
         }
     }
 
-    fn arc(&self) -> Option<&Arc<S>>
-        ensures { option_map arc_value (option_copied result) ≡ self.now.state }
+    fn shared(&self) -> Result<Option<Arc<S>>, NoMemory>
+        ensures { IfOk result (λ o. option_map arc_value o ≡ self.now.state) }
     {
-        self.state.as_ref()
+        match &self.state {
+            Some(state) => Ok(Some(Arc::try_clone(state)?)),
+            None => Ok(None),
+        }
     }
 
     fn is_due(&self) -> bool
@@ -124,7 +127,7 @@ impl<S: Drop> Row<S> {
     pub fn new(alloc: Global, count: u32, version: u64) -> Result<Row<S>, NoMemory>
         ensures { IfOk result (λ r. r ≡ replicate count (fresh version)) }
     {
-        let mut cells = Vec::new(alloc);
+        let mut cells = Vec::with_capacity(alloc, count as usize)?;
         for _c in 0..count {
             match cells.push(Kept::fresh(version)) {
                 Ok(()) => {}
@@ -161,12 +164,13 @@ impl<S: Drop> Row<S> {
         }
     }
 
-    fn arc(&self, c: u32) -> Option<&Arc<S>>
-        ensures { option_map arc_value (option_copied result) ≡ (held_in self.now c).state }
+    /// One more owner of a component's state.
+    pub fn shared(&self, c: u32) -> Result<Option<Arc<S>>, NoMemory>
+        ensures { IfOk result (λ o. option_map arc_value o ≡ (held_in self.now c).state) }
     {
         match self.cells.get(c as usize) {
-            Some(kept) => kept.arc(),
-            None => None,
+            Some(kept) => kept.shared(),
+            None => Ok(None),
         }
     }
 
@@ -216,9 +220,10 @@ impl<S: Drop> Row<S> {
         ensures { IfOk result (λ all. (if all then Some (map arc_value states.new.items) else None) ≡ states_of self.now near.now) }
     {
         states.clear();
+        states.reserve(near.len())?;
         for c in near {
-            match self.arc(*c) {
-                Some(state) => states.push(Arc::try_clone(state)?)?,
+            match self.shared(*c)? {
+                Some(state) => states.push(state)?,
                 None => return Ok(false),
             }
         }

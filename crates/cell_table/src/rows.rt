@@ -1,9 +1,9 @@
 //! The rows of a table: storing a state, and marking the cells that read it.
-ghost use Rattle.std.specs.Prelude.{◌≡◌, ℕ, ◌+◌, ◌<◌, ◌≤◌, ◌-◌, ◌^◌, ◌↔◌, IsTrue, Some, map, true, length, All, if◌then◌else◌, MatchOption, ◌==◌};
+ghost use Rattle.std.specs.Prelude.{◌≡◌, ℕ, ◌+◌, ◌<◌, ◌-◌, ◌^◌, ◌↔◌, IsTrue, Some, map, true, length, All, if◌then◌else◌};
 ghost use Rattle.std.specs.Arc.{arc_value};
 ghost use Rattle.cell_table.specs.Seen.{held_in, held_at, row_at, marked, due_up_to};
 ghost use Rattle.cell_table.specs.Inputs.{states_of};
-ghost use Rattle.cell_table.specs.Readers.{has, readers_at, IsIndex};
+ghost use Rattle.cell_table.specs.Readers.{has, IsIndex};
 ghost use Rattle.cell_table.specs.Gives.{held_after};
 
 use crate::Cell;
@@ -13,7 +13,7 @@ use grid_law::Grid;
 use std::sync::Arc;
 
 /// Marks the cells of these components.
-fn mark_each<S: Drop>(row: &mut Row<S>, components: &[u32], version: u64)
+pub(crate) fn mark_each<S: Drop>(row: &mut Row<S>, components: &[u32], version: u64)
     requires { All (λ k. k < length row.old) components.now }
     ensures len { length row.new ≡ length row.old }
     ensures at { (k : ℕ) → k < length row.old → held_in row.new k

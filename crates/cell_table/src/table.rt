@@ -1,12 +1,13 @@
 //! The table.
-ghost use Rattle.std.specs.Prelude.{◌≡◌, ℕ, ◌+◌, ◌<◌, ◌≤◌, IfOk, IfErr, replicate, Some, ◌↔◌, IsTrue, List, []};
+ghost use Rattle.std.specs.Prelude.{◌≡◌, ℕ, ◌+◌, ◌<◌, IfOk, IfErr, replicate, Some, ◌↔◌, IsTrue, [], option_map};
+ghost use Rattle.std.specs.Arc.{arc_value};
 ghost use Rattle.std.specs.Option.{option_copied};
 ghost use Rattle.cell_table.specs.Seen.{held_at, fresh, due_up_to};
 ghost use Rattle.cell_table.specs.Cells.{IsThere};
 ghost use Rattle.cell_table.specs.Consistent.{IsWhole, IsConsistent};
 ghost use Rattle.cell_table.specs.Claims.{NoneDue};
 ghost use Rattle.cell_table.specs.Stands.{Stands};
-ghost use Rattle.cell_table.specs.Run.{run};
+ghost use Rattle.grid_law.specs.Run.{run};
 
 mod claiming;
 mod cone;
@@ -18,9 +19,10 @@ use crate::Cell;
 use crate::readers::Readers;
 use crate::row::Row;
 use crate::rows::due_in;
-use grid_law::Grid;
+use grid_law::{Grid, NoMemory};
 use std::alloc::Global;
 use std::marker::Model;
+use std::sync::Arc;
 
 /// The cells of the cycles from 0 to the horizon: for each a state, if it has one, and whether it
 /// is due. Each cell that isn't due holds its first state, or the step of the states near it.
@@ -129,6 +131,18 @@ impl<G: Grid> Table<G> {
         match self.rows.get(cell.cycle as usize) {
             Some(row) => row.state(cell.component),
             None => None,
+        }
+    }
+
+    /// One more owner of the state that the cell holds, up to date or not; none for a cell that
+    /// isn't there. Nothing is copied: the state lives on with this owner once the table has
+    /// another one. NoMemory where it has as many owners as can be counted.
+    pub fn shared(&self, cell: Cell) -> Result<Option<Arc<G::State>>, NoMemory>
+        ensures { IfOk result (λ o. option_map arc_value o ≡ (held_at self.now.rows cell.cycle cell.component).state) }
+    {
+        match self.rows.get(cell.cycle as usize) {
+            Some(row) => row.shared(cell.component),
+            None => Ok(None),
         }
     }
 

@@ -130,6 +130,17 @@ fn stores_what_an_edit_can_change(rt: HostRuntime) -> Result<(), Fail> {
     Ok(())
 }
 
+// Place 2 at cycle 2 is 13.
+#[test]
+fn shares_a_state(rt: HostRuntime) -> Result<(), Fail> {
+    let table = settled(rt.alloc())?;
+    match table.shared(cell(2, 2))? {
+        Some(state) => assert_eq!(rt; *state, 13),
+        None => return Err(Fail::from("no state")),
+    }
+    Ok(())
+}
+
 // All 9 cells, then the new cycle 3, which is 5 + 2, 7 + 0 and 13 + 0, all odd.
 #[test]
 fn settles_new_cycles_alone(rt: HostRuntime) -> Result<(), Fail> {

@@ -10,10 +10,11 @@ use Rattle.run_queries.specs.declared.query.Query.TheVariants as query
 use Rattle.commands.specs.declared.command.Command.{Command}
 use Rattle.commands.specs.declared.command.Command.TheVariants as command
 use Rattle.commands.specs.declared.keyword.Keyword.{Keyword}
-use Rattle.commands.specs.declared.keyword.Keyword.TheVariants.{Entry, Cut, Word, Page, Depth, Wait, Combine, Window, Horizon, Reply, State, Memory, Place}
+use Rattle.commands.specs.declared.keyword.Keyword.TheVariants.{Entry, Cut, Word, Page, Depth, Wait, Combine, Window, Horizon, Reply, State, Memory, Counter, Profile, Tree, Level, Bound, Place}
 use Rattle.commands.specs.Keywords.{keyword_of, is_query}
 use Rattle.commands.specs.Numbers.{both, one_number, two_numbers, three_numbers}
 use Rattle.commands.specs.Components.{component_named}
+use Rattle.commands.specs.Reports.{counter_query, in_net, level_query}
 
 -- on or off
 abbrev pub switch_named : List ℕ → Option Bool
@@ -60,6 +61,11 @@ abbrev pub query_of : ℕ → Keyword → List (List ℕ) → Option Query
 query_of k Reply words = option_map (λ x. query.Reply x.0 x.1) (two_numbers words)
 query_of k State words = state_query k words
 query_of k Memory words = option_map (λ x. query.Memory x.0 x.1) (two_numbers words)
+query_of k Counter words = counter_query k words
+query_of k Profile words = option_map (λ x. query.Profile x.0 x.1) (in_net words)
+query_of k Tree words = option_map (λ x. query.Tree x.0 x.1) (in_net words)
+query_of k Level words = level_query words
+query_of k Bound words = option_map (λ x. query.Bound x.0 x.1.0 x.1.1) (three_numbers words)
 query_of k Place words = option_map query.Place (one_number words)
 query_of k _ words = None
 

@@ -1,7 +1,7 @@
 -- The first words of commands.
 use Rattle.std.specs.Prelude.{ℕ, Bool, true, false, List, [], ◌∷◌, Option, find, bytes_eq, codes}
 use Rattle.commands.specs.declared.keyword.Keyword.{Keyword}
-use Rattle.commands.specs.declared.keyword.Keyword.TheVariants.{Entry, Cut, Word, Page, Depth, Wait, Combine, Window, Horizon, Reply, State, Memory, Place}
+use Rattle.commands.specs.declared.keyword.Keyword.TheVariants.{Entry, Cut, Word, Page, Depth, Wait, Combine, Window, Horizon, Reply, State, Memory, Counter, Profile, Tree, Level, Bound, Place}
 
 abbrev pub keyword_name : Keyword → List ℕ
 keyword_name Entry = codes "entry"
@@ -16,10 +16,15 @@ keyword_name Horizon = codes "horizon"
 keyword_name Reply = codes "reply"
 keyword_name State = codes "state"
 keyword_name Memory = codes "memory"
+keyword_name Counter = codes "counter"
+keyword_name Profile = codes "profile"
+keyword_name Tree = codes "tree"
+keyword_name Level = codes "level"
+keyword_name Bound = codes "bound"
 keyword_name Place = codes "place"
 
 abbrev pub keywords : List Keyword
-keywords = Entry ∷ Cut ∷ Word ∷ Page ∷ Depth ∷ Wait ∷ Combine ∷ Window ∷ Horizon ∷ Reply ∷ State ∷ Memory ∷ Place ∷ []
+keywords = Entry ∷ Cut ∷ Word ∷ Page ∷ Depth ∷ Wait ∷ Combine ∷ Window ∷ Horizon ∷ Reply ∷ State ∷ Memory ∷ Counter ∷ Profile ∷ Tree ∷ Level ∷ Bound ∷ Place ∷ []
 
 -- the keyword that a word is, if it is one
 abbrev pub keyword_of : List ℕ → Option Keyword
@@ -30,5 +35,10 @@ abbrev pub is_query : Keyword → Bool
 is_query Reply = true
 is_query State = true
 is_query Memory = true
+is_query Counter = true
+is_query Profile = true
+is_query Tree = true
+is_query Level = true
+is_query Bound = true
 is_query Place = true
 is_query _ = false

@@ -2,4 +2,5 @@ pub mod Keywords
 pub mod Numbers
 pub mod Components
 pub mod Queues
+pub mod Reports
 pub mod Commands

@@ -1,5 +1,5 @@
 //! Lines that are edits.
-ghost use Rattle.std.specs.Prelude.{◌≡◌, bytes_eq};
+ghost use Rattle.std.specs.Prelude.{◌≡◌};
 ghost use Rattle.line_words.specs.Words.{words_of};
 ghost use Rattle.commands.specs.Commands.{entry_edit, page_edit, depth_edit, combine_edit, switch_named, edit_of};
 

@@ -17,12 +17,17 @@ pub enum Keyword {
     Reply,
     State,
     Memory,
+    Counter,
+    Profile,
+    Tree,
+    Level,
+    Bound,
     Place,
 }
 
 impl Keyword {
     /// All of them, in the order of the command table.
-    pub const ALL: [Keyword; 13] = [
+    pub const ALL: [Keyword; 18] = [
         Keyword::Entry,
         Keyword::Cut,
         Keyword::Word,
@@ -35,6 +40,11 @@ impl Keyword {
         Keyword::Reply,
         Keyword::State,
         Keyword::Memory,
+        Keyword::Counter,
+        Keyword::Profile,
+        Keyword::Tree,
+        Keyword::Level,
+        Keyword::Bound,
         Keyword::Place,
     ];
 
@@ -55,6 +65,11 @@ impl Keyword {
             Keyword::Reply => b"reply",
             Keyword::State => b"state",
             Keyword::Memory => b"memory",
+            Keyword::Counter => b"counter",
+            Keyword::Profile => b"profile",
+            Keyword::Tree => b"tree",
+            Keyword::Level => b"level",
+            Keyword::Bound => b"bound",
             Keyword::Place => b"place",
         }
     }
@@ -65,7 +80,15 @@ impl Keyword {
     {
         matches!(
             self,
-            Keyword::Reply | Keyword::State | Keyword::Memory | Keyword::Place
+            Keyword::Reply
+                | Keyword::State
+                | Keyword::Memory
+                | Keyword::Counter
+                | Keyword::Profile
+                | Keyword::Tree
+                | Keyword::Level
+                | Keyword::Bound
+                | Keyword::Place
         )
     }
 

@@ -15,6 +15,7 @@ mod keyword;
 mod numbers;
 mod queries;
 mod queue;
+mod reports;
 #[cfg(test)]
 mod tests;
 

@@ -1,5 +1,5 @@
 //! Words that are numbers, and no more of them than a command takes.
-ghost use Rattle.std.specs.Prelude.{◌≡◌, ◌↔◌, [], IsTrue, option_map};
+ghost use Rattle.std.specs.Prelude.{◌≡◌, ◌↔◌, [], IsTrue};
 ghost use Rattle.line_words.specs.Words.{words_of};
 ghost use Rattle.commands.specs.Numbers.{one_number, two_numbers, three_numbers};
 

@@ -5,7 +5,8 @@ ghost use Rattle.commands.specs.Commands.{query_of, state_query};
 
 use crate::component::component;
 use crate::keyword::Keyword;
-use crate::numbers::{is_blank, one_number, two_numbers};
+use crate::numbers::{is_blank, one_number, three_numbers, two_numbers};
+use crate::reports::{read_counter, read_in_net, read_level};
 use line_words::{number, split_word};
 use omega_net::Shape;
 use run_queries::Query;
@@ -23,6 +24,20 @@ pub(crate) fn read_query(shape: Shape, keyword: Keyword, line: &[u8]) -> Option<
         Keyword::Memory => {
             let (address, cycle) = two_numbers(line)?;
             Some(Query::Memory { address, cycle })
+        }
+        Keyword::Counter => read_counter(shape, line),
+        Keyword::Profile => {
+            let (net, stage) = read_in_net(line)?;
+            Some(Query::Profile { net, stage })
+        }
+        Keyword::Tree => {
+            let (net, module) = read_in_net(line)?;
+            Some(Query::Tree { net, module })
+        }
+        Keyword::Level => read_level(line),
+        Keyword::Bound => {
+            let (a, (b, p)) = three_numbers(line)?;
+            Some(Query::Bound { a, b, p })
         }
         Keyword::Place => Some(Query::Place {
             address: one_number(line)?,

@@ -1,6 +1,7 @@
 //! Lines as the command table lists them.
 use crate::Command;
-use omega_net::Shape;
+use monitor_sums::Counter;
+use omega_net::{Net, Shape};
 use project_book::{Depths, Edit, ScriptEntry};
 use run_queries::Query;
 use std::test::Fail;
@@ -90,6 +91,58 @@ fn queries(rt: HostRuntime) {
 }
 
 #[test]
+fn reports(rt: HostRuntime) {
+    for (line, query) in [
+        (
+            b"counter served all 0 8".as_slice(),
+            Query::Counter {
+                counter: Counter::Served,
+                who: None,
+                from: 0,
+                to: 8,
+            },
+        ),
+        (
+            b"counter waiting c0.0 2 3".as_slice(),
+            Query::Counter {
+                counter: Counter::Waiting,
+                who: Some(5),
+                from: 2,
+                to: 3,
+            },
+        ),
+        (
+            b"profile comb 0".as_slice(),
+            Query::Profile {
+                net: Net::Comb,
+                stage: 0,
+            },
+        ),
+        (
+            b"tree low 1".as_slice(),
+            Query::Tree {
+                net: Net::Low,
+                module: 1,
+            },
+        ),
+        (
+            b"level low 1 7".as_slice(),
+            Query::Level {
+                net: Net::Low,
+                module: 1,
+                cycle: 7,
+            },
+        ),
+        (
+            b"bound 1 10 32".as_slice(),
+            Query::Bound { a: 1, b: 10, p: 32 },
+        ),
+    ] {
+        assert!(rt; parse(1, line) == Some(Command::Query(query)));
+    }
+}
+
+#[test]
 fn no_commands(rt: HostRuntime) -> Result<(), Fail> {
     for line in [
         b"".as_slice(),
@@ -102,6 +155,13 @@ fn no_commands(rt: HostRuntime) -> Result<(), Fail> {
         b"entry 0 0 jump 3".as_slice(),
         b"state 3 0".as_slice(),
         b"state l0 0".as_slice(),
+        b"counter serve all 0 8".as_slice(),
+        b"counter served every 0 8".as_slice(),
+        b"counter served all 0".as_slice(),
+        b"profile all 0".as_slice(),
+        b"tree low m0".as_slice(),
+        b"level low 0".as_slice(),
+        b"bound 1 10".as_slice(),
     ] {
         assert!(rt; parse(1, line).is_none());
     }

@@ -1,4 +1,5 @@
 pub mod Rules
+pub mod Run
 pub mod Numbers
 pub mod Line
 pub mod LineLaws

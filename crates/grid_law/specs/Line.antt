@@ -25,6 +25,12 @@ line_reads None c (Seed k) = k == c
 line_reads (Some own) c (Add k) = (k == c) && is_odd own
 line_reads _ c slot = Bool.false
 
+-- at cycle 0 it may read its seed, later its addend
+abbrev pub line_may_read : ℕ → Bool → LineSlot → Bool
+line_may_read c Bool.true (Seed k) = k == c
+line_may_read c Bool.false (Add k) = k == c
+line_may_read c first slot = Bool.false
+
 -- an odd state takes its addend; an even one becomes the sum of the states nearby, its own among them
 abbrev pub line_step : List Number → List ℕ → ℕ → ℕ
 line_step numbers near c =
@@ -40,6 +46,7 @@ line_rules = record {
   components = length;
   near = λ s c. line_near (length s) c;
   reads = λ s near c slot. line_reads (slice_get near 0) c slot;
+  may_read = λ s c first slot. line_may_read c first slot;
   start = λ s c. (number_at s c).seed;
   step = line_step;
   SameShape = λ a b. length a ≡ length b;

@@ -6,8 +6,8 @@ use Rattle.std.proofs.lemmas.List.Elements.{All-cons, All-append, All-nil}
 use Rattle.grid_law.specs.declared.numbers.Number.{Number}
 use Rattle.grid_law.specs.declared.numbers.LineSlot.{LineSlot}
 use Rattle.grid_law.specs.declared.numbers.LineSlot.TheVariants.{Seed, Add}
-use Rattle.grid_law.specs.Rules.{Laws, Agrees, result_of}
-use Rattle.grid_law.specs.Line.{line_rules, line_near, left_of, right_of, line_reads, line_step, is_odd, same_read}
+use Rattle.grid_law.specs.Rules.{Laws, Agrees, result_of, is_first}
+use Rattle.grid_law.specs.Line.{line_rules, line_near, left_of, right_of, line_reads, line_may_read, line_step, is_odd, same_read}
 use Rattle.grid_law.specs.Numbers.{number_at, slot_value}
 
 -- a neighbour is a place of the line
@@ -78,6 +78,12 @@ same_line_result : (a b : List Number) (near : List ℕ) (c : ℕ) → Agrees li
 same_line_result a b [] c h = same_start a b c h
 same_line_result a b (own ∷ others) c h = same_step a b own others c h
 
+line_readers : (near : List ℕ) (c : ℕ) (slot : LineSlot) → line_reads (slice_get near 0) c slot ≡ true → line_may_read c (is_first near) slot ≡ true
+line_readers [] c (Seed k) r = r
+line_readers [] c (Add k) r = absurd (false≢true r)
+line_readers (own ∷ others) c (Seed k) r = absurd (false≢true r)
+line_readers (own ∷ others) c (Add k) r = (and_parts (eqb k c) (is_odd own) r).0
+
 pub line_laws : Laws line_rules
 line_laws = record {
   shape_itself = λ s. refl;
@@ -91,4 +97,5 @@ line_laws = record {
   near_few = λ s c. near_few (length s) c;
   same_reads = λ a b near c h slot. refl;
   same_result = same_line_result;
+  readers = λ s near c slot h r. line_readers near c slot r;
 }

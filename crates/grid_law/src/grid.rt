@@ -1,5 +1,5 @@
 //! The trait of machines that are simulated cell by cell.
-ghost use Rattle.std.specs.Prelude.{◌≡◌, ℕ, ◌<◌, ◌↔◌, IsTrue, IfOk, map};
+ghost use Rattle.std.specs.Prelude.{◌≡◌, ◌<◌, ◌↔◌, IsTrue, IfOk, map};
 ghost use Rattle.std.specs.Arc.{arc_value};
 ghost use Rattle.grid_law.specs.Rules.{Rules, Laws, Agrees};
 
@@ -47,6 +47,12 @@ pub trait Grid {
     fn reads(s: &Self::Slots, near: &[Arc<Self::State>], c: u32, slot: &Self::Slot) -> bool
         requires { c < rules.components s.now }
         ensures { result ≡ rules.reads s.now (map arc_value near.now) c slot.now };
+
+    /// Whether `c` may read `slot`: at cycle 0 where `first`, else at some later cycle. Where the
+    /// answer is no, `reads` says no for all near states of such a cycle.
+    fn may_read(s: &Self::Slots, c: u32, first: bool, slot: &Self::Slot) -> bool
+        requires { c < rules.components s.now }
+        ensures { result ≡ rules.may_read s.now c first slot.now };
 
     /// The state of `c` at cycle 0.
     fn start(alloc: Global, s: &Self::Slots, c: u32) -> Result<Self::State, NoMemory>

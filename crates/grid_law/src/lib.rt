@@ -12,9 +12,12 @@
 //! - agreement: `agree(a, b, near, c)` is true exactly where `a` and `b` have one shape and the
 //!   same value in each slot that `c` reads there; then `c` reads the same slots under both, and
 //!   gets the same state;
+//! - readers: what a component reads, `may_read` says that it may, without a look at any state;
 //! - locality: `reads` and `step` see the states of `near(c)`, in that order, and no others;
 //! - `same` is equality of states, and `share` gives an equal value;
 //! - the cells near a component begin with the component itself, are at most five, and exist.
+//!
+//! The run of a grid, from cycle 0 on, is defined once for all grids (`specs/Run.antt`).
 //!
 //! The crate stands on `arrayvec` alone.
 #![tactic(auto)]

@@ -1,5 +1,5 @@
 //! A line of numbers, the smallest grid.
-ghost use Rattle.std.specs.Prelude.{◌≡◌, ℕ, map, slice_get, sum, ◌%◌, ◌^◌};
+ghost use Rattle.std.specs.Prelude.{◌≡◌, map, slice_get, sum, ◌%◌, ◌^◌};
 ghost use Rattle.std.specs.Arc.{arc_value};
 ghost use Rattle.grid_law.specs.Line.{same_read};
 
@@ -52,6 +52,13 @@ impl Grid for Line {
             (None, LineSlot::Seed(place)) => *place == c,
             (Some(own), LineSlot::Add(place)) => *place == c && own % 2 == 1,
             _ => false,
+        }
+    }
+
+    fn may_read(_s: &Numbers, c: u32, first: bool, slot: &LineSlot) -> bool {
+        match slot {
+            LineSlot::Seed(place) => first && *place == c,
+            LineSlot::Add(place) => !first && *place == c,
         }
     }
 

@@ -1,5 +1,5 @@
 //! The slots of a line.
-ghost use Rattle.std.specs.Prelude.{◌≡◌, ◌≢◌, ℕ, ◌<◌, ◌≤◌, ◌↔◌, List, [], ◌∷◌, length, slice_index_or, None, IsNone, IsSome, IfSome, IfOk, IsErrOf, if◌then◌else◌, ◌==◌};
+ghost use Rattle.std.specs.Prelude.{◌≡◌, ◌<◌, ◌≤◌, ◌↔◌, List, [], ◌∷◌, length, None, IsNone, IsSome, IfSome, IfOk, IsErrOf, if◌then◌else◌, ◌==◌};
 ghost use Rattle.grid_law.specs.declared.numbers.TheConstants.{LONGEST};
 ghost use Rattle.grid_law.specs.Numbers.{number_at, place_of, slot_value, slot_set};
 ghost use Rattle.grid_law.specs.Rules.{Differ};
@@ -49,6 +49,11 @@ pub enum SlotFault {
 }
 
 impl fmt::Display for SlotFault {
+    ghost use Rattle.std.specs.Prelude.{Some};
+    ghost use Rattle.grid_law.specs.Numbers.{fault_text};
+
+    ghost output = { λ fault. Some (fault_text fault) };
+
     fn fmt<W: fmt::Write>(&self, f: &mut fmt::Formatter<W>) -> fmt::Result {
         f.write_str(match self {
             SlotFault::NoSuchSlot => "no such slot",

@@ -90,3 +90,26 @@ fn texts(rt: HostRuntime) -> Result<(), Fail> {
     );
     Ok(())
 }
+
+// A place may read its own seed at cycle 0, and its own addend later.
+#[test]
+fn readers_of_slots(rt: HostRuntime) -> Result<(), Fail> {
+    let line = three(rt.alloc())?;
+    for (slot, first, later) in [
+        (LineSlot::Seed(1), Some(1), None),
+        (LineSlot::Add(2), None, Some(2)),
+    ] {
+        for c in 0..Line::components(&line) {
+            let may = (
+                Line::may_read(&line, c, true, &slot),
+                Line::may_read(&line, c, false, &slot),
+            );
+            assert_eq!(rt;
+                may,
+                (first == Some(c), later == Some(c)),
+                "{slot:?} and place {c}"
+            );
+        }
+    }
+    Ok(())
+}

@@ -8,3 +8,4 @@ pub mod FirstListings
 pub mod Putting
 pub mod Agreeing
 pub mod Rows
+pub mod Resting

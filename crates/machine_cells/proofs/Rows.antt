@@ -1,19 +1,19 @@
 -- The plain simulation, row by row.
-use Rattle.std.proofs.Common.{◌≡◌, ℕ, zero, suc, ◌+◌, ◌<◌, List, [], ◌∷◌, ◌++◌, length, map, take, drop, get_or, append_assoc, Result, Ok, Err, refl, ap, sym, ◌∙◌, None, Some, arith, add-one}
+use Rattle.std.proofs.Common.{◌≡◌, ℕ, zero, suc, ◌+◌, ◌<◌, ◌≤◌, All, List, [], ◌∷◌, ◌++◌, length, map, take, get_or, Result, Ok, Err, refl, ap, sym, ◌∙◌, None, Some, arith, add-one}
 use Rattle.std.specs.Prelude.{slice_get, option_map, IfOk}
 use Rattle.std.specs.List.{cons_option}
-use Rattle.std.proofs.Math.Seq.{drop-cons}
 use Rattle.std.proofs.lemmas.List.{length-map, map-append}
 use Rattle.std.proofs.lemmas.Option.{slice_get-map, slice_get-get_or}
-use Rattle.omega_net.specs.Numbers.{components}
+use Rattle.omega_net.specs.declared.component.Component.{Component}
+use Rattle.omega_net.specs.Numbers.{components, component_of}
 use Rattle.omega_net.specs.Wires.{below}
 use Rattle.omega_net.specs.Near.{near}
 use Rattle.project_book.specs.Project.{Project}
 use Rattle.machine_cells.specs.declared.state.MachineState.{MachineState}
 use Rattle.machine_cells.specs.Cycle.{cycle}
-use Rattle.machine_cells.specs.Cells.{states_at, step_of}
+use Rattle.machine_cells.specs.Cells.{states_at, step_of, near_or, pulled}
 use Rattle.machine_cells.specs.Run.{first_states, run_from}
-use Rattle.machine_cells.specs.GridRules.{first_state, next_state, near_cells}
+use Rattle.machine_cells.specs.GridRules.{first_state, next_state, near_cells, beside_numbers}
 use Rattle.machine_cells.specs.GridLaws.{near_is}
 use Rattle.machine_cells.specs.Runs.{StartsAreParts, CellsAreParts}
 use Rattle.machine_cells.proofs.Parts.{steps_are_parts}
@@ -96,30 +96,6 @@ rows_more f P rows more t r row pushed e is stepped =
     add_one : t + 1 ≡ suc t
     add_one = omega arith
 
--- one component more of those that are looked up
-drop-next : (xs : List ℕ) (i : ℕ) → i < length xs → drop i xs ≡ get_or xs i 0 ∷ drop (i + 1) xs
-drop-next xs i h = rw (add-one, drop-cons xs i 0)
-
-pub states_more : {A : Type 0} (f : A → MachineState) (S : List MachineState) (numbers : List ℕ) (i : ℕ) (done more : List A) (x : A) (W : List MachineState)
-    → i < length numbers → slice_get S (get_or numbers i 0) ≡ Some (f x) → more ≡ done ++ x ∷ []
-    → map f done ++ states_at S (drop i numbers) ≡ W → map f more ++ states_at S (drop (i + 1) numbers) ≡ W
-states_more f S numbers i done more x W h found pushed e =
-    ap (λ xs. map f xs ++ states_at S (drop (i + 1) numbers)) pushed
-    ∙ ap (λ xs. xs ++ states_at S (drop (i + 1) numbers)) (map-append f done (x ∷ []))
-    ∙ append_assoc (map f done) (f x ∷ []) (states_at S (drop (i + 1) numbers))
-    ∙ ap (λ xs. map f done ++ xs) (sym (ap (λ o. cons_option o (states_at S (drop (i + 1) numbers))) found))
-    ∙ ap (λ xs. map f done ++ states_at S xs) (sym (drop-next numbers i h))
-    ∙ e
-
-pub states_past : {A : Type 0} (f : A → MachineState) (S : List MachineState) (numbers : List ℕ) (i : ℕ) (done more : List A) (W : List MachineState)
-    → i < length numbers → slice_get S (get_or numbers i 0) ≡ None → more ≡ done
-    → map f done ++ states_at S (drop i numbers) ≡ W → map f more ++ states_at S (drop (i + 1) numbers) ≡ W
-states_past f S numbers i done more W h found same e =
-    ap (λ xs. map f xs ++ states_at S (drop (i + 1) numbers)) same
-    ∙ ap (λ xs. map f done ++ xs) (sym (ap (λ o. cons_option o (states_at S (drop (i + 1) numbers))) found))
-    ∙ ap (λ xs. map f done ++ states_at S xs) (sym (drop-next numbers i h))
-    ∙ e
-
 -- what an Ok holds
 pub if_ok : {A E : Type 0} (P Q : A → Type 0) → ((x : A) → P x → Q x) → (r : Result A E) → IfOk r P → IfOk r Q
 if_ok P Q f (Ok x) h = f x h
@@ -131,3 +107,51 @@ starts_are_parts P c h = slice_get-map (first_state P) (below (components P.k)) 
 
 pub cells_are_parts : CellsAreParts
 cells_are_parts P S size c lt = next_is_part P S (states_at S (near_cells P.k c)) c size lt (ap (states_at S) (near_is P.k c lt))
+
+-- so many of some states, from the first on
+pub first_of : {A : Type 0} (f : A → MachineState) (n : ℕ) (xs : List A) → map f (take n xs) ≡ take n (map f xs)
+first_of f zero [] = refl
+first_of f zero (x ∷ xs) = refl
+first_of f (suc n) [] = refl
+first_of f (suc n) (x ∷ xs) = ap (λ ys. f x ∷ ys) (first_of f n xs)
+
+-- the states of a list of numbers, of those at its five places
+pub near_are : (S : List MachineState) (ns : List ℕ) (d : MachineState) (xs : List MachineState) → All (λ n. n < length S) ns → length ns ≤ 5
+    → xs ≡ near_or S ns 0 d ∷ near_or S ns 1 d ∷ near_or S ns 2 d ∷ near_or S ns 3 d ∷ near_or S ns 4 d ∷ [] → take (length ns) xs ≡ states_at S ns
+near_are S ns d xs there few e = ap (take (length ns)) e ∙ by_length ns few ∙ sym (all_there ns there)
+  where
+    found : (S : List MachineState) (n : ℕ) (rest : List MachineState) → n < length S → cons_option (slice_get S n) rest ≡ get_or S n d ∷ rest
+    found [] n rest h = absurd (omega arith)
+    found (x ∷ xs) zero rest h = refl
+    found (x ∷ xs) (suc n) rest h = found xs n rest (omega arith)
+
+    all_there : (ns : List ℕ) → All (λ n. n < length S) ns → states_at S ns ≡ map (λ n. get_or S n d) ns
+    all_there [] h = refl
+    all_there (n ∷ ns) h = found S n (states_at S ns) (h 0 0 (omega arith)) ∙ ap (λ xs. get_or S n d ∷ xs) (all_there ns (λ i e lt. h (suc i) e (omega (arith, lt))))
+
+    by_length : (ns : List ℕ) → length ns ≤ 5
+        → take (length ns) (near_or S ns 0 d ∷ near_or S ns 1 d ∷ near_or S ns 2 d ∷ near_or S ns 3 d ∷ near_or S ns 4 d ∷ []) ≡ map (λ n. get_or S n d) ns
+    by_length [] h = refl
+    by_length (n0 ∷ []) h = refl
+    by_length (n0 ∷ n1 ∷ []) h = refl
+    by_length (n0 ∷ n1 ∷ n2 ∷ []) h = refl
+    by_length (n0 ∷ n1 ∷ n2 ∷ n3 ∷ []) h = refl
+    by_length (n0 ∷ n1 ∷ n2 ∷ n3 ∷ n4 ∷ []) h = refl
+    by_length (n0 ∷ n1 ∷ n2 ∷ n3 ∷ n4 ∷ n5 ∷ ns) h = absurd (omega arith)
+
+-- a component's state from these near states, of which its own is the first
+pub pulled_is_part : (P : Project) (S N : List MachineState) (c : ℕ) (x : Component) (own s : MachineState) → length S ≡ components P.k → c < components P.k
+    → N ≡ states_at S (near P.k c) → component_of P.k c ≡ Some x → slice_get S c ≡ Some own → s ≡ pulled P N (Some x) own
+    → slice_get (cycle P S) c ≡ Some s
+pulled_is_part P S N c x own s size lt states is found e =
+    sym (steps_are_parts P S size c lt)
+    ∙ ap (λ M. step_of P M c) own_first
+    ∙ ap (λ y. Some (pulled P (own ∷ others) y own)) is
+    ∙ ap (λ M. Some (pulled P M (Some x) own)) (sym own_first ∙ sym states)
+    ∙ ap Some (sym e)
+  where
+    others : List MachineState
+    others = states_at S (beside_numbers P.k (component_of P.k c))
+
+    own_first : states_at S (near P.k c) ≡ own ∷ others
+    own_first = sym (ap (states_at S) (near_is P.k c lt)) ∙ ap (λ o. cons_option o others) found

@@ -7,6 +7,7 @@ use Rattle.std.proofs.lemmas.Bool.Decides.{nat_tests}
 use Rattle.std.proofs.lemmas.Option.{slice_get-map}
 use Rattle.std.proofs.lemmas.List.{length-map, length-append}
 use Rattle.std.proofs.lemmas.List.Elements.{All-head, All-tail}
+use Rattle.grid_law.specs.Run.{run as grid_run}
 use Rattle.omega_net.specs.Numbers.{components}
 use Rattle.omega_net.specs.Wires.{below}
 use Rattle.machine_cells.specs.declared.state.MachineState.{MachineState}
@@ -17,7 +18,7 @@ use Rattle.machine_cells.specs.Run.{first_states, run_from}
 use Rattle.machine_cells.specs.Cells.{states_at, step_of}
 use Rattle.machine_cells.specs.GridRules.{rp3_rules, near_cells, first_state}
 use Rattle.machine_cells.specs.GridLaws.{near_is, cells_within}
-use Rattle.machine_cells.specs.Runs.{RunsAreOne, grid_row}
+use Rattle.machine_cells.specs.Runs.{RunsAreOne}
 use Rattle.machine_cells.proofs.Parts.{steps_are_parts}
 
 -- the numbers below n, by their places
@@ -83,7 +84,7 @@ states_are S f n h (c ∷ cs) a =
 
 pub record Row (P : Project) (t : ℕ) : Type 0 where
   pub size : length (later P t (first_states P)) ≡ components P.k
-  pub states : (c : ℕ) → c < components P.k → slice_get (later P t (first_states P)) c ≡ Some (grid_row rp3_rules P t c)
+  pub states : (c : ℕ) → c < components P.k → slice_get (later P t (first_states P)) c ≡ Some (grid_run rp3_rules P t c)
 
 pub row_at : (P : Project) (t : ℕ) → Row P t
 row_at P zero = record {
@@ -102,7 +103,7 @@ row_at P (suc t) = from_row (row_at P t)
           ap (λ T. slice_get T c) (later-suc P t (first_states P))
           ∙ sym (steps_are_parts P (later P t (first_states P)) row.size c h)
           ∙ ap (λ N. step_of P N c) (ap (states_at (later P t (first_states P))) (sym (near_is P.k c h))
-          ∙ states_are (later P t (first_states P)) (grid_row rp3_rules P t) (components P.k) row.states (near_cells P.k c) (cells_within P.k c h));
+          ∙ states_are (later P t (first_states P)) (grid_run rp3_rules P t) (components P.k) row.states (near_cells P.k c) (cells_within P.k c h));
     }
 
 pub runs_are_one : RunsAreOne

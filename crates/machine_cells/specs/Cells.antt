@@ -1,5 +1,5 @@
 -- One cell from its near states, and what it is to the whole cycle.
-use Rattle.std.specs.Prelude.{◌≡◌, ℕ, zero, suc, ◌-◌, ◌<◌, ◌||◌, List, [], ◌∷◌, length, Option, None, Some, is_some, slice_get}
+use Rattle.std.specs.Prelude.{◌≡◌, ℕ, zero, suc, ◌-◌, ◌<◌, ◌||◌, List, [], ◌∷◌, length, Option, None, Some, is_some, get_or, slice_get}
 use Rattle.std.specs.List.{filter_map}
 use Rattle.omega_net.specs.declared.component.Net.{Net}
 use Rattle.omega_net.specs.declared.component.Net.TheVariants.{Low as LowNet, Comb as CombNet}
@@ -82,3 +82,11 @@ StepIsPart P S c = step_of P (states_at S (near P.k c)) c ≡ slice_get (cycle P
 -- of every whole state, and of every component
 abbrev pub StepsAreParts : Type 0
 StepsAreParts = (P : Project) (S : List MachineState) → length S ≡ components P.k → (c : ℕ) → c < components P.k → StepIsPart P S c
+
+-- the state at a place of the numbers near a component, or its own where there is none
+abbrev pub state_or : List MachineState → Option ℕ → MachineState → MachineState
+state_or S None own = own
+state_or S (Some n) own = get_or S n own
+
+abbrev pub near_or : List MachineState → List ℕ → ℕ → MachineState → MachineState
+near_or S numbers i own = state_or S (slice_get numbers i) own

@@ -27,6 +27,7 @@ use Rattle.machine_cells.specs.GridRules.{rp3_rules, near_cells, beside_numbers}
 use Rattle.machine_cells.specs.EndLaws.{component_there}
 use Rattle.machine_cells.specs.ReadLaws.{steps_agree, entry_same}
 use Rattle.machine_cells.specs.StartLaws.{same_words_in}
+use Rattle.machine_cells.specs.ReaderLaws.{reads_may}
 
 -- the list of near cells is omega_net's, of a component that there is
 pub near_is : (k c : ℕ) → c < components k → near_cells k c ≡ near k c
@@ -233,4 +234,5 @@ rp3_laws = record {
   near_few = λ P c. few_beside P.k (component_of P.k c) c;
   same_reads = same_reads;
   same_result = same_result;
+  readers = λ P near c slot h e. reads_may P near c slot e;
 }

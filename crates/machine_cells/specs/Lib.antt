@@ -7,8 +7,10 @@ pub mod Reads
 pub mod EndLaws
 pub mod TrafficLaws
 pub mod ReadLaws
+pub mod ReaderLaws
 pub mod StartLaws
 pub mod GridRules
 pub mod GridLaws
 pub mod Runs
 pub mod Texts
+pub mod Quiet

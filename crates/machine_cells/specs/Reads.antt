@@ -91,6 +91,32 @@ abbrev pub reads : Project → List MachineState → ℕ → Slot → Bool
 reads P [] c slot = or_shape slot (start_reads (component_of P.k c) slot)
 reads P (own ∷ others) c slot = or_shape slot (is_listed (later_reads P (component_of P.k c) own) slot)
 
+-- the depths that a processor may read, behind whichever port a request of its waits
+abbrev pub out_depths : ℕ → List Slot
+out_depths zero = Depth ModuleQueue ∷ []
+out_depths (suc k) = Depth LowForward ∷ Depth CombForward ∷ []
+
+-- what a processor may read after cycle 0: its script, every page, the window and these depths
+abbrev pub proc_may_read : ℕ → ℕ → Slot → Bool
+proc_may_read k p (Entry q i) = q == p
+proc_may_read k p (PageAt g) = true
+proc_may_read k p Window = true
+proc_may_read k p (Depth q) = is_listed (out_depths k) (Depth q)
+proc_may_read k p _ = false
+
+-- and any component: a module and a switch read the same slots at every state
+abbrev pub later_may_read : ℕ → Option Component → Slot → Bool
+later_may_read k (Some (ProcAt p)) slot = proc_may_read k p slot
+later_may_read k (Some (ModuleAt m)) slot = is_listed (Depth ModuleQueue ∷ back_reads k) slot
+later_may_read k (Some (Switch LowNet stage j)) slot = is_listed (Depth LowForward ∷ Depth LowReverse ∷ last_reads k stage) slot
+later_may_read k (Some (Switch CombNet stage j)) slot = is_listed (Depth CombForward ∷ Depth CombReverse ∷ Wait ∷ Combine stage ∷ last_reads k stage) slot
+later_may_read k None slot = false
+
+-- `may_read`: whether a component may read a slot, at cycle 0 or at a later one
+abbrev pub may_read : Project → ℕ → Bool → Slot → Bool
+may_read P c true slot = or_shape slot (start_reads (component_of P.k c) slot)
+may_read P c false slot = or_shape slot (later_may_read P.k (component_of P.k c) slot)
+
 -- each slot of a list has the same value in both
 abbrev pub SameAtAll : Project → Project → List Slot → Type 0
 SameAtAll P Q [] = Unit {0}

@@ -1,6 +1,6 @@
--- The run of a grid, cell by cell, and that of the machine, cycle by cycle.
-use Rattle.std.specs.Prelude.{◌≡◌, ℕ, zero, suc, ◌<◌, ◌≤◌, List, map, Option, Some, slice_get, option_and_then, length}
-use Rattle.grid_law.specs.Rules.{Rules}
+-- The run of the machine as a grid, cell by cell, and its run cycle by cycle.
+use Rattle.std.specs.Prelude.{◌≡◌, ℕ, ◌<◌, ◌≤◌, List, Option, Some, slice_get, option_and_then, length}
+use Rattle.grid_law.specs.Run.{run as grid_run}
 use Rattle.omega_net.specs.Numbers.{components}
 use Rattle.machine_cells.specs.declared.state.MachineState.{MachineState}
 use Rattle.project_book.specs.Project.{Project}
@@ -8,12 +8,6 @@ use Rattle.machine_cells.specs.Cycle.{cycle}
 use Rattle.machine_cells.specs.Cells.{states_at}
 use Rattle.machine_cells.specs.Run.{first_states, run}
 use Rattle.machine_cells.specs.GridRules.{rp3_rules}
-
-module _ {State Slots Slot : Type 0} (R : Rules State Slots Slot) (s : Slots) where
-  -- the states of a cycle, by component: the first ones, then steps of the near ones
-  abbrev pub grid_row : ℕ → ℕ → State
-  grid_row zero = λ c. R.start s c
-  grid_row (suc t) = λ c. R.step s (map (grid_row t) (R.near s c)) c
 
 -- the first state of a cell is its component's part of the machine's first states
 abbrev pub StartsAreParts : Type 0
@@ -31,4 +25,4 @@ state_in rows t c = option_and_then (λ S. slice_get S c) (slice_get rows t)
 
 -- the run of the machine as a grid is the list of its whole states by `cycle`
 abbrev pub RunsAreOne : Type 0
-RunsAreOne = (P : Project) (t c : ℕ) → t ≤ P.horizon → c < components P.k → state_in (run P) t c ≡ Some (grid_row rp3_rules P t c)
+RunsAreOne = (P : Project) (t c : ℕ) → t ≤ P.horizon → c < components P.k → state_in (run P) t c ≡ Some (grid_run rp3_rules P t c)

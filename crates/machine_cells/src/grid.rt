@@ -1,16 +1,14 @@
 //! The machine as a grid of cells.
-ghost use Rattle.std.specs.Prelude.{◌≡◌, ◌<◌, ◌↔◌, IsTrue, IfOk, IfSome, Some, map, []};
-ghost use Rattle.std.specs.Arc.{arc_value};
+ghost use Rattle.std.specs.Prelude.{◌≡◌, ◌<◌, ◌↔◌, IsTrue, IfOk, Some, map};
 ghost use Rattle.omega_net.specs.Numbers.{components, component_of, number_of, Exists};
-ghost use Rattle.grid_law.specs.Rules.{Agrees};
-ghost use Rattle.machine_cells.specs.GridRules.{rp3_rules, first_state, next_state};
+ghost use Rattle.machine_cells.specs.GridRules.{rp3_rules, next_state};
 ghost use Rattle.machine_cells.specs.Reads.{reads, SameStart};
 ghost use Rattle.machine_cells.specs.Cells.{pulled};
 
 use crate::MachineState;
 use crate::agree::{agree_later, same_memory};
 use crate::near::{NearState, state_at};
-use crate::reads::{later_reads, start_reads};
+use crate::reads::{later_may_read, later_reads, start_reads};
 use crate::start::start_of;
 use crate::step::pulled;
 use arrayvec::ArrayVec;
@@ -92,6 +90,15 @@ impl Grid for Rp3 {
             (Slot::Shape, _) => true,
             (_, Some(own)) => later_reads(s, component, own, *slot),
             (_, None) => start_reads(component, *slot),
+        }
+    }
+
+    fn may_read(s: &Project, c: u32, first: bool, slot: &Slot) -> bool {
+        let component = component_at(shape_of(s), c);
+        match slot {
+            Slot::Shape => true,
+            _ if first => start_reads(component, *slot),
+            _ => later_may_read(s.k(), component, *slot),
         }
     }
 

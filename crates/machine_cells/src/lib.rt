@@ -14,6 +14,9 @@
 //! - [`from_scratch`] is the run: the first states, then one cycle after another (`specs/Run.antt`),
 //!   which is also what the cells of the grid are, computed one from another ([`runs_are_one`]).
 //!
+//! The states of modules and switches are [`Shared`]: where nothing moves, the next state is the one
+//! before, with one more owner.
+//!
 //! What a cell reads of the project, beside its shape, which no edit changes:
 //!
 //! | Cell | Reads |
@@ -25,7 +28,9 @@
 //! | combining switch later | the depths of its network, that of the wait buffers, whether its stage combines; at the last stage, the depth of the modules' queues |
 //! | module later | the depth of the modules' queues; where there are switches, those of their reverse queues |
 //!
-//! The index and the request are those of the processor's state one cycle earlier.
+//! The index and the request are those of the processor's state one cycle earlier. What a component
+//! reads at some state it may read: a processor every entry of its script, every page, the window and
+//! the depths of the queues behind its ports, the others the same slots at every state.
 #![tactic(auto)]
 
 mod agree;
@@ -34,7 +39,9 @@ mod laws;
 mod near;
 mod pull;
 mod reads;
+mod rest;
 mod scratch;
+mod shared;
 mod start;
 mod state;
 mod step;
@@ -45,4 +52,5 @@ mod text;
 pub use grid::Rp3;
 pub use laws::{runs_are_one, steps_are_parts};
 pub use scratch::from_scratch;
+pub use shared::Shared;
 pub use state::MachineState;

@@ -1,11 +1,13 @@
 //! What goes over a component's wires, pulled from its near states.
-ghost use Rattle.std.specs.Prelude.{◌≡◌, ◌≤◌, ◌-◌, map};
+ghost use Rattle.std.specs.Prelude.{◌≡◌, ◌≤◌, ◌-◌, IsTrue, None, map};
+ghost use Rattle.omega_net.specs.Queues.{head};
+ghost use Rattle.omega_net.specs.Ports.{queue_at};
 ghost use Rattle.machine_cells.specs.Moves.{request_on, reply_on, takes_request, takes_reply};
 ghost use Rattle.machine_cells.specs.Cells.{request_pulled, reply_pulled};
 
 use crate::MachineState;
 use crate::near::{NearState, state_at};
-use omega_net::{Component, Net, Reply, Request, Shape, Wire};
+use omega_net::{Component, Net, Queue, Reply, Request, Shape, Wire};
 use project_book::{Depths, Project};
 
 /// The request that a component shows on a wire at its memory side.
@@ -29,6 +31,40 @@ fn reply_on(shape: Shape, wire: Wire, state: &MachineState) -> Option<Reply>
         MachineState::Module(s) => s.offer(wire.net),
         MachineState::Low(s) => s.offer_reverse(shape.input(wire)),
         MachineState::Comb(s) => s.offer_reverse(shape.input(wire)),
+    }
+}
+
+/// Whether one of two queues has no message; there is no third.
+fn lacks_head<T>(queues: &[Queue<T>; 2], port: u8) -> bool
+    ensures { IsTrue result → head (queue_at queues.now port) ≡ None }
+{
+    match queues.get(usize::from(port)) {
+        Some(queue) => queue.is_empty(),
+        None => true,
+    }
+}
+
+/// Whether a component shows no request on such a wire. Most wires have none, and this copies nothing.
+fn shows_no_request(wire: Wire, state: &MachineState) -> bool
+    ensures { IsTrue result → request_on wire state.now ≡ None }
+{
+    match state {
+        MachineState::Proc(s) => s.out.is_none(),
+        MachineState::Module(_) => true,
+        MachineState::Low(s) => lacks_head(&s.fwd, wire.output()),
+        MachineState::Comb(s) => lacks_head(&s.fwd, wire.output()),
+    }
+}
+
+/// Whether a component shows no reply on such a wire.
+fn shows_no_reply(shape: Shape, wire: Wire, state: &MachineState) -> bool
+    ensures { IsTrue result → reply_on shape wire state.now ≡ None }
+{
+    match state {
+        MachineState::Proc(_) => true,
+        MachineState::Module(s) => s.offer(wire.net).is_none(),
+        MachineState::Low(s) => lacks_head(&s.rev, shape.input(wire)),
+        MachineState::Comb(s) => lacks_head(&s.rev, shape.input(wire)),
     }
 }
 
@@ -128,6 +164,9 @@ pub(crate) fn request_pulled<S: NearState>(
 {
     let from = state_at(near, upper)?;
     let to = state_at(near, lower)?;
+    if shows_no_request(wire, from) {
+        return None;
+    }
     let request = request_on(wire, from)?;
     if takes_request(project, shape, wire, &request, to) {
         Some(request)
@@ -150,6 +189,9 @@ pub(crate) fn reply_pulled<S: NearState>(
 {
     let to = state_at(near, upper)?;
     let from = state_at(near, lower)?;
+    if shows_no_reply(shape, wire, from) {
+        return None;
+    }
     let reply = reply_on(shape, wire, from)?;
     if takes_reply(project, shape, wire, &reply, to) {
         Some(reply)

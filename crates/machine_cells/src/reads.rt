@@ -1,10 +1,8 @@
 //! What a cell reads of its project.
-ghost use Rattle.std.specs.Prelude.{◌≡◌, ◌<◌, map, [], ◌∷◌, Some, length};
-ghost use Rattle.std.specs.Arc.{arc_value};
-ghost use Rattle.omega_net.specs.Numbers.{Exists};
+ghost use Rattle.std.specs.Prelude.{◌≡◌, ◌<◌, ◌∷◌, Some};
 ghost use Rattle.project_book.specs.declared.slot.Slot.TheVariants.{Depth, Wait, Combine};
 ghost use Rattle.project_book.specs.declared.edit.Depths.TheVariants.{LowForward, LowReverse, CombForward, CombReverse, ModuleQueue};
-ghost use Rattle.machine_cells.specs.Reads.{is_listed, index_reads, entry_reads, out_reads, last_reads, back_reads, later_reads, start_reads};
+ghost use Rattle.machine_cells.specs.Reads.{is_listed, index_reads, entry_reads, out_reads, last_reads, back_reads, later_reads, start_reads, later_may_read, proc_may_read};
 
 use crate::MachineState;
 use omega_net::{Component, Net, ScriptEntry};
@@ -52,6 +50,40 @@ pub(crate) fn later_reads(
             },
             MachineState::Comb(_),
         ) => { comb_reads(project.k(), stage, slot) }
+        _ => false,
+    }
+}
+
+/// Whether a component may read a slot after cycle 0, beside the shape, whatever its state is.
+pub(crate) fn later_may_read(k: u32, component: Component, slot: Slot) -> bool
+    ensures { result ≡ later_may_read k (Some component) slot }
+{
+    match component {
+        Component::Proc(proc) => proc_may_read(k, proc, slot),
+        Component::Module(_) => module_reads(k, slot),
+        Component::Switch {
+            net: Net::Low,
+            stage,
+            ..
+        } => low_reads(k, stage, slot),
+        Component::Switch {
+            net: Net::Comb,
+            stage,
+            ..
+        } => comb_reads(k, stage, slot),
+    }
+}
+
+/// Whether a processor may: its script, every page, the window, the depths of the queues that its
+/// requests enter.
+fn proc_may_read(k: u32, proc: u8, slot: Slot) -> bool
+    ensures { result ≡ proc_may_read k proc slot }
+{
+    match slot {
+        Slot::Entry(p, _) => p == u32::from(proc),
+        Slot::Page(_) | Slot::Window => true,
+        Slot::Depth(Depths::ModuleQueue) => k == 0,
+        Slot::Depth(Depths::LowForward | Depths::CombForward) => k > 0,
         _ => false,
     }
 }

@@ -1,11 +1,9 @@
 //! A component's state at cycle 0.
-ghost use Rattle.std.specs.Prelude.{◌≡◌, IfOk, Some, [], true, false, ◌<◌};
-ghost use Rattle.page_map.specs.declared.map.TheConstants.{ADDRESSES};
-ghost use Rattle.mem_module.specs.Memory.{with_word};
-ghost use Rattle.machine_cells.specs.Run.{start_of, stands_in, words_in};
-ghost use Rattle.machine_cells.specs.Putting.{put_each, put_first};
+ghost use Rattle.std.specs.Prelude.{◌≡◌, IfOk, Some, ◌<◌};
+ghost use Rattle.machine_cells.specs.Run.{start_of, words_in};
+ghost use Rattle.machine_cells.specs.Putting.{put_first};
 
-use crate::MachineState;
+use crate::{MachineState, Shared};
 use comb_switch::CombState;
 use grid_law::NoMemory;
 use low_switch::LowState;
@@ -15,7 +13,7 @@ use project_book::{FirstWord, Project};
 use ref_proc::ProcState;
 use std::alloc::Global;
 
-/// The state of a component at cycle 0. Only a module takes memory, for the first words that stand in it.
+/// The state of a component at cycle 0. A module takes memory for the first words that stand in it.
 pub(crate) fn start_of(
     alloc: Global,
     project: &Project,
@@ -27,10 +25,14 @@ pub(crate) fn start_of(
         Component::Proc(_) => MachineState::Proc(ProcState::start()),
         Component::Module(number) => {
             let words = words_in(alloc, project, number)?;
-            MachineState::Module(ModuleState::start(alloc, words)?)
+            MachineState::Module(Shared::new(alloc, ModuleState::start(alloc, words)?)?)
         }
-        Component::Switch { net: Net::Low, .. } => MachineState::Low(LowState::start()),
-        Component::Switch { net: Net::Comb, .. } => MachineState::Comb(CombState::start()),
+        Component::Switch { net: Net::Low, .. } => {
+            MachineState::Low(Shared::new(alloc, LowState::start())?)
+        },
+        Component::Switch { net: Net::Comb, .. } => {
+            MachineState::Comb(Shared::new(alloc, CombState::start())?)
+        },
     })
 }
 

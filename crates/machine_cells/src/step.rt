@@ -8,9 +8,10 @@ ghost use Rattle.comb_switch.specs.CombSwitch.{comb_after};
 ghost use Rattle.machine_cells.specs.Cycle.{proc_settings, comb_settings, blank_of};
 ghost use Rattle.machine_cells.specs.Cells.{beside_on, proc_pulls, module_pulls, switch_pulls, pulled};
 
-use crate::MachineState;
 use crate::near::NearState;
 use crate::pull::{reply_pulled, request_pulled, stage_bit};
+use crate::rest::{comb_next, low_next, module_next};
+use crate::{MachineState, Shared};
 use comb_switch::{CombSettings, CombState};
 use grid_law::NoMemory;
 use low_switch::LowState;
@@ -154,39 +155,41 @@ fn comb_settings(project: &Project, shape: Shape, stage: u8) -> CombSettings
 }
 
 fn low_step<S: NearState>(
+    alloc: Global,
     project: &Project,
     shape: Shape,
     near: &[S],
     stage: u8,
     index: u8,
-    own: &LowState,
-) -> LowState
+    own: &Shared<LowState>,
+) -> Result<Shared<LowState>, NoMemory>
     requires shape { shape ≡ project.now.k }
     requires there { Exists shape (Component.Switch Net.Low stage index) }
-    ensures { result ≡ low_after (project.now.k - 1 - stage) (switch_pulls project.now (map S.state near.now) Net.Low stage index) own.now }
+    ensures { IfOk result (λ s. s ≡ low_after (project.now.k - 1 - stage) (switch_pulls project.now (map S.state near.now) Net.Low stage index) own.now) }
 {
     let traffic = switch_pulls(project, shape, near, Net::Low, stage, index);
-    own.step(stage_bit(shape, stage), &traffic)
+    low_next(alloc, own, stage_bit(shape, stage), &traffic)
 }
 
 fn comb_step<S: NearState>(
+    alloc: Global,
     project: &Project,
     shape: Shape,
     near: &[S],
     stage: u8,
     index: u8,
-    own: &CombState,
-) -> CombState
+    own: &Shared<CombState>,
+) -> Result<Shared<CombState>, NoMemory>
     requires shape { shape ≡ project.now.k }
     requires there { Exists shape (Component.Switch Net.Comb stage index) }
-    ensures { result ≡ comb_after (comb_settings project.now stage) (switch_pulls project.now (map S.state near.now) Net.Comb stage index) own.now }
+    ensures { IfOk result (λ s. s ≡ comb_after (comb_settings project.now stage) (switch_pulls project.now (map S.state near.now) Net.Comb stage index) own.now) }
 {
     let traffic = switch_pulls(project, shape, near, Net::Comb, stage, index);
-    own.step(&comb_settings(project, shape, stage), &traffic)
+    comb_next(alloc, own, &comb_settings(project, shape, stage), &traffic)
 }
 
-/// A component's state one cycle later, from its own state and the near states, its own first. Only a
-/// module takes memory, where a request that it serves changes a word.
+/// A component's state one cycle later, from its own state and the near states, its own first. A
+/// module or a switch takes memory only where something happens in it.
 pub(crate) fn pulled<S: NearState>(
     alloc: Global,
     project: &Project,
@@ -207,8 +210,8 @@ pub(crate) fn pulled<S: NearState>(
         }
         (Component::Module(m), MachineState::Module(s)) => {
             let traffic = module_pulls(project, shape, near, m);
-            let next = s.step(alloc, project.depth(Depths::ModuleQueue), &traffic)?;
-            Ok(MachineState::Module(next))
+            let depth = project.depth(Depths::ModuleQueue);
+            Ok(MachineState::Module(module_next(alloc, s, depth, &traffic)?))
         }
         (
             Component::Switch {
@@ -217,7 +220,7 @@ pub(crate) fn pulled<S: NearState>(
                 index,
             },
             MachineState::Low(s),
-        ) => Ok(MachineState::Low(low_step(project, shape, near, stage, index, s))),
+        ) => { Ok(MachineState::Low(low_step(alloc, project, shape, near, stage, index, s)?)) }
         (
             Component::Switch {
                 net: Net::Comb,
@@ -225,7 +228,7 @@ pub(crate) fn pulled<S: NearState>(
                 index,
             },
             MachineState::Comb(s),
-        ) => Ok(MachineState::Comb(comb_step(project, shape, near, stage, index, s))),
+        ) => { Ok(MachineState::Comb(comb_step(alloc, project, shape, near, stage, index, s)?)) }
         _ => blank_of(alloc, component),
     }
 }
@@ -237,9 +240,13 @@ fn blank_of(alloc: Global, component: Component) -> Result<MachineState, NoMemor
     Ok(match component {
         Component::Proc(_) => MachineState::Proc(ProcState::start()),
         Component::Module(_) => {
-            MachineState::Module(ModuleState::start(alloc, Words::new(alloc))?)
+            MachineState::Module(Shared::new(alloc, ModuleState::start(alloc, Words::new(alloc))?)?)
         }
-        Component::Switch { net: Net::Low, .. } => MachineState::Low(LowState::start()),
-        Component::Switch { net: Net::Comb, .. } => MachineState::Comb(CombState::start()),
+        Component::Switch { net: Net::Low, .. } => {
+            MachineState::Low(Shared::new(alloc, LowState::start())?)
+        },
+        Component::Switch { net: Net::Comb, .. } => {
+            MachineState::Comb(Shared::new(alloc, CombState::start())?)
+        },
     })
 }

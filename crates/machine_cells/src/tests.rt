@@ -3,7 +3,7 @@
 use super::*;
 use grid_law::Grid;
 use omega_net::ScriptEntry;
-use project_book::{Edit, Project};
+use project_book::{Depths, Edit, Project, Slot};
 use std::alloc::Global;
 use std::sync::Arc;
 use std::test::Fail;
@@ -117,6 +117,38 @@ fn cells_give_the_run(rt: HostRuntime) -> Result<(), Fail> {
             next.push(Arc::new(alloc, Rp3::step(alloc, &project, &near, c)?)?)?;
         }
         row = next;
+    }
+    Ok(())
+}
+
+// One processor and module each side of one stage: processors 0 and 1, modules 2 and 3, the low switch
+// 4 and the combining switch 5. Words are read at the start alone, scripts by their processor alone.
+#[test]
+fn readers_of_slots(rt: HostRuntime) -> Result<(), Fail> {
+    let alloc = rt.alloc();
+    let project = Project::new(alloc, 1, 10)?.ok_or("k 1 is there")?;
+    for (slot, first, later) in [
+        (Slot::Word(300), [2, 3].as_slice(), [].as_slice()),
+        (Slot::Entry(0, 0), [].as_slice(), [0].as_slice()),
+        (Slot::Page(1), [2, 3].as_slice(), [0, 1].as_slice()),
+        (
+            Slot::Depth(Depths::ModuleQueue),
+            [].as_slice(),
+            [2, 3, 4, 5].as_slice(),
+        ),
+        (Slot::Wait, [].as_slice(), [5].as_slice()),
+    ] {
+        for c in 0..Rp3::components(&project) {
+            let may = (
+                Rp3::may_read(&project, c, true, &slot),
+                Rp3::may_read(&project, c, false, &slot),
+            );
+            assert_eq!(rt;
+                may,
+                (first.contains(&c), later.contains(&c)),
+                "{slot:?} and component {c}"
+            );
+        }
     }
     Ok(())
 }

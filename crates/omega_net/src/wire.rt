@@ -1,5 +1,5 @@
 //! The wires between components (Lawrie 1975): a perfect shuffle before each stage of switches.
-ghost use Rattle.std.specs.Prelude.{◌≡◌, ◌<◌, ◌≤◌, ◌%◌};
+ghost use Rattle.std.specs.Prelude.{◌≡◌, ◌<◌, ◌%◌};
 ghost use Rattle.omega_net.specs.Numbers.{lines, half, Exists};
 ghost use Rattle.omega_net.specs.Wires.{IsWire, upper_end, output_of, lower_end, input_of, wire_of_proc, wire_of_module, wire_into, wire_out};
 

@@ -13,6 +13,11 @@ pub enum PageFault {
 }
 
 impl fmt::Display for PageFault {
+    ghost use Rattle.std.specs.Prelude.{Some};
+    ghost use Rattle.page_map.specs.Faults.{fault_text};
+
+    ghost output = { λ fault. Some (fault_text fault) };
+
     fn fmt<W: fmt::Write>(&self, f: &mut fmt::Formatter<W>) -> fmt::Result {
         f.write_str(match self {
             PageFault::BadPage => "no such page",

@@ -4,5 +4,6 @@ pub mod FirstWords
 pub mod Scripts
 pub mod Project
 pub mod Slots
+pub mod Parts
 pub mod Edits
 pub mod EntryTexts

@@ -2,7 +2,7 @@
 ghost use Rattle.std.specs.Prelude.{◌≡◌, ◌<◌, ◌≤◌, IfOk, IsOkUnless, OnOk, Ok, Err, Some, None, if◌then◌else◌, length};
 ghost use Rattle.std.specs.Arc.{arc_value};
 ghost use Rattle.project_book.specs.Slots.{Touches, DifferAtMost, AreEntries};
-ghost use Rattle.project_book.specs.Edits.{accepts, verdict, edited, slot_of, new_horizon};
+ghost use Rattle.project_book.specs.Edits.{accepts, verdict, edited, new_horizon};
 
 use crate::edit::{Edit, is_addressed, is_timed, is_wait, is_window};
 use crate::fault::EditFault;

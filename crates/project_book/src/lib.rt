@@ -21,6 +21,7 @@ mod edit;
 mod entry_text;
 mod fault;
 mod limits;
+mod parts;
 mod project;
 mod scripts;
 mod slot;
@@ -37,6 +38,8 @@ pub use limits::{
     MIN_WAIT, SCRIPT_ENTRIES,
 };
 pub use omega_net::ScriptEntry;
+pub use parts::Parts;
 pub use project::Project;
+pub use scripts::Scripts;
 pub use slot::Slot;
-pub use words::FirstWord;
+pub use words::{FirstWord, FirstWords};

@@ -1,5 +1,5 @@
 //! A project: a machine's settings, its scripts and its first words.
-ghost use Rattle.std.specs.Prelude.{◌≡◌, ℕ, ◌<◌, ◌≤◌, ◌^◌, ◌&&◌, nat_le, nat_lt, true, false, IfOk, IfSome, IfNone, if◌then◌else◌, Some, None};
+ghost use Rattle.std.specs.Prelude.{◌≡◌, ◌<◌, ◌≤◌, ◌^◌, ◌&&◌, nat_le, nat_lt, true, false, IfOk, IfSome, if◌then◌else◌, Some, None};
 ghost use Rattle.page_map.specs.declared.map.TheConstants.{ADDRESSES, MAX_K};
 ghost use Rattle.project_book.specs.Queues.{is_depth, is_wait};
 ghost use Rattle.project_book.specs.Scripts.{IsEntry};

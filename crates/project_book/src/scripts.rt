@@ -1,7 +1,7 @@
 //! The processors' scripts.
-ghost use Rattle.std.specs.Prelude.{◌≡◌, ◌≢◌, ◌<◌, ◌≤◌, IfOk, IfSome, [], map, length, take, slice_get, slice_set, replicate};
+ghost use Rattle.std.specs.Prelude.{◌≡◌, ◌≢◌, ◌<◌, ◌≤◌, IfOk, OnOk, OnErr, IfSome, [], map, length, take, slice_get, slice_set, replicate};
 ghost use Rattle.std.specs.Arc.{arc_value};
-ghost use Rattle.project_book.specs.Scripts.{put_entry, script_of, IsEntry};
+ghost use Rattle.project_book.specs.Scripts.{put_entry, script_of, IsEntry, IsScript};
 
 use crate::limits::SCRIPT_ENTRIES;
 use grid_law::NoMemory;
@@ -133,6 +133,23 @@ impl Scripts {
         let mut scripts = share_each(alloc, &self.scripts)?;
         scripts[proc as usize] = script;
         Ok(Scripts { scripts })
+    }
+
+    /// Gives a processor this script. The scripts are as before where memory is refused.
+    pub fn set(
+        &mut self,
+        alloc: Global,
+        proc: u32,
+        entries: Vec<ScriptEntry>,
+    ) -> Result<(), NoMemory>
+        requires there { proc < length self.old }
+        requires script { IsScript entries.items }
+        ensures ok { OnOk result (self.new ≡ slice_set self.old proc entries.items) }
+        ensures err { OnErr result (self.new ≡ self.old) }
+    {
+        let owner = Arc::new(alloc, Script { entries })?;
+        self.scripts[proc as usize] = owner;
+        Ok(())
     }
 }
 

@@ -43,6 +43,14 @@ impl FirstWords {
         }
     }
 
+    /// The words of a list that is by addresses upwards, each below 16,384, and has no 0.
+    pub fn from_listing(listing: Vec<FirstWord>) -> FirstWords
+        requires { IsListing listing.items }
+        ensures { result ≡ listing.items }
+    {
+        FirstWords { words: listing }
+    }
+
     /// The words that aren't 0, by address upwards.
     pub fn as_slice(&self) -> &[FirstWord]
         ensures all { result.now ≡ self.now }

@@ -12,19 +12,16 @@ use Rattle.machine_cells.specs.declared.state.MachineState.TheVariants.{Proc, Mo
 use Rattle.machine_cells.specs.Cycle.{blank_of}
 use Rattle.machine_cells.specs.Run.{run}
 use Rattle.machine_cells.specs.Runs.{state_in}
+use Rattle.monitor_sums.specs.Sums.{sum_of, profile_of}
+use Rattle.saturation.specs.Levels.{level}
+use Rattle.saturation.specs.Trees.{tree}
+use Rattle.saturation.specs.Bound.{bound}
+use Rattle.run_queries.specs.Bad.{bad_query}
 use Rattle.run_queries.specs.declared.query.Query.{Query}
-use Rattle.run_queries.specs.declared.query.Query.TheVariants.{Reply as ReplyTo, State as StateOf, Memory as MemoryAt, Place as PlaceOf}
+use Rattle.run_queries.specs.declared.query.Query.TheVariants.{Reply as ReplyTo, State as StateOf, Memory as MemoryAt, Counter as CountOf, Profile as ProfileOf, Tree as TreeOf, Level as LevelOf, Bound as BoundOf, Place as PlaceOf}
 use Rattle.run_queries.specs.declared.body.Body.{Body}
-use Rattle.run_queries.specs.declared.body.Body.TheVariants.{Reply as Replied, State as Is, Word as Holds, Place as StandsAt}
+use Rattle.run_queries.specs.declared.body.Body.TheVariants.{Reply as Replied, State as Is, Word as Holds, Count as Counts, Profile as HasProfile, Tree as Grows, Level as IsAt, Fraction as IsFraction, Place as StandsAt}
 use Rattle.run_queries.specs.declared.body.Received.{Received}
-
--- the reason against a query that its numbers alone give: 1 no such component or processor, 2 a cycle past the
--- horizon, 3 no such address
-abbrev pub bad_query : Project → Query → Option ℕ
-bad_query P (ReplyTo p n) = if nat_lt p (lines P.k) then None else Some 1
-bad_query P (StateOf c t) = if nat_lt c (components P.k) then (if nat_le t P.horizon then None else Some 2) else Some 1
-bad_query P (MemoryAt a t) = if nat_le t P.horizon then (if nat_lt a ADDRESSES then None else Some 3) else Some 2
-bad_query P (PlaceOf a) = if nat_lt a ADDRESSES then None else Some 3
 
 -- whether a processor issued a reference in the last step
 abbrev pub has_sent : Option MachineState → Bool
@@ -63,12 +60,22 @@ abbrev pub word_in : Option MachineState → ℕ → ℕ
 word_in (Some (Module s)) row = word_at s.words row
 word_in _ row = 0
 
+-- a bound; 6 where there is none
+abbrev pub fraction : Option (ℕ × ℕ) → Result Body ℕ
+fraction (Some x) = Ok (IsFraction x.0 x.1)
+fraction None = Err 6
+
 -- what these states, by cycle and component, say to a query; 4 where the processor has issued no such reference
 abbrev pub found_in : (ℕ → ℕ → Option MachineState) → Project → Query → Result Body ℕ
 found_in at P (ReplyTo p n) =
     if nat_lt n (issued (λ t. at t p) (suc P.horizon)) then Ok (Replied (first_reply (λ t. at t p) n (suc P.horizon))) else Err 4
 found_in at P (StateOf c t) = Ok (Is (unwrap_or (at t c) (blank_of None)))
 found_in at P (MemoryAt a t) = Ok (Holds (word_in (at t (lines P.k + (place_in P a).«module»)) (place_in P a).row))
+found_in at P (CountOf counter who from to) = Ok (Counts (sum_of P.k counter at who from to))
+found_in at P (ProfileOf net s) = Ok (HasProfile (profile_of P.k at net s P.horizon))
+found_in at P (TreeOf net m) = Ok (Grows (tree P net m at))
+found_in at P (LevelOf net m t) = Ok (IsAt (level P net m (at t)))
+found_in at P (BoundOf a b p) = fraction (bound a b p)
 found_in at P (PlaceOf a) = Ok (StandsAt (place_in P a))
 
 abbrev pub unless : Option ℕ → Result Body ℕ → Result Body ℕ

@@ -1,2 +1,3 @@
+pub mod Bad
 pub mod Answers
 pub mod Texts

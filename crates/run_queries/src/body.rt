@@ -1,14 +1,13 @@
 //! What a question is answered.
-ghost use Rattle.std.specs.Prelude.{◌≡◌, Some, IfOk};
+ghost use Rattle.std.specs.Prelude.{◌≡◌, Some};
 ghost use Rattle.std.specs.Arc.{arc_value};
 ghost use Rattle.run_queries.specs.Texts.{received_text, body_text};
 ghost use Rattle.machine_cells.specs.Texts.{state_text};
 
-use crate::copies::copy_of;
-use grid_law::NoMemory;
+use crate::spaced::Spaced;
 use machine_cells::MachineState;
 use page_map::Place;
-use std::alloc::Global;
+use saturation::Tree;
 use std::fmt;
 use std::marker::Model;
 use std::sync::Arc;
@@ -53,15 +52,6 @@ impl SharedState {
         SharedState { state }
     }
 
-    /// An equal state of its own. It copies the queues, at most 16 messages each; a module's words get one more owner.
-    pub fn copy_of(alloc: Global, state: &MachineState) -> Result<SharedState, NoMemory>
-        ensures { IfOk result (λ s. s ≡ state.now) }
-    {
-        Ok(SharedState {
-            state: Arc::new(alloc, copy_of(state)?)?,
-        })
-    }
-
     pub fn state(&self) -> &MachineState
         ensures { result.now ≡ self.now }
     {
@@ -76,6 +66,14 @@ pub enum Body {
     Reply(Option<Received>),
     State(SharedState),
     Word(u32),
+    /// The total of a counter.
+    Count(u64),
+    /// At place n, how often a queue had the length n.
+    Profile([u64; 17]),
+    Tree(Tree),
+    Level(u8),
+    /// Numerator and denominator, not reduced.
+    Fraction(u64, u64),
     Place(Place),
 }
 
@@ -89,7 +87,8 @@ impl fmt::Display for SharedState {
     }
 }
 
-/// `at T word W`, or `none` where no reply was received; a state's text; a word in decimal; a place as `M:R`.
+/// `at T word W`, or `none` where no reply was received; a state's text; a word, a count or a level in
+/// decimal; 17 numbers; a tree's text; a fraction as `N/D`; a place as `M:R`.
 impl fmt::Display for Body {
     ghost output = { body_text };
 
@@ -99,6 +98,14 @@ impl fmt::Display for Body {
             Body::Reply(None) => write!(f, "none"),
             Body::State(state) => write!(f, "{state}"),
             Body::Word(word) => write!(f, "{word}"),
+            Body::Count(count) => write!(f, "{count}"),
+            Body::Profile(counts) => {
+                let counts = Spaced(counts);
+                write!(f, "{counts}")
+            }
+            Body::Tree(tree) => write!(f, "{tree}"),
+            Body::Level(level) => write!(f, "{level}"),
+            Body::Fraction(numerator, denominator) => write!(f, "{numerator}/{denominator}"),
             Body::Place(place) => write!(f, "{place}"),
         }
     }

@@ -1,16 +1,17 @@
 //! Questions about the run of a project, and what they are answered.
 //!
-//! A query asks for a reply, for a component's state or a word of memory at a cycle, or for the place of an address.
-//! What it is answered is a look-up in the run of the project, simulated from cycle 0: the definition `answer`. The
-//! functions here say which queries a project has no answer to, and read single states; whoever holds a run answers by
-//! them.
+//! A query asks for a reply, for a component's state or a word of memory at a cycle, for a counter, a profile or a
+//! report of tree saturation, for a bound, or for the place of an address. What it is answered is a look-up, a sum or a
+//! report over the run of the project, simulated from cycle 0: the definition `answer`. The functions here say which
+//! queries a project has no answer to, and read single states; whoever holds a run answers by them.
 //!
-//! It stands on `machine_cells` for the run and its states, and on `project_book` for projects.
+//! It stands on `machine_cells` for the run and its states, on `project_book` for projects, on `monitor_sums` for
+//! counters, and on `saturation` for reports.
 #![tactic(auto)]
 
 mod body;
-mod copies;
 mod query;
+mod spaced;
 mod states;
 
 pub use body::{Body, Received, SharedState};

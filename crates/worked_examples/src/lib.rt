@@ -1,13 +1,19 @@
-//! The worked examples of the machine, run by the plain simulation.
+//! The worked examples of the machine, run by the bench and its shell.
 //!
-//! Each test builds a project by edits, as a user would, and compares what `from_scratch` of
-//! `machine_cells` gives with numbers that were worked out by hand. The crate stands on
-//! `machine_cells` and `project_book`; nothing stands on it.
+//! Each test gives steps to a bench of `bench_core`, or lines to `run` of `bench_shell`, as a user would,
+//! and compares what comes of them with numbers that were worked out by hand, or the states that the
+//! bench holds with those of the plain simulation. Nothing stands on the crate.
 #![tactic(auto)]
 
 #[cfg(test)]
+mod benches;
+#[cfg(test)]
+mod edits;
+#[cfg(test)]
+mod lines;
+#[cfg(test)]
 mod projects;
 #[cfg(test)]
-mod runs;
+mod stories;
 #[cfg(test)]
 mod tests;

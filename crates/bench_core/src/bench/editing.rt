@@ -1,5 +1,5 @@
 //! Editing the project.
-ghost use Rattle.std.specs.Prelude.{◌≡◌, ℕ, ◌+◌, IfOk, OnOk, OnErr, IsOkUnless, List, ◌∷◌, ◌++◌, [], Ok, Err};
+ghost use Rattle.std.specs.Prelude.{◌≡◌, ◌+◌, IfOk, OnOk, OnErr, IsOkUnless, List, ◌∷◌, ◌++◌, [], Ok, Err};
 ghost use Rattle.project_book.specs.declared.slot.Slot.{Slot as TouchedSlot};
 ghost use Rattle.project_book.specs.Edits.{edited};
 ghost use Rattle.bench_core.specs.Shown.{project_of, version_of};
@@ -7,7 +7,7 @@ ghost use Rattle.bench_core.specs.Edits.{admits, IsAfterEdit};
 ghost use Rattle.bench_core.specs.Events.{Event, Edited, Opening};
 ghost use Rattle.bench_core.specs.Stands.{Stands};
 
-use super::Bench;
+use super::{Bench, forget};
 use crate::Noted;
 use project_book::{Edit, EditFault, MAX_EDITS};
 
@@ -45,10 +45,14 @@ impl Bench {
             Err(_) => return Err(EditFault::Memory),
         }
         match self.table.slots().apply(edit) {
-            Ok((next, changed)) => match self.table.touch(next, changed) {
-                Ok(()) => {}
-                Err(_) => return Err(EditFault::Memory),
-            },
+            Ok((next, changed)) => {
+                let before = self.table.horizon();
+                let to = next.horizon();
+                match self.table.touch(next, changed) {
+                    Ok(()) => forget(&mut self.sums, to, before),
+                    Err(_) => return Err(EditFault::Memory),
+                }
+            }
             Err(_) => return Err(EditFault::Memory),
         }
         self.journal.push_reserved(Noted { author, edit });

@@ -3,7 +3,7 @@ ghost use Rattle.std.specs.Prelude.{◌≡◌, IfOk, Some};
 ghost use Rattle.cell_table.specs.Seen.{held_at};
 ghost use Rattle.cell_table.specs.Cells.{IsThere};
 ghost use Rattle.cell_table.specs.Cones.{due_in_cone};
-ghost use Rattle.cell_table.specs.Run.{run};
+ghost use Rattle.grid_law.specs.Run.{run};
 
 use super::Table;
 use crate::Cell;

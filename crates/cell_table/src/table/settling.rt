@@ -7,7 +7,7 @@ ghost use Rattle.cell_table.specs.Inputs.{inputs_of};
 ghost use Rattle.cell_table.specs.Consistent.{current_of};
 ghost use Rattle.cell_table.specs.Gives.{IsAfterStore};
 ghost use Rattle.cell_table.specs.Events.{Event, Start, Stores};
-ghost use Rattle.cell_table.specs.Run.{run};
+ghost use Rattle.grid_law.specs.Run.{run};
 ghost use Rattle.cell_table.specs.Stands.{Stands};
 ghost use Rattle.cell_table.specs.Settling.{IsNextDueInRow, NoneDueBefore, NoneDueFrom, IsNextDue, IsSettled, SettlesNext, IsSpent, computed_of, IsClockSpent};
 ghost use Rattle.cell_table.specs.Cost.{Settles, SettlesFirst};
@@ -111,6 +111,7 @@ impl<G: Grid> Table<G> {
         ensures err { OnErr result (self.new ≡ self.old) }
         ensures spent { result ≡ Err StoreFault.ClockSpent → IsSpent G.rules self.old from.cycle from.component }
     {
+        // The number of a component is below this one, so that of the next fits.
         let _count = G::components(&self.slots);
         match self.next_due(from) {
             Some(cell) => match self.settle_cell(cell) {
@@ -136,6 +137,7 @@ impl<G: Grid> Table<G> {
         ensures slots { self.new.slots ≡ self.old.slots }
         ensures horizon { self.new.horizon ≡ self.old.horizon }
         ensures spent { IfErr result (λ f. IsClockSpent f → self.new.clock ≡ 2 ^ 64 - 1) }
+        ensures differs { IfErr result (λ f. IsClockSpent f → IsSpent G.rules self.new 0 0) }
     {
         let mut computed: u64 = 0;
         let mut from = Cell {

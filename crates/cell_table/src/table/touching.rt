@@ -1,9 +1,8 @@
 //! Following an edit.
-ghost use Rattle.std.specs.Prelude.{◌≡◌, ℕ, ◌+◌, ◌<◌, ◌≤◌, ◌-◌, ◌^◌, ◌↔◌, IfOk, OnOk, OnErr, unwrap_or, map, Some, false, length, slice_index_or, List, ◌∷◌};
-ghost use Rattle.std.specs.Arc.{arc_value};
+ghost use Rattle.std.specs.Prelude.{◌≡◌, ℕ, ◌+◌, ◌<◌, ◌≤◌, ◌-◌, ◌^◌, ◌↔◌, IfOk, OnOk, OnErr, unwrap_or, true, length, All, List, ◌∷◌};
 ghost use Rattle.grid_law.specs.Rules.{Differ};
-ghost use Rattle.cell_table.specs.Seen.{held_at};
 ghost use Rattle.cell_table.specs.Cells.{IsThere};
+ghost use Rattle.cell_table.specs.Readers.{has, readers_at};
 ghost use Rattle.cell_table.specs.Touches.{is_marked, cell_reads, IsAfterTouch};
 ghost use Rattle.cell_table.specs.Events.{Event, Start, Edits};
 ghost use Rattle.cell_table.specs.Stands.{Stands};
@@ -11,7 +10,8 @@ ghost use Rattle.cell_table.specs.Settling.{IsSettled};
 ghost use Rattle.cell_table.specs.Cost.{Costs, CostsAnEdit};
 
 use super::Table;
-use crate::marks::{Marks, reads_some, retouch};
+use crate::components::Components;
+use crate::marks::{reads_some, retouch, those_that_may_read};
 use crate::{Cell, TouchFault};
 use grid_law::{Changed, Grid, NoMemory};
 use std::alloc::Global;
@@ -36,40 +36,53 @@ impl<G: Grid> Table<G> {
         }
     }
 
-    /// Which cells of a cycle read one of these slots.
+    /// Which of these components read one of these slots at a cycle; no other may.
     fn row_marks(
         &self,
         alloc: Global,
         cycle: u32,
         listed: &[G::Slot],
+        asked: &Components,
         near: &mut Vec<Arc<G::State>>,
-    ) -> Result<Marks, NoMemory>
-        requires { cycle ≤ self.now.horizon }
-        ensures { IfOk result (λ m. (c : ℕ) → c < G.rules.components self.now.slots → slice_index_or m c false
+    ) -> Result<Components, NoMemory>
+        requires cycle { cycle ≤ self.now.horizon }
+        requires within { All (λ c. c < G.rules.components self.now.slots) asked.now }
+        requires all { (c : ℕ) → c < G.rules.components self.now.slots → cell_reads G.rules self.now.slots self.now.rows listed.now cycle c ≡ true → has asked.now c ≡ true }
+        ensures at { IfOk result (λ m. (c : ℕ) → c < G.rules.components self.now.slots → has m c
             ≡ cell_reads G.rules self.now.slots self.now.rows listed.now cycle c) }
+        ensures within { IfOk result (λ m. All (λ c. c < G.rules.components self.now.slots) m) }
     {
-        let mut cells = Vec::new(alloc);
-        for component in 0..G::components(&self.slots) {
-            cells.push(self.reads_listed(Cell { cycle, component }, listed, near)?)?;
+        let mut components = Components::new(alloc);
+        for component in asked.as_slice() {
+            let component = *component;
+            if self.reads_listed(Cell { cycle, component }, listed, near)? {
+                components.push(component)?;
+            }
         }
-        Ok(Marks::new(cells))
+        Ok(components)
     }
 
-    /// Which cells up to that cycle read one of these slots; none is asked where no slot is listed.
-    #[tactic(auto, using(crate::proofs::Touched::reads_none))]
-    fn marks(&self, alloc: Global, listed: &[G::Slot], last: u32) -> Result<Vec<Marks>, NoMemory>
+    /// Which cells up to that cycle read one of these slots. The components that may read one are
+    /// asked, and no others.
+    fn marks(
+        &self,
+        alloc: Global,
+        listed: &[G::Slot],
+        last: u32,
+    ) -> Result<Vec<Components>, NoMemory>
         requires { last ≤ self.now.horizon }
         ensures len { IfOk result (λ m. length m.items ≤ last + 1) }
+        ensures within { IfOk result (λ m. (t : ℕ) → All (λ c. c < G.rules.components self.now.slots) (readers_at m.items t)) }
         ensures at { IfOk result (λ m. (t c : ℕ) → t ≤ last → c < G.rules.components self.now.slots → is_marked m.items t c
             ≡ cell_reads G.rules self.now.slots self.now.rows listed.now t c) }
     {
+        let first = those_that_may_read::<G>(alloc, &self.slots, true, listed)?;
+        let later = those_that_may_read::<G>(alloc, &self.slots, false, listed)?;
         let mut rows = Vec::new(alloc);
-        if listed.is_empty() {
-            return Ok(rows);
-        }
         let mut near = Vec::new(alloc);
-        for cycle in 0..u64::from(last) + 1 {
-            rows.push(self.row_marks(alloc, cycle as u32, listed, &mut near)?)?;
+        rows.push(self.row_marks(alloc, 0, listed, &first, &mut near)?)?;
+        for cycle in 1..u64::from(last) + 1 {
+            rows.push(self.row_marks(alloc, cycle as u32, listed, &later, &mut near)?)?;
         }
         Ok(rows)
     }
@@ -80,12 +93,13 @@ impl<G: Grid> Table<G> {
         alloc: Global,
         next: G::Slots,
         listed: &[G::Slot],
-        marks: &Vec<Marks>,
+        marks: &Vec<Components>,
         horizon: u32,
     ) -> Result<(), NoMemory>
         requires differ { Differ G.rules self.old.slots next listed.now }
         requires room { self.old.clock < 2 ^ 64 - 1 }
         requires len { length marks.now.items ≤ self.old.horizon + 1 }
+        requires within { (t : ℕ) → All (λ c. c < G.rules.components self.old.slots) (readers_at marks.now.items t) }
         requires at { (t c : ℕ) → t ≤ horizon → IsThere G.rules self.old t c → is_marked marks.now.items t c
             ≡ cell_reads G.rules self.old.slots self.old.rows listed.now t c }
         ensures ok { OnOk result (IsAfterTouch G.rules self.old self.new next listed.now horizon) }
@@ -131,8 +145,8 @@ impl<G: Grid> Table<G> {
     /// by one. The cells of the new horizon that read a slot listed, or that are new, become due
     /// at that clock; where the table was settled, what settling it again costs are these cells and
     /// those with a near cell one cycle earlier that differs between the two runs. After a fault
-    /// nothing is changed. Each cell that stays is asked once for each
-    /// slot listed, and none where no slot is listed.
+    /// nothing is changed. Each component is asked whether it may read a slot listed; of those that
+    /// may, each cell that stays is asked once at most for each slot listed.
     pub fn touch(&mut self, next: G::Slots, changed: Changed<G::Slot>) -> Result<(), TouchFault>
         requires { Differ G.rules self.old.slots next changed.slots.items }
         ensures ok { OnOk result

@@ -1,7 +1,5 @@
-use Rattle.std.proofs.Common.{rules, sym, ◌∙◌, ◌<◌, ◌≤◌, length, arith}
-use Rattle.std.proofs.lemmas.Result.{on_ok_weaker, on_err_weaker}
+use Rattle.std.proofs.Common.{sym, ◌∙◌, ◌<◌, ◌≤◌, length}
 use Rattle.bench_shell.proofs.Lines.{cut_answered, zero_lt}
-use Rattle.bench_shell.proofs.Writes.{Part-same}
 use Rattle.bench_shell.proofs.session.finish.Goals as goal
 
 pub returns-clause-ok : goal.returns-clause-ok

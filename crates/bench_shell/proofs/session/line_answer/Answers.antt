@@ -1,4 +1,4 @@
-use Rattle.std.proofs.Common.{rules, ◌∙◌, ap, sym, ◌≤◌, length, arith}
+use Rattle.std.proofs.Common.{◌∙◌, ap, ◌≤◌, length}
 use Rattle.bench_shell.specs.Output.{command_in}
 use Rattle.bench_shell.proofs.Lines.{line_answered}
 use Rattle.bench_shell.proofs.session.line_answer.Goals as goal

@@ -1,4 +1,3 @@
-use Rattle.std.proofs.Common.{rules}
 use Rattle.bench_shell.specs.Text.{line_text}
 use Rattle.bench_shell.specs.Output.{output, output_from}
 use Rattle.bench_shell.proofs.Writes.{byte_part}

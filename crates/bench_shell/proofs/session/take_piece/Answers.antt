@@ -1,4 +1,4 @@
-use Rattle.std.proofs.Common.{rules, ◌∙◌, refl, arith, ◌<◌, length}
+use Rattle.std.proofs.Common.{refl}
 use Rattle.bench_shell.specs.Output.{output_from}
 use Rattle.bench_shell.proofs.Writes.{piece_step, piece_part}
 use Rattle.bench_shell.proofs.session.take_piece.Goals as goal
@@ -17,7 +17,6 @@ loop-byte-preserved g c =
     let held = c.loop-byte.held in
     let next = c.take_byte.new.held in
     record {
-      reads = c.take_byte.ensures.reads ∙ c.loop-byte.invariant.reads;
       no_lf = c.in-Ok.ensures.no_lf;
       version = c.in-Ok.ensures.version;
       earlier = λ alone. c.loop-byte.invariant.earlier (c.take_byte.ensures.earlier alone);

@@ -3,10 +3,7 @@ use Rattle.std.specs.Io.KnownBytes.{Appends}
 use Rattle.bench_shell.proofs.session.write_bytes.Given as goal
 
 abbrev pub invariant-loop-rest : goal.invariant-loop-rest
-invariant-loop-rest g l = record {
-  reads : l.watch.reads ≡ l.initial.watch.reads;
-  told : (told : List ℕ) × Appends (g.W.Write.contents l.initial.writer) (g.W.Write.contents l.writer) told × (l.bytes ≡ told ++ l.rest);
-}
+invariant-loop-rest g l = (told : List ℕ) × Appends (g.W.Sink.contents l.initial.writer) (g.W.Sink.contents l.writer) told × (l.bytes ≡ told ++ l.rest)
 
 abbrev pub decreases-loop-rest : goal.decreases-loop-rest
 decreases-loop-rest g l = length l.rest

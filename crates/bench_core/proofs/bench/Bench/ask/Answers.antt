@@ -2,4 +2,4 @@ use Rattle.bench_core.proofs.Asking.{answers_run}
 use Rattle.bench_core.proofs.bench.Bench.ask.Goals as goal
 
 pub returns-clause-headline_answers : goal.returns-clause-headline_answers
-returns-clause-headline_answers c = answers_run c.args.self.now c.args.query c.ask_plain.result c.ask_plain.ensures
+returns-clause-headline_answers g c = answers_run c.args.self.now c.args.query c.ask_plain.result c.ask_plain.ensures

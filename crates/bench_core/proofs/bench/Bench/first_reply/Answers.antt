@@ -4,7 +4,7 @@ use Rattle.machine_cells.specs.declared.state.MachineState.{MachineState}
 use Rattle.project_book.specs.Project.{Project}
 use Rattle.run_queries.specs.Answers.{word_got}
 use Rattle.bench_core.specs.Shown.{project_of}
-use Rattle.bench_core.specs.Asks.{held}
+use Rattle.bench_core.specs.Shown.{held}
 use Rattle.bench_core.proofs.Looking.{reply_stays}
 use Rattle.bench_core.proofs.bench.Bench.first_reply.Goals as goal
 

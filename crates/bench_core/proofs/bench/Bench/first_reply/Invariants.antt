@@ -1,6 +1,6 @@
 use Rattle.std.proofs.Common.{◌≡◌, None}
 use Rattle.run_queries.specs.Answers.{first_reply}
-use Rattle.bench_core.specs.Asks.{held}
+use Rattle.bench_core.specs.Shown.{held}
 use Rattle.bench_core.proofs.bench.Bench.first_reply.Given as goal
 
 abbrev pub invariant-loop-cycle : goal.invariant-loop-cycle

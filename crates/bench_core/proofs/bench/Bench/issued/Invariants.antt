@@ -1,6 +1,6 @@
 use Rattle.std.proofs.Common.{◌≡◌, ◌≤◌}
 use Rattle.run_queries.specs.Answers.{issued}
-use Rattle.bench_core.specs.Asks.{held}
+use Rattle.bench_core.specs.Shown.{held}
 use Rattle.bench_core.proofs.bench.Bench.issued.Given as goal
 
 abbrev pub invariant-loop-cycle : goal.invariant-loop-cycle

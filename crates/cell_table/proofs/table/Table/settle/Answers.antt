@@ -1,6 +1,6 @@
-use Rattle.std.proofs.Common.{◌≡◌, ◌+◌, ◌<◌, ◌^◌, sym, subst, arith}
-use Rattle.cell_table.specs.Settling.{IsSettled, SettlesNext}
-use Rattle.cell_table.proofs.Passes.{IsAt, of_some, of_none, few_next, goes_on, first_settled, all_settled}
+use Rattle.std.proofs.Common.{◌≡◌, ◌+◌, ◌<◌, ◌^◌, Err, ap, sym, subst, arith}
+use Rattle.cell_table.specs.Settling.{IsSettled, IsSpent, SettlesNext}
+use Rattle.cell_table.proofs.Passes.{IsAt, of_some, of_none, few_next, goes_on, spent_first, first_settled, all_settled}
 use Rattle.cell_table.proofs.table.Table.settle.Goals as goal
 
 pub overflow_add-computed : goal.overflow_add-computed
@@ -33,3 +33,7 @@ pub returns-in-Err-Memory-clause-after_fault : goal.returns-in-Err-Memory-clause
 returns-in-Err-Memory-clause-after_fault g c =
     let at = subst (λ v. IsAt g.G.Grid.rules c.args.self.now v c.loop-cell.from.cycle c.loop-cell.from.component c.loop-cell.computed) (sym c.in-Err-Memory.ensures.err) c.loop-cell.invariant in
     (at.done, first_settled g.G.Grid.rules g.G.Grid.laws c.args.self.now c.settle_next.new.self c.loop-cell.from.cycle c.loop-cell.from.component c.loop-cell.computed at)
+
+pub returns-in-Err-ClockSpent-clause-differs : goal.returns-in-Err-ClockSpent-clause-differs
+returns-in-Err-ClockSpent-clause-differs g c =
+    λ _. subst (λ v. IsSpent g.G.Grid.rules v 0 0) (sym c.in-Err-ClockSpent.ensures.err) (spent_first g.G.Grid.rules c.loop-cell.self c.loop-cell.from.cycle c.loop-cell.from.component c.loop-cell.invariant.none_before (c.in-Err-ClockSpent.ensures.spent (ap Err c.in-Err-ClockSpent.field-0-is)))

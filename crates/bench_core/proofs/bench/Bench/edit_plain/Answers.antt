@@ -1,0 +1,36 @@
+use Rattle.std.proofs.Common.{rules, ◌≡◌, ◌+◌, ◌∙◌, sym, subst, arith, ℕ}
+use Rattle.std.specs.Option.{unwrap_or}
+use Rattle.cell_table.specs.Touches.{IsAfterTouch}
+use Rattle.machine_cells.specs.GridRules.{rp3_rules}
+use Rattle.monitor_sums.specs.Kept.{StandsFor}
+use Rattle.monitor_sums.specs.Sums.{States, cleared}
+use Rattle.project_book.specs.Project.{Project}
+use Rattle.project_book.specs.Slots.{Touches}
+use Rattle.project_book.specs.Edits.{edited, new_horizon}
+use Rattle.bench_core.specs.Shown.{IsBench}
+use Rattle.bench_core.proofs.Admitting.{admitted_room}
+use Rattle.bench_core.proofs.Touching.{bench_edited, to}
+use Rattle.bench_core.proofs.Counting.{counted_touched}
+use Rattle.bench_core.proofs.bench.Bench.edit_plain.Goals as goal
+
+pub forget-requires : goal.forget-requires
+forget-requires c = omega (arith, c.horizon-before.ensures, c.self.invariant.0.short)
+
+pub invariant_of-self-2 : goal.invariant_of-self-2
+invariant_of-self-2 c =
+    let old = c.self.inside.table in
+    let new = c.touch.new.self in
+    let next = c.in-Ok-apply.next in
+    let listed = c.in-Ok-apply.changed.slots.items in
+    let horizon = c.in-Ok-apply.changed.horizon in
+    let is : next ≡ edited old.slots c.args.edit = subst (λ (P : Project). next ≡ edited P c.args.edit) c.slots.ensures c.in-Ok-apply.ensures.edited in
+    let touches : Touches old.slots next listed = subst (λ (P : Project). Touches P next listed) c.slots.ensures c.in-Ok-apply.ensures.slots in
+    let moved : horizon ≡ new_horizon old.slots next = subst (λ (P : Project). horizon ≡ new_horizon P next) c.slots.ensures c.in-Ok-apply.ensures.horizon in
+    let touched : IsAfterTouch rp3_rules old new next listed (unwrap_or horizon old.horizon) = c.in-Ok-touch.ensures.ok in
+    let end = to old new c.self.inside.journal.items c.args.author c.args.edit next listed horizon c.self.invariant.0 is touches moved touched in
+    let bench : IsBench new c.push_reserved.new.self.items = search (rules, bench_edited, admitted_room) in
+    let at_end : c.horizon-to.result ≡ new.horizon = c.horizon-to.ensures.horizon ∙ sym (touched.horizon ∙ end) in
+    let clears : (at : States) → StandsFor c.self.inside.sums at → StandsFor c.forget.new.sums (cleared at (new.horizon + 1) old.horizon) =
+    subst (λ (n : ℕ). (at : States) → StandsFor c.self.inside.sums at → StandsFor c.forget.new.sums (cleared at (n + 1) old.horizon)) at_end
+    (subst (λ (n : ℕ). (at : States) → StandsFor c.self.inside.sums at → StandsFor c.forget.new.sums (cleared at (c.horizon-to.result + 1) n)) c.horizon-before.ensures c.forget.ensures.stands) in
+    (bench, counted_touched c.self.inside.sums c.forget.new.sums old new c.self.invariant.1 c.forget.ensures.shape (unwrap_or horizon old.horizon) next listed (sym touches.shape) touched clears)

@@ -1,0 +1,108 @@
+//! The plain simulation: nanoseconds for a cell, and the bytes of a run.
+use crate::clock::row;
+use crate::load::hot_spot;
+use anyhow::Result;
+use comb_switch::CombState;
+use low_switch::LowState;
+use machine_cells::{MachineState, from_scratch};
+use mem_module::{ModuleState, Stored};
+use std::fmt;
+use std::mem::size_of;
+use std::time::Instant;
+
+/// A run that was simulated: its size, its cells, and the word of address 0 at the horizon.
+#[derive(Clone, Copy)]
+pub struct Run {
+    k: u32,
+    horizon: u32,
+    cells: u64,
+    word: u32,
+}
+
+impl fmt::Display for Run {
+    fn fmt<W: fmt::Write>(&self, f: &mut fmt::Formatter<W>) -> fmt::Result {
+        let Run {
+            k,
+            horizon,
+            cells,
+            word,
+        } = *self;
+        write!(f, "from-scratch k {k} horizon {horizon}: {cells} cells, ")?;
+        write!(f, "word 0 is {word} at the end")
+    }
+}
+
+/// Simulates the hot spot of 2^k processors from cycle 0 up to the horizon.
+pub fn measure(rt: &HostRuntime, k: u32, horizon: u32) -> Result<Run> {
+    let project = hot_spot(rt.alloc(), k, horizon)?;
+    let since = Instant::now(rt)?;
+    let rows = from_scratch(rt.alloc(), &project)?;
+    let cells = cells_of(&rows);
+    row(rt, "from_scratch, a cell", since, cells)?;
+    let bytes = bytes_of(&rows);
+    let each = bytes.checked_div(cells).unwrap_or(0);
+    eprintln!(rt; "from_scratch, memory: {each} bytes each, {bytes} bytes for {cells}")?;
+    let word = rows.last().map_or(0, |row| word_of(row, k));
+    Ok(Run {
+        k,
+        horizon,
+        cells,
+        word,
+    })
+}
+
+fn cells_of(rows: &[Vec<MachineState>]) -> u64 {
+    let mut cells: u64 = 0;
+    for row in rows {
+        cells = cells.saturating_add(row.len() as u64);
+    }
+    cells
+}
+
+/// The word of address 0, which stands in row 0 of the first module.
+fn word_of(row: &[MachineState], k: u32) -> u32 {
+    let first = 1usize.checked_shl(k).unwrap_or(0);
+    match row.get(first) {
+        Some(MachineState::Module(holder)) => holder.word(0),
+        _ => 0,
+    }
+}
+
+/// The bytes that a run holds: cells × the size of a cell's state, which for modules and switches is the
+/// owning of one that is kept apart; and the size of each of those that isn't that of the cycle before,
+/// for a module with its words. What the allocator takes beside isn't counted.
+fn bytes_of(rows: &[Vec<MachineState>]) -> u64 {
+    let mut bytes: u64 = 0;
+    let mut before: &[MachineState] = &[];
+    for row in rows {
+        bytes = bytes.saturating_add(row_bytes(before, row));
+        before = row;
+    }
+    bytes
+}
+
+fn row_bytes(before: &[MachineState], row: &[MachineState]) -> u64 {
+    let mut bytes: u64 = 0;
+    for (c, state) in row.iter().enumerate() {
+        bytes = bytes.saturating_add(size_of::<MachineState>() as u64);
+        if !before.get(c).map_or(false, |old| old.same(state)) {
+            bytes = bytes.saturating_add(apart(state));
+        }
+    }
+    bytes
+}
+
+/// The bytes that are kept apart for a state.
+fn apart(state: &MachineState) -> u64 {
+    match state {
+        MachineState::Proc(_) => 0,
+        MachineState::Module(holder) => {
+            let words = (holder.words.as_slice().len() as u64).saturating_mul(
+                size_of::<Stored>() as u64,
+            );
+            words.saturating_add(size_of::<ModuleState>() as u64)
+        }
+        MachineState::Low(_) => size_of::<LowState>() as u64,
+        MachineState::Comb(_) => size_of::<CombState>() as u64,
+    }
+}

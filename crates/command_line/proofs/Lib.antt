@@ -1,0 +1,3 @@
+mod Defaults
+mod Holding
+mod Taking

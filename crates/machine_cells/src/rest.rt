@@ -1,0 +1,134 @@
+//! The next state of a switch or a module, which is the one before where nothing happens.
+ghost use Rattle.std.specs.Prelude.{◌≡◌, ℕ, IsTrue, IfOk, length};
+ghost use Rattle.low_switch.specs.LowSwitch.{low_after};
+ghost use Rattle.comb_switch.specs.declared.settings.CombSettings.{CombSettings as Settings};
+ghost use Rattle.comb_switch.specs.CombSwitch.{comb_after};
+ghost use Rattle.mem_module.specs.MemModule.{module_after};
+ghost use Rattle.machine_cells.specs.Quiet.{quiet, quiet_module};
+
+use crate::Shared;
+use comb_switch::{CombSettings, CombState};
+use grid_law::NoMemory;
+use low_switch::LowState;
+use mem_module::{ModuleState, ModuleTraffic};
+use omega_net::Traffic;
+use std::alloc::Global;
+
+/// A low switch one cycle later. It takes memory only where something moves.
+pub(crate) fn low_next(
+    alloc: Global,
+    own: &Shared<LowState>,
+    bit: u32,
+    traffic: &Traffic,
+) -> Result<Shared<LowState>, NoMemory>
+    ensures { IfOk result (λ s. s ≡ low_after bit traffic.now own.now) }
+{
+    if low_rests(own, traffic) {
+        own.share()
+    } else {
+        Shared::new(alloc, own.step(bit, traffic))
+    }
+}
+
+/// A combining switch one cycle later. It takes memory only where something moves, or was combined in
+/// the cycle before.
+pub(crate) fn comb_next(
+    alloc: Global,
+    own: &Shared<CombState>,
+    settings: &CombSettings,
+    traffic: &Traffic,
+) -> Result<Shared<CombState>, NoMemory>
+    ensures { IfOk result (λ s. s ≡ comb_after settings.now traffic.now own.now) }
+{
+    if comb_rests(own, traffic) {
+        own.share()
+    } else {
+        Shared::new(alloc, own.step(settings, traffic))
+    }
+}
+
+/// A module one cycle later. It takes memory only where something moves, waits to be served, or was
+/// served in the cycle before.
+pub(crate) fn module_next(
+    alloc: Global,
+    own: &Shared<ModuleState>,
+    depth: u32,
+    traffic: &ModuleTraffic,
+) -> Result<Shared<ModuleState>, NoMemory>
+    ensures { IfOk result (λ s. s ≡ module_after depth traffic.now own.now) }
+{
+    if module_rests(own, traffic) {
+        own.share()
+    } else {
+        Shared::new(alloc, own.step(alloc, depth, traffic)?)
+    }
+}
+
+/// Says that a pair has two items, to the proofs of those who call it.
+fn pair<T>(items: &[T; 2])
+    ensures { length items.now ≡ 2 }
+{}
+
+/// Whether a low switch stays as it is.
+#[tactic(auto, using(crate::proofs::Resting::low_rests))]
+fn low_rests(own: &LowState, traffic: &Traffic) -> bool
+    ensures { IsTrue result → (bit : ℕ) → low_after bit traffic.now own.now ≡ own.now }
+{
+    pair(&own.fwd);
+    pair(&own.turn);
+    pair(&own.rev);
+    pair(&own.rturn);
+    is_quiet(traffic)
+}
+
+/// Whether a combining switch stays as it is.
+#[tactic(auto, using(crate::proofs::Resting::comb_rests))]
+fn comb_rests(own: &CombState, traffic: &Traffic) -> bool
+    ensures { IsTrue result → (settings : Settings) → comb_after settings traffic.now own.now ≡ own.now }
+{
+    pair(&own.fwd);
+    pair(&own.turn);
+    pair(&own.rev);
+    own.combined == 0 && is_quiet(traffic)
+}
+
+/// Whether a module stays as it is: where nothing waits, nothing can be served.
+#[tactic(auto, using(crate::proofs::Resting::module_rests))]
+fn module_rests(own: &ModuleState, traffic: &ModuleTraffic) -> bool
+    ensures { IsTrue result → (depth : ℕ) → module_after depth traffic.now own.now ≡ own.now }
+{
+    pair(&own.requests);
+    pair(&own.replies);
+    !own.served
+        && own.requests[0].is_empty()
+        && own.requests[1].is_empty()
+        && is_quiet_module(traffic)
+}
+
+/// Whether nothing comes to a switch and nothing leaves it.
+fn is_quiet(traffic: &Traffic) -> bool
+    ensures { IsTrue result → traffic.now ≡ quiet }
+{
+    match traffic {
+        Traffic {
+            requests: [None, None],
+            replies: [None, None],
+            requests_leave: [false, false],
+            replies_leave: [false, false],
+        } => true,
+        _ => false,
+    }
+}
+
+/// Whether nothing comes to a module and nothing leaves it.
+fn is_quiet_module(traffic: &ModuleTraffic) -> bool
+    ensures { IsTrue result → traffic.now ≡ quiet_module }
+{
+    match traffic {
+        ModuleTraffic {
+            requests: [None, None],
+            replies_leave: [false, false],
+        } => true,
+        _ => false,
+    }
+}

@@ -1,0 +1,101 @@
+-- What is kept before any cell holds a state.
+use Rattle.std.proofs.Common.{◌≡◌, ℕ, zero, suc, ◌+◌, ◌*◌, ◌<◌, ◌≤◌, ◌⊎◌, inl, inr, List, [], ◌∷◌, length, get_or, replicate, Option, None, Some, refl, ap, sym, subst, ◌∙◌, arith}
+use Rattle.std.specs.Prelude.{slice_index, slice_index_or}
+use Rattle.std.proofs.lemmas.Bool.{cases_lt}
+use Rattle.std.proofs.lemmas.List.{get_or-replicate, get_or_past, length-replicate}
+use Rattle.page_map.specs.declared.map.TheConstants.{MAX_K}
+use Rattle.omega_net.specs.declared.component.Net.{Net}
+use Rattle.omega_net.specs.Numbers.{components}
+use Rattle.project_book.specs.declared.limits.TheConstants.{MAX_HORIZON}
+use Rattle.monitor_sums.specs.declared.counter.Counter.{Counter}
+use Rattle.monitor_sums.specs.declared.counter.Counter.TheVariants.{Issued, Answered, Served, Combined, Waiting}
+use Rattle.monitor_sums.specs.declared.counted.Counted.{Counted}
+use Rattle.monitor_sums.specs.declared.tally.Tally.{Tally}
+use Rattle.monitor_sums.specs.Sums.{States, in_profile}
+use Rattle.monitor_sums.specs.Parts.{part, tallied, IsSmall}
+use Rattle.monitor_sums.specs.Kept.{Kept, StandsFor, nothing, place_of, kept_at, counted}
+use Rattle.monitor_sums.specs.Whole.{counted_of, lengths_of, none, tally_at, profile_place, profile_at, AddsUp}
+use Rattle.monitor_sums.proofs.Parts.{part_nothing, in_profile_nothing}
+use Rattle.monitor_sums.proofs.Over.{none_over}
+
+-- a copy among copies, or the default past them
+copy_or : {X : Type 0} (n i : ℕ) (x d : X) → (get_or (replicate n x) i d ≡ x) ⊎ (get_or (replicate n x) i d ≡ d)
+copy_or n i x d = by_place (cases_lt i n)
+  where
+    by_place : (i < n) ⊎ (n ≤ i) → (get_or (replicate n x) i d ≡ x) ⊎ (get_or (replicate n x) i d ≡ d)
+    by_place (inl h) = inl (get_or-replicate n i x d h)
+    by_place (inr h) = inr (get_or_past (replicate n x) i d (omega (arith, length-replicate n x)))
+
+copy_of : {X : Type 0} (n i : ℕ) (x : X) → get_or (replicate n x) i x ≡ x
+copy_of n i x = by_cases (copy_or n i x x)
+  where
+    by_cases : (get_or (replicate n x) i x ≡ x) ⊎ (get_or (replicate n x) i x ≡ x) → get_or (replicate n x) i x ≡ x
+    by_cases (inl e) = e
+    by_cases (inr e) = e
+
+small_nothing : IsSmall nothing
+small_nothing = record { issued = omega arith; answered = omega arith; served = omega arith; combined = omega arith; waiting = omega arith; lengths = tt }
+
+tallied_none : (counter : Counter) → tallied counter none ≡ 0
+tallied_none Issued = refl
+tallied_none Answered = refl
+tallied_none Served = refl
+tallied_none Combined = refl
+tallied_none Waiting = refl
+
+module _ (k n m : ℕ) where
+  nothing_kept : (t c : ℕ) → kept_at (replicate n nothing) t c ≡ nothing
+  nothing_kept t c = copy_of n (place_of c t) nothing
+
+  nothing_counted : (counter : Counter) (who : Option ℕ) → counted_of k counter (replicate n nothing) who 0 MAX_HORIZON ≡ 0
+  nothing_counted counter who =
+      none_over k (λ t c. part counter (kept_at (replicate n nothing) t c)) who MAX_HORIZON
+      (λ t c. ap (part counter) (nothing_kept t c) ∙ part_nothing counter)
+
+  nothing_long : (net : Net) (stage n' : ℕ) → lengths_of k (replicate n nothing) net stage n' ≡ 0
+  nothing_long net stage n' =
+      none_over k (λ t c. in_profile k net stage n' c (kept_at (replicate n nothing) t c).lengths) None MAX_HORIZON
+      (λ t c. ap (λ (x : Counted). in_profile k net stage n' c x.lengths) (nothing_kept t c) ∙ in_profile_nothing k net stage n' c)
+
+  zero_at : (zeros : List ℕ) (net : Net) (stage i : ℕ) → ((j : ℕ) → slice_index zeros j ≡ 0) → slice_index (profile_at k (replicate m zeros) net stage) i ≡ 0
+  zero_at zeros net stage i none_in = by_cases (copy_or m (profile_place k net stage) zeros [])
+    where
+      by_cases : (profile_at k (replicate m zeros) net stage ≡ zeros) ⊎ (profile_at k (replicate m zeros) net stage ≡ [])
+          → slice_index (profile_at k (replicate m zeros) net stage) i ≡ 0
+      by_cases (inl e) = ap (λ ns. slice_index ns i) e ∙ none_in i
+      by_cases (inr e) = ap (λ ns. slice_index ns i) e
+
+zeros_are : (n j : ℕ) → slice_index (replicate n 0) j ≡ 0
+zeros_are n j = copy_of n j 0
+
+-- where every cell holds no state, what is kept adds up
+pub blank_adds : (k n count m : ℕ) (zeros : List ℕ) → k ≤ MAX_K → n ≡ components k * (MAX_HORIZON + 1) → count ≡ components k → m ≡ k + k → zeros ≡ replicate 17 0
+    → AddsUp k (replicate n nothing) (replicate count none) none (replicate m zeros)
+blank_adds k n count m zeros few cells_are count_is stages_are zeros_is = record {
+  few = few;
+  room = length-replicate n nothing ∙ cells_are;
+  each = length-replicate count none ∙ count_is;
+  stages = length-replicate m zeros ∙ stages_are;
+  small = λ i. subst IsSmall (sym (copy_of n i nothing)) small_nothing;
+  parts = λ counter c there. ap (tallied counter) (copy_of count c none) ∙ tallied_none counter ∙ sym (nothing_counted k n m counter (Some c));
+  whole = λ counter. tallied_none counter ∙ sym (nothing_counted k n m counter None);
+  lengths = λ net stage i in_net short. zero_at k n m zeros net stage i (λ j. ap (λ ns. slice_index ns j) zeros_is ∙ zeros_are 17 j) ∙ sym (nothing_long k n m net stage i);
+}
+
+-- and stands for the map without states
+pub blank_stands : (kept : Kept) (k n : ℕ) → kept ≡ record { k = k; cells = replicate n nothing } → StandsFor kept (λ t c. None)
+blank_stands kept k n is t c b there = ap (λ (v : Kept). kept_at v.cells t c) is ∙ copy_of n (place_of c t) nothing
+
+-- what is kept at first, from what was made
+pub blank_is : (k count stages : ℕ) (cells : List Counted) (totals : List Tally) (all : Tally) (profiles : List (List ℕ)) (x : Counted) (z : Tally) → k ≤ MAX_K
+    → count ≡ components k → stages ≡ k → cells ≡ replicate (count * 1001) x → x ≡ nothing → totals ≡ replicate count z → z ≡ none → all ≡ none
+    → profiles ≡ replicate (2 * stages) (replicate 17 0) → AddsUp k cells totals all profiles
+blank_is k count stages cells totals all profiles x z few count_is stages_is cells_are x_is totals_are z_is all_is profiles_are =
+    let cells_none : cells ≡ replicate (count * 1001) nothing = cells_are ∙ ap (replicate (count * 1001)) x_is in
+    let totals_none : totals ≡ replicate count none = totals_are ∙ ap (replicate count) z_is in
+    let made : AddsUp k (replicate (count * 1001) nothing) (replicate count none) none (replicate (2 * stages) (replicate 17 0)) =
+    blank_adds k (count * 1001) count (2 * stages) (replicate 17 0) few (ap (λ n. n * 1001) count_is) count_is (omega arith) refl in
+    subst (λ v. AddsUp k v totals all profiles) (sym cells_none)
+    (subst (λ v. AddsUp k (replicate (count * 1001) nothing) v all profiles) (sym totals_none)
+    (subst (λ v. AddsUp k (replicate (count * 1001) nothing) (replicate count none) v profiles) (sym all_is)
+    (subst (λ v. AddsUp k (replicate (count * 1001) nothing) (replicate count none) none v) (sym profiles_are) made)))

@@ -1,0 +1,7 @@
+-- Adding up.
+use Rattle.std.specs.Prelude.{ℕ, zero, suc, ◌+◌}
+
+-- the sum of f over the numbers below n
+unfoldable pub sum_below : (ℕ → ℕ) → ℕ → ℕ
+sum_below f zero = 0
+sum_below f (suc n) = sum_below f n + f n

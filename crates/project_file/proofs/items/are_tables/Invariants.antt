@@ -1,0 +1,7 @@
+use Rattle.std.proofs.Common.{◌≡◌, drop}
+use Rattle.toml.specs.View.{items_view}
+use Rattle.project_file.specs.Fields.{all_items, is_table}
+use Rattle.project_file.proofs.items.are_tables.Given as goal
+
+abbrev pub invariant-items : goal.invariant-items
+invariant-items l = all_items is_table (items_view (drop l.item-index l.item-items)) ≡ all_items is_table (items_view l.item-items)

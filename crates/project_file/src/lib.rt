@@ -1,0 +1,25 @@
+//! Project files: a project as a TOML document.
+//!
+//! [`read_project`] reads the bytes of a file into a [`project_book::Project`], or answers the first
+//! [`ProjectFault`] that it meets. Nothing of a file is trusted: bytes of any kind are read, and a
+//! project is within its limits whenever there is one. `toml` says which bytes are a document, and
+//! `project_book` what a project is, what limits it, and which texts are script entries.
+//!
+//! Promise: what is answered is `filed` of `specs/Filed.antt`, which is a function of the whole
+//! file, want of memory aside.
+#![tactic(auto)]
+
+mod depths;
+mod fault;
+mod fields;
+mod items;
+mod pages;
+mod reading;
+mod scripts;
+mod stages;
+#[cfg(test)]
+mod tests;
+mod words;
+
+pub use fault::ProjectFault;
+pub use reading::{MAX_BYTES, read_project};

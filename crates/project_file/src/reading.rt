@@ -1,0 +1,105 @@
+//! A whole project file.
+ghost use Rattle.std.specs.Prelude.{◌≡◌, codes, ◌≤◌};
+ghost use Rattle.toml.specs.View.{table_view};
+ghost use Rattle.page_map.specs.declared.map.TheConstants.{MAX_K};
+ghost use Rattle.project_book.specs.declared.limits.TheConstants.{MAX_HORIZON};
+ghost use Rattle.project_file.specs.Fields.{Gives, check};
+ghost use Rattle.project_file.specs.Filed.{filed, document_of, document_project, sized_project};
+ghost use Rattle.project_file.specs.declared.fault.ProjectFault.TheVariants.{Format};
+ghost use Rattle.project_file.specs.Fields.{number_at};
+ghost use Rattle.std.specs.Prelude.{is_ok};
+
+use crate::depths::read_depths;
+use crate::fault::ProjectFault;
+use crate::fields::{number_at, number_or, refuse_others};
+use crate::pages::read_pages;
+use crate::scripts::read_scripts;
+use crate::stages::read_combine;
+use crate::words::read_words;
+use page_map::MAX_K;
+use project_book::{MAX_HORIZON, MAX_WINDOW, Parts, Project};
+use std::alloc::Global;
+use toml::{Table, table_from_str};
+
+/// How many bytes a project file may have.
+pub const MAX_BYTES: usize = 4_194_304;
+
+const KEYS: [&str; 9] = [
+    "format", "k", "horizon", "window", "combine", "depths", "page", "word", "script",
+];
+
+/// The project that the bytes of a file are.
+///
+/// Takes the memory of the document, of the project, and of 16,384 words. Each byte is looked at a
+/// fixed number of times, and each key is looked up in its own table.
+///
+/// # Errors
+///
+/// The first fault in the order of [`ProjectFault`]; Memory at the growth that was refused.
+pub fn read_project(alloc: Global, bytes: &[u8]) -> Result<Project, ProjectFault>
+    ensures { Gives (λ p. p) result (filed bytes.now) }
+{
+    if bytes.len() > MAX_BYTES {
+        return Err(ProjectFault::TooLong);
+    }
+    let root = read_document(alloc, bytes)?;
+    document_project(alloc, &root)
+}
+
+#[tactic(auto, using(crate::proofs::Documents::document_read, crate::proofs::Documents::document_refused, crate::proofs::Documents::text_refused))]
+fn read_document(alloc: Global, bytes: &[u8]) -> Result<Table, ProjectFault>
+    ensures { Gives (λ t. table_view t) result (document_of bytes.now) }
+{
+    match std::str::from_utf8(bytes) {
+        Ok(text) => match table_from_str(alloc, text) {
+            Ok(root) => Ok(root),
+            Err(error) if error.is_memory() => Err(ProjectFault::Memory),
+            Err(_) => Err(ProjectFault::Text),
+        },
+        Err(_) => Err(ProjectFault::Text),
+    }
+}
+
+fn document_project(alloc: Global, root: &Table) -> Result<Project, ProjectFault>
+    ensures { Gives (λ p. p) result (document_project (table_view root.now)) }
+{
+    check_format(root)?;
+    refuse_others(root, &KEYS)?;
+    let k = number_at(root, "k", 0, MAX_K)?;
+    let horizon = number_at(root, "horizon", 0, MAX_HORIZON)?;
+    sized_project(alloc, root, k, horizon)
+}
+
+fn check_format(root: &Table) -> Result<(), ProjectFault>
+    ensures { result ≡ check (is_ok (number_at (codes "format") 1 1 (table_view root.now))) Format }
+{
+    match number_at(root, "format", 1, 1) {
+        Ok(_) => Ok(()),
+        Err(_) => Err(ProjectFault::Format),
+    }
+}
+
+fn sized_project(alloc: Global, root: &Table, k: u32, horizon: u32) -> Result<Project, ProjectFault>
+    requires small { k ≤ MAX_K }
+    requires short { horizon ≤ MAX_HORIZON }
+    ensures { Gives (λ p. p) result (sized_project k horizon (table_view root.now)) }
+{
+    let window = number_or(root, "window", 1, MAX_WINDOW, 1)?;
+    let combine = read_combine(root, k)?;
+    let (depths, wait) = read_depths(root)?;
+    let pages = read_pages(root, k)?;
+    let words = read_words(alloc, root)?;
+    let scripts = read_scripts(alloc, root, k)?;
+    let parts = Parts {
+        k,
+        horizon,
+        window,
+        depths,
+        wait,
+        combine,
+        pages,
+        words,
+        scripts,
+    };
+    Ok(Project::from_parts(alloc, parts)?)
+}

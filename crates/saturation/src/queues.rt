@@ -1,0 +1,108 @@
+//! The queues towards a module.
+ghost use Rattle.std.specs.Prelude.{◌≡◌, ◌<◌, ◌≤◌, ◌+◌, ◌-◌, ◌*◌, ◌/◌, ◌^◌, slice_get, map};
+ghost use Rattle.std.specs.Option.{option_copied};
+ghost use Rattle.omega_net.specs.declared.component.Component.TheVariants.{Switch};
+ghost use Rattle.omega_net.specs.Numbers.{lines, half, number_of};
+ghost use Rattle.project_book.specs.Project.{forward};
+ghost use Rattle.saturation.specs.Towards.{is_full, is_full_on, is_full_stage};
+
+use machine_cells::MachineState;
+use omega_net::{Component, Net, Shape, free};
+use project_book::{Depths, Project};
+
+/// Whether all queues of a stage that lead to a module are full. It looks at those queues alone.
+pub(crate) fn is_full_stage(
+    project: &Project,
+    row: &[&MachineState],
+    net: Net,
+    module: u32,
+    stage: u32,
+) -> bool
+    requires there { «module» < lines project.now.k }
+    requires stage { stage < project.now.k }
+    ensures { result ≡ is_full_stage project.now net «module» (slice_get (map (λ r. r.now) row.now)) stage }
+{
+    let k = project.k();
+    for place in 0..queues_towards(k, stage) {
+        let line = line_towards(k, module, stage, place);
+        if !is_full_on(project, row, net, stage, line) {
+            return false;
+        }
+    }
+    true
+}
+
+/// How many queues of a stage lead to a module.
+fn queues_towards(k: u32, stage: u32) -> u32
+    requires k { k ≤ 5 }
+    requires stage { stage < k }
+    ensures { result ≡ 2 ^ (k - 1 - stage) }
+{
+    1 << (k - 1 - stage)
+}
+
+/// The line of one of these queues, by its place among them: the module's first bits come last.
+fn line_towards(k: u32, module: u32, stage: u32, place: u32) -> u32
+    requires k { k ≤ 5 }
+    requires stage { stage < k }
+    requires there { «module» < lines k }
+    requires place { place < 2 ^ (k - 1 - stage) }
+    ensures line { result ≡ place * 2 ^ (stage + 1) + «module» / 2 ^ (k - 1 - stage) }
+    ensures within { result < lines k }
+{
+    (place << (stage + 1)) + (module >> (k - 1 - stage))
+}
+
+/// Whether the queue on a line of a stage is full.
+#[tactic(auto, using(crate::proofs::Lines::switch_there))]
+fn is_full_on(project: &Project, row: &[&MachineState], net: Net, stage: u32, line: u32) -> bool
+    requires line { line < lines project.now.k }
+    requires stage { stage < project.now.k }
+    ensures { result ≡ is_full_on project.now net (slice_get (map (λ r. r.now) row.now)) stage line }
+{
+    let state = state_at(row, switch_number(project, net, stage, line / 2));
+    is_full(depth(project, net), (line % 2) as usize, state)
+}
+
+/// Whether the queue at an output of a switch is full; false where the state is no switch's.
+fn is_full(depth: u32, output: usize, state: Option<&MachineState>) -> bool
+    requires { output < 2 }
+    ensures { result ≡ is_full depth output (option_copied state.entry) }
+{
+    match state {
+        Some(MachineState::Low(switch)) => free(&switch.fwd[output], depth) < 2,
+        Some(MachineState::Comb(switch)) => free(&switch.fwd[output], depth) < 2,
+        _ => false,
+    }
+}
+
+/// The depth of a network's queues towards the modules.
+fn depth(project: &Project, net: Net) -> u32
+    ensures { result ≡ forward project.now net }
+{
+    match net {
+        Net::Low => project.depth(Depths::LowForward),
+        Net::Comb => project.depth(Depths::CombForward),
+    }
+}
+
+/// The component number of a switch.
+fn switch_number(project: &Project, net: Net, stage: u32, index: u32) -> u32
+    requires stage { stage < project.now.k }
+    requires index { index < half project.now.k }
+    ensures { result ≡ number_of project.now.k (Switch net stage index) }
+{
+    let shape = Shape::new(project.k()).unwrap();
+    let switch = Component::Switch {
+        net,
+        stage: stage as u8,
+        index: index as u8,
+    };
+    shape.number(switch).unwrap()
+}
+
+fn state_at<'a>(row: &[&'a MachineState], number: u32) -> Option<&'a MachineState>
+    ensures { option_copied result ≡ slice_get (map (λ r. r.now) row.now) number }
+{
+    row.get(number as usize).copied()
+}
