@@ -1,4 +1,6 @@
 //! The project that is measured.
+ghost use Rattle.std.specs.Prelude.{◌≡◌, IfOk};
+
 use anyhow::{Context, Result};
 use omega_net::ScriptEntry;
 use project_book::{Edit, Project};
@@ -7,7 +9,10 @@ use word_ops::{Kind, Op};
 
 /// 2^k processors that each add 1 to address 0 a thousand times over the combining network, every
 /// stage of which combines.
-pub fn hot_spot(alloc: Global, k: u32, horizon: u32) -> Result<Project> {
+pub fn hot_spot(alloc: Global, k: u32, horizon: u32) -> Result<Project>
+    ensures k { IfOk result (λ project. project.k ≡ k) }
+    ensures horizon { IfOk result (λ project. project.horizon ≡ horizon) }
+{
     let mut project = Project::new(alloc, k, horizon)?.context(
         "k is at most 5, the horizon at most 1,000",
     )?;
