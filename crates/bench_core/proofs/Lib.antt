@@ -10,3 +10,5 @@ pub mod Admitting
 pub mod Touching
 pub mod Standing
 pub mod Happening
+mod Clocks
+mod Histories

@@ -21,3 +21,7 @@ pub record Stands (o : Opening) (b : Shown) (h : List Event) : Type 0 where
   pub accepted : AreAccepted o h
   pub journal : b.journal ≡ journal_after h
   pub table : TableStands rp3_rules (table_start o) b.table (on_table o h)
+
+-- some list of events is behind the bench
+abbrev pub HasHistory : Shown → Type 0
+HasHistory b = (o : Opening) × (h : List Event) × Stands o b h

@@ -8,7 +8,7 @@ ghost use Rattle.cell_table.specs.Seen.{held_at, fresh};
 ghost use Rattle.cell_table.specs.Cells.{IsThere};
 ghost use Rattle.machine_cells.specs.GridRules.{rp3_rules};
 ghost use Rattle.bench_core.specs.Shown.{project_of, version_of, held, IsBench};
-ghost use Rattle.bench_core.specs.Stands.{Stands};
+ghost use Rattle.bench_core.specs.Stands.{Stands, HasHistory};
 
 mod asking;
 mod editing;
@@ -56,12 +56,13 @@ pub struct Bench {
 
 impl Model for Bench {
     ghost use Rattle.bench_core.specs.Shown.{Shown, IsBench, IsCounted};
+    ghost use Rattle.bench_core.specs.Stands.{HasHistory};
 
     ghost Value = { Shown };
 
     ghost view = { λ b. record { table = b.table; journal = b.journal.items } };
 
-    ghost invariant = { λ b. IsBench b.table b.journal.items × IsCounted b.sums b.table };
+    ghost invariant = { λ b. IsBench b.table b.journal.items × IsCounted b.sums b.table × HasHistory (record { table = b.table; journal = b.journal.items }) };
 }
 
 impl Bench {
@@ -119,10 +120,11 @@ impl Bench {
         self.table.clock()
     }
 
-    /// The table ends at the project's horizon, and the journal isn't overfull. This is so of every bench, and no work
-    /// is done.
+    /// The table ends at the project's horizon, the journal isn't overfull, and some list of events is behind the bench.
+    /// This is so of every bench, and no work is done.
     pub fn is_bench(&self)
-        ensures { IsBench self.now.table self.now.journal }
+        ensures bench { IsBench self.now.table self.now.journal }
+        ensures history { HasHistory self.now }
     {
         let _ = &self.table;
     }

@@ -100,6 +100,7 @@ impl Bench {
         ensures project { project_of self.new ≡ project_of self.old }
         ensures journal { self.new.journal ≡ self.old.journal }
         ensures spent { IfErr result (λ f. IsClockSpent f → self.new.table.clock ≡ 2 ^ 64 - 1) }
+        ensures clock { self.old.table.clock ≡ 2 ^ 64 - 1 → self.new.table.clock ≡ 2 ^ 64 - 1 }
     {
         let mut computed: u64 = 0;
         let mut from = Cell {
@@ -143,6 +144,7 @@ impl Bench {
         ensures project { project_of self.new ≡ project_of self.old }
         ensures journal { self.new.journal ≡ self.old.journal }
         ensures spent { IfErr result (λ f. IsClockSpent f → self.new.table.clock ≡ 2 ^ 64 - 1) }
+        ensures clock { self.old.table.clock ≡ 2 ^ 64 - 1 → self.new.table.clock ≡ 2 ^ 64 - 1 }
     {
         let settled = self.settle_plain();
         self.none_waits();

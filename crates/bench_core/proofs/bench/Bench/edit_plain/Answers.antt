@@ -1,4 +1,4 @@
-use Rattle.std.proofs.Common.{rules, ◌≡◌, ◌+◌, ◌∙◌, sym, subst, arith, ℕ}
+use Rattle.std.proofs.Common.{rules, ◌≡◌, ◌+◌, ◌∙◌, sym, ap, subst, arith, ℕ, List, [], ◌∷◌, ◌++◌}
 use Rattle.std.specs.Option.{unwrap_or}
 use Rattle.cell_table.specs.Touches.{IsAfterTouch}
 use Rattle.machine_cells.specs.GridRules.{rp3_rules}
@@ -9,7 +9,10 @@ use Rattle.project_book.specs.Slots.{Touches}
 use Rattle.project_book.specs.Edits.{edited, new_horizon}
 use Rattle.bench_core.specs.Shown.{IsBench}
 use Rattle.bench_core.proofs.Admitting.{admitted_room}
-use Rattle.bench_core.proofs.Touching.{bench_edited, to}
+use Rattle.bench_core.specs.Stands.{HasHistory}
+use Rattle.bench_core.specs.declared.noted.Noted.{Noted}
+use Rattle.bench_core.proofs.Histories.{history_edited}
+use Rattle.bench_core.proofs.Touching.{bench_edited, after_edit, to}
 use Rattle.bench_core.proofs.Counting.{counted_touched}
 use Rattle.bench_core.proofs.bench.Bench.edit_plain.Goals as goal
 
@@ -29,8 +32,13 @@ invariant_of-self-2 c =
     let touched : IsAfterTouch rp3_rules old new next listed (unwrap_or horizon old.horizon) = c.in-Ok-touch.ensures.ok in
     let end = to old new c.self.inside.journal.items c.args.author c.args.edit next listed horizon c.self.invariant.0 is touches moved touched in
     let bench : IsBench new c.push_reserved.new.self.items = search (rules, bench_edited, admitted_room) in
+    let history : HasHistory (record { table = new; journal = c.push_reserved.new.self.items }) =
+    let kept : c.reserve.new.self.items ≡ c.self.inside.journal.items = search rules in
+    subst (λ (l : List Noted). HasHistory (record { table = new; journal = l })) (sym (c.push_reserved.ensures.items ∙ ap (λ (l : List Noted). l ++ record { author = c.args.author; edit = c.args.edit } ∷ []) kept))
+    (history_edited (record { table = old; journal = c.self.inside.journal.items }) (record { table = new; journal = c.self.inside.journal.items ++ record { author = c.args.author; edit = c.args.edit } ∷ [] }) c.args.author c.args.edit (search rules)
+    (after_edit old new c.self.inside.journal.items c.args.author c.args.edit next listed horizon c.self.invariant.0 is touches moved touched) c.self.invariant.2) in
     let at_end : c.horizon-to.result ≡ new.horizon = c.horizon-to.ensures.horizon ∙ sym (touched.horizon ∙ end) in
     let clears : (at : States) → StandsFor c.self.inside.sums at → StandsFor c.forget.new.sums (cleared at (new.horizon + 1) old.horizon) =
     subst (λ (n : ℕ). (at : States) → StandsFor c.self.inside.sums at → StandsFor c.forget.new.sums (cleared at (n + 1) old.horizon)) at_end
     (subst (λ (n : ℕ). (at : States) → StandsFor c.self.inside.sums at → StandsFor c.forget.new.sums (cleared at (c.horizon-to.result + 1) n)) c.horizon-before.ensures c.forget.ensures.stands) in
-    (bench, counted_touched c.self.inside.sums c.forget.new.sums old new c.self.invariant.1 c.forget.ensures.shape (unwrap_or horizon old.horizon) next listed (sym touches.shape) touched clears)
+    (bench, counted_touched c.self.inside.sums c.forget.new.sums old new c.self.invariant.1 c.forget.ensures.shape (unwrap_or horizon old.horizon) next listed (sym touches.shape) touched clears, history)

@@ -11,4 +11,4 @@ returns-clause-ready c =
     let whole : IsWhole rp3_rules b.table.slots b.table.horizon b.table.rows = rw (← c.self.view_is) c.consistent.ensures.whole in
     let consistent : IsConsistent rp3_rules b.table.slots b.table.horizon b.table.rows = rw (← c.self.view_is) c.consistent.ensures.consistent in
     let counted : c.due_to.result ≡ due_to b c.args.to = rw (← c.self.view_is) c.due_to.ensures in
-    λ none. holds_run_to b c.is_bench.ensures whole consistent c.args.to c.requires (sym counted ∙ none)
+    λ none. holds_run_to b c.is_bench.ensures.bench whole consistent c.args.to c.requires (sym counted ∙ none)

@@ -4,6 +4,7 @@ use Rattle.cell_table.proofs.Passes.{IsAt, of_some, of_none, few_next, goes_on, 
 use Rattle.machine_cells.specs.GridRules.{rp3_rules}
 use Rattle.machine_cells.specs.GridLaws.{rp3_laws}
 use Rattle.bench_core.specs.Shown.{Shown}
+use Rattle.bench_core.proofs.Clocks.{still_last}
 use Rattle.bench_core.proofs.bench.Bench.settle_plain.Goals as goal
 
 pub overflow_add-computed : goal.overflow_add-computed
@@ -22,6 +23,7 @@ loop-cell-preserved c =
     record {
       at = goes_on rp3_rules c.args.self.now.table c.loop-cell.self.table c.settle_next.new.self.table c.loop-cell.from.cycle c.loop-cell.from.component c.loop-cell.computed cell c.loop-cell.invariant.at next fits.1;
       journal = c.in-Ok-Some.ensures.journal ∙ c.loop-cell.invariant.journal;
+      clock = λ last. still_last c.loop-cell.self.table c.settle_next.new.self.table next.changed next.settled.after.clock next.room (c.loop-cell.invariant.clock last);
     }
 
 pub returns-in-Ok-None-clause-settles : goal.returns-in-Ok-None-clause-settles
