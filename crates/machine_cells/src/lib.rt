@@ -51,6 +51,6 @@ mod text;
 
 pub use grid::Rp3;
 pub use laws::{runs_are_one, steps_are_parts};
-pub use scratch::from_scratch;
+pub use scratch::{first_row, from_scratch, next_row};
 pub use shared::Shared;
 pub use state::MachineState;

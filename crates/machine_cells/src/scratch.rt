@@ -45,7 +45,7 @@ fn push_next(
 }
 
 /// The states of cycle 0, by component.
-fn first_row(alloc: Global, project: &Project) -> Result<Vec<MachineState>, NoMemory>
+pub fn first_row(alloc: Global, project: &Project) -> Result<Vec<MachineState>, NoMemory>
     ensures { IfOk result (λ row. row.items ≡ first_states project.now) }
 {
     let shape = shape_of(project);
@@ -56,8 +56,8 @@ fn first_row(alloc: Global, project: &Project) -> Result<Vec<MachineState>, NoMe
     Ok(row)
 }
 
-/// The states one cycle after these.
-fn next_row(
+/// The states one cycle after these, which are those of all components. What doesn't change is shared with them.
+pub fn next_row(
     alloc: Global,
     project: &Project,
     row: &[MachineState],

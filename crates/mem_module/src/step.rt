@@ -48,8 +48,9 @@ impl ModuleState {
         waits && room
     }
 
-    /// The network that it serves.
-    fn served_net(&self, depth: u32) -> Option<Net>
+    /// The network that it serves in the next step, at this depth of its queues: one whose request waits and whose
+    /// reply has a place, the one of its turn where both are so. None where neither is.
+    pub fn served_net(&self, depth: u32) -> Option<Net>
         ensures { result ≡ served_net self.now depth }
     {
         match (
@@ -63,8 +64,8 @@ impl ModuleState {
         }
     }
 
-    /// The request that it serves.
-    fn served_on(&self, served: Option<Net>) -> Option<Request>
+    /// The request at the head of that network's queue.
+    pub fn served_on(&self, served: Option<Net>) -> Option<Request>
         ensures { result ≡ served_on self.now served }
     {
         head(&self.requests[port_of(served?)])

@@ -37,7 +37,7 @@ impl Model for PageMap {
 impl PageMap {
     ghost use Rattle.std.specs.Prelude.{◌≡◌, ◌≢◌, ℕ, ◌+◌, ◌<◌, ◌≤◌, ◌^◌, ◌↔◌, IfSome, IsNone, OnOk, OnErr, MatchResult, option_map};
     ghost use Rattle.page_map.specs.Places.{Page};
-    ghost use Rattle.page_map.specs.Pages.{whole_pages, page_in, page_of, place_in, page_fault, with_page};
+    ghost use Rattle.page_map.specs.Pages.{IsPageMap, whole_pages, page_in, page_of, place_in, page_fault, with_page};
 
     /// The map with every page spread over all 2^k modules.
     pub fn new(k: u32) -> Self
@@ -49,6 +49,13 @@ impl PageMap {
             k,
             pages: [Page::new(k, 0); 64],
         }
+    }
+
+    /// There are 64 pages, each spread within the modules. This is so of every map, and no work is done.
+    pub fn is_page_map(&self)
+        ensures { IsPageMap self.now }
+    {
+        let _ = &self.k;
     }
 
     /// Where an address stands; None exactly from 16,384 on.

@@ -47,7 +47,8 @@ impl Model for Project {
 }
 
 impl Project {
-    ghost use Rattle.project_book.specs.Project.{blank, entry_at, length_at, word_of, place_in, depth_of, combines_at, is_window};
+    ghost use Rattle.page_map.specs.Pages.{IsPageMap};
+    ghost use Rattle.project_book.specs.Project.{IsProject, blank, entry_at, length_at, word_of, place_in, depth_of, combines_at, is_window};
 
     /// The project of this size that says nothing else: window 1, no combining, every depth 4 but 8
     /// in the reverse queues of combining switches, every page spread over all modules, first words
@@ -168,6 +169,15 @@ impl Project {
         ensures { result ≡ combines_at self.now stage }
     {
         stage < self.k && self.combine[stage as usize]
+    }
+
+    /// The numbers are within their limits, and each page is spread within the modules. This is so of every project, and
+    /// no work is done.
+    pub fn is_project(&self)
+        ensures project { IsProject self.now }
+        ensures pages { IsPageMap self.now.pages }
+    {
+        self.pages.is_page_map();
     }
 
     /// How the pages are spread over the modules.
