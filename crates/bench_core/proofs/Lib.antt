@@ -6,6 +6,7 @@ pub mod Counting
 pub mod Reporting
 pub mod Waiting
 pub mod Asking
+pub mod Answered
 pub mod Admitting
 pub mod Touching
 pub mod Standing

@@ -1,0 +1,6 @@
+pub mod Legal
+pub mod Known
+pub mod Answers
+pub mod Rule
+pub mod Turn
+pub mod Inside

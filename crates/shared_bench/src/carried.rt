@@ -1,0 +1,138 @@
+//! A bench behind a pointer, and what is done with it in a turn.
+ghost use Rattle.std.specs.Prelude.{◌≡◌, ◌≤◌, ◌++◌, ◌∷◌, [], length, true, false, IfOk, IfErr, Ok, Err};
+ghost use Rattle.cell_table.specs.Gives.{GivesAs};
+ghost use Rattle.machine_cells.specs.GridRules.{rp3_rules};
+ghost use Rattle.project_book.specs.Edits.{accepts, edited};
+ghost use Rattle.bench_core.specs.Shown.{project_of, version_of};
+ghost use Rattle.bench_core.specs.Asks.{AsksAs};
+ghost use Rattle.bench_core.specs.Stands.{HasHistory};
+ghost use Rattle.shared_bench.specs.Rule.{spent_of};
+ghost use Rattle.shared_bench.specs.Legal.{noted};
+ghost use Rattle.shared_bench.specs.Answers.{TellsAt, NotPending, told_for, RefusesAt, ClaimsAs, IsGivenSpent};
+
+use bench_core::{Asked, Bench, Told};
+use cell_table::{Cell, Claim, Done, Given, SettleFault};
+use grid_law::NoMemory;
+use machine_cells::Rp3;
+use project_book::{Edit, EditFault, Project};
+use run_queries::Query;
+use std::marker::Model;
+use std::thread::Threads;
+
+/// A bench on the heap, so that a turn moves one pointer. Contracts see the bench.
+#[derive(Drop)]
+pub struct Carried {
+    pub bench: Box<Bench>,
+}
+
+impl Model for Carried {
+    ghost use Rattle.bench_core.specs.Shown.{Shown};
+
+    ghost Value = { Shown };
+
+    ghost view = { λ c. c.bench.value };
+}
+
+/// What is told where the query waited for nothing.
+fn told_of(asked: Asked) -> Told
+    requires { NotPending asked }
+    ensures { result ≡ told_for asked }
+{
+    match asked {
+        Asked::Answer { version, body } => Told::Answer { version, body },
+        Asked::BadQuery(number) => Told::BadQuery(number),
+        Asked::Pending(_) => unreachable!(),
+        Asked::Memory => Told::Memory,
+    }
+}
+
+impl Carried {
+    /// Some list of events is behind the bench. No work is done.
+    pub fn history(&self)
+        ensures { HasHistory self.now }
+    {
+        self.bench.is_bench();
+    }
+
+    /// Settles the bench, and asks it.
+    #[tactic(auto, using(crate::proofs::Benches::not_pending, crate::proofs::Benches::told_at, crate::proofs::Benches::spent_is, crate::proofs::Benches::is_spent))]
+    pub fn ask<R: Threads + Sync>(&mut self, rt: &R, query: Query) -> Told
+        ensures journal { self.new.journal ≡ self.old.journal }
+        ensures project { project_of self.new ≡ project_of self.old }
+        ensures kept { spent_of self.old ≡ true → spent_of self.new ≡ true }
+        ensures told { TellsAt (project_of self.new) (version_of self.new) query result }
+        ensures spent { result ≡ Told.ClockSpent → spent_of self.new ≡ true }
+    {
+        match self.bench.settle() {
+            Ok(_) => {}
+            Err(SettleFault::ClockSpent { .. }) => return Told::ClockSpent,
+            Err(SettleFault::Memory { .. }) => return Told::Memory,
+        }
+        let asked = self.bench.ask(rt, query);
+        told_of(asked)
+    }
+
+    /// Asks the bench as it is.
+    pub fn look<R: Threads + Sync>(&mut self, rt: &R, query: Query) -> Asked
+        ensures asks { AsksAs self.old query result }
+        ensures unchanged { self.new ≡ self.old }
+    {
+        self.bench.ask(rt, query)
+    }
+
+    /// A claim of the first cell at or after `from`.
+    pub fn claim(&self, from: Cell) -> Result<Option<Claim<Rp3>>, NoMemory>
+        ensures { ClaimsAs self.now from result }
+    {
+        self.bench.claim(from)
+    }
+
+    /// Gives a result back.
+    pub fn give(&mut self, done: Done<Rp3>) -> Given<Done<Rp3>>
+        ensures gives { GivesAs rp3_rules self.old.table done result self.new.table }
+        ensures journal { self.new.journal ≡ self.old.journal }
+        ensures project { project_of self.new ≡ project_of self.old }
+        ensures kept { spent_of self.old ≡ true → spent_of self.new ≡ true }
+        ensures spent { IsGivenSpent result → spent_of self.new ≡ true }
+        ensures history { HasHistory self.new }
+    {
+        let given = self.bench.give(done);
+        self.bench.is_bench();
+        given
+    }
+
+    /// Edits in the author's name.
+    pub fn edit(&mut self, author: u32, edit: Edit) -> Result<u32, EditFault>
+        ensures journal { IfOk result (λ v. self.new.journal ≡ self.old.journal ++ noted author edit ∷ []) }
+        ensures project { IfOk result (λ v. project_of self.new ≡ edited (project_of self.old) edit) }
+        ensures version { IfOk result (λ v. v ≡ length self.new.journal) }
+        ensures accepted { IfOk result (λ v. accepts (project_of self.old) (version_of self.old) edit ≡ Ok tt) }
+        ensures clock { IfOk result (λ v. spent_of self.old ≡ false) }
+        ensures err { IfErr result (λ f. self.new ≡ self.old) }
+        ensures refused { IfErr result (λ f. RefusesAt (project_of self.old) (version_of self.old) edit f) }
+        ensures spent { result ≡ Err EditFault.ClockSpent → spent_of self.old ≡ true }
+        ensures short { length self.new.journal ≤ 65535 }
+        ensures history { HasHistory self.new }
+    {
+        let made = self.bench.edit(author, edit);
+        self.bench.is_bench();
+        made
+    }
+
+    /// Its version, and its project with further owners.
+    pub fn project(&self) -> Result<(u32, Project), NoMemory>
+        ensures { IfOk result (λ r. (r.0 ≡ version_of self.now) × (r.1 ≡ project_of self.now)) }
+    {
+        match self.bench.project().share() {
+            Ok(project) => Ok((self.bench.version(), project)),
+            Err(error) => Err(error),
+        }
+    }
+
+    /// The bench itself.
+    pub fn open(self) -> Bench
+        ensures { result ≡ self }
+    {
+        Box::into_inner(self.bench)
+    }
+}

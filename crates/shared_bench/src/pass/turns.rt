@@ -1,0 +1,126 @@
+//! What a pass does in its turn. Each call waits for the turn, makes one call of the bench (`ask` settles it before), and
+//! passes the turn on; while another pass has the turn, the thread sleeps. Where a call returns is all that is said: that
+//! another pass ever passes its turn on isn't.
+ghost use Rattle.std.specs.Prelude.{◌≡◌, true, [], ◌∷◌, ◌++◌, length, IfOk, IfErr, IfSome, Err};
+ghost use Rattle.cell_table.specs.Gives.{GivesAs};
+ghost use Rattle.machine_cells.specs.GridRules.{rp3_rules};
+ghost use Rattle.bench_core.specs.Shown.{Shown as AnyBench};
+ghost use Rattle.bench_core.specs.Asks.{AsksAs};
+ghost use Rattle.shared_bench.specs.Known.{IsLater};
+ghost use Rattle.shared_bench.specs.Answers.{project_seen, TellsAt, AnswersAt, RefusesAt, IsInTurn, ClaimsAs, IsGivenSpent};
+
+use super::Pass;
+use crate::steps::{leave, leave_edited, wait_turn};
+use bench_core::{Asked, Told};
+use cell_table::{Cell, Claim, Done, Given};
+use grid_law::NoMemory;
+use machine_cells::Rp3;
+use project_book::{Edit, EditFault, Project};
+use run_queries::Query;
+use std::sync::Wait;
+use std::thread::Threads;
+
+impl Pass {
+    /// Settles the bench and asks it, in one turn. At an answer, `version` is the length of the journal that the pass has
+    /// then seen, and `body` is the answer of the run, simulated from cycle 0, of the opening's project with the edits of
+    /// that journal applied. It is never kept waiting for due cells; after any answer the cells stored stay stored.
+    pub fn ask<R: Threads + Wait + Sync>(&mut self, rt: &R, query: Query) -> Told
+        ensures threads_ask { TellsAt (project_seen self.new) (length self.new.seen) query result }
+        ensures later { IsLater self.old self.new }
+        ensures own { (self.new.numbers ≡ self.old.numbers) × (self.new.receipts ≡ self.old.receipts) }
+        ensures in_turn { (d : AnyBench) × IsInTurn self.new d }
+        ensures spent { result ≡ Told.ClockSpent → self.new.spent ≡ true }
+    {
+        let mut bench = wait_turn(rt, &self.table.shared, &mut self.seat, self.ticket);
+        self.ticket = None;
+        let told = bench.ask(rt, query);
+        leave(&self.table.shared, &mut self.seat, bench);
+        told
+    }
+
+    /// Asks the bench as it is, in one turn, without settling it: an answer as `ask`'s, or the number of due cells that it
+    /// waits for.
+    pub fn look<R: Threads + Wait + Sync>(&mut self, rt: &R, query: Query) -> Asked
+        ensures answer { AnswersAt (project_seen self.new) (length self.new.seen) query result }
+        ensures later { IsLater self.old self.new }
+        ensures own { (self.new.numbers ≡ self.old.numbers) × (self.new.receipts ≡ self.old.receipts) }
+        ensures in_turn { (d : AnyBench) × IsInTurn self.new d × AsksAs d query result }
+    {
+        let mut bench = wait_turn(rt, &self.table.shared, &mut self.seat, self.ticket);
+        self.ticket = None;
+        let asked = bench.look(rt, query);
+        leave(&self.table.shared, &mut self.seat, bench);
+        asked
+    }
+
+    /// A claim of the first cell at or after `from` that is due and can be computed, as `Bench::claim`, in one turn. Its
+    /// result is computed outside of any turn.
+    pub fn claim<R: Wait>(&mut self, rt: &R, from: Cell) -> Result<Option<Claim<Rp3>>, NoMemory>
+        ensures project { IfOk result (λ r. IfSome r (λ claim. claim.slots ≡ project_seen self.new)) }
+        ensures later { IsLater self.old self.new }
+        ensures own { (self.new.numbers ≡ self.old.numbers) × (self.new.receipts ≡ self.old.receipts) }
+        ensures in_turn { (d : AnyBench) × IsInTurn self.new d × ClaimsAs d from result }
+    {
+        let bench = wait_turn(rt, &self.table.shared, &mut self.seat, self.ticket);
+        self.ticket = None;
+        let claim = bench.claim(from);
+        leave(&self.table.shared, &mut self.seat, bench);
+        claim
+    }
+
+    /// Gives the result of a claim back, as `Bench::give`, in one turn.
+    pub fn give<R: Wait>(&mut self, rt: &R, done: Done<Rp3>) -> Given<Done<Rp3>>
+        ensures later { IsLater self.old self.new }
+        ensures own { (self.new.numbers ≡ self.old.numbers) × (self.new.receipts ≡ self.old.receipts) }
+        ensures in_turn { (d : AnyBench) × (next : AnyBench) × IsInTurn self.new d × IsInTurn self.new next × GivesAs rp3_rules d.table done result next.table }
+        ensures spent { IsGivenSpent result → self.new.spent ≡ true }
+    {
+        let mut bench = wait_turn(rt, &self.table.shared, &mut self.seat, self.ticket);
+        self.ticket = None;
+        let given = bench.give(done);
+        leave(&self.table.shared, &mut self.seat, bench);
+        given
+    }
+
+    /// Makes an edit under the pass's number, in one turn: the new version, which is the length of the journal.
+    ///
+    /// # Errors
+    ///
+    /// Those of `Bench::edit`, judged by the project and the journal that the pass has then seen. Then nothing is changed.
+    pub fn edit<R: Wait>(&mut self, rt: &R, edit: Edit) -> Result<u32, EditFault>
+        ensures ok { IfOk result (λ v. (v ≡ length self.new.seen) × (self.new.receipts ≡ self.old.receipts ++ (v, edit) ∷ [])) }
+        ensures err { IfErr result (λ f. self.new.receipts ≡ self.old.receipts) }
+        ensures refused { IfErr result (λ f. RefusesAt (project_seen self.new) (length self.new.seen) edit f) }
+        ensures later { IsLater self.old self.new }
+        ensures numbers { self.new.numbers ≡ self.old.numbers }
+        ensures in_turn { (d : AnyBench) × IsInTurn self.new d }
+        ensures spent { result ≡ Err EditFault.ClockSpent → self.new.spent ≡ true }
+    {
+        let mut bench = wait_turn(rt, &self.table.shared, &mut self.seat, self.ticket);
+        self.ticket = None;
+        match bench.edit(self.number, edit) {
+            Ok(version) => {
+                leave_edited(&self.table.shared, &mut self.seat, bench);
+                Ok(version)
+            }
+            Err(fault) => {
+                leave(&self.table.shared, &mut self.seat, bench);
+                Err(fault)
+            }
+        }
+    }
+
+    /// The length of the journal that the pass has then seen, and the project of that journal, in one turn. The project has
+    /// two more owners of what it shares with the bench's, and takes no other memory.
+    pub fn project<R: Wait>(&mut self, rt: &R) -> Result<(u32, Project), NoMemory>
+        ensures threads_project { IfOk result (λ r. (r.0 ≡ length self.new.seen) × (r.1 ≡ project_seen self.new)) }
+        ensures later { IsLater self.old self.new }
+        ensures own { (self.new.numbers ≡ self.old.numbers) × (self.new.receipts ≡ self.old.receipts) }
+    {
+        let bench = wait_turn(rt, &self.table.shared, &mut self.seat, self.ticket);
+        self.ticket = None;
+        let project = bench.project();
+        leave(&self.table.shared, &mut self.seat, bench);
+        project
+    }
+}
