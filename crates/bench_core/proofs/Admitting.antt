@@ -45,27 +45,35 @@ accepted_room P v e h = by_test (nat_le MAX_EDITS v) refl
 pub admits_full : (b : Shown) (e : Edit) → MAX_EDITS ≤ version_of b → admits b e ≡ Err JournalFull
 admits_full b e h = ap (unless_spent b.table.clock) (accepts_full (project_of b) (version_of b) e h)
 
-pub admits_checked : (b : Shown) (e : Edit) (r : Result (Unit {0}) EditFault) → version_of b < MAX_EDITS → r ≡ accepts (project_of b) 0 e
-    → admits b e ≡ unless_spent b.table.clock r
-admits_checked b e r h k = ap (unless_spent b.table.clock) (accepts_counted (project_of b) (version_of b) e h ∙ sym k)
+-- with room in the journal: while the clock is at its last value, a fault of the project or ClockSpent; before, the project's verdict
+module _ (b : Shown) (e : Edit) (r : Result (Unit {0}) EditFault) (room : version_of b < MAX_EDITS) (checked : r ≡ accepts (project_of b) 0 e) where
+  counted : admits b e ≡ unless_spent b.table.clock r
+  counted = ap (unless_spent b.table.clock) (accepts_counted (project_of b) (version_of b) e room ∙ sym checked)
 
-pub unless_last : (clock : ℕ) → clock ≡ 2 ^ 64 - 1 → unless_spent clock (Ok tt) ≡ Err ClockSpent
-unless_last clock h =
-    let t : (clock == 2 ^ 64 - 1) ≡ true = grind (arith, nat_tests) in
-    ap (λ spent. cond spent (Err ClockSpent) (Ok tt)) t
+  pub admits_fault : (fault : EditFault) → r ≡ Err fault → admits b e ≡ Err fault
+  admits_fault fault is = counted ∙ ap (unless_spent b.table.clock) is
 
-pub unless_earlier : (clock : ℕ) → (clock ≡ 2 ^ 64 - 1 → ⊥) → unless_spent clock (Ok tt) ≡ Ok tt
-unless_earlier clock h =
-    let t : (clock == 2 ^ 64 - 1) ≡ false = grind (arith, nat_tests) in
-    ap (λ spent. cond spent (Err ClockSpent) (Ok tt)) t
+  pub admits_last : r ≡ Ok tt → b.table.clock ≡ 2 ^ 64 - 1 → admits b e ≡ Err ClockSpent
+  admits_last is last =
+      let t : (b.table.clock == 2 ^ 64 - 1) ≡ true = grind (arith, nat_tests) in
+      counted ∙ ap (unless_spent b.table.clock) is ∙ ap (λ spent. cond spent (Err ClockSpent) (Ok tt)) t
+
+pub admits_earlier : (b : Shown) (e : Edit) → version_of b < MAX_EDITS → (b.table.clock ≡ 2 ^ 64 - 1 → ⊥) → admits b e ≡ accepts (project_of b) 0 e
+admits_earlier b e room earlier = counted b e (accepts (project_of b) 0 e) room refl ∙ by_verdict (accepts (project_of b) 0 e)
+  where
+    by_verdict : (r : Result (Unit {0}) EditFault) → unless_spent b.table.clock r ≡ r
+    by_verdict (Err fault) = refl
+    by_verdict (Ok u) = let t : (b.table.clock == 2 ^ 64 - 1) ≡ false = grind (arith, nat_tests) in ap (λ spent. cond spent (Err ClockSpent) (Ok tt)) t
 
 -- what an admitted edit is known by
 pub admitted_clock : (b : Shown) (e : Edit) → admits b e ≡ Ok tt → b.table.clock ≡ 2 ^ 64 - 1 → ⊥
-admitted_clock b e h spent = by_verdict (accepts (project_of b) (version_of b) e) refl
+admitted_clock b e h spent = by_verdict (accepts (project_of b) (version_of b) e) h
   where
-    by_verdict : (r : Result (Unit {0}) EditFault) → accepts (project_of b) (version_of b) e ≡ r → ⊥
-    by_verdict (Err fault) k = ok_and_err fault (sym (ap (unless_spent b.table.clock) k) ∙ h)
-    by_verdict (Ok u) k = ok_and_err ClockSpent (sym (unless_last b.table.clock spent) ∙ sym (ap (unless_spent b.table.clock) k) ∙ h)
+    by_verdict : (r : Result (Unit {0}) EditFault) → unless_spent b.table.clock r ≡ Ok tt → ⊥
+    by_verdict (Err fault) k = ok_and_err fault k
+    by_verdict (Ok u) k =
+        let t : (b.table.clock == 2 ^ 64 - 1) ≡ true = grind (arith, nat_tests) in
+        ok_and_err ClockSpent (sym (ap (λ last. cond last (Err ClockSpent) (Ok tt)) t) ∙ k)
 
 pub admitted : (b : Shown) (e : Edit) → admits b e ≡ Ok tt → accepts (project_of b) (version_of b) e ≡ Ok tt
 admitted b e h = by_verdict (accepts (project_of b) (version_of b) e) refl
@@ -76,6 +84,3 @@ admitted b e h = by_verdict (accepts (project_of b) (version_of b) e) refl
 
 pub admitted_room : (b : Shown) (e : Edit) → admits b e ≡ Ok tt → version_of b < MAX_EDITS
 admitted_room b e h = accepted_room (project_of b) (version_of b) e (admitted b e h)
-
-pub admitted_plainly : (b : Shown) (e : Edit) → admits b e ≡ Ok tt → accepts (project_of b) 0 e ≡ Ok tt
-admitted_plainly b e h = sym (accepts_counted (project_of b) (version_of b) e (admitted_room b e h)) ∙ admitted b e h

@@ -10,6 +10,7 @@ use Rattle.cell_table.specs.Settling.{computed_of}
 use Rattle.cell_table.specs.Claims.{Claimed as ClaimOf, Computed, IsClaim, IsNext, IsNextRound}
 use Rattle.cell_table.specs.Gives.{GivesAs}
 use Rattle.cell_table.specs.Events.{Event as TableEvent, Edits, Claims, Stores, Start}
+use Rattle.cell_table.specs.Seen.{Seen}
 use Rattle.cell_table.specs.Stands.{Stands as TableStands}
 use Rattle.cell_table.specs.Cost.{IsInOrder, Settles as SettlesTable, SettlesFirst as SettlesTableFirst}
 use Rattle.cell_table.proofs.Answering.{stands_given, answers_made, made_now, stands_claimed}
@@ -18,10 +19,10 @@ use Rattle.machine_cells.specs.GridRules.{rp3_rules}
 use Rattle.machine_cells.specs.GridLaws.{rp3_laws}
 use Rattle.project_book.specs.Project.{Project}
 use Rattle.project_book.specs.declared.slot.Slot.{Slot}
-use Rattle.bench_core.specs.Shown.{Shown}
+use Rattle.bench_core.specs.Shown.{Shown, project_of}
 use Rattle.bench_core.specs.Events.{Event, Edited, Claimed, Stored, Opening, journal_after, on_table, table_start}
 use Rattle.bench_core.specs.Stands.{Stands, AreAccepted}
-use Rattle.bench_core.specs.Answers.{Made, AnswersMade, after_give, after_stores, Settles, SettlesFirst}
+use Rattle.bench_core.specs.Answers.{Made, AnswersMade, after_give, clock_given, after_stores, Settles, SettlesFirst}
 
 -- there is one event of the table for each of the bench
 pub as_many : (o : Opening) (h : List Event) → length (on_table o h) ≡ length h
@@ -56,6 +57,23 @@ pub give_answers : (old new : Shown) (done : Computed MachineState Project) (giv
 give_answers old new done given gives o h n stands made =
     answers_made rp3_rules rp3_laws (table_start o) old.table new.table done (on_table o h) n stands.table made given gives
 
+-- what became of the project and of the clock
+pub project_given : (old new : Shown) (done : Computed MachineState Project) (given : Given (Computed MachineState Project)) → GivesAs rp3_rules old.table done given new.table → project_of new ≡ project_of old
+project_given old new done Gone g = ap (λ (v : Seen MachineState Project). v.slots) g.1
+project_given old new done NotDue g = ap (λ (v : Seen MachineState Project). v.slots) g.2
+project_given old new done Overtaken g = ap (λ (v : Seen MachineState Project). v.slots) g.3
+project_given old new done Foreign g = ap (λ (v : Seen MachineState Project). v.slots) g.2
+project_given old new done (ClockSpent back) g = ap (λ (v : Seen MachineState Project). v.slots) g.5
+project_given old new done (GivenStored changed) g = g.2.slots
+
+pub clock_is_given : (old new : Shown) (done : Computed MachineState Project) (given : Given (Computed MachineState Project)) → GivesAs rp3_rules old.table done given new.table → new.table.clock ≡ clock_given given old.table.clock
+clock_is_given old new done Gone g = ap (λ (v : Seen MachineState Project). v.clock) g.1
+clock_is_given old new done NotDue g = ap (λ (v : Seen MachineState Project). v.clock) g.2
+clock_is_given old new done Overtaken g = ap (λ (v : Seen MachineState Project). v.clock) g.3
+clock_is_given old new done Foreign g = ap (λ (v : Seen MachineState Project). v.clock) g.2
+clock_is_given old new done (ClockSpent back) g = ap (λ (v : Seen MachineState Project). v.clock) g.5
+clock_is_given old new done (GivenStored changed) g = g.2.clock
+
 -- stores in a row
 stores_on_table : (o : Opening) (h : List Event) (done : List (TableEvent MachineState Project Slot)) → IsInOrder done → on_table o (after_stores done h) ≡ done ++ on_table o h
 stores_on_table o h [] order = refl
@@ -76,7 +94,7 @@ stores_accepted o h (Claims t c ∷ done) accepted = stores_accepted o h done ac
 stores_accepted o h (Stores t c x changed ∷ done) accepted = stores_accepted o h done accepted
 
 module _ (old new : Shown) (same : new.journal ≡ old.journal) (o : Opening) (h : List Event) (stands : Stands o old h) (done : List (TableEvent MachineState Project Slot)) (n : ℕ) where
-  settled_stands : SettlesTableFirst rp3_rules (table_start o) (on_table o h) new.table done n → Stands o new (after_stores done h)
+  pub settled_stands : SettlesTableFirst rp3_rules (table_start o) (on_table o h) new.table done n → Stands o new (after_stores done h)
   settled_stands first = record {
     accepted = stores_accepted o h done stands.accepted;
     journal = same ∙ stands.journal ∙ sym (stores_noted h done);

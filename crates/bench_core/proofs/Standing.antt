@@ -1,10 +1,15 @@
 -- A bench stands for its events.
-use Rattle.std.proofs.Common.{◌≡◌, ℕ, ◌∙◌, ap, subst, refl, List, [], ◌∷◌, ◌++◌, length, Result, Ok, Err}
+use Rattle.std.proofs.Common.{◌≡◌, ◌↔◌, ℕ, ◌<◌, ◌∙◌, sym, ap, subst, refl, List, [], ◌∷◌, ◌++◌, length, Result, Ok, Err}
 use Rattle.std.specs.Prelude.{OnOk}
 use Rattle.grid_law.specs.Rules.{Differ}
 use Rattle.cell_table.specs.Seen.{Seen}
 use Rattle.cell_table.specs.Touches.{IsAfterTouch}
-use Rattle.cell_table.specs.Events.{slots_of}
+use Rattle.cell_table.specs.Cells.{IsThere}
+use Rattle.cell_table.specs.Cost.{Costs as CostsOnTable, CostsAnEdit}
+use Rattle.cell_table.specs.Settling.{IsSettled}
+use Rattle.cell_table.specs.Events.{Edits, slots_of, horizon_of}
+use Rattle.cell_table.proofs.EditCosting.{costs_edit, edit_costs}
+use Rattle.bench_core.specs.Answers.{Costs}
 use Rattle.cell_table.specs.Stands.{Stands as TableStands}
 use Rattle.cell_table.proofs.Standing.{stands_touched}
 use Rattle.machine_cells.specs.declared.state.MachineState.{MachineState}
@@ -32,9 +37,19 @@ slots_are o (Edited author e listed ∷ h) = refl
 slots_are o (Claimed t c ∷ h) = slots_are o h
 slots_are o (Stored t c x changed ∷ h) = slots_are o h
 
+-- and its horizon that of the project
+horizon_is : (o : Opening) (h : List Event) → horizon_of (table_start o) (on_table o h) ≡ (project_after o h).horizon
+horizon_is o [] = refl
+horizon_is o (Edited author e listed ∷ h) = refl
+horizon_is o (Claimed t c ∷ h) = horizon_is o h
+horizon_is o (Stored t c x changed ∷ h) = horizon_is o h
+
 module _ (o : Opening) (b : Shown) (h : List Event) (stands : Stands o b h) where
   pub project_is : project_of b ≡ project_after o h
   project_is = stands.table.slots ∙ slots_are o h
+
+  pub horizon_now : b.table.horizon ≡ (project_of b).horizon
+  horizon_now = stands.table.horizon ∙ horizon_is o h ∙ ap (λ (P : Project). P.horizon) (sym project_is)
 
   pub version_is : version_of b ≡ version_after h
   version_is = ap length stands.journal
@@ -56,3 +71,20 @@ pub edit_stands : (old new : Shown) (author : ℕ) (e : Edit) {E : Type 0} (r : 
     → OnOk r ((listed : List Slot) × ((o : Opening) (h : List Event) → Stands o old h → Stands o new (Edited author e listed ∷ h)))
 edit_stands old new author e (Ok v) ok after = (after.listed, λ o h stands. stands_edited o old h stands new author e ok after)
 edit_stands old new author e (Err fault) ok after = tt
+
+-- what an edit of a settled bench costs
+pub edit_costed : (old new : Shown) (author : ℕ) (e : Edit) {E : Type 0} (r : Result ℕ E) → OnOk r (IsAfterEdit old new author e)
+    → OnOk r ((o : Opening) (h : List Event) (listed : List Slot) → Stands o old h → Touches (project_of old) (edited (project_of old) e) listed → IsSettled rp3_rules old.table → (t c : ℕ) → IsThere rp3_rules new.table t c
+    → Costs o (Edited author e listed ∷ h) t c ↔ CostsAnEdit rp3_rules (project_of old) (edited (project_of old) e) listed (project_of old).horizon t c)
+edit_costed old new author e (Err fault) after = tt
+edit_costed old new author e (Ok v) after = λ o h listed stands touches settled t c there.
+    let project = project_is o old h stands in
+    let next = edited (project_of old) e in
+    let end : old.table.horizon ≡ (project_of old).horizon = horizon_now o old h stands in
+    let differ = differ (project_of old) next listed touches in
+    let inside : c < rp3_rules.components (project_of old) = subst (λ n. c < n) (ap rp3_rules.components after.table.slots ∙ sym (rp3_laws.shape_components (project_of old) next differ.shape)) there.component in
+    subst (λ n. Costs o (Edited author e listed ∷ h) t c ↔ CostsAnEdit rp3_rules (project_of old) next listed n t c) end
+    (subst (λ (P : Project). CostsOnTable rp3_rules (table_start o) (Edits (edited P e) listed (edited P e).horizon ∷ on_table o h) t c ↔ CostsAnEdit rp3_rules (project_of old) next listed old.table.horizon t c) project (
+      costs_edit rp3_rules rp3_laws (table_start o) old.table (on_table o h) stands.table settled next listed next.horizon differ t c inside,
+      edit_costs rp3_rules rp3_laws (table_start o) old.table (on_table o h) stands.table settled next listed next.horizon differ t c inside,
+    ))

@@ -1,12 +1,13 @@
 -- What calls of a bench do, in the words of its events.
-use Rattle.std.specs.Prelude.{◌≡◌, ℕ, List, [], ◌∷◌, Ok}
+use Rattle.std.specs.Prelude.{◌≡◌, ℕ, ◌+◌, if◌then◌else◌, List, [], ◌∷◌, Ok}
 use Rattle.cell_table.specs.declared.given.Given.{Given}
 use Rattle.cell_table.specs.declared.given.Given.TheVariants.{Stored as GivenStored}
 use Rattle.cell_table.specs.Claims.{Claimed as ClaimOf, Computed}
 use Rattle.cell_table.specs.Events.{Event as TableEvent, Edits, Claims, Stores}
+use Rattle.cell_table.specs.Due.{due}
 use Rattle.cell_table.specs.Made.{Made as MadeOnTable}
 use Rattle.cell_table.specs.Answers.{AnswersMade as AnswersOnTable}
-use Rattle.cell_table.specs.Cost.{Settles as SettlesTable, SettlesFirst as SettlesTableFirst}
+use Rattle.cell_table.specs.Cost.{Costs as CostsOnTable, Settles as SettlesTable, SettlesFirst as SettlesTableFirst}
 use Rattle.machine_cells.specs.declared.state.MachineState.{MachineState}
 use Rattle.machine_cells.specs.GridRules.{rp3_rules}
 use Rattle.project_book.specs.Project.{Project}
@@ -18,6 +19,7 @@ use Rattle.bench_core.specs.declared.asked.Asked.TheVariants.{Answer}
 use Rattle.bench_core.specs.Shown.{Shown}
 use Rattle.bench_core.specs.Events.{Event, Stored, Opening, version_after, project_after, on_table, table_start}
 use Rattle.bench_core.specs.Stands.{Stands}
+use Rattle.bench_core.specs.Asks.{waits, asked_at, IsOrWants}
 
 -- a claim was made at place n: it is that of event n, and holds its cell's version, the project and the near values then
 abbrev pub Made : Opening → ClaimOf MachineState Project → List Event → ℕ → Type 0
@@ -31,6 +33,11 @@ AnswersMade o h n done given = AnswersOnTable rp3_rules (table_start o) (on_tabl
 abbrev pub after_give : Given (Computed MachineState Project) → Computed MachineState Project → List Event → List Event
 after_give (GivenStored changed) done h = Stored done.claim.cell.cycle done.claim.cell.component done.state changed ∷ h
 after_give _ done h = h
+
+-- the clock after a result was given: one more where another state was stored
+abbrev pub clock_given : Given (Computed MachineState Project) → ℕ → ℕ
+clock_given (GivenStored changed) clock = if changed then clock + 1 else clock
+clock_given _ clock = clock
 
 -- the events after some stores
 abbrev pub after_stores : List (TableEvent MachineState Project Slot) → List Event → List Event
@@ -49,7 +56,20 @@ pub record Settles (o : Opening) (h : List Event) (b : Shown) (done : List (Tabl
   pub stands : Stands o b (after_stores done h)
   pub table : SettlesTable rp3_rules (table_start o) (on_table o h) b.table done n
 
+-- a cell costs a computation: it is due, or has a near cell one cycle earlier whose value isn't that of the run
+abbrev pub Costs : Opening → List Event → ℕ → ℕ → Type 0
+Costs o h t c = CostsOnTable rp3_rules (table_start o) (on_table o h) t c
+
 -- an answer is that of the project after the events, at its version
 abbrev pub AnswersRun : Opening → List Event → Query → Asked → Type 0
 AnswersRun o h q (Answer version body) = (version ≡ version_after h) × (answer (project_after o h) q ≡ Ok body)
 AnswersRun o h q _ = Unit {0}
+
+-- how many cells that are due after the events the answer waits for
+abbrev pub pending_after : Opening → List Event → Query → ℕ
+pending_after o h q = waits (project_after o h) (due rp3_rules (table_start o) (on_table o h)) q
+
+-- the same for every answer: a reason against the query, a number of due cells, or what the run says, each by the events
+-- alone; want of memory only in the place of the last two
+abbrev pub AsksRun : Opening → List Event → Query → Asked → Type 0
+AsksRun o h q result = IsOrWants (asked_at (project_after o h) (version_after h) (pending_after o h q) q) result

@@ -1,7 +1,7 @@
 -- What a query of a bench is answered.
-use Rattle.std.specs.Prelude.{◌≡◌, ℕ, zero, suc, ◌+◌, ◌<◌, ◌≤◌, Option, None, Some, Result, Ok, Err}
-use Rattle.cell_table.specs.Seen.{due_up_to}
-use Rattle.cell_table.specs.Cones.{due_in_cone}
+use Rattle.std.specs.Prelude.{◌≡◌, ℕ, zero, suc, ◌+◌, ◌<◌, ◌≤◌, Bool, Option, None, Some, Result, Ok, Err}
+use Rattle.cell_table.specs.Seen.{due_at}
+use Rattle.cell_table.specs.Cones.{count_to, count_cone}
 use Rattle.grid_law.specs.Run.{run}
 use Rattle.omega_net.specs.Numbers.{lines, components}
 use Rattle.machine_cells.specs.GridRules.{rp3_rules}
@@ -21,23 +21,23 @@ use Rattle.bench_core.specs.Shown.{Shown, project_of, version_of, held}
 abbrev pub module_of : Project → ℕ → ℕ
 module_of P a = lines P.k + (place_in P a).«module»
 
--- how many cells up to a cycle are due
-abbrev pub due_to : Shown → ℕ → ℕ
-due_to b t = due_up_to b.table.rows (t + 1)
+-- how many cells that pass the test the answer waits for: those in the cone of the component's or the module's cell for a
+-- state or a word; those up to its last cycle for a counter or a level; all of the run for a reply, a profile or a tree;
+-- none for what doesn't look at the run
+abbrev pub waits : Project → (ℕ → ℕ → Bool) → Query → ℕ
+waits P test (Reply p n) = count_to rp3_rules P P.horizon test P.horizon
+waits P test (State c t) = count_cone rp3_rules P P.horizon test t c
+waits P test (MemoryAt a t) = count_cone rp3_rules P P.horizon test t (module_of P a)
+waits P test (Counter counter who from to) = count_to rp3_rules P P.horizon test to
+waits P test (Profile net s) = count_to rp3_rules P P.horizon test P.horizon
+waits P test (Tree net m) = count_to rp3_rules P P.horizon test P.horizon
+waits P test (Level net m t) = count_to rp3_rules P P.horizon test t
+waits P test (Bound x y p) = 0
+waits P test (Place a) = 0
 
--- how many due cells the answer waits for: those in the cone of the component's or the module's cell for a state or a
--- word; those up to its last cycle for a counter or a level; all of the run for a reply, a profile or a tree; none for
--- what doesn't look at the run
+-- how many due cells it waits for
 abbrev pub pending : Shown → Query → ℕ
-pending b (Reply p n) = due_to b (project_of b).horizon
-pending b (State c t) = due_in_cone rp3_rules b.table t c
-pending b (MemoryAt a t) = due_in_cone rp3_rules b.table t (module_of (project_of b) a)
-pending b (Counter counter who from to) = due_to b to
-pending b (Profile net s) = due_to b (project_of b).horizon
-pending b (Tree net m) = due_to b (project_of b).horizon
-pending b (Level net m t) = due_to b t
-pending b (Bound x y p) = 0
-pending b (Place a) = 0
+pending b q = waits (project_of b) (due_at b.table.rows) q
 
 -- an answer at a version
 abbrev pub told : ℕ → Result Body ℕ → Asked
@@ -54,8 +54,11 @@ asked_unless None says = says
 
 -- the reason against the query that its numbers give; else how many due cells it waits for, where there are any; else
 -- the answer, issue numbers that weren't reached included
+abbrev pub asked_at : Project → ℕ → ℕ → Query → Asked
+asked_at P version waiting q = asked_unless (bad_query P q) (told_unless waiting (told version (answer P q)))
+
 abbrev pub asked : Shown → Query → Asked
-asked b q = asked_unless (bad_query (project_of b) q) (told_unless (pending b q) (told (version_of b) (answer (project_of b) q)))
+asked b q = asked_at (project_of b) (version_of b) (pending b q) q
 
 -- want of memory stands in the place of an answer or of a number of due cells, and of nothing else
 abbrev pub MayWant : Asked → Type 0

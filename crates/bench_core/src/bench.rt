@@ -1,13 +1,9 @@
 //! The bench.
-ghost use Rattle.std.specs.Prelude.{◌≡◌, ℕ, ◌+◌, ◌<◌, ◌≤◌, IfOk, IfErr, []};
-ghost use Rattle.omega_net.specs.Numbers.{components};
-ghost use Rattle.monitor_sums.specs.Kept.{StandsFor};
-ghost use Rattle.monitor_sums.specs.Sums.{States, changed, cleared};
-ghost use Rattle.project_book.specs.declared.limits.TheConstants.{MAX_HORIZON};
+ghost use Rattle.std.specs.Prelude.{◌≡◌, ℕ, IfOk, IfErr, []};
 ghost use Rattle.cell_table.specs.Seen.{held_at, fresh};
 ghost use Rattle.cell_table.specs.Cells.{IsThere};
 ghost use Rattle.machine_cells.specs.GridRules.{rp3_rules};
-ghost use Rattle.bench_core.specs.Shown.{project_of, version_of, held, IsBench};
+ghost use Rattle.bench_core.specs.Shown.{project_of, version_of, IsBench};
 ghost use Rattle.bench_core.specs.Stands.{Stands, HasHistory};
 
 mod asking;
@@ -17,40 +13,19 @@ mod reporting;
 mod settling;
 
 use crate::Noted;
-use cell_table::{Cell, Table};
+use crate::counters::Counters;
+use cell_table::Table;
 use machine_cells::Rp3;
-use monitor_sums::Sums;
 use omega_net::Shape;
 use project_book::Project;
 use std::alloc::Global;
 use std::marker::Model;
 
-/// Counts the state that a cell holds now.
-fn count(sums: &mut Sums, table: &Table<Rp3>, cell: Cell)
-    requires cycle { cell.cycle ≤ MAX_HORIZON }
-    requires component { cell.component < components sums.old.k }
-    ensures shape { sums.new.k ≡ sums.old.k }
-    ensures counts { (at : States) → StandsFor sums.old at → StandsFor sums.new (changed at cell.cycle cell.component (held table.now cell.cycle cell.component)) }
-{
-    sums.change(cell.component, cell.cycle, table.state(cell));
-}
-
-/// Counts no more what the cells past a horizon held, where those up to another were counted.
-fn forget(sums: &mut Sums, to: u32, before: u32)
-    requires { before ≤ MAX_HORIZON }
-    ensures shape { sums.new.k ≡ sums.old.k }
-    ensures stands { (at : States) → StandsFor sums.old at → StandsFor sums.new (cleared at (to + 1) before) }
-{
-    if to < before {
-        sums.clear(to + 1, before);
-    }
-}
-
 /// A project, its run as far as it was computed, its counters, and the edits that were accepted.
 #[derive(Drop)]
 pub struct Bench {
     table: Table<Rp3>,
-    sums: Sums,
+    counters: Counters,
     journal: Vec<Noted>,
 }
 
@@ -62,7 +37,7 @@ impl Model for Bench {
 
     ghost view = { λ b. record { table = b.table; journal = b.journal.items } };
 
-    ghost invariant = { λ b. IsBench b.table b.journal.items × IsCounted b.sums b.table × HasHistory (record { table = b.table; journal = b.journal.items }) };
+    ghost invariant = { λ b. IsBench b.table b.journal.items × IsCounted b.counters b.table × HasHistory (record { table = b.table; journal = b.journal.items }) };
 }
 
 impl Bench {
@@ -78,13 +53,13 @@ impl Bench {
         ensures err { IfErr result (λ p. p ≡ project) }
     {
         let horizon = project.horizon();
-        let Ok(sums) = Sums::new(alloc, Shape::new(project.k()).unwrap()) else {
+        let Ok(counters) = Counters::new(alloc, Shape::new(project.k()).unwrap()) else {
             return Err(project);
         };
         match Table::new(alloc, project, horizon, clock) {
             Ok(table) => Ok(Bench {
                 table,
-                sums,
+                counters,
                 journal: Vec::new(alloc),
             }),
             Err(project) => Err(project),

@@ -13,6 +13,7 @@
 
 mod asked;
 mod bench;
+mod counters;
 mod noted;
 mod told;
 

@@ -8,13 +8,13 @@ use Rattle.std.proofs.lemmas.List.Sums.{sum_by-cons}
 use Rattle.std.proofs.lemmas.Bool.{and_from, cases_eq, false≢true}
 use Rattle.grid_law.specs.declared.no_memory.NoMemory.{NoMemory}
 use Rattle.grid_law.specs.Rules.{Rules, Laws, result_of}
-use Rattle.cell_table.specs.Seen.{Held, Seen, row_at, held_at, held_in}
+use Rattle.cell_table.specs.Seen.{Held, Seen, row_at, held_at, held_in, due_at}
 use Rattle.cell_table.specs.Cells.{IsThere}
 use Rattle.cell_table.specs.Inputs.{states_of}
 use Rattle.cell_table.specs.Consistent.{IsConsistent}
 use Rattle.grid_law.specs.Run.{run}
 use Rattle.cell_table.specs.Readers.{has}
-use Rattle.cell_table.specs.Cones.{every, earlier, due_among, due_below}
+use Rattle.cell_table.specs.Cones.{every, earlier, count_in}
 use Rattle.cell_table.proofs.Tables.{inputs_first, inputs_later}
 
 -- where none passes, none of them does
@@ -25,7 +25,7 @@ not_counted false n h = refl
 rest_none : (b : Bool) (n : ℕ) → cond b 1 0 + n ≡ 0 → n ≡ 0
 rest_none b n h = omega arith
 
-none_counted : (p : ℕ → Bool) (a n k : ℕ) → count_by p (range_with_len a n) ≡ 0 → a ≤ k → k < a + n → p k ≡ false
+pub none_counted : (p : ℕ → Bool) (a n k : ℕ) → count_by p (range_with_len a n) ≡ 0 → a ≤ k → k < a + n → p k ≡ false
 none_counted p a zero k h from below = absurd (omega arith)
 none_counted p a (suc n) k h from below =
     let split : cond (p a) 1 0 + count_by p (range_with_len (a + 1) n) ≡ 0 = sym (sum_by-cons (λ c. cond (p c) 1 0) a (range_with_len (a + 1) n)) ∙ h in
@@ -64,7 +64,7 @@ each_known row f members n held (m ∷ ms) inside among =
 
 module _ {State Slots Slot : Type 0} (R : Rules State Slots Slot) (s : Slots) where
   -- a component of the set isn't due, where none of them is
-  not_due : (row : List (Held State)) (members : ℕ → Bool) (c : ℕ) → due_among R s row members ≡ 0 → c < R.components s → members c ≡ true → (held_in row c).is_due ≡ false
+  not_due : (row : List (Held State)) (members : ℕ → Bool) (c : ℕ) → count_by (λ k. members k && (held_in row k).is_due) (every R s) ≡ 0 → c < R.components s → members c ≡ true → (held_in row c).is_due ≡ false
   not_due row members c none inside member =
       not_right (members c) _ member (none_counted (λ k. members k && (held_in row k).is_due) 0 (R.components s) c none (omega arith) (omega arith))
 
@@ -90,7 +90,7 @@ module _ {State Slots Slot : Type 0} (R : Rules State Slots Slot) (laws : Laws R
       let inputs : current.is_current.inputs ≡ map (run R s t) (R.near s c) = some_same _ _ (sym current.is_current.are_held ∙ later) in
       current.holds ∙ ap Some (current.is_current.computed ∙ ap (λ xs. result_of R s xs c) inputs ∙ some_step (R.near s c) (laws.near_first s c).0 (run R s t) c (laws.near_first s c).1)
 
-  pub cone_runs : (t : ℕ) (members : ℕ → Bool) → t ≤ horizon → due_below R s rows members t ≡ 0 → (c : ℕ) → c < R.components s → members c ≡ true → (held_at rows t c).state ≡ Some (run R s t c)
+  pub cone_runs : (t : ℕ) (members : ℕ → Bool) → t ≤ horizon → count_in R s (due_at rows) members t ≡ 0 → (c : ℕ) → c < R.components s → members c ≡ true → (held_at rows t c).state ≡ Some (run R s t c)
   cone_runs zero members cycle none c inside member =
       let current = consistent 0 c cycle inside (not_due R s (row_at rows 0) members c none inside member) in
       let empty : current.is_current.inputs ≡ [] = some_same _ _ (sym current.is_current.are_held ∙ inputs_first R s rows 0 c refl) in
@@ -100,7 +100,7 @@ module _ {State Slots Slot : Type 0} (R : Rules State Slots Slot) (laws : Laws R
 
 -- a cell that is there holds the run, where nothing in its cone is due
 module _ {State Slots Slot : Type 0} (R : Rules State Slots Slot) where
-  pub cone_settled : (v : Seen State Slots) (t c : ℕ) (counted : Result ℕ NoMemory) → Laws R → IsConsistent R v.slots v.horizon v.rows → IfOk counted (λ due. due ≡ due_below R v.slots v.rows (λ m. m == c) t) → IfOk counted (λ due. due ≡ 0 → IsThere R v t c → (held_at v.rows t c).state ≡ Some (run R v.slots t c))
+  pub cone_settled : (v : Seen State Slots) (t c : ℕ) (counted : Result ℕ NoMemory) → Laws R → IsConsistent R v.slots v.horizon v.rows → IfOk counted (λ due. due ≡ count_in R v.slots (due_at v.rows) (λ m. m == c) t) → IfOk counted (λ due. due ≡ 0 → IsThere R v t c → (held_at v.rows t c).state ≡ Some (run R v.slots t c))
   cone_settled v t c (Ok due) laws consistent h =
       λ none there. cone_runs R laws v.slots v.horizon v.rows consistent t (λ m. m == c) there.cycle (sym h ∙ none) c there.component (eq-eqb c c refl)
   cone_settled v t c (Err e) laws consistent h = tt

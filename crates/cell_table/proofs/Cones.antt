@@ -3,10 +3,10 @@ use Rattle.std.proofs.Common.{◌≡◌, ℕ, zero, suc, ◌+◌, ◌-◌, ◌<�
 use Rattle.std.specs.List.{list_any, range_with_len}
 use Rattle.std.proofs.lemmas.List.Sums.{sum_by-cons}
 use Rattle.grid_law.specs.Rules.{Rules}
-use Rattle.cell_table.specs.Seen.{Held, held_in, row_at, due_in_row}
+use Rattle.cell_table.specs.Seen.{Held, held_in, row_at, due_at, due_in_row}
 use Rattle.cell_table.specs.Readers.{has}
 use Rattle.cell_table.proofs.Counts.{none_due_in}
-use Rattle.cell_table.specs.Cones.{earlier, due_among, due_below}
+use Rattle.cell_table.specs.Cones.{earlier, count_in}
 
 or_false : (a : Bool) → (a || false) ≡ (false || a)
 or_false true = refl
@@ -59,7 +59,7 @@ any_same p q a (suc n) h =
 one_same : (v w : Bool) (m n : ℕ) → v ≡ w → m ≡ n → cond v 1 0 + m ≡ cond w 1 0 + n
 one_same v w m n e h = rw (e, h) refl
 
-count_same : (p q : ℕ → Bool) (a n : ℕ) → ((k : ℕ) → k < a + n → p k ≡ q k) → count_by p (range_with_len a n) ≡ count_by q (range_with_len a n)
+pub count_same : (p q : ℕ → Bool) (a n : ℕ) → ((k : ℕ) → k < a + n → p k ≡ q k) → count_by p (range_with_len a n) ≡ count_by q (range_with_len a n)
 count_same p q a zero h = refl
 count_same p q a (suc n) h =
     sum_by-cons (λ c. cond (p c) 1 0) a (range_with_len (a + 1) n)
@@ -72,15 +72,14 @@ module _ {State Slots Slot : Type 0} (R : Rules State Slots Slot) (s : Slots) wh
   earlier_same f g m h =
       any_same (λ x. f x && has (R.near s x) m) (λ x. g x && has (R.near s x) m) 0 (R.components s) (λ k l. ap (λ b. b && has (R.near s k) m) (h k (omega arith)))
 
-  due_among_same : (row : List (Held State)) (f g : ℕ → Bool) → ((k : ℕ) → k < R.components s → f k ≡ g k) → due_among R s row f ≡ due_among R s row g
-  due_among_same row f g h =
-      count_same (λ c. f c && (held_in row c).is_due) (λ c. g c && (held_in row c).is_due) 0 (R.components s) (λ k l. ap (λ b. b && (held_in row k).is_due) (h k (omega arith)))
+  members_same : (f g p : ℕ → Bool) → ((k : ℕ) → k < R.components s → f k ≡ g k) → count_by (λ c. f c && p c) (range_with_len 0 (R.components s)) ≡ count_by (λ c. g c && p c) (range_with_len 0 (R.components s))
+  members_same f g p h = count_same (λ c. f c && p c) (λ c. g c && p c) 0 (R.components s) (λ k l. ap (λ b. b && p k) (h k (omega arith)))
 
-  pub due_below_same : (rows : List (List (Held State))) (f g : ℕ → Bool) (t : ℕ) → ((k : ℕ) → k < R.components s → f k ≡ g k) → due_below R s rows f t ≡ due_below R s rows g t
-  due_below_same rows f g zero h = due_among_same (row_at rows 0) f g h
-  due_below_same rows f g (suc t) h =
-      let here = due_among_same (row_at rows (suc t)) f g h in
-      let below = due_below_same rows (earlier R s f) (earlier R s g) t (λ k l. earlier_same f g k h) in
+  pub count_in_same : (test : ℕ → ℕ → Bool) (f g : ℕ → Bool) (t : ℕ) → ((k : ℕ) → k < R.components s → f k ≡ g k) → count_in R s test f t ≡ count_in R s test g t
+  count_in_same test f g zero h = members_same f g (test 0) h
+  count_in_same test f g (suc t) h =
+      let here = members_same f g (test (suc t)) h in
+      let below = count_in_same test (earlier R s f) (earlier R s g) t (λ k l. earlier_same f g k h) in
       omega arith
 
   -- a set that is its own neighbourhood stays so
@@ -89,11 +88,11 @@ module _ {State Slots Slot : Type 0} (R : Rules State Slots Slot) (s : Slots) wh
       earlier_same (λ x. get_or new x false) (λ x. get_or old x false) m (λ k i. ap (λ xs. get_or xs k false) e) ∙ sym (h m l)
 
   -- one cycle down
-  pub down : (rows : List (List (Held State))) (f g : ℕ → Bool) (row : List (Held State)) (t n d r : ℕ) → 0 < t → n ≡ R.components s → row ≡ row_at rows (t - 1 + 1) → r ≡ count_by (λ c. f c && (held_in row c).is_due) (range_with_len 0 n) → ((m : ℕ) → m < R.components s → g m ≡ earlier R s f m) → d + r + due_below R s rows g (t - 1) ≡ d + due_below R s rows f t
+  pub down : (rows : List (List (Held State))) (f g : ℕ → Bool) (row : List (Held State)) (t n d r : ℕ) → 0 < t → n ≡ R.components s → row ≡ row_at rows (t - 1 + 1) → r ≡ count_by (λ c. f c && (held_in row c).is_due) (range_with_len 0 n) → ((m : ℕ) → m < R.components s → g m ≡ earlier R s f m) → d + r + count_in R s (due_at rows) g (t - 1) ≡ d + count_in R s (due_at rows) f t
   down rows f g row zero n d r above len at here before = absurd (omega arith)
   down rows f g row (suc u) n d r above len at here before =
       let back : suc u - 1 ≡ u = omega arith in
       let same : suc u - 1 + 1 ≡ suc u = omega arith in
-      let due : r ≡ due_among R s (row_at rows (suc u)) f = here ∙ ap (λ k. count_by (λ c. f c && (held_in row c).is_due) (range_with_len 0 k)) len ∙ ap (λ x. due_among R s x f) (at ∙ ap (row_at rows) same) in
-      let below : due_below R s rows g (suc u - 1) ≡ due_below R s rows (earlier R s f) u = ap (due_below R s rows g) back ∙ due_below_same rows g (earlier R s f) u before in
-      ap (λ k. d + k + due_below R s rows g (suc u - 1)) due ∙ ap (λ k. d + due_among R s (row_at rows (suc u)) f + k) below ∙ omega arith
+      let due : r ≡ count_by (λ c. f c && due_at rows (suc u) c) (range_with_len 0 (R.components s)) = here ∙ ap (λ k. count_by (λ c. f c && (held_in row c).is_due) (range_with_len 0 k)) len ∙ ap (λ x. count_by (λ c. f c && (held_in x c).is_due) (range_with_len 0 (R.components s))) (at ∙ ap (row_at rows) same) in
+      let below : count_in R s (due_at rows) g (suc u - 1) ≡ count_in R s (due_at rows) (earlier R s f) u = ap (count_in R s (due_at rows) g) back ∙ count_in_same (due_at rows) g (earlier R s f) u before in
+      ap (λ k. d + k + count_in R s (due_at rows) g (suc u - 1)) due ∙ ap (λ k. d + count_by (λ c. f c && due_at rows (suc u) c) (range_with_len 0 (R.components s)) + k) below ∙ omega arith

@@ -65,7 +65,7 @@ module _ {State Slots Slot : Type 0} (R : Rules State Slots Slot) (laws : Laws R
   same_near : R.near v.slots c ≡ R.near next c
   same_near = laws.shape_near v.slots next c differ.shape
 
-  costs_edit : Costs R o (Edits next listed to ∷ h) t c → CostsAnEdit R v.slots next listed v.horizon t c
+  pub costs_edit : Costs R o (Edits next listed to ∷ h) t c → CostsAnEdit R v.slots next listed v.horizon t c
   costs_edit costs = by_cycle (cases_lt v.horizon t) costs
     where
       by_change : t ≤ v.horizon → ((ltb (horizon_of o h) t || reads_any R (slots_of o h) c listed (near_vals R o h t c)) ≡ true) ⊎ ((not false && due R o h t c) ≡ true) → CostsAnEdit R v.slots next listed v.horizon t c
@@ -89,7 +89,7 @@ module _ {State Slots Slot : Type 0} (R : Rules State Slots Slot) (laws : Laws R
             differs = λ e. s.stale (val_edited s.earlier s.component (omega (arith, s.one_before)) (near_inside s.component near) ∙ ap Some e);
           }))
 
-  edit_costs : CostsAnEdit R v.slots next listed v.horizon t c → Costs R o (Edits next listed to ∷ h) t c
+  pub edit_costs : CostsAnEdit R v.slots next listed v.horizon t c → Costs R o (Edits next listed to ∷ h) t c
   edit_costs costs = by_cycle (cases_lt v.horizon t) costs
     where
       made_due : (ltb (horizon_of o h) t || reads_any R (slots_of o h) c listed (near_vals R o h t c)) ≡ true → due R o (Edits next listed to ∷ h) t c ≡ true

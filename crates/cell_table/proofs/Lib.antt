@@ -16,3 +16,4 @@ pub mod EditCosting
 pub mod Passes
 pub mod Cones
 pub mod ConeRuns
+pub mod Counted

@@ -1,5 +1,5 @@
 -- A pass over the due cells, by cycle and then component.
-use Rattle.std.proofs.Common.{◌≡◌, ℕ, ◌+◌, ◌*◌, ◌<◌, ◌≤◌, ◌∙◌, subst, refl, arith, ◌⊎◌, inl, inr, Option, None, Some, IfNone, IfSome, List, [], ◌∷◌, length, false}
+use Rattle.std.proofs.Common.{◌≡◌, ℕ, ◌+◌, ◌*◌, ◌<◌, ◌≤◌, ◌∙◌, subst, refl, arith, ◌⊎◌, inl, inr, Option, None, Some, IfNone, IfSome, List, [], ◌∷◌, length, Bool, true, false, cond, ◌-◌, ◌^◌}
 use Rattle.std.proofs.lemmas.Bool.{cases_lt}
 use Rattle.cell_table.specs.declared.cell.Cell.{Cell}
 use Rattle.grid_law.specs.Rules.{Rules, Laws}
@@ -32,6 +32,15 @@ pub of_none : {X : Type 0} (P : Type 0) (r : Option X) → r ≡ None → IfNone
 of_none P None e h = h
 of_none P (Some y) e h = cc
 
+-- the clock doesn't fall, and stays at its last value
+clock_rises : (old new : ℕ) (changed : Bool) → new ≡ cond changed (old + 1) old → old ≤ new
+clock_rises old new true is = omega (arith, is)
+clock_rises old new false is = omega (arith, is)
+
+clock_stays : (old new : ℕ) (changed : Bool) → new ≡ cond changed (old + 1) old → (changed ≡ true → old < 2 ^ 64 - 1) → old ≡ 2 ^ 64 - 1 → new ≡ 2 ^ 64 - 1
+clock_stays old new true is room last = let b = room refl in absurd (omega arith)
+clock_stays old new false is room last = is ∙ last
+
 module _ {State Slots Slot : Type 0} (R : Rules State Slots Slot) where
   -- a pass has come to that cell: these cells were settled, and those before it hold the run
   pub record IsAt (old now : Seen State Slots) (t0 c0 computed : ℕ) : Type 0 where
@@ -44,6 +53,8 @@ module _ {State Slots Slot : Type 0} (R : Rules State Slots Slot) where
     pub fits : c0 < 4294967296
     pub slots : now.slots ≡ old.slots
     pub horizon : now.horizon ≡ old.horizon
+    pub rises : old.clock ≤ now.clock
+    pub clock : old.clock ≡ 2 ^ 64 - 1 → now.clock ≡ 2 ^ 64 - 1
 
   -- it begins before all cells
   pub begins : (old : Seen State Slots) → IsAt old old 0 0 0
@@ -57,6 +68,8 @@ module _ {State Slots Slot : Type 0} (R : Rules State Slots Slot) where
     fits = omega arith;
     slots = refl;
     horizon = refl;
+    rises = omega arith;
+    clock = λ last. last;
   }
 
   settling_along : (old v : Seen State Slots) (done : List (Event State Slots Slot)) (t0 c0 t c : ℕ) → Settling R old done v t0 c0 → AtOrAfter t0 c0 t c → Settling R old done v t c
@@ -77,6 +90,8 @@ module _ {State Slots Slot : Type 0} (R : Rules State Slots Slot) where
     fits = fits;
     slots = s.settled.after.slots ∙ is_at.slots;
     horizon = s.settled.after.horizon ∙ is_at.horizon;
+    rises = omega (arith, is_at.rises, clock_rises now.clock next.clock s.changed s.settled.after.clock);
+    clock = λ last. clock_stays now.clock next.clock s.changed s.settled.after.clock s.room (is_at.clock last);
   }
 
   -- where none before a cell is due, the first due cell from there on is the first of all

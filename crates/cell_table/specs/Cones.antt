@@ -1,8 +1,7 @@
--- The cone of a cell: the cells that its state rests on.
-use Rattle.std.specs.Prelude.{ℕ, zero, suc, ◌+◌, ◌==◌, ◌&&◌, nat_le, nat_lt, if◌then◌else◌, Bool, false, List, slice_index_or, count_by}
+-- Counting cells: those of the first cycles, and those that a cell's state rests on.
+use Rattle.std.specs.Prelude.{ℕ, zero, suc, ◌+◌, ◌==◌, ◌&&◌, min, nat_le, nat_lt, if◌then◌else◌, Bool, false, List, slice_index_or, count_by}
 use Rattle.std.specs.List.{list_any, range_with_len}
 use Rattle.grid_law.specs.Rules.{Rules}
-use Rattle.cell_table.specs.Seen.{Held, Seen, held_in, row_at}
 use Rattle.cell_table.specs.Readers.{has}
 
 -- the components of a cone at one cycle, by a mark for each of the grid, and whether there may be others one cycle earlier
@@ -18,20 +17,24 @@ module _ {State Slots Slot : Type 0} (R : Rules State Slots Slot) where
   abbrev pub every : Slots → List ℕ
   every s = range_with_len 0 (R.components s)
 
+  -- how many cells of the cycles 0 to t pass the test
+  abbrev pub count_below : Slots → (ℕ → ℕ → Bool) → ℕ → ℕ
+  count_below s test zero = count_by (test 0) (every s)
+  count_below s test (suc t) = count_by (test (suc t)) (every s) + count_below s test t
+
+  -- and of those that are there
+  abbrev pub count_to : Slots → ℕ → (ℕ → ℕ → Bool) → ℕ → ℕ
+  count_to s horizon test t = count_below s test (min t horizon)
+
   -- what is near a component of the set, one cycle earlier
   abbrev pub earlier : Slots → (ℕ → Bool) → ℕ → Bool
   earlier s members m = list_any (λ x. members x && has (R.near s x) m) (every s)
 
-  -- how many components of the set are due in a row
-  abbrev pub due_among : Slots → List (Held State) → (ℕ → Bool) → ℕ
-  due_among s row members = count_by (λ c. members c && (held_in row c).is_due) (every s)
+  -- how many cells pass the test in the cone whose components at cycle t are the set
+  abbrev pub count_in : Slots → (ℕ → ℕ → Bool) → (ℕ → Bool) → ℕ → ℕ
+  count_in s test members zero = count_by (λ c. members c && test 0 c) (every s)
+  count_in s test members (suc t) = count_by (λ c. members c && test (suc t) c) (every s) + count_in s test (earlier s members) t
 
-  -- how many cells are due in the cone whose components at cycle t are the set
-  abbrev pub due_below : Slots → List (List (Held State)) → (ℕ → Bool) → ℕ → ℕ
-  due_below s rows members zero = due_among s (row_at rows 0) members
-  due_below s rows members (suc t) = due_among s (row_at rows (suc t)) members + due_below s rows (earlier s members) t
-
-  -- how many cells are due in a cell's cone: itself, the cells near it one cycle earlier, and so on; a cell that isn't there has none
-  abbrev pub due_in_cone : Seen State Slots → ℕ → ℕ → ℕ
-  due_in_cone v t c =
-      if nat_le t v.horizon && nat_lt c (R.components v.slots) then due_below v.slots v.rows (λ m. m == c) t else 0
+  -- how many cells pass the test in a cell's cone: itself, the cells near it one cycle earlier, and so on; a cell that isn't there has none
+  abbrev pub count_cone : Slots → ℕ → (ℕ → ℕ → Bool) → ℕ → ℕ → ℕ
+  count_cone s horizon test t c = if nat_le t horizon && nat_lt c (R.components s) then count_in s test (λ m. m == c) t else 0

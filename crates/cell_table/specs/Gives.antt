@@ -23,6 +23,13 @@ module _ {State Slots Slot : Type 0} (R : Rules State Slots Slot) where
     pub clock : new.clock ≡ (if changed then old.clock + 1 else old.clock)
     pub cells : (t1 c1 : ℕ) → IsThere R old t1 c1 → held_at new.rows t1 c1 ≡ held_after old.slots old.rows t c x changed new.clock t1 c1
 
+  -- a state was stored for the cell, which is there
+  pub record IsStored (old new : Seen State Slots) (t c : ℕ) : Type 0 where
+    pub there : IsThere R old t c
+    pub state : State
+    pub changed : Bool
+    pub after : IsAfterStore old new t c state changed
+
   -- what the claim was computed from is what is there now
   pub record IsPresent (v : Seen State Slots) (claim : Claimed State Slots) : Type 0 where
     pub inputs : inputs_of R v.slots v.rows claim.cell.cycle claim.cell.component ≡ Some claim.near

@@ -1,9 +1,9 @@
 //! The components of a cone, and their due cells, from cycle to cycle.
 ghost use Rattle.std.specs.Prelude.{◌≡◌, ℕ, ◌+◌, ◌<◌, ◌==◌, ◌||◌, ◌&&◌, ◌^◌, ◌↔◌, IsTrue, IfOk, true, false, length, vec_len, slice_index_or, count_by};
 ghost use Rattle.std.specs.List.{range_with_len};
-ghost use Rattle.cell_table.specs.Seen.{held_in};
+ghost use Rattle.cell_table.specs.Seen.{held_in, due_at};
 ghost use Rattle.cell_table.specs.Readers.{has};
-ghost use Rattle.cell_table.specs.Cones.{is_in, earlier, due_below};
+ghost use Rattle.cell_table.specs.Cones.{is_in, earlier, count_in};
 
 use crate::Cell;
 use crate::row::Row;
@@ -13,7 +13,7 @@ use std::marker::Model;
 
 /// How many cells are due in the cone of a cell that is there. The components are widened until
 /// they grow no more; a cycle with nothing due is passed in one step.
-#[tactic(auto, using(crate::proofs::Cones::due_below_same))]
+#[tactic(auto, using(crate::proofs::Cones::count_in_same))]
 pub(crate) fn due_down<G: Grid>(
     alloc: Global,
     slots: &G::Slots,
@@ -22,7 +22,7 @@ pub(crate) fn due_down<G: Grid>(
 ) -> Result<u64, NoMemory>
     requires cycle { cell.cycle < length rows.now }
     requires component { cell.component < G.rules.components slots.now }
-    ensures { IfOk result (λ due. due ≡ due_below G.rules slots.now rows.now (λ m. m == cell.component) cell.cycle) }
+    ensures { IfOk result (λ due. due ≡ count_in G.rules slots.now (due_at rows.now) (λ m. m == cell.component) cell.cycle) }
 {
     let mut members = Members::only(alloc, G::components(slots), cell.component)?;
     let mut due = 0u64;

@@ -6,7 +6,7 @@
 //! that read it. So a cell is computed only if it is new or something that it read has changed.
 //!
 //! Due cells are computed in one of two ways. `settle` computes them all, by cycle and then
-//! component. Or they are claimed, computed elsewhere, and given back:
+//! component, and `settle_watched` tells a `Watcher` of each. Or they are claimed, computed elsewhere, and given back:
 //!
 //! ```text
 //! while let Some(claim) = table.claim(from)? {
@@ -55,11 +55,13 @@ mod readers;
 mod row;
 mod rows;
 mod table;
+mod watcher;
 
 pub use cell::Cell;
 pub use claim::{Claim, Done};
 pub use given::{Given, SettleFault, Settled, StoreFault, TouchFault};
 pub use table::Table;
+pub use watcher::Watcher;
 
 #[cfg(test)]
 mod tests;

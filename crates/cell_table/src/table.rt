@@ -1,11 +1,14 @@
 //! The table.
-ghost use Rattle.std.specs.Prelude.{◌≡◌, ℕ, ◌+◌, ◌<◌, IfOk, IfErr, replicate, Some, ◌↔◌, IsTrue, [], option_map};
+ghost use Rattle.std.specs.Prelude.{◌≡◌, ℕ, ◌+◌, ◌<◌, ◌≤◌, IfOk, IfErr, List, replicate, Some, ◌↔◌, IsTrue, [], option_map};
 ghost use Rattle.std.specs.Arc.{arc_value};
 ghost use Rattle.std.specs.Option.{option_copied};
-ghost use Rattle.cell_table.specs.Seen.{held_at, fresh, due_up_to};
+ghost use Rattle.cell_table.specs.Seen.{held_at, due_at, fresh};
 ghost use Rattle.cell_table.specs.Cells.{IsThere};
 ghost use Rattle.cell_table.specs.Consistent.{IsWhole, IsConsistent};
 ghost use Rattle.cell_table.specs.Claims.{NoneDue};
+ghost use Rattle.cell_table.specs.Cones.{count_to};
+ghost use Rattle.cell_table.specs.Due.{due};
+ghost use Rattle.cell_table.specs.Events.{Event, Start, slots_of, horizon_of};
 ghost use Rattle.cell_table.specs.Stands.{Stands};
 ghost use Rattle.grid_law.specs.Run.{run};
 
@@ -156,10 +159,13 @@ impl<G: Grid> Table<G> {
         }
     }
 
-    /// How many cells are due at the cycles up to t. Each of these cycles is looked at once, and
-    /// no cell.
+    /// How many cells are due at the cycles up to t. Where none is, these cells hold the run,
+    /// whatever is due later. Each of these cycles is looked at once, and no cell.
     pub fn due_to(&self, t: u32) -> u64
-        ensures { result ≡ due_up_to self.now.rows (t + 1) }
+        ensures count { result ≡ count_to G.rules self.now.slots self.now.horizon (due_at self.now.rows) t }
+        ensures headline_due { (o : Start G.Slots) (h : List (Event G.State G.Slots G.Slot)) → Stands G.rules o self.now h
+            → result ≡ count_to G.rules (slots_of o h) (horizon_of o h) (due G.rules o h) t }
+        ensures run { result ≡ 0 → (t1 c : ℕ) → t1 ≤ t → IsThere G.rules self.now t1 c → (held_at self.now.rows t1 c).state ≡ Some (run G.rules self.now.slots t1 c) }
     {
         due_in(self.rows.as_slice(), t)
     }

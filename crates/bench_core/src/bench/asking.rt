@@ -1,6 +1,7 @@
 //! Answering queries.
 ghost use Rattle.std.specs.Prelude.{◌≡◌, ◌^◌, ◌<◌, ◌≤◌, None, Some, IfOk, OnErr, List};
-ghost use Rattle.cell_table.specs.Cones.{due_in_cone};
+ghost use Rattle.cell_table.specs.Cones.{count_to, count_cone};
+ghost use Rattle.cell_table.specs.Seen.{due_at};
 ghost use Rattle.grid_law.specs.Run.{run};
 ghost use Rattle.omega_net.specs.Numbers.{components};
 ghost use Rattle.machine_cells.specs.GridRules.{rp3_rules};
@@ -10,8 +11,8 @@ ghost use Rattle.run_queries.specs.Bad.{bad_query};
 ghost use Rattle.bench_core.specs.Shown.{project_of, version_of, held};
 ghost use Rattle.bench_core.specs.Events.{Event, Opening};
 ghost use Rattle.bench_core.specs.Stands.{Stands};
-ghost use Rattle.bench_core.specs.Asks.{module_of, due_to, pending, AsksAs, TellsRun, LooksAtCell, HoldsRunTo, IsUpToDate};
-ghost use Rattle.bench_core.specs.Answers.{AnswersRun};
+ghost use Rattle.bench_core.specs.Asks.{module_of, pending, AsksAs, TellsRun, LooksAtCell, HoldsRunTo, IsUpToDate};
+ghost use Rattle.bench_core.specs.Answers.{AnswersRun, AsksRun};
 
 use super::Bench;
 use crate::Asked;
@@ -88,11 +89,10 @@ impl Bench {
     /// How many cells up to a cycle are due.
     fn pending_to(&self, to: u32) -> u64
         requires { to ≤ (project_of self.now).horizon }
-        ensures count { result ≡ due_to self.now to }
+        ensures count { result ≡ count_to rp3_rules (project_of self.now) (project_of self.now).horizon (due_at self.now.table.rows) to }
         ensures ready { result ≡ 0 → HoldsRunTo self.now to }
     {
         self.is_bench();
-        self.table.consistent();
         self.table.due_to(to)
     }
 
@@ -100,9 +100,10 @@ impl Bench {
     fn pending_cell(&self, cell: Cell) -> Result<u64, NoMemory>
         requires cycle { cell.cycle ≤ (project_of self.now).horizon }
         requires component { cell.component < components (project_of self.now).k }
-        ensures count { IfOk result (λ n. n ≡ due_in_cone rp3_rules self.now.table cell.cycle cell.component) }
+        ensures count { IfOk result (λ n. n ≡ count_cone rp3_rules (project_of self.now) (project_of self.now).horizon (due_at self.now.table.rows) cell.cycle cell.component) }
         ensures ready { IfOk result (λ n. n ≡ 0 → held self.now.table cell.cycle cell.component ≡ Some (run rp3_rules (project_of self.now) cell.cycle cell.component)) }
     {
+        self.is_bench();
         self.table.due_cone(cell)
     }
 
@@ -153,6 +154,7 @@ impl Bench {
         ensures asks { AsksAs self.old query result }
         ensures unchanged { self.new ≡ self.old }
         ensures headline_answers { (o : Opening) (h : List Event) → Stands o self.old h → AnswersRun o h query result }
+        ensures headline_asks { (o : Opening) (h : List Event) → Stands o self.old h → AsksRun o h query result }
     {
         self.ask_plain(rt, query)
     }

@@ -1,33 +1,59 @@
 //! Editing the project.
-ghost use Rattle.std.specs.Prelude.{◌≡◌, ◌+◌, IfOk, OnOk, OnErr, IsOkUnless, List, ◌∷◌, ◌++◌, [], Ok, Err};
+ghost use Rattle.std.specs.Prelude.{◌≡◌, ◌↔◌, ℕ, ◌+◌, ◌-◌, ◌^◌, ◌<◌, IfOk, OnOk, OnErr, IsOkUnless, List, ◌∷◌, ◌++◌, [], Ok, Err};
+ghost use Rattle.cell_table.specs.Cells.{IsThere};
+ghost use Rattle.cell_table.specs.Cost.{CostsAnEdit};
+ghost use Rattle.cell_table.specs.Settling.{IsSettled};
+ghost use Rattle.machine_cells.specs.GridRules.{rp3_rules};
+ghost use Rattle.project_book.specs.declared.limits.TheConstants.{MAX_EDITS};
 ghost use Rattle.project_book.specs.declared.slot.Slot.{Slot as TouchedSlot};
-ghost use Rattle.project_book.specs.Edits.{edited};
+ghost use Rattle.project_book.specs.Edits.{edited, new_horizon};
+ghost use Rattle.project_book.specs.Slots.{Touches};
 ghost use Rattle.bench_core.specs.Shown.{project_of, version_of};
 ghost use Rattle.bench_core.specs.Edits.{admits, IsAfterEdit};
 ghost use Rattle.bench_core.specs.Events.{Event, Edited, Opening};
 ghost use Rattle.bench_core.specs.Stands.{Stands};
+ghost use Rattle.bench_core.specs.Answers.{Costs};
 
-use super::{Bench, forget};
+use super::Bench;
 use crate::Noted;
-use project_book::{Edit, EditFault, MAX_EDITS};
+use grid_law::Changed;
+use project_book::{Edit, EditFault, MAX_EDITS, Project, Slot};
 
 impl Bench {
-    /// Whether an edit is accepted, want of memory aside.
-    #[tactic(auto, using(crate::proofs::Admitting::admits_full, crate::proofs::Admitting::admits_checked, crate::proofs::Admitting::unless_last, crate::proofs::Admitting::unless_earlier))]
-    fn admit(&self, edit: Edit) -> Result<(), EditFault>
-        ensures { result ≡ admits self.now edit }
+    /// Why no edit is accepted while the clock is at its last value.
+    #[tactic(auto, using(crate::proofs::Admitting::admits_fault, crate::proofs::Admitting::admits_last))]
+    fn refusal(&self, edit: Edit) -> EditFault
+        requires room { version_of self.now < MAX_EDITS }
+        requires last { self.now.table.clock ≡ 2 ^ 64 - 1 }
+        ensures { admits self.now edit ≡ Err result }
+    {
+        match self.project().check(edit) {
+            Ok(()) => EditFault::ClockSpent,
+            Err(fault) => fault,
+        }
+    }
+
+    /// What an edit makes of the project. It is judged once.
+    #[tactic(auto, using(crate::proofs::Admitting::admits_full, crate::proofs::Admitting::admits_earlier))]
+    fn edited(&self, edit: Edit) -> Result<(Project, Changed<Slot>), EditFault>
+        ensures refused { (fault : EditFault) → admits self.now edit ≡ Err fault → result ≡ Err fault }
+        ensures accepted { admits self.now edit ≡ Ok tt → IsOkUnless result EditFault.Memory }
+        ensures admitted { OnOk result (admits self.now edit ≡ Ok tt) }
+        ensures edited { IfOk result (λ made. made.0 ≡ edited (project_of self.now) edit) }
+        ensures slots { IfOk result (λ made. Touches (project_of self.now) made.0 made.1.slots.items) }
+        ensures horizon { IfOk result (λ made. made.1.horizon ≡ new_horizon (project_of self.now) made.0) }
     {
         if self.version() >= MAX_EDITS {
             return Err(EditFault::JournalFull);
         }
-        self.project().check(edit)?;
         if self.clock() == u64::MAX {
-            return Err(EditFault::ClockSpent);
+            return Err(self.refusal(edit));
         }
-        Ok(())
+        self.project().apply(edit)
     }
 
-    #[tactic(auto, using(crate::proofs::Touching::differ, crate::proofs::Admitting::admitted_room, crate::proofs::Admitting::admitted_plainly, crate::proofs::Admitting::admitted_clock))]
+    // What it does to the bench as it is; the clauses over all lists of events follow from these.
+    #[tactic(auto, using(crate::proofs::Touching::differ, crate::proofs::Admitting::admitted_room, crate::proofs::Admitting::admitted_clock))]
     fn edit_plain(&mut self, author: u32, edit: Edit) -> Result<u32, EditFault>
         ensures refused { (fault : EditFault) → admits self.old edit ≡ Err fault → result ≡ Err fault }
         ensures accepted { admits self.old edit ≡ Ok tt → IsOkUnless result EditFault.Memory }
@@ -36,23 +62,18 @@ impl Bench {
         ensures version { IfOk result (λ v. v ≡ version_of self.old + 1) }
         ensures err { OnErr result (self.new ≡ self.old) }
     {
-        match self.admit(edit) {
-            Ok(()) => {}
+        let (next, changed) = match self.edited(edit) {
+            Ok(made) => made,
             Err(fault) => return Err(fault),
-        }
+        };
         match self.journal.reserve(1) {
             Ok(()) => {}
             Err(_) => return Err(EditFault::Memory),
         }
-        match self.table.slots().apply(edit) {
-            Ok((next, changed)) => {
-                let before = self.table.horizon();
-                let to = next.horizon();
-                match self.table.touch(next, changed) {
-                    Ok(()) => forget(&mut self.sums, to, before),
-                    Err(_) => return Err(EditFault::Memory),
-                }
-            }
+        let before = self.table.horizon();
+        let to = next.horizon();
+        match self.table.touch(next, changed) {
+            Ok(()) => self.counters.forget(to, before),
             Err(_) => return Err(EditFault::Memory),
         }
         self.journal.push_reserved(Noted { author, edit });
@@ -60,7 +81,9 @@ impl Bench {
     }
 
     /// Makes an edit, in the author's name: the new version, which is the number of accepted edits. The cells that read
-    /// a slot that got another value, and those that are new, become due. The clock rises by one.
+    /// a slot that got another value, and those that are new, become due. The clock rises by one. Where no cell was due,
+    /// the cells that are computed to settle the bench again are those past the earlier horizon, those that read in the
+    /// run a slot that got another value, and those with a near cell one cycle earlier that differs between the two runs.
     ///
     /// Costs what `Project::apply` does, and asks each cell that stays once for each slot that got another value.
     ///
@@ -72,6 +95,7 @@ impl Bench {
     pub fn edit(&mut self, author: u32, edit: Edit) -> Result<u32, EditFault>
         ensures refused { (fault : EditFault) → admits self.old edit ≡ Err fault → result ≡ Err fault }
         ensures accepted { admits self.old edit ≡ Ok tt → IsOkUnless result EditFault.Memory }
+        ensures admitted { OnOk result (admits self.old edit ≡ Ok tt) }
         ensures version { IfOk result (λ v. v ≡ version_of self.old + 1) }
         ensures journal { OnOk result (self.new.journal ≡ self.old.journal ++ record { author = author; edit = edit } ∷ []) }
         ensures project { OnOk result (project_of self.new ≡ edited (project_of self.old) edit) }
@@ -79,6 +103,9 @@ impl Bench {
         ensures ok { OnOk result (IsAfterEdit self.old self.new author edit) }
         ensures headline_stands { OnOk result ((listed : List TouchedSlot) × ((o : Opening) (h : List Event) → Stands o self.old h
             → Stands o self.new (Edited author edit listed ∷ h))) }
+        ensures cost { OnOk result ((o : Opening) (h : List Event) (listed : List TouchedSlot) → Stands o self.old h → Touches (project_of self.old) (edited (project_of self.old) edit) listed
+            → IsSettled rp3_rules self.old.table → (t c : ℕ) → IsThere rp3_rules self.new.table t c
+            → Costs o (Edited author edit listed ∷ h) t c ↔ CostsAnEdit rp3_rules (project_of self.old) (edited (project_of self.old) edit) listed (project_of self.old).horizon t c) }
         ensures err { OnErr result (self.new ≡ self.old) }
     {
         self.edit_plain(author, edit)

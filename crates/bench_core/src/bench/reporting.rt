@@ -31,9 +31,9 @@ impl Bench {
     {
         let horizon = self.project().horizon();
         if from == 0 && to == horizon {
-            self.sums.total(counter, who)
+            self.counters.sums().total(counter, who)
         } else {
-            self.sums.sum(counter, who, from, to)
+            self.counters.sums().sum(counter, who, from, to)
         }
     }
 
@@ -42,7 +42,7 @@ impl Bench {
         requires there { HoldsRunTo self.now (project_of self.now).horizon }
         ensures { result ≡ profile_of (project_of self.now).k (state_in (run (project_of self.now))) net stage (project_of self.now).horizon }
     {
-        self.sums.profile(net, stage)
+        self.counters.sums().profile(net, stage)
     }
 
     /// The states of a cycle, by component.

@@ -1,8 +1,8 @@
 //! Computing due cells.
-ghost use Rattle.std.specs.Prelude.{◌≡◌, ℕ, ◌+◌, ◌-◌, ◌^◌, ◌<◌, IfOk, IfErr, IfNone, IfSome, OnOk, OnErr, List, ◌∷◌, length, Err};
+ghost use Rattle.std.specs.Prelude.{◌≡◌, ℕ, ◌-◌, ◌^◌, ◌≤◌, IfOk, IfErr, IfNone, IfSome, OnOk, List, ◌∷◌, length};
 ghost use Rattle.cell_table.specs.Claims.{NoneDue, IsNextRound, IsClaim};
 ghost use Rattle.cell_table.specs.Gives.{GivesAs};
-ghost use Rattle.cell_table.specs.Settling.{NoneDueBefore, IsSettled, SettlesNext, IsSpent, computed_of, IsClockSpent};
+ghost use Rattle.cell_table.specs.Settling.{IsSettled, IsSpent, computed_of, IsClockSpent};
 ghost use Rattle.cell_table.specs.Events.{Event as TableEvent, Start};
 ghost use Rattle.cell_table.specs.Stands.{Stands as TableStands};
 ghost use Rattle.cell_table.specs.Cost.{Settles as SettlesTable, SettlesFirst as SettlesTableFirst};
@@ -15,22 +15,14 @@ ghost use Rattle.bench_core.specs.Shown.{project_of};
 ghost use Rattle.bench_core.specs.Asks.{pending};
 ghost use Rattle.bench_core.specs.Events.{Event, Claimed, Opening};
 ghost use Rattle.bench_core.specs.Stands.{Stands};
-ghost use Rattle.bench_core.specs.Answers.{Made, AnswersMade, after_give, Settles, SettlesFirst};
+ghost use Rattle.bench_core.specs.Answers.{Made, AnswersMade, after_give, clock_given, Settles, SettlesFirst};
 
-use super::{Bench, count};
-use cell_table::{Cell, Claim, Done, Given, SettleFault, Settled, StoreFault};
+use super::Bench;
+use cell_table::{Cell, Claim, Done, Given, SettleFault, Settled, Watcher};
 use grid_law::NoMemory;
 use machine_cells::Rp3;
 
 impl Bench {
-    fn claim_plain(&self, from: Cell) -> Result<Option<Claim<Rp3>>, NoMemory>
-        ensures none { IfOk result (λ r. IfNone r (NoneDue rp3_rules self.now.table)) }
-        ensures next { IfOk result (λ r. IfSome r (λ claim. IsNextRound rp3_rules self.now.table from.cycle from.component claim.cell)) }
-        ensures holds { IfOk result (λ r. IfSome r (IsClaim rp3_rules self.now.table)) }
-    {
-        self.table.claim(from)
-    }
-
     /// A claim of the first cell at or after `from`, by cycle and then component, that is due and whose near cells one
     /// cycle earlier all hold a state, wrapping round once; none exactly where no cell is due. Nothing is changed.
     pub fn claim(&self, from: Cell) -> Result<Option<Claim<Rp3>>, NoMemory>
@@ -41,99 +33,35 @@ impl Bench {
             → Stands o self.now (Claimed claim.cell.cycle claim.cell.component ∷ h)
             × Made o claim (Claimed claim.cell.cycle claim.cell.component ∷ h) (length h))) }
     {
-        self.claim_plain(from)
+        self.table.claim(from)
     }
 
-    fn give_plain(&mut self, done: Done<Rp3>) -> Given<Done<Rp3>>
-        ensures gives { GivesAs rp3_rules self.old.table done result self.new.table }
+    /// Stores the result of a claim where, since the claim, its cell stayed due and nothing that it read has changed.
+    /// The answer is the first of `Given` that applies, in that order; all but `Stored` change nothing. The clock rises
+    /// by one where the state is another one than the cell held. It takes no memory.
+    pub fn give(&mut self, done: Done<Rp3>) -> Given<Done<Rp3>>
+        ensures headline_foreign { GivesAs rp3_rules self.old.table done result self.new.table }
         ensures journal { self.new.journal ≡ self.old.journal }
+        ensures project { project_of self.new ≡ project_of self.old }
+        ensures clock { self.new.table.clock ≡ clock_given result self.old.table.clock }
+        ensures headline_stands { (o : Opening) (h : List Event) → Stands o self.old h → Stands o self.new (after_give result done h) }
+        ensures headline_gives { (o : Opening) (h : List Event) (n : ℕ) → Stands o self.old h → Made o done.claim h n
+            → AnswersMade o h n done result }
     {
         let cell = done.cell();
         match self.table.give(done) {
             Given::Stored { changed } => {
-                count(&mut self.sums, &self.table, cell);
+                self.counters.stored(&self.table, cell);
                 Given::Stored { changed }
             }
             given => given,
         }
     }
 
-    /// Stores the result of a claim where, since the claim, its cell stayed due and nothing that it read has changed.
-    /// The answer is the first of `Given` that applies, in that order; all but `Stored` change nothing. It takes no
-    /// memory.
-    pub fn give(&mut self, done: Done<Rp3>) -> Given<Done<Rp3>>
-        ensures headline_foreign { GivesAs rp3_rules self.old.table done result self.new.table }
-        ensures journal { self.new.journal ≡ self.old.journal }
-        ensures headline_stands { (o : Opening) (h : List Event) → Stands o self.old h → Stands o self.new (after_give result done h) }
-        ensures headline_gives { (o : Opening) (h : List Event) (n : ℕ) → Stands o self.old h → Made o done.claim h n
-            → AnswersMade o h n done result }
-    {
-        self.give_plain(done)
-    }
-
-    /// Computes the first due cell at or after `from`, stores its state and counts it. No cell before `from` may be due.
-    fn settle_next(&mut self, from: Cell) -> Result<Option<Cell>, StoreFault>
-        requires { NoneDueBefore rp3_rules self.old.table from.cycle from.component }
-        ensures none { IfOk result (λ o. IfNone o (IsSettled rp3_rules self.new.table × (self.new ≡ self.old))) }
-        ensures some { IfOk result (λ o. IfSome o (SettlesNext rp3_rules self.old.table self.new.table from.cycle from.component)) }
-        ensures fits { IfOk result (λ o. IfSome o (λ cell. (cell.cycle < 2 ^ 32) × (cell.component + 1 < 2 ^ 32))) }
-        ensures journal { self.new.journal ≡ self.old.journal }
-        ensures err { OnErr result (self.new ≡ self.old) }
-        ensures spent { result ≡ Err StoreFault.ClockSpent → IsSpent rp3_rules self.old.table from.cycle from.component }
-    {
-        match self.table.settle_next(from) {
-            Ok(Some(cell)) => {
-                count(&mut self.sums, &self.table, cell);
-                Ok(Some(cell))
-            }
-            Ok(None) => Ok(None),
-            Err(fault) => Err(fault),
-        }
-    }
-
-    fn settle_plain(&mut self) -> Result<Settled, SettleFault>
-        ensures settles { IfOk result (λ s. (done : List (TableEvent CellState ProjectValue ReadSlot)) × ((o : Start ProjectValue) (h : List (TableEvent CellState ProjectValue ReadSlot)) → TableStands rp3_rules o self.old.table h
-            → SettlesTable rp3_rules o h self.new.table done s.computed)) }
-        ensures after_fault { IfErr result (λ f. (done : List (TableEvent CellState ProjectValue ReadSlot)) × ((o : Start ProjectValue) (h : List (TableEvent CellState ProjectValue ReadSlot)) → TableStands rp3_rules o self.old.table h
-            → SettlesTableFirst rp3_rules o h self.new.table done (computed_of f))) }
-        ensures settled { OnOk result (IsSettled rp3_rules self.new.table) }
-        ensures project { project_of self.new ≡ project_of self.old }
-        ensures journal { self.new.journal ≡ self.old.journal }
-        ensures spent { IfErr result (λ f. IsClockSpent f → self.new.table.clock ≡ 2 ^ 64 - 1) }
-        ensures clock { self.old.table.clock ≡ 2 ^ 64 - 1 → self.new.table.clock ≡ 2 ^ 64 - 1 }
-    {
-        let mut computed: u64 = 0;
-        let mut from = Cell {
-            cycle: 0,
-            component: 0,
-        };
-        loop {
-            match self.settle_next(from) {
-                Ok(Some(cell)) => {
-                    computed += 1;
-                    from = Cell {
-                        cycle: cell.cycle,
-                        component: cell.component + 1,
-                    };
-                }
-                Ok(None) => return Ok(Settled { computed }),
-                Err(StoreFault::ClockSpent) => return Err(SettleFault::ClockSpent { computed }),
-                Err(StoreFault::Memory) => return Err(SettleFault::Memory { computed }),
-            }
-        }
-    }
-
-    /// Where no cell is due, no query waits. No work is done.
-    fn none_waits(&self)
-        ensures { NoneDue rp3_rules self.now.table → (query : AnyQuery) → pending self.now query ≡ 0 }
-    {
-        self.table.consistent();
-    }
-
     /// Computes the first due cell, by cycle and then component, until none is due. The cells stored are exactly those
     /// that were due, or that had a near cell one cycle earlier with another state than that of the run; each is stored
     /// once, and `computed` is their number. Afterwards every cell holds the run, and no query is answered Pending. After
-    /// a fault the cells computed stay stored and the rest stays due, and a further call goes on.
+    /// a fault the cells computed stay stored and the rest stays due, and a further call goes on. The clock never falls.
     pub fn settle(&mut self) -> Result<Settled, SettleFault>
         ensures headline_settles { IfOk result (λ s. (done : List (TableEvent CellState ProjectValue ReadSlot)) × ((o : Opening) (h : List Event) → Stands o self.old h
             → Settles o h self.new done s.computed)) }
@@ -144,10 +72,10 @@ impl Bench {
         ensures project { project_of self.new ≡ project_of self.old }
         ensures journal { self.new.journal ≡ self.old.journal }
         ensures spent { IfErr result (λ f. IsClockSpent f → self.new.table.clock ≡ 2 ^ 64 - 1) }
+        ensures differs { IfErr result (λ f. IsClockSpent f → IsSpent rp3_rules self.new.table 0 0) }
+        ensures rises { self.old.table.clock ≤ self.new.table.clock }
         ensures clock { self.old.table.clock ≡ 2 ^ 64 - 1 → self.new.table.clock ≡ 2 ^ 64 - 1 }
     {
-        let settled = self.settle_plain();
-        self.none_waits();
-        settled
+        self.table.settle_watched(&mut self.counters)
     }
 }

@@ -1,18 +1,18 @@
 //! Settling: computing the due cells, by cycle and then component, until none is left.
-ghost use Rattle.std.specs.Prelude.{◌≡◌, ◌≢◌, ℕ, ◌+◌, ◌-◌, ◌^◌, ◌<◌, ◌≤◌, IfOk, IfErr, OnOk, OnErr, IfNone, IfSome, MatchOption, is_some, true, false, Some, List, ◌∷◌, Bool};
+ghost use Rattle.std.specs.Prelude.{◌≡◌, ◌≢◌, ℕ, ◌+◌, ◌-◌, ◌^◌, ◌<◌, ◌≤◌, IfOk, IfErr, OnOk, OnErr, IfNone, IfSome, MatchOption, is_some, true, false, Some, List};
 ghost use Rattle.std.specs.Arc.{arc_value};
 ghost use Rattle.cell_table.specs.Seen.{held_at, row_at};
 ghost use Rattle.cell_table.specs.Cells.{IsThere};
 ghost use Rattle.cell_table.specs.Inputs.{inputs_of};
 ghost use Rattle.cell_table.specs.Consistent.{current_of};
 ghost use Rattle.cell_table.specs.Gives.{IsAfterStore};
-ghost use Rattle.cell_table.specs.Events.{Event, Start, Stores};
-ghost use Rattle.grid_law.specs.Run.{run};
+ghost use Rattle.cell_table.specs.Events.{Event, Start};
 ghost use Rattle.cell_table.specs.Stands.{Stands};
 ghost use Rattle.cell_table.specs.Settling.{IsNextDueInRow, NoneDueBefore, NoneDueFrom, IsNextDue, IsSettled, SettlesNext, IsSpent, computed_of, IsClockSpent};
 ghost use Rattle.cell_table.specs.Cost.{Settles, SettlesFirst};
 
 use super::Table;
+use crate::watcher::{Nobody, Watcher};
 use crate::{Cell, SettleFault, Settled, StoreFault};
 use grid_law::{Grid, NoMemory};
 use std::sync::Arc;
@@ -97,16 +97,11 @@ impl<G: Grid> Table<G> {
     }
 
     /// Computes the first due cell at or after `from` and stores its state, which is that of the
-    /// run; the cell is told, or none where no cell is due. No cell before `from` may be due. To
-    /// settle a table, begin at component 0 of cycle 0, and go on each time at the component after
-    /// the cell told, in its cycle; the lemmas of `proofs/Passes.antt` give such a loop all that
-    /// `settle` promises. After a fault nothing is changed.
-    pub fn settle_next(&mut self, from: Cell) -> Result<Option<Cell>, StoreFault>
+    /// run; the cell is told, or none where no cell is due. After a fault nothing is changed.
+    fn settle_next(&mut self, from: Cell) -> Result<Option<Cell>, StoreFault>
         requires { NoneDueBefore G.rules self.old from.cycle from.component }
         ensures none { IfOk result (λ o. IfNone o (IsSettled G.rules self.old × (self.new ≡ self.old))) }
         ensures some { IfOk result (λ o. IfSome o (SettlesNext G.rules self.old self.new from.cycle from.component)) }
-        ensures headline_stands { IfOk result (λ r. IfSome r (λ cell. (changed : Bool) × ((o : Start G.Slots) (h : List (Event G.State G.Slots G.Slot)) → Stands G.rules o self.old h
-            → Stands G.rules o self.new (Stores cell.cycle cell.component (run G.rules self.old.slots cell.cycle cell.component) changed ∷ h)))) }
         ensures fits { IfOk result (λ o. IfSome o (λ cell. (cell.cycle < 2 ^ 32) × (cell.component + 1 < 2 ^ 32))) }
         ensures err { OnErr result (self.new ≡ self.old) }
         ensures spent { result ≡ Err StoreFault.ClockSpent → IsSpent G.rules self.old from.cycle from.component }
@@ -122,13 +117,10 @@ impl<G: Grid> Table<G> {
         }
     }
 
-    /// Computes and stores the first due cell until none is due. The cells stored are exactly those
-    /// that were due, or that had a near cell one cycle earlier with another state than that of the
-    /// run; each is stored once, by cycle and then component, and `computed` is their number.
-    /// Afterwards every cell holds the run. After a fault the cells computed stay stored and the
-    /// rest stays due, and a further call goes on. The cells are passed once in all, and a cycle
-    /// with nothing due in one step.
-    pub fn settle(&mut self) -> Result<Settled, SettleFault>
+    /// `settle`, where `watcher` is told of each cell as soon as its state is stored.
+    pub fn settle_watched<W: Watcher<G>>(&mut self, watcher: &mut W) -> Result<Settled, SettleFault>
+        requires { W.keeps watcher.old self.old }
+        ensures watched { W.keeps watcher.new self.new }
         ensures headline_settles { IfOk result (λ s. (done : List (Event G.State G.Slots G.Slot)) × ((o : Start G.Slots) (h : List (Event G.State G.Slots G.Slot)) → Stands G.rules o self.old h
             → Settles G.rules o h self.new done s.computed)) }
         ensures after_fault { IfErr result (λ f. (done : List (Event G.State G.Slots G.Slot)) × ((o : Start G.Slots) (h : List (Event G.State G.Slots G.Slot)) → Stands G.rules o self.old h
@@ -136,6 +128,8 @@ impl<G: Grid> Table<G> {
         ensures settled { OnOk result (IsSettled G.rules self.new) }
         ensures slots { self.new.slots ≡ self.old.slots }
         ensures horizon { self.new.horizon ≡ self.old.horizon }
+        ensures rises { self.old.clock ≤ self.new.clock }
+        ensures clock { self.old.clock ≡ 2 ^ 64 - 1 → self.new.clock ≡ 2 ^ 64 - 1 }
         ensures spent { IfErr result (λ f. IsClockSpent f → self.new.clock ≡ 2 ^ 64 - 1) }
         ensures differs { IfErr result (λ f. IsClockSpent f → IsSpent G.rules self.new 0 0) }
     {
@@ -147,6 +141,7 @@ impl<G: Grid> Table<G> {
         loop {
             match self.settle_next(from) {
                 Ok(Some(cell)) => {
+                    watcher.stored(self, cell);
                     computed += 1;
                     from = Cell {
                         cycle: cell.cycle,
@@ -158,5 +153,27 @@ impl<G: Grid> Table<G> {
                 Err(StoreFault::Memory) => return Err(SettleFault::Memory { computed }),
             }
         }
+    }
+
+    /// Computes and stores the first due cell until none is due. The cells stored are exactly those
+    /// that were due, or that had a near cell one cycle earlier with another state than that of the
+    /// run; each is stored once, by cycle and then component, and `computed` is their number.
+    /// Afterwards every cell holds the run. After a fault the cells computed stay stored and the
+    /// rest stays due, and a further call goes on. The clock never falls. The cells are passed once
+    /// in all, and a cycle with nothing due in one step.
+    pub fn settle(&mut self) -> Result<Settled, SettleFault>
+        ensures headline_settles { IfOk result (λ s. (done : List (Event G.State G.Slots G.Slot)) × ((o : Start G.Slots) (h : List (Event G.State G.Slots G.Slot)) → Stands G.rules o self.old h
+            → Settles G.rules o h self.new done s.computed)) }
+        ensures after_fault { IfErr result (λ f. (done : List (Event G.State G.Slots G.Slot)) × ((o : Start G.Slots) (h : List (Event G.State G.Slots G.Slot)) → Stands G.rules o self.old h
+            → SettlesFirst G.rules o h self.new done (computed_of f))) }
+        ensures settled { OnOk result (IsSettled G.rules self.new) }
+        ensures slots { self.new.slots ≡ self.old.slots }
+        ensures horizon { self.new.horizon ≡ self.old.horizon }
+        ensures rises { self.old.clock ≤ self.new.clock }
+        ensures clock { self.old.clock ≡ 2 ^ 64 - 1 → self.new.clock ≡ 2 ^ 64 - 1 }
+        ensures spent { IfErr result (λ f. IsClockSpent f → self.new.clock ≡ 2 ^ 64 - 1) }
+        ensures differs { IfErr result (λ f. IsClockSpent f → IsSpent G.rules self.new 0 0) }
+    {
+        self.settle_watched(&mut Nobody)
     }
 }

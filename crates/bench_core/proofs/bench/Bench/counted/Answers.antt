@@ -14,9 +14,9 @@ sum-requires-clause-within c =
 pub returns-then-to-horizon : goal.returns-then-to-horizon
 returns-then-to-horizon c =
     let b = c.args.self.now in
-    let sums = c.self.inside.sums in
+    let sums = c.sums.result.now in
     let bench : IsBench b.table b.journal = rw (← c.self.view_is) c.self.invariant.0 in
-    let counts : IsCounted sums b.table = rw (← c.self.view_is) c.self.invariant.1 in
+    let counts : IsCounted sums b.table = rw (c.sums.ensures, ← c.self.view_is) c.self.invariant.1 in
     let end : c.horizon-horizon.result ≡ (project_of b).horizon = c.horizon-horizon.ensures.horizon ∙ ap (λ (p : Project). p.horizon) c.project.ensures in
     let to_end : c.args.to ≡ (project_of b).horizon = c.if-to-horizon.true ∙ end in
     let short : (project_of b).horizon ≤ MAX_HORIZON = omega (arith, bench.horizon, bench.short) in
@@ -28,7 +28,7 @@ returns-then-to-horizon c =
 pub returns-else-from-eq0 : goal.returns-else-from-eq0
 returns-else-from-eq0 c =
     let b = c.args.self.now in
-    let sums = c.self.inside.sums in
+    let sums = c.sums-else-from-eq0.result.now in
     let bench : IsBench b.table b.journal = rw (← c.self.view_is) c.self.invariant.0 in
-    let counts : IsCounted sums b.table = rw (← c.self.view_is) c.self.invariant.1 in
+    let counts : IsCounted sums b.table = rw (c.sums-else-from-eq0.ensures, ← c.self.view_is) c.self.invariant.1 in
     sum_is_run b sums bench counts c.args.counter c.args.who c.args.from c.args.to c.sum.result c.requires.who c.requires.within c.requires.there (c.sum.ensures (present b.table) counts.counts)

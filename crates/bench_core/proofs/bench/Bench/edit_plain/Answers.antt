@@ -23,12 +23,12 @@ pub invariant_of-self-2 : goal.invariant_of-self-2
 invariant_of-self-2 c =
     let old = c.self.inside.table in
     let new = c.touch.new.self in
-    let next = c.in-Ok-apply.next in
-    let listed = c.in-Ok-apply.changed.slots.items in
-    let horizon = c.in-Ok-apply.changed.horizon in
-    let is : next ≡ edited old.slots c.args.edit = subst (λ (P : Project). next ≡ edited P c.args.edit) c.slots.ensures c.in-Ok-apply.ensures.edited in
-    let touches : Touches old.slots next listed = subst (λ (P : Project). Touches P next listed) c.slots.ensures c.in-Ok-apply.ensures.slots in
-    let moved : horizon ≡ new_horizon old.slots next = subst (λ (P : Project). horizon ≡ new_horizon P next) c.slots.ensures c.in-Ok-apply.ensures.horizon in
+    let next = c.in-Ok.made.0 in
+    let listed = c.in-Ok.made.1.slots.items in
+    let horizon = c.in-Ok.made.1.horizon in
+    let is : next ≡ edited old.slots c.args.edit = rw (← c.self.view_is) at c.in-Ok.ensures.edited in
+    let touches : Touches old.slots next listed = rw (← c.self.view_is) at c.in-Ok.ensures.slots in
+    let moved : horizon ≡ new_horizon old.slots next = rw (← c.self.view_is) at c.in-Ok.ensures.horizon in
     let touched : IsAfterTouch rp3_rules old new next listed (unwrap_or horizon old.horizon) = c.in-Ok-touch.ensures.ok in
     let end = to old new c.self.inside.journal.items c.args.author c.args.edit next listed horizon c.self.invariant.0 is touches moved touched in
     let bench : IsBench new c.push_reserved.new.self.items = search (rules, bench_edited, admitted_room) in
@@ -38,7 +38,7 @@ invariant_of-self-2 c =
     (history_edited (record { table = old; journal = c.self.inside.journal.items }) (record { table = new; journal = c.self.inside.journal.items ++ record { author = c.args.author; edit = c.args.edit } ∷ [] }) c.args.author c.args.edit (search rules)
     (after_edit old new c.self.inside.journal.items c.args.author c.args.edit next listed horizon c.self.invariant.0 is touches moved touched) c.self.invariant.2) in
     let at_end : c.horizon-to.result ≡ new.horizon = c.horizon-to.ensures.horizon ∙ sym (touched.horizon ∙ end) in
-    let clears : (at : States) → StandsFor c.self.inside.sums at → StandsFor c.forget.new.sums (cleared at (new.horizon + 1) old.horizon) =
-    subst (λ (n : ℕ). (at : States) → StandsFor c.self.inside.sums at → StandsFor c.forget.new.sums (cleared at (n + 1) old.horizon)) at_end
-    (subst (λ (n : ℕ). (at : States) → StandsFor c.self.inside.sums at → StandsFor c.forget.new.sums (cleared at (c.horizon-to.result + 1) n)) c.horizon-before.ensures c.forget.ensures.stands) in
-    (bench, counted_touched c.self.inside.sums c.forget.new.sums old new c.self.invariant.1 c.forget.ensures.shape (unwrap_or horizon old.horizon) next listed (sym touches.shape) touched clears, history)
+    let clears : (at : States) → StandsFor c.self.inside.counters at → StandsFor c.forget.new.self (cleared at (new.horizon + 1) old.horizon) =
+    subst (λ (n : ℕ). (at : States) → StandsFor c.self.inside.counters at → StandsFor c.forget.new.self (cleared at (n + 1) old.horizon)) at_end
+    (subst (λ (n : ℕ). (at : States) → StandsFor c.self.inside.counters at → StandsFor c.forget.new.self (cleared at (c.horizon-to.result + 1) n)) c.horizon-before.ensures c.forget.ensures.stands) in
+    (bench, counted_touched c.self.inside.counters c.forget.new.self old new c.self.invariant.1 c.forget.ensures.shape (unwrap_or horizon old.horizon) next listed (sym touches.shape) touched clears, history)

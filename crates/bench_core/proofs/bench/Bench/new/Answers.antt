@@ -7,5 +7,5 @@ use Rattle.bench_core.proofs.bench.Bench.new.Goals as goal
 pub invariant_of-result : goal.invariant_of-result
 invariant_of-result c =
     let bench : IsBench c.in-Ok-new.table c.new-in-Ok-new.result.items = search rules in
-    let shape : c.in-Ok.sums.k ≡ c.in-Ok-new.table.slots.k = search rules in
-    (bench, counted_new c.in-Ok.sums c.in-Ok-new.table shape c.in-Ok.ensures.stands c.args.clock c.in-Ok-new.ensures.cells, history_new c.args.project c.args.clock c.horizon-horizon.result c.in-Ok-new.table c.new-in-Ok-new.result.items (search rules) (search rules) c.in-Ok-new.ensures.headline_stands)
+    let shape : c.in-Ok.counters.k ≡ c.in-Ok-new.table.slots.k = search rules in
+    (bench, counted_new c.in-Ok.counters c.in-Ok-new.table shape c.in-Ok.ensures.stands c.args.clock c.in-Ok-new.ensures.cells, history_new c.args.project c.args.clock c.horizon-horizon.result c.in-Ok-new.table c.new-in-Ok-new.result.items (search rules) (search rules) c.in-Ok-new.ensures.headline_stands)

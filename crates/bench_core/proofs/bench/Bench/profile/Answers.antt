@@ -7,9 +7,9 @@ use Rattle.bench_core.proofs.bench.Bench.profile.Goals as goal
 pub returns : goal.returns
 returns c =
     let b = c.args.self.now in
-    let sums = c.self.inside.sums in
+    let sums = c.sums.result.now in
     let bench : IsBench b.table b.journal = rw (← c.self.view_is) c.self.invariant.0 in
-    let counts : IsCounted sums b.table = rw (← c.self.view_is) c.self.invariant.1 in
+    let counts : IsCounted sums b.table = rw (c.sums.ensures, ← c.self.view_is) c.self.invariant.1 in
     let short : (project_of b).horizon ≤ MAX_HORIZON = omega (arith, bench.horizon, bench.short) in
     let is = c.profile.ensures.up_to (present b.table) (project_of b).horizon counts.counts (none_past b sums bench counts) short in
     profile_is_run b sums bench counts c.args.net c.args.stage c.profile.result c.requires.there is

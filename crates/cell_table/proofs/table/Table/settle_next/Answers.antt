@@ -1,7 +1,6 @@
 use Rattle.std.proofs.Common.{◌≡◌, ap, refl, Err}
 use Rattle.cell_table.specs.declared.given.StoreFault.TheVariants.{ClockSpent}
 use Rattle.cell_table.proofs.Settling.{ready, settles_next, is_spent, is_settled}
-use Rattle.cell_table.proofs.Standing.{stands_stored}
 use Rattle.cell_table.proofs.table.Table.settle_next.Goals as goal
 
 pub settle_cell-requires-clause-ready : goal.settle_cell-requires-clause-ready
@@ -21,8 +20,3 @@ returns-in-Err-clause-spent g c =
 pub returns-in-None-clause-none : goal.returns-in-None-clause-none
 returns-in-None-clause-none g c =
     (is_settled g.G.Grid.rules g.G.Grid.laws c.args.self.now (rw (← c.self.view_is) c.self.invariant.table) c.args.from.cycle c.args.from.component c.requires c.in-None.ensures, refl)
-
-pub returns-in-Ok-clause-headline_stands : goal.returns-in-Ok-clause-headline_stands
-returns-in-Ok-clause-headline_stands g c =
-    let next = settles_next g.G.Grid.rules g.G.Grid.laws c.args.self.now (rw (← c.self.view_is) c.self.invariant.table) c.args.from.cycle c.args.from.component c.requires c.in-Some.cell c.in-Some.ensures c.settle_cell.new.self c.in-Ok._changed c.in-Ok.ensures.ok c.in-Ok.ensures.room in
-    (next.changed, λ o h stands. stands_stored g.G.Grid.rules g.G.Grid.laws o c.args.self.now c.settle_cell.new.self h stands c.in-Some.cell.cycle c.in-Some.cell.component _ next.changed next.settled.there next.settled.after)

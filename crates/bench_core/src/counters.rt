@@ -1,0 +1,67 @@
+//! The counters of a bench.
+ghost use Rattle.std.specs.Prelude.{◌≡◌, ◌+◌, ◌≤◌, IfOk, None};
+ghost use Rattle.monitor_sums.specs.Kept.{StandsFor};
+ghost use Rattle.monitor_sums.specs.Sums.{States, cleared};
+ghost use Rattle.project_book.specs.declared.limits.TheConstants.{MAX_HORIZON};
+
+use cell_table::{Cell, Table, Watcher};
+use grid_law::NoMemory;
+use machine_cells::Rp3;
+use monitor_sums::Sums;
+use omega_net::Shape;
+use std::alloc::Global;
+use std::marker::Model;
+
+/// Sums over the states that a bench's table holds.
+#[derive(Drop)]
+pub(crate) struct Counters {
+    sums: Sums,
+}
+
+impl Model for Counters {
+    ghost use Rattle.monitor_sums.specs.Kept.{Kept};
+
+    ghost Value = { Kept };
+
+    ghost view = { λ c. c.sums };
+}
+
+impl Counters {
+    /// The counters of a table that holds no state yet.
+    pub(crate) fn new(alloc: Global, shape: Shape) -> Result<Counters, NoMemory>
+        ensures shape { IfOk result (λ c. c.k ≡ shape) }
+        ensures stands { IfOk result (λ c. StandsFor c (λ t c. None)) }
+    {
+        let sums = Sums::new(alloc, shape)?;
+        Ok(Counters { sums })
+    }
+
+    pub(crate) fn sums(&self) -> &Sums
+        ensures { result.now ≡ self.now }
+    {
+        &self.sums
+    }
+
+    /// Counts no more what the cells past a horizon held, where those up to another were counted.
+    #[tactic(auto, using(crate::proofs::Counting::none_cleared))]
+    pub(crate) fn forget(&mut self, to: u32, before: u32)
+        requires { before ≤ MAX_HORIZON }
+        ensures shape { self.new.k ≡ self.old.k }
+        ensures stands { (at : States) → StandsFor self.old at → StandsFor self.new (cleared at (to + 1) before) }
+    {
+        if to < before {
+            self.sums.clear(to + 1, before);
+        }
+    }
+}
+
+impl Watcher<Rp3> for Counters {
+    ghost use Rattle.bench_core.specs.Shown.{IsCounted};
+
+    ghost keeps = { λ counters table. (table.horizon ≤ MAX_HORIZON) × IsCounted counters table };
+
+    fn stored(&mut self, table: &Table<Rp3>, cell: Cell) {
+        self.sums
+            .change(cell.component, cell.cycle, table.state(cell));
+    }
+}

@@ -1,0 +1,32 @@
+//! Who is told of the states that are stored.
+
+use crate::{Cell, Table};
+use grid_law::Grid;
+
+/// Who is told of each state that is stored, right afterwards: `Table::settle_watched` tells it,
+/// and so may whoever calls `Table::give`.
+pub trait Watcher<G: Grid> {
+    ghost use Rattle.cell_table.specs.Seen.{Seen};
+    ghost use Rattle.cell_table.specs.Gives.{IsStored};
+
+    /// What a watcher keeps of the table that it watches.
+    ghost keeps: { Self → Seen G.State G.Slots → Type 0 };
+
+    /// A state was stored for the cell.
+    fn stored(&mut self, table: &Table<G>, cell: Cell)
+        requires { (before : Seen G.State G.Slots) × keeps self.old before × IsStored G.rules before table.now cell.cycle cell.component }
+        ensures { keeps self.new table.now };
+}
+
+/// Nobody.
+#[derive(Drop)]
+pub(crate) struct Nobody;
+
+impl<G: Grid> Watcher<G> for Nobody {
+    ghost keeps = { λ watcher table. Unit {0} };
+
+    fn stored(&mut self, table: &Table<G>, cell: Cell) {
+        let _ = table;
+        let _ = cell;
+    }
+}
