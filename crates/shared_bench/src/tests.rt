@@ -1,8 +1,9 @@
-//! Passes in several threads: the worked examples.
+//! Passes in several threads: the worked examples, and many answers compared with the plain simulation.
 ghost use Rattle.std.specs.Prelude.{◌≡◌, ◌<◌, ◌≤◌, IfOk, IfSome};
 
 mod benches;
 mod doing;
+mod many;
 
 use crate::{Pass, SplitFault, open};
 use bench_core::{Asked, Bench};
@@ -10,6 +11,7 @@ use benches::{add, begun, fresh, word};
 use cell_table::{Cell, Claim};
 use doing::{Came, Task, does, together};
 use machine_cells::Rp3;
+use many::{four, right, simulated_versions};
 use project_book::EditFault;
 use run_queries::Query;
 use std::alloc::Global;
@@ -134,5 +136,20 @@ fn example_20(rt: HostRuntime) -> Result<(), Fail> {
     let (pass, edited) = does(&rt, pass, Task::Edit(word(10)));
     assert_eq!(rt; edited, Came::Refused(EditFault::ClockSpent));
     assert!(rt; pass.close().is_ok());
+    Ok(())
+}
+
+/// Each of 800 answers between 800 edits is that of the simulation of the journal that the pass had seen then.
+#[test]
+fn four_at_once(rt: HostRuntime) -> Result<(), Fail> {
+    let mut a = opened(rt.alloc(), fresh(rt.alloc(), 0)?, 4)?;
+    let (b, c, d) = (split(&mut a)?, split(&mut a)?, split(&mut a)?);
+    let (pass, heard) = four(&rt, rt.alloc(), ((a, b), (c, d)));
+    let Ok(bench) = pass.close() else {
+        panic!(rt; "no other pass is there")
+    };
+    assert_eq!(rt; bench.version(), 800);
+    let words = simulated_versions(rt.alloc(), bench.journal())?;
+    assert_eq!(rt; right(&heard, &words), 800);
     Ok(())
 }

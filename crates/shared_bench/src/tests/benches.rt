@@ -1,8 +1,10 @@
-//! The base project and its benches.
+//! The base project, its benches, and its run.
 use bench_core::Bench;
 use cell_table::Cell;
+use machine_cells::from_scratch;
 use omega_net::ScriptEntry;
 use project_book::{Edit, Project};
+use run_queries::word_in;
 use std::alloc::Global;
 use std::test::Fail;
 use word_ops::{Kind, Op};
@@ -66,4 +68,11 @@ pub(super) fn begun(alloc: Global) -> Result<Box<Bench>, Fail> {
         bench.give(done);
     }
     Ok(bench)
+}
+
+/// The word of address 0 at the horizon, by the plain simulation.
+pub(super) fn simulated(alloc: Global, project: &Project) -> Result<u32, Fail> {
+    let rows = from_scratch(alloc, project)?;
+    let last = rows.last().ok_or("a row")?;
+    Ok(word_in(last.get(2), 0))
 }
