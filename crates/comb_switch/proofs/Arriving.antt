@@ -9,6 +9,7 @@ use Rattle.arrayvec.specs.ArrayVec.{ArrayVec}
 use Rattle.omega_net.specs.declared.message.Request.{Request}
 use Rattle.omega_net.specs.declared.message.Traffic.{Traffic}
 use Rattle.omega_net.specs.Wires.{bit}
+use Rattle.omega_net.specs.Limits.{queue_places}
 use Rattle.omega_net.specs.Queues.{has_room, joined, without_head}
 use Rattle.omega_net.specs.Ports.{queue_at, message_at, mark_at, joined_at}
 use Rattle.omega_net.proofs.Keeping.{joined_in, shorter, some_room, both_room}
@@ -18,7 +19,7 @@ use Rattle.comb_switch.specs.CombSwitch.{youngest_for, combines, both, waiting_f
 use Rattle.comb_switch.specs.Kept.{HasArrived, MayCome, RequestsAreKept}
 
 -- two output queues that hold these requests
-abbrev outputs : List Request → List Request → List (ArrayVec Request)
+abbrev pub outputs : List Request → List Request → List (ArrayVec Request)
 outputs xs ys = record { items = xs } ∷ record { items = ys } ∷ []
 
 low : (b n : ℕ) → bit b n < 2
@@ -29,19 +30,19 @@ last_one true y e = e
 last_one false y e = cc
 
 -- a request goes last into its queue
-last : (o : ℕ) (r : Request) (xs ys : List Request) → o < 2 → length (queue_at (outputs xs ys) o).items < 16
+last : (o : ℕ) (r : Request) (xs ys : List Request) → o < 2 → length (queue_at (outputs xs ys) o).items < queue_places
     → (queue_at (joined_at (outputs xs ys) o r) o).items ≡ (queue_at (outputs xs ys) o).items ++ r ∷ []
 last zero r xs ys small h = joined_in (record { items = xs }) r h
 last (suc zero) r xs ys small h = joined_in (record { items = ys }) r h
 last (suc (suc o)) r xs ys small h = absurd (omega arith)
 
-last_of : (o : ℕ) (r : Request) (fwd : List (ArrayVec Request)) (xs ys : List Request) → fwd ≡ outputs xs ys → o < 2 → length (queue_at (outputs xs ys) o).items < 16
+last_of : (o : ℕ) (r : Request) (fwd : List (ArrayVec Request)) (xs ys : List Request) → fwd ≡ outputs xs ys → o < 2 → length (queue_at (outputs xs ys) o).items < queue_places
     → (queue_at (joined_at fwd o r) o).items ≡ (queue_at fwd o).items ++ r ∷ []
 last_of o r fwd xs ys e small h =
     ap (λ qs. (queue_at (joined_at qs o r) o).items) e ∙ last o r xs ys small h ∙ ap (λ qs. (queue_at qs o).items ++ r ∷ []) (sym e)
 
 arrived : (settings : CombSettings) (r : Request) (at : Option ℕ) (o : ℕ) (a : CombState) (xs ys : List Request) → a.fwd ≡ outputs xs ys
-    → settings.wait ≤ 16 → o < 2 → length (queue_at (outputs xs ys) o).items < 16 → HasArrived o r a (meets settings r o at a)
+    → settings.wait ≤ queue_places → o < 2 → length (queue_at (outputs xs ys) o).items < queue_places → HasArrived o r a (meets settings r o at a)
 arrived settings r None o a xs ys e few small h = inl (last_of o r a.fwd xs ys e small h)
 arrived settings r (Some i) o a xs ys e few small h = by_test (combines settings a.wait queued r) refl
   where
@@ -55,15 +56,15 @@ arrived settings r (Some i) o a xs ys e few small h = by_test (combines settings
     by_test false is = inl (last_of o r a.fwd xs ys e small h)
 
 -- the output queues afterwards: one of them may be longer by one
-record Grown (o : ℕ) (xs ys : List Request) (fwd : List (ArrayVec Request)) : Type 0 where
-  us : List Request
-  vs : List Request
-  is : fwd ≡ outputs us vs
-  first : length us ≤ length xs + cond (o == 0) 1 0
-  second : length vs ≤ length ys + cond (o == 1) 1 0
+pub record Grown (o : ℕ) (xs ys : List Request) (fwd : List (ArrayVec Request)) : Type 0 where
+  pub us : List Request
+  pub vs : List Request
+  pub is : fwd ≡ outputs us vs
+  pub first : length us ≤ length xs + cond (o == 0) 1 0
+  pub second : length vs ≤ length ys + cond (o == 1) 1 0
 
 one_longer : (q : ArrayVec Request) (r : Request) → length (joined q (Some r)).items ≤ length q.items + 1
-one_longer q r = by_test (nat_lt (length q.items) 16)
+one_longer q r = by_test (nat_lt (length q.items) queue_places)
   where
     by_test : (t : Bool) → (let next : ArrayVec Request = cond t (record { items = q.items ++ r ∷ [] }) q in length next.items ≤ length q.items + 1)
     by_test true = omega (arith, length-append q.items (r ∷ []))
@@ -80,7 +81,7 @@ grown_combined zero i q xs ys small = record { us = slice_set xs i q; vs = ys; i
 grown_combined (suc zero) i q xs ys small = record { us = xs; vs = slice_set ys i q; is = refl; first = omega arith; second = omega (arith, length-set ys i q) }
 grown_combined (suc (suc o)) i q xs ys small = absurd (omega arith)
 
-grown : (settings : CombSettings) (r : Request) (at : Option ℕ) (o : ℕ) (a : CombState) (xs ys : List Request) → a.fwd ≡ outputs xs ys → o < 2
+pub grown : (settings : CombSettings) (r : Request) (at : Option ℕ) (o : ℕ) (a : CombState) (xs ys : List Request) → a.fwd ≡ outputs xs ys → o < 2
     → Grown o xs ys (meets settings r o at a).fwd
 grown settings r None o a xs ys e small = subst (λ fwd. Grown o xs ys (joined_at fwd o r)) (sym e) (grown_last o r xs ys small)
 grown settings r (Some i) o a xs ys e small = by_test (combines settings a.wait queued r)
@@ -92,7 +93,7 @@ grown settings r (Some i) o a xs ys e small = by_test (combines settings a.wait 
     by_test true = subst (λ fwd. Grown o xs ys (slice_set fwd o (record { items = slice_set (queue_at fwd o).items i (both queued r) }))) (sym e) (grown_combined o i (both queued r) xs ys small)
     by_test false = subst (λ fwd. Grown o xs ys (joined_at fwd o r)) (sym e) (grown_last o r xs ys small)
 
-module _ (settings : CombSettings) (t : Traffic) (s : CombState) (depth : ℕ) (small : depth ≤ 16) (few : settings.wait ≤ 16) where
+module _ (settings : CombSettings) (t : Traffic) (s : CombState) (depth : ℕ) (small : depth ≤ queue_places) (few : settings.wait ≤ queue_places) where
   abbrev left : CombState
   left = departed settings t s
 
@@ -103,14 +104,14 @@ module _ (settings : CombSettings) (t : Traffic) (s : CombState) (depth : ℕ) (
   room o = depth - length (queue_at s.fwd o).items
 
   -- room for one request from a sender, and for one behind it
-  room_for : (o sender : ℕ) → o < 2 → has_room depth (queue_at s.fwd o) (slice_index s.turn o) sender ≡ true → length (queue_at (outputs (rest 0) (rest 1)) o).items < 16
+  room_for : (o sender : ℕ) → o < 2 → has_room depth (queue_at s.fwd o) (slice_index s.turn o) sender ≡ true → length (queue_at (outputs (rest 0) (rest 1)) o).items < queue_places
   room_for zero sender lt free_places = omega (arith, some_room (room 0) (slice_index s.turn 0) sender free_places, shorter (mark_at t.requests_leave 0) (queue_at s.fwd 0))
   room_for (suc zero) sender lt free_places = omega (arith, some_room (room 1) (slice_index s.turn 1) sender free_places, shorter (mark_at t.requests_leave 1) (queue_at s.fwd 1))
   room_for (suc (suc o)) sender lt free_places = absurd (omega arith)
 
   room_behind : (o p : ℕ) (us vs : List Request) → o < 2 → p < 2 → length us ≤ length (rest 0) + cond (o == 0) 1 0 → length vs ≤ length (rest 1) + cond (o == 1) 1 0
       → has_room depth (queue_at s.fwd o) (slice_index s.turn o) 0 ≡ true → has_room depth (queue_at s.fwd p) (slice_index s.turn p) 1 ≡ true
-      → length (queue_at (outputs us vs) p).items < 16
+      → length (queue_at (outputs us vs) p).items < queue_places
   room_behind zero zero us vs lo lp hu hv fo fp = omega (arith, both_room (room 0) (slice_index s.turn 0) fo fp, shorter (mark_at t.requests_leave 0) (queue_at s.fwd 0))
   room_behind zero (suc zero) us vs lo lp hu hv fo fp = omega (arith, some_room (room 1) (slice_index s.turn 1) 1 fp, shorter (mark_at t.requests_leave 1) (queue_at s.fwd 1))
   room_behind (suc zero) zero us vs lo lp hu hv fo fp = omega (arith, some_room (room 0) (slice_index s.turn 0) 1 fp, shorter (mark_at t.requests_leave 0) (queue_at s.fwd 0))

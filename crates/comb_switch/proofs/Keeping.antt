@@ -8,6 +8,7 @@ use Rattle.arrayvec.specs.ArrayVec.{ArrayVec}
 use Rattle.omega_net.specs.declared.message.Request.{Request}
 use Rattle.omega_net.specs.declared.message.Reply.{Reply}
 use Rattle.omega_net.specs.Wires.{bit}
+use Rattle.omega_net.specs.Limits.{queue_places}
 use Rattle.omega_net.specs.Queues.{without_head}
 use Rattle.omega_net.specs.Ports.{queue_at, message_at, mark_at, joined_at, same_tag}
 use Rattle.omega_net.proofs.Keeping.{joined_in, shorter}
@@ -26,13 +27,13 @@ abbrev behind : ℕ → List Reply → List Reply → List Reply → List (Array
 behind b xs ys back = queues (xs ++ to_input b 0 back) (ys ++ to_input b 1 back)
 
 -- a reply goes behind the others of its queue
-sent_to : (k : ℕ) (y : Reply) (xs ys : List Reply) → k < 2 → length xs < 16 → length ys < 16
+sent_to : (k : ℕ) (y : Reply) (xs ys : List Reply) → k < 2 → length xs < queue_places → length ys < queue_places
     → joined_at (queues xs ys) k y ≡ queues (xs ++ cond (k == 0) (y ∷ []) []) (ys ++ cond (k == 1) (y ∷ []) [])
 sent_to zero y xs ys small hx hy = ap (λ v. queues v ys) (joined_in (record { items = xs }) y hx) ∙ ap (λ v. queues (xs ++ y ∷ []) v) (sym (append-nil ys))
 sent_to (suc zero) y xs ys small hx hy = ap (λ v. queues xs v) (joined_in (record { items = ys }) y hy) ∙ ap (λ v. queues v (ys ++ y ∷ [])) (sym (append-nil xs))
 sent_to (suc (suc k)) y xs ys small hx hy = absurd (omega arith)
 
-sent : (b : ℕ) (y : Reply) (xs ys : List Reply) → length xs < 16 → length ys < 16
+sent : (b : ℕ) (y : Reply) (xs ys : List Reply) → length xs < queue_places → length ys < queue_places
     → joined_at (queues xs ys) (bit b y.tag.proc) y ≡ behind b xs ys (y ∷ [])
 sent b y xs ys hx hy = sent_to (bit b y.tag.proc) y xs ys (mod-lt (y.tag.proc / 2 ^ b) (omega arith)) hx hy
 
@@ -52,7 +53,7 @@ one_more b i y xs = by_test (bit b y.tag.proc == i)
     by_test false = omega (arith, length-append xs [])
 
 -- two replies
-sent_both : (b : ℕ) (y z : Reply) (xs ys : List Reply) → length xs + 1 < 16 → length ys + 1 < 16
+sent_both : (b : ℕ) (y z : Reply) (xs ys : List Reply) → length xs + 1 < queue_places → length ys + 1 < queue_places
     → joined_at (joined_at (queues xs ys) (bit b y.tag.proc) y) (bit b z.tag.proc) z ≡ behind b xs ys (y ∷ z ∷ [])
 sent_both b y z xs ys hx hy =
     ap (λ rev. joined_at rev (bit b z.tag.proc) z) (sent b y xs ys (omega arith) (omega arith))
@@ -61,7 +62,7 @@ sent_both b y z xs ys hx hy =
 
 -- a reply that returns
 returned_at : (settings : CombSettings) (y : Reply) (at : Option ℕ) (a : CombState) (xs ys : List Reply) → a.rev ≡ queues xs ys
-    → length xs + 1 < 16 → length ys + 1 < 16
+    → length xs + 1 < queue_places → length ys + 1 < queue_places
     → (splits settings y at a).rev ≡ behind settings.bit xs ys (answers_at a.wait y at)
 returned_at settings y None a xs ys e hx hy = ap (λ rev. joined_at rev (bit settings.bit y.tag.proc) y) e ∙ sent settings.bit y xs ys (omega arith) (omega arith)
 returned_at settings y (Some i) a xs ys e hx hy =
@@ -70,7 +71,7 @@ returned_at settings y (Some i) a xs ys e hx hy =
     ∙ sent_both settings.bit (first_answer w y) (second_answer w y) xs ys hx hy
 
 returned : (settings : CombSettings) (m : Option Reply) (a : CombState) (xs ys : List Reply) → a.rev ≡ queues xs ys
-    → (is_some m ≡ true → (length xs + 1 < 16) × (length ys + 1 < 16))
+    → (is_some m ≡ true → (length xs + 1 < queue_places) × (length ys + 1 < queue_places))
     → (returns_to settings m a).rev ≡ behind settings.bit xs ys (answers a.wait m)
 returned settings None a xs ys e room = e ∙ ap (λ u. queues u ys) (sym (append-nil xs)) ∙ ap (λ v. queues (xs ++ []) v) (sym (append-nil ys))
 returned settings (Some y) a xs ys e room = returned_at settings y (position (λ w. same_tag w.first y.tag) a.wait.items) a xs ys e (room refl).0 (room refl).1
@@ -94,7 +95,7 @@ longer b i xs ys = omega (arith, length-append xs (to_input b i ys), fewer b i y
 
 -- both replies, where room R is enough for what comes
 all_back : (settings : CombSettings) (m n : Option Reply) (a : CombState) (xs ys : List Reply) (room : ℕ) → a.rev ≡ queues xs ys
-    → (1 ≤ room → length xs + room ≤ 16) → (1 ≤ room → length ys + room ≤ 16)
+    → (1 ≤ room → length xs + room ≤ queue_places) → (1 ≤ room → length ys + room ≤ queue_places)
     → (is_some m ≡ true → 2 ≤ room) → (is_some n ≡ true → 2 ≤ room) → (is_some m ≡ true → is_some n ≡ true → 4 ≤ room)
     → (returns_to settings n (returns_to settings m a)).rev ≡ behind settings.bit xs ys (answers a.wait m ++ answers (returns_to settings m a).wait n)
 all_back settings None n a xs ys room e fx fy two_m two_n four =
@@ -103,8 +104,8 @@ all_back settings (Some y) n a xs ys room e fx fy two_m two_n four =
     let at = position (λ w. same_tag w.first y.tag) a.wait.items in
     let back = answers_at a.wait y at in
     let two : 2 ≤ room = two_m refl in
-    let fits_x : length xs + room ≤ 16 = fx (omega arith) in
-    let fits_y : length ys + room ≤ 16 = fy (omega arith) in
+    let fits_x : length xs + room ≤ queue_places = fx (omega arith) in
+    let fits_y : length ys + room ≤ queue_places = fy (omega arith) in
     let few : length back ≤ 2 = two_at_most a.wait y at in
     returned settings n (splits settings y at a) (xs ++ to_input settings.bit 0 back) (ys ++ to_input settings.bit 1 back)
     (returned_at settings y at a xs ys e (omega arith) (omega arith))
@@ -135,7 +136,7 @@ two_rooms room turn side e = grind (arith, nat_tests)
 four_rooms : (room turn : ℕ) → (nat_le 4 room || (nat_le 2 room && (turn == 0))) ≡ true → (nat_le 4 room || (nat_le 2 room && (turn == 1))) ≡ true → 4 ≤ room
 four_rooms room turn a b = grind (arith, nat_tests)
 
-fits : (depth room : ℕ) (leaves : Bool) (q : ArrayVec Reply) → depth ≤ 16 → room ≤ depth - length q.items → 1 ≤ room → length (without_head leaves q).items + room ≤ 16
+fits : (depth room : ℕ) (leaves : Bool) (q : ArrayVec Reply) → depth ≤ queue_places → room ≤ depth - length q.items → 1 ≤ room → length (without_head leaves q).items + room ≤ queue_places
 fits depth room leaves q small free_places some = omega (arith, shorter leaves q)
 
 pub replies_are_kept : RepliesAreKept

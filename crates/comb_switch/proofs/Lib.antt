@@ -1,3 +1,4 @@
 pub mod Same
 pub mod Keeping
 pub mod Arriving
+pub mod Holding

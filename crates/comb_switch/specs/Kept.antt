@@ -5,6 +5,7 @@ use Rattle.omega_net.specs.declared.message.Request.{Request}
 use Rattle.omega_net.specs.declared.message.Reply.{Reply}
 use Rattle.omega_net.specs.declared.message.Traffic.{Traffic}
 use Rattle.omega_net.specs.Wires.{bit}
+use Rattle.omega_net.specs.Limits.{queue_places}
 use Rattle.omega_net.specs.Queues.{without_head}
 use Rattle.omega_net.specs.Ports.{queue_at, message_at, mark_at, same_tag}
 use Rattle.comb_switch.specs.declared.waiting.Waiting.{Waiting}
@@ -30,11 +31,11 @@ abbrev pub back_from : CombSettings → Traffic → CombState → List Reply
 back_from settings t a =
     answers a.wait (message_at t.replies 0) ++ answers (returns_to settings (message_at t.replies 0) a).wait (message_at t.replies 1)
 
--- at a depth of 16 at most, where each reply comes only from a side that may send, every reply stands in the queue of its
+-- at a depth no greater than a queue has places, where each reply comes only from a side that may send, every reply stands in the queue of its
 -- processor one cycle later
 abbrev pub RepliesAreKept : Type 0
 RepliesAreKept =
-    (settings : CombSettings) (t : Traffic) (s : CombState) (depth : ℕ) → depth ≤ 16
+    (settings : CombSettings) (t : Traffic) (s : CombState) (depth : ℕ) → depth ≤ queue_places
     → (is_some (message_at t.replies 0) ≡ true → comb_takes_reply s depth 0 ≡ true)
     → (is_some (message_at t.replies 1) ≡ true → comb_takes_reply s depth 1 ≡ true)
     → (i : ℕ) → i < 2
@@ -52,10 +53,10 @@ HasArrived o r old new =
 abbrev pub MayCome : CombSettings → CombState → ℕ → ℕ → Option Request → Type 0
 MayCome settings s depth i m = IfSome m (λ r. comb_takes_request s depth i (bit settings.bit r.place.«module») ≡ true)
 
--- at depths of 16 at most, where each request comes only from an input that may send, both arrive
+-- at depths no greater than a queue has places, where each request comes only from an input that may send, both arrive
 abbrev pub RequestsAreKept : Type 0
 RequestsAreKept =
-    (settings : CombSettings) (t : Traffic) (s : CombState) (depth : ℕ) → depth ≤ 16 → settings.wait ≤ 16
+    (settings : CombSettings) (t : Traffic) (s : CombState) (depth : ℕ) → depth ≤ queue_places → settings.wait ≤ queue_places
     → MayCome settings s depth 0 (message_at t.requests 0) → MayCome settings s depth 1 (message_at t.requests 1)
     → let left = departed settings t s in
     let between = arrives settings (message_at t.requests 0) left in

@@ -1,3 +1,4 @@
 pub mod CombSwitch
 pub mod Texts
 pub mod Kept
+pub mod Held

@@ -7,7 +7,6 @@ ghost use Rattle.comb_switch.specs.Kept.{RequestsAreKept};
 
 use crate::waiting::{is_first, join_waiting};
 use crate::{CombSettings, CombState, Waiting};
-use arrayvec::ArrayVec;
 use omega_net::{Queue, Request, bit_of, join};
 use page_map::Place;
 use word_ops::Op;
@@ -27,7 +26,7 @@ pub(crate) fn arrives(settings: &CombSettings, request: Option<Request>, next: &
 }
 
 /// Where each request comes only from an input that may send, every request that comes stands in its output queue, or
-/// in the wait buffer behind the one that it was combined into: none is lost, at depths of 16 at most.
+/// in the wait buffer behind the one that it was combined into: none is lost, at depths no greater than a queue has places.
 pub fn requests_are_kept()
     ensures { RequestsAreKept }
 {}
@@ -74,7 +73,7 @@ fn meets(
 /// The operation that does that request and then this one, if this one combines into it.
 fn joint_op(
     settings: &CombSettings,
-    wait: &ArrayVec<Waiting, 16>,
+    wait: &Queue<Waiting>,
     queued: &Request,
     request: &Request,
 ) -> Option<Op>

@@ -7,6 +7,7 @@
 #![tactic(auto)]
 
 mod combine;
+mod held;
 mod ports;
 mod returns;
 mod settings;
@@ -18,6 +19,7 @@ mod text;
 mod waiting;
 
 pub use combine::requests_are_kept;
+pub use held::messages_are_held;
 pub use returns::replies_are_kept;
 pub use settings::CombSettings;
 pub use state::CombState;

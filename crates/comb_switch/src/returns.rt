@@ -21,7 +21,7 @@ pub(crate) fn returns_to(settings: &CombSettings, reply: Option<Reply>, next: &m
 }
 
 /// Where each reply comes only from a side that may send, every reply that comes or is made stands in the queue of its
-/// processor one cycle later: none is lost, at depths of 16 at most.
+/// processor one cycle later: none is lost, at depths no greater than a queue has places.
 pub fn replies_are_kept()
     ensures { RepliesAreKept }
 {}

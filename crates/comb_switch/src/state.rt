@@ -4,7 +4,6 @@ ghost use Rattle.comb_switch.specs.CombSwitch.{comb_start};
 
 use crate::Waiting;
 use crate::waiting::same_waiting;
-use arrayvec::ArrayVec;
 use omega_net::{Queue, Reply, Request, same_replies, same_requests};
 
 /// A combining switch: the requests that wait, by output; the replies that wait, by input; the wait buffer; the input
@@ -15,7 +14,7 @@ use omega_net::{Queue, Reply, Request, same_replies, same_requests};
 pub struct CombState {
     pub fwd: [Queue<Request>; 2],
     pub rev: [Queue<Reply>; 2],
-    pub wait: ArrayVec<Waiting, 16>,
+    pub wait: Queue<Waiting>,
     pub turn: [u8; 2],
     pub rturn: u8,
     pub combined: u8,
@@ -29,7 +28,7 @@ impl CombState {
         CombState {
             fwd: [Queue::new(), Queue::new()],
             rev: [Queue::new(), Queue::new()],
-            wait: ArrayVec::new(),
+            wait: Queue::new(),
             turn: [0, 0],
             rturn: 0,
             combined: 0,

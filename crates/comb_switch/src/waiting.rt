@@ -4,8 +4,7 @@ ghost use Rattle.std.specs.List.{list_any};
 ghost use Rattle.omega_net.specs.Ports.{same_tag};
 ghost use Rattle.omega_net.specs.Queues.{joined};
 
-use arrayvec::ArrayVec;
-use omega_net::{Tag, join};
+use omega_net::{Queue, Tag, join};
 use word_ops::Op;
 
 /// A request that was combined into another: that one's tag, its operation before, and the tag of the request that
@@ -18,28 +17,28 @@ pub struct Waiting {
 }
 
 /// Whether two wait buffers hold the same entries in the same order.
-pub(crate) fn same_waiting(first: &ArrayVec<Waiting, 16>, second: &ArrayVec<Waiting, 16>) -> bool
+pub(crate) fn same_waiting(first: &Queue<Waiting>, second: &Queue<Waiting>) -> bool
     ensures { IsTrue result ↔ (first.now ≡ second.now) }
 {
     first == second
 }
 
 /// Whether an entry waits for that tag.
-pub(crate) fn is_first(wait: &ArrayVec<Waiting, 16>, tag: Tag) -> bool
+pub(crate) fn is_first(wait: &Queue<Waiting>, tag: Tag) -> bool
     ensures { result ≡ list_any (λ w. same_tag w.first tag) wait.now.items }
 {
     wait.iter().any(|w| w.first == tag)
 }
 
 /// The index of the first entry that waits for that tag.
-pub(crate) fn first_waiting(wait: &ArrayVec<Waiting, 16>, tag: Tag) -> Option<usize>
+pub(crate) fn first_waiting(wait: &Queue<Waiting>, tag: Tag) -> Option<usize>
     ensures { result ≡ position (λ w. same_tag w.first tag) wait.now.items }
 {
     wait.iter().position(|w| w.first == tag)
 }
 
 /// Puts an entry last, if there is room.
-pub(crate) fn join_waiting(wait: &mut ArrayVec<Waiting, 16>, waiting: Waiting)
+pub(crate) fn join_waiting(wait: &mut Queue<Waiting>, waiting: Waiting)
     ensures { wait.new ≡ joined wait.old (Some waiting) }
 {
     join(wait, Some(waiting));

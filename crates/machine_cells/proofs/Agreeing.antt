@@ -8,7 +8,7 @@ use Rattle.project_book.specs.Project.{Project}
 use Rattle.machine_cells.specs.declared.state.MachineState.{MachineState}
 use Rattle.machine_cells.specs.Reads.{later_reads, SameAtAll, SameStart}
 use Rattle.machine_cells.specs.GridRules.{rp3_rules}
-use Rattle.machine_cells.specs.GridLaws.{agrees_later, later_agrees, agrees_start, start_agrees}
+use Rattle.machine_cells.specs.laws.Grid.{agrees_later, later_agrees, agrees_start, start_agrees}
 
 pub agreeing_later : (P Q : Project) (N : List MachineState) (c : ℕ) (x : Component) (own : MachineState) (r : Bool) → P.k ≡ Q.k → component_of P.k c ≡ Some x → slice_get N 0 ≡ Some own
     → (IsTrue r ↔ SameAtAll P Q (later_reads P (Some x) own)) → IsTrue r ↔ Agrees rp3_rules P Q N c

@@ -9,3 +9,4 @@ pub mod Putting
 pub mod Agreeing
 pub mod Rows
 pub mod Resting
+pub mod Keeping

@@ -21,19 +21,20 @@ use Rattle.project_book.specs.declared.edit.Depths.TheVariants.{ModuleQueue}
 use Rattle.machine_cells.specs.Moves.{Move, moves, moved_request, moved_reply, request_over, reply_over, request_between, reply_between, at_ends, upper_state, lower_state}
 use Rattle.machine_cells.specs.Cycle.{cycle, proc_settings, comb_settings, parts_from, part_of, switch_traffic, proc_traffic, module_traffic}
 use Rattle.machine_cells.specs.Cells.{StepsAreParts, step_of, states_at, pulled, request_pulled, reply_pulled, switch_pulls, proc_pulls, module_pulls, beside_on}
-use Rattle.machine_cells.specs.TrafficLaws.{same_traffic, same_proc, same_module, module_end}
-use Rattle.machine_cells.proofs.Lookups.{request_found, reply_found, wire_listed, if_found}
+use Rattle.machine_cells.specs.laws.Traffic.{same_traffic, same_proc, same_module, module_end}
+use Rattle.machine_cells.proofs.Lookups.{request_found, reply_found, if_found}
+use Rattle.omega_net.proofs.Wiring.{wire_listed}
 use Rattle.omega_net.proofs.Numbering.{Has, component_has, number_within}
 use Rattle.omega_net.proofs.Ends.{upper_exists, lower_exists, into_ends, out_begins, into_line, out_line}
 
 -- what the list of moves has on a wire of the machine is what goes over it
 pub request_moved : (P : Project) (S : List MachineState) (w : Wire) → w.stage ≤ P.k → w.line < 2 ^ P.k → moved_request (moves P S) w ≡ request_over P S w
 request_moved P S w a b =
-    request_found (request_over P S) (reply_over P S) (wires P.k) w ∙ ap (λ t. if_found t (request_over P S w)) (wire_listed P.k w a b)
+    request_found (request_over P S) (reply_over P S) (wires P.k) w ∙ ap (λ t. if_found t (request_over P S w)) (wire_listed P.k w (a, b))
 
 pub reply_moved : (P : Project) (S : List MachineState) (w : Wire) → w.stage ≤ P.k → w.line < 2 ^ P.k → moved_reply (moves P S) w ≡ reply_over P S w
 reply_moved P S w a b =
-    reply_found (request_over P S) (reply_over P S) (wires P.k) w ∙ ap (λ t. if_found t (reply_over P S w)) (wire_listed P.k w a b)
+    reply_found (request_over P S) (reply_over P S) (wires P.k) w ∙ ap (λ t. if_found t (reply_over P S w)) (wire_listed P.k w (a, b))
 
 -- the near states hold both ends of a wire at these two places
 pub record Holds (P : Project) (S N : List MachineState) (w : Wire) (upper lower : ℕ) : Type 0 where

@@ -11,7 +11,7 @@ use Rattle.project_book.specs.FirstWords.{IsListing}
 use Rattle.project_book.specs.Project.{Project, place_in}
 use Rattle.machine_cells.specs.Run.{stands_in, words_in}
 use Rattle.machine_cells.specs.Putting.{put_first, put_each}
-use Rattle.machine_cells.specs.StartLaws.{From, from_with, same_words, same_address, word_written, word_kept, stands_when}
+use Rattle.machine_cells.specs.laws.Starts.{From, from_with, same_words, same_address, word_written, word_kept, stands_when}
 
 -- two rows may be written in either order
 either_order : (ws : List Stored) (r s v w : ℕ) → (r ≡ s → ⊥) → From 0 ws → with_word (with_word ws r v) s w ≡ with_word (with_word ws s w) r v

@@ -14,7 +14,7 @@ use Rattle.machine_cells.specs.Cycle.{cycle}
 use Rattle.machine_cells.specs.Cells.{states_at, step_of, near_or, pulled}
 use Rattle.machine_cells.specs.Run.{first_states, run_from}
 use Rattle.machine_cells.specs.GridRules.{first_state, next_state, near_cells, beside_numbers}
-use Rattle.machine_cells.specs.GridLaws.{near_is}
+use Rattle.machine_cells.specs.laws.Grid.{near_is}
 use Rattle.machine_cells.specs.Runs.{StartsAreParts, CellsAreParts}
 use Rattle.machine_cells.proofs.Parts.{steps_are_parts}
 use Rattle.machine_cells.proofs.Runs.{later, later-suc, run_from-get, length-cycle, row_at, below-get}

@@ -17,7 +17,7 @@ use Rattle.machine_cells.specs.Cycle.{cycle, parts_from}
 use Rattle.machine_cells.specs.Run.{first_states, run_from}
 use Rattle.machine_cells.specs.Cells.{states_at, step_of}
 use Rattle.machine_cells.specs.GridRules.{rp3_rules, near_cells, first_state}
-use Rattle.machine_cells.specs.GridLaws.{near_is, cells_within}
+use Rattle.machine_cells.specs.laws.Grid.{near_is, cells_within}
 use Rattle.machine_cells.specs.Runs.{RunsAreOne}
 use Rattle.machine_cells.proofs.Parts.{steps_are_parts}
 

@@ -4,13 +4,10 @@ pub mod Run
 pub mod Putting
 pub mod Cells
 pub mod Reads
-pub mod EndLaws
-pub mod TrafficLaws
-pub mod ReadLaws
-pub mod ReaderLaws
-pub mod StartLaws
 pub mod GridRules
+pub mod laws
 pub mod GridLaws
 pub mod Runs
 pub mod Texts
 pub mod Quiet
+pub mod Kept

@@ -8,13 +8,13 @@ use Rattle.omega_net.specs.declared.script.ScriptEntry.{ScriptEntry}
 use Rattle.omega_net.specs.declared.script.ScriptEntry.TheVariants.{Reference, Fence, Idle}
 use Rattle.omega_net.specs.Numbers.{component_of}
 use Rattle.ref_proc.specs.declared.state.Outgoing.{Outgoing}
-use Rattle.project_book.specs.declared.limits.TheConstants.{SCRIPT_ENTRIES}
+use Rattle.project_book.specs.Limits.{script_entries}
 use Rattle.machine_cells.specs.declared.state.MachineState.{MachineState}
 use Rattle.machine_cells.specs.declared.state.MachineState.TheVariants.{Proc, Module, Low, Comb}
 use Rattle.project_book.specs.Project.{Project, entry_at, page_of, word_of}
 use Rattle.project_book.specs.Slots.{SameAt}
 use Rattle.project_book.specs.Queues.{forward_queue}
-use Rattle.page_map.specs.declared.map.TheConstants.{ADDRESSES, PAGES}
+use Rattle.page_map.specs.Limits.{address_count, page_count, page_words}
 use Rattle.project_book.specs.declared.slot.Slot.{Slot}
 use Rattle.project_book.specs.declared.slot.Slot.TheVariants.{Shape, Entry, Word, Page as PageAt, Depth, Wait, Combine, Window}
 use Rattle.project_book.specs.declared.edit.Depths.{Depths}
@@ -22,11 +22,11 @@ use Rattle.project_book.specs.declared.edit.Depths.TheVariants.{LowForward, LowR
 
 -- a processor reads the entry at its index, where there can be one
 abbrev pub index_reads : ℕ → ℕ → List Slot
-index_reads p i = if nat_lt i SCRIPT_ENTRIES then Entry p i ∷ [] else []
+index_reads p i = if nat_lt i script_entries then Entry p i ∷ [] else []
 
 -- a reference reads the window and the page of its address
 abbrev pub entry_reads : Option ScriptEntry → List Slot
-entry_reads (Some (Reference sync op address times)) = Window ∷ PageAt (address / 256) ∷ []
+entry_reads (Some (Reference sync op address times)) = Window ∷ PageAt (address / page_words) ∷ []
 entry_reads (Some Fence) = []
 entry_reads (Some (Idle turns)) = []
 entry_reads None = []
@@ -56,8 +56,8 @@ later_reads P _ _ = []
 
 -- at cycle 0 a module reads all first words and all pages, and other components nothing more
 abbrev pub start_reads : Option Component → Slot → Bool
-start_reads (Some (ModuleAt m)) (Word a) = nat_lt a ADDRESSES
-start_reads (Some (ModuleAt m)) (PageAt g) = nat_lt g PAGES
+start_reads (Some (ModuleAt m)) (Word a) = nat_lt a address_count
+start_reads (Some (ModuleAt m)) (PageAt g) = nat_lt g page_count
 start_reads _ _ = false
 
 -- whether two slots are the same
@@ -124,8 +124,8 @@ SameAtAll P Q (slot ∷ slots) = SameAt P Q slot × SameAtAll P Q slots
 
 -- two projects with the same pages and first words
 pub record SameMemory (P Q : Project) : Type 0 where
-  pub pages : (g : ℕ) → g < PAGES → page_of P g ≡ page_of Q g
-  pub words : (a : ℕ) → a < ADDRESSES → word_of P a ≡ word_of Q a
+  pub pages : (g : ℕ) → g < page_count → page_of P g ≡ page_of Q g
+  pub words : (a : ℕ) → a < address_count → word_of P a ≡ word_of Q a
 
 -- a module's first state wants all of them
 abbrev pub SameStart : Project → Project → Option Component → Type 0

@@ -2,7 +2,7 @@
 ghost use Rattle.std.specs.Prelude.{◌≡◌, ◌↔◌, ◌<◌, ℕ, IsTrue, ◌∷◌, Some};
 ghost use Rattle.project_book.specs.declared.slot.Slot.TheVariants.{Depth, Wait, Combine};
 ghost use Rattle.project_book.specs.declared.edit.Depths.TheVariants.{LowForward, LowReverse, CombForward, CombReverse, ModuleQueue};
-ghost use Rattle.page_map.specs.declared.map.TheConstants.{ADDRESSES};
+ghost use Rattle.page_map.specs.Limits.{address_count, page_count};
 ghost use Rattle.project_book.specs.Project.{page_of, word_of};
 ghost use Rattle.machine_cells.specs.Reads.{SameAtAll, SameMemory, index_reads, entry_reads, out_reads, last_reads, back_reads, later_reads};
 
@@ -20,7 +20,7 @@ pub(crate) fn same_memory(a: &Project, b: &Project) -> bool
 }
 
 fn same_pages(a: &Project, b: &Project) -> bool
-    ensures { IsTrue result ↔ ((g : ℕ) → g < PAGES → page_of a.now g ≡ page_of b.now g) }
+    ensures { IsTrue result ↔ ((g : ℕ) → g < page_count → page_of a.now g ≡ page_of b.now g) }
 {
     for page in 0..PAGES {
         if !a.same_at(b, Slot::Page(page)) {
@@ -31,7 +31,7 @@ fn same_pages(a: &Project, b: &Project) -> bool
 }
 
 fn same_words(a: &Project, b: &Project) -> bool
-    ensures { IsTrue result ↔ ((w : ℕ) → w < ADDRESSES → word_of a.now w ≡ word_of b.now w) }
+    ensures { IsTrue result ↔ ((w : ℕ) → w < address_count → word_of a.now w ≡ word_of b.now w) }
 {
     same_listed(a.words(), b.words())
 }

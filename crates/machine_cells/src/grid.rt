@@ -25,13 +25,6 @@ use std::sync::Arc;
 /// the combining network. A cell reads the settings that the crate's documentation lists.
 pub struct Rp3;
 
-/// How large a project's machine is.
-pub(crate) fn shape_of(project: &Project) -> Shape
-    ensures { result ≡ project.now.k }
-{
-    Shape::new(project.k()).unwrap()
-}
-
 /// The component of a number that is below their number.
 pub(crate) fn component_at(shape: Shape, c: u32) -> Component
     requires { c < components shape }
@@ -52,7 +45,7 @@ pub(crate) fn next_state<S: NearState>(
     requires { c < components project.now.k }
     ensures { IfOk result (λ s. s ≡ next_state project.now (map S.state near.now) c) }
 {
-    let shape = shape_of(project);
+    let shape = project.shape();
     let component = component_at(shape, c);
     match near.first() {
         Some(own) => pulled(alloc, project, shape, near, component, own.state()),
@@ -75,17 +68,17 @@ impl Grid for Rp3 {
     ghost laws = { rp3_laws };
 
     fn components(s: &Project) -> u32 {
-        shape_of(s).components()
+        s.shape().components()
     }
 
-    #[tactic(auto, using(crate::specs::GridLaws::near_is))]
+    #[tactic(auto, using(crate::specs::laws::Grid::near_is))]
     fn near(s: &Project, c: u32) -> ArrayVec<u32, 5> {
-        let shape = shape_of(s);
+        let shape = s.shape();
         shape.near(component_at(shape, c))
     }
 
     fn reads(s: &Project, near: &[Arc<MachineState>], c: u32, slot: &Slot) -> bool {
-        let component = component_at(shape_of(s), c);
+        let component = component_at(s.shape(), c);
         match (slot, near.first()) {
             (Slot::Shape, _) => true,
             (_, Some(own)) => later_reads(s, component, own, *slot),
@@ -94,7 +87,7 @@ impl Grid for Rp3 {
     }
 
     fn may_read(s: &Project, c: u32, first: bool, slot: &Slot) -> bool {
-        let component = component_at(shape_of(s), c);
+        let component = component_at(s.shape(), c);
         match slot {
             Slot::Shape => true,
             _ if first => start_reads(component, *slot),
@@ -103,7 +96,7 @@ impl Grid for Rp3 {
     }
 
     fn start(alloc: Global, s: &Project, c: u32) -> Result<MachineState, NoMemory> {
-        start_of(alloc, s, component_at(shape_of(s), c))
+        start_of(alloc, s, component_at(s.shape(), c))
     }
 
     fn step(
@@ -123,7 +116,7 @@ impl Grid for Rp3 {
         if a.k() != b.k() {
             return false;
         }
-        let component = component_at(shape_of(a), c);
+        let component = component_at(a.shape(), c);
         match state_at(near, 0) {
             Some(own) => agree_later(a, b, component, own),
             None => agree_start(a, b, component),

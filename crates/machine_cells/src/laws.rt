@@ -1,4 +1,5 @@
 //! What is true of the machine's cells, of every project and every whole state.
+ghost use Rattle.machine_cells.specs.Kept.{NoMessageIsLost};
 ghost use Rattle.machine_cells.specs.Runs.{StartsAreParts, CellsAreParts, RunsAreOne};
 
 /// A cell's first state is its part of the machine's first states, and the step of its near states
@@ -12,4 +13,11 @@ pub fn steps_are_parts()
 /// The cells of the grid, computed one from another, are the whole states of the machine's run.
 pub fn runs_are_one()
     ensures { RunsAreOne }
+{}
+
+/// No message of a project's machine is lost, whatever its depths, and in every whole state: each that goes over a wire
+/// stands one cycle later in the component at the wire's end, or was combined there; the reply to each request that a
+/// module serves stands in its queue; and each request that was combined waits, or the reply to it is on its way back.
+pub fn no_message_is_lost()
+    ensures { NoMessageIsLost }
 {}

@@ -6,13 +6,14 @@
 //! stands on the four components (`ref_proc`, `mem_module`, `low_switch`, `comb_switch`), on the
 //! wires of `omega_net`, on the settings of `project_book`, and on the trait of `grid_law`.
 //!
-//! It promises three things, of every project and of every whole state of the types:
+//! It promises four things, of every project and of every whole state of the types:
 //! - A component's step from its near states is its part of the machine's cycle, in which all
 //!   messages move at once ([`steps_are_parts`], `specs/Cycle.antt`).
 //! - [`Rp3`] keeps the laws of a grid: a cell's state hangs on the slots that it reads and on the
 //!   near states, and on nothing else (`specs/Reads.antt`, `specs/GridLaws.antt`).
 //! - [`from_scratch`] is the run: the first states, then one cycle after another (`specs/Run.antt`),
 //!   which is also what the cells of the grid are, computed one from another ([`runs_are_one`]).
+//! - No message is lost ([`no_message_is_lost`], `specs/Kept.antt`).
 //!
 //! The states of modules and switches are [`Shared`]: where nothing moves, the next state is the one
 //! before, with one more owner.
@@ -50,7 +51,7 @@ mod tests;
 mod text;
 
 pub use grid::Rp3;
-pub use laws::{runs_are_one, steps_are_parts};
+pub use laws::{no_message_is_lost, runs_are_one, steps_are_parts};
 pub use scratch::{first_row, from_scratch, next_row};
 pub use shared::Shared;
 pub use state::MachineState;

@@ -93,7 +93,7 @@ fn takes_request(
             MachineState::Low(s),
         ) => {
             let depth = project.depth(Depths::LowForward);
-            s.ready_forward(depth, stage_bit(shape, stage), shape.input(wire), request)
+            s.ready_forward(depth, shape.deciding_bit(stage), shape.input(wire), request)
         }
         (
             Component::Switch {
@@ -104,7 +104,7 @@ fn takes_request(
             MachineState::Comb(s),
         ) => {
             let depth = project.depth(Depths::CombForward);
-            s.ready_forward(depth, stage_bit(shape, stage), shape.input(wire), request)
+            s.ready_forward(depth, shape.deciding_bit(stage), shape.input(wire), request)
         }
         _ => false,
     }
@@ -132,7 +132,7 @@ fn takes_reply(
             MachineState::Low(s),
         ) => {
             let depth = project.depth(Depths::LowReverse);
-            s.ready_reverse(depth, stage_bit(shape, stage), wire.output(), reply)
+            s.ready_reverse(depth, shape.deciding_bit(stage), wire.output(), reply)
         }
         (Component::Switch { net: Net::Comb, .. }, MachineState::Comb(s)) => s.ready_reverse(
             project.depth(Depths::CombReverse),
@@ -140,13 +140,6 @@ fn takes_reply(
         ),
         _ => false,
     }
-}
-
-/// The bit of a module or of a processor by which a stage decides.
-pub(crate) fn stage_bit(shape: Shape, stage: u8) -> u32
-    ensures { result ≡ shape - 1 - stage }
-{
-    shape.k().saturating_sub(1).saturating_sub(u32::from(stage))
 }
 
 /// The request that goes over a wire between the near states at these two places.

@@ -6,7 +6,7 @@ ghost use Rattle.machine_cells.specs.Cycle.{cycle};
 ghost use Rattle.machine_cells.specs.Run.{first_states, run_from, run};
 
 use crate::MachineState;
-use crate::grid::{component_at, shape_of};
+use crate::grid::component_at;
 use crate::start::start_of;
 use crate::step::pulled;
 use grid_law::NoMemory;
@@ -48,7 +48,7 @@ fn push_next(
 pub fn first_row(alloc: Global, project: &Project) -> Result<Vec<MachineState>, NoMemory>
     ensures { IfOk result (λ row. row.items ≡ first_states project.now) }
 {
-    let shape = shape_of(project);
+    let shape = project.shape();
     let mut row = Vec::new(alloc);
     for c in 0..shape.components() {
         row.push(start_of(alloc, project, component_at(shape, c))?)?;
@@ -66,7 +66,7 @@ pub fn next_row(
     ensures { IfOk result (λ next. next.items ≡ cycle project.now row.now) }
 {
     let mut next = Vec::with_capacity(alloc, row.len())?;
-    for c in 0..shape_of(project).components() {
+    for c in 0..project.shape().components() {
         next.push(next_of(alloc, project, row, c)?)?;
     }
     Ok(next)
@@ -83,7 +83,7 @@ fn next_of(
     requires there { c < components project.now.k }
     ensures { IfOk result (λ state. slice_get (cycle project.now row.now) c ≡ Some state) }
 {
-    let shape = shape_of(project);
+    let shape = project.shape();
     let component = component_at(shape, c);
     let near = shape.near(component);
     let own = &row[c as usize];

@@ -1,6 +1,8 @@
 //! A component's state at cycle 0.
 ghost use Rattle.std.specs.Prelude.{◌≡◌, IfOk, Some, ◌<◌};
+ghost use Rattle.machine_cells.specs.Cycle.{blank_of};
 ghost use Rattle.machine_cells.specs.Run.{start_of, words_in};
+ghost use Rattle.mem_module.specs.MemModule.{module_start};
 ghost use Rattle.machine_cells.specs.Putting.{put_first};
 
 use crate::{MachineState, Shared};
@@ -21,19 +23,37 @@ pub(crate) fn start_of(
 ) -> Result<MachineState, NoMemory>
     ensures { IfOk result (λ s. s ≡ start_of project.now (Some component)) }
 {
-    Ok(match component {
-        Component::Proc(_) => MachineState::Proc(ProcState::start()),
+    match component {
         Component::Module(number) => {
             let words = words_in(alloc, project, number)?;
-            MachineState::Module(Shared::new(alloc, ModuleState::start(alloc, words)?)?)
+            module_with(alloc, words)
         }
+        other => blank_of(alloc, other),
+    }
+}
+
+/// A component in which nothing is or was.
+pub(crate) fn blank_of(alloc: Global, component: Component) -> Result<MachineState, NoMemory>
+    ensures { IfOk result (λ s. s ≡ blank_of (Some component)) }
+{
+    match component {
+        Component::Proc(_) => Ok(MachineState::Proc(ProcState::start())),
+        Component::Module(_) => module_with(alloc, Words::new(alloc)),
         Component::Switch { net: Net::Low, .. } => {
-            MachineState::Low(Shared::new(alloc, LowState::start())?)
+            Ok(MachineState::Low(Shared::new(alloc, LowState::start())?))
         },
         Component::Switch { net: Net::Comb, .. } => {
-            MachineState::Comb(Shared::new(alloc, CombState::start())?)
+            Ok(MachineState::Comb(Shared::new(alloc, CombState::start())?))
         },
-    })
+    }
+}
+
+/// A module with these words, in which nothing waits.
+fn module_with(alloc: Global, words: Words) -> Result<MachineState, NoMemory>
+    ensures { IfOk result (λ s. s ≡ MachineState.Module (module_start words)) }
+{
+    let state = ModuleState::start(alloc, words)?;
+    Ok(MachineState::Module(Shared::new(alloc, state)?))
 }
 
 /// The first words that stand in a module, by row.

@@ -5,17 +5,18 @@ ghost use Rattle.project_book.specs.Project.{place_for};
 ghost use Rattle.project_book.specs.Scripts.{IsEntry};
 ghost use Rattle.low_switch.specs.LowSwitch.{low_after};
 ghost use Rattle.comb_switch.specs.CombSwitch.{comb_after};
-ghost use Rattle.machine_cells.specs.Cycle.{proc_settings, comb_settings, blank_of};
+ghost use Rattle.machine_cells.specs.Cycle.{proc_settings, comb_settings};
 ghost use Rattle.machine_cells.specs.Cells.{beside_on, proc_pulls, module_pulls, switch_pulls, pulled};
 
 use crate::near::NearState;
-use crate::pull::{reply_pulled, request_pulled, stage_bit};
+use crate::pull::{reply_pulled, request_pulled};
 use crate::rest::{comb_next, low_next, module_next};
+use crate::start::blank_of;
 use crate::{MachineState, Shared};
 use comb_switch::{CombSettings, CombState};
 use grid_law::NoMemory;
 use low_switch::LowState;
-use mem_module::{ModuleState, ModuleTraffic, Words};
+use mem_module::{ModuleState, ModuleTraffic};
 use omega_net::{Component, Net, ScriptEntry, Shape, Traffic};
 use page_map::Place;
 use project_book::{Depths, Project};
@@ -148,7 +149,7 @@ fn comb_settings(project: &Project, shape: Shape, stage: u8) -> CombSettings
     ensures { result ≡ comb_settings project.now stage }
 {
     CombSettings {
-        bit: stage_bit(shape, stage),
+        bit: shape.deciding_bit(stage),
         combine: project.combine(u32::from(stage)),
         wait: project.wait(),
     }
@@ -168,7 +169,7 @@ fn low_step<S: NearState>(
     ensures { IfOk result (λ s. s ≡ low_after (project.now.k - 1 - stage) (switch_pulls project.now (map S.state near.now) Net.Low stage index) own.now) }
 {
     let traffic = switch_pulls(project, shape, near, Net::Low, stage, index);
-    low_next(alloc, own, stage_bit(shape, stage), &traffic)
+    low_next(alloc, own, shape.deciding_bit(stage), &traffic)
 }
 
 fn comb_step<S: NearState>(
@@ -231,22 +232,4 @@ pub(crate) fn pulled<S: NearState>(
         ) => { Ok(MachineState::Comb(comb_step(alloc, project, shape, near, stage, index, s)?)) }
         _ => blank_of(alloc, component),
     }
-}
-
-/// A component in which nothing is or was.
-fn blank_of(alloc: Global, component: Component) -> Result<MachineState, NoMemory>
-    ensures { IfOk result (λ s. s ≡ blank_of (Some component)) }
-{
-    Ok(match component {
-        Component::Proc(_) => MachineState::Proc(ProcState::start()),
-        Component::Module(_) => {
-            MachineState::Module(Shared::new(alloc, ModuleState::start(alloc, Words::new(alloc))?)?)
-        }
-        Component::Switch { net: Net::Low, .. } => {
-            MachineState::Low(Shared::new(alloc, LowState::start())?)
-        },
-        Component::Switch { net: Net::Comb, .. } => {
-            MachineState::Comb(Shared::new(alloc, CombState::start())?)
-        },
-    })
 }

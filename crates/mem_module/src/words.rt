@@ -1,5 +1,5 @@
 //! The words of a module that aren't 0, by rows.
-ghost use Rattle.std.specs.Prelude.{◌≡◌, ◌≢◌, ◌↔◌, [], IsTrue, IsOk, IfOk, IfErr, OnOk, OnErr};
+ghost use Rattle.std.specs.Prelude.{◌≡◌, ◌≢◌, [], IsOk, IfOk, IfErr, OnOk, OnErr};
 ghost use Rattle.std.specs.Option.{option_to_list};
 ghost use Rattle.mem_module.specs.Memory.{word_at, stored, with_word, IsAscending, IsAt, IsGapFor};
 
@@ -40,27 +40,6 @@ impl Words {
         Words {
             stored: Vec::new(alloc),
         }
-    }
-
-    /// The words of this list, where its rows ascend and no word is 0; else the list as it was. It takes no memory.
-    pub fn from_vec(stored: Vec<Stored>) -> Result<Words, Vec<Stored>>
-        ensures ascending { IsOk result ↔ IsAscending stored.items }
-        ensures words { IfOk result (λ words. words ≡ stored.items) }
-        ensures given_back { IfErr result (λ list. list ≡ stored) }
-    {
-        if ascends(&stored) {
-            Ok(Words { stored })
-        } else {
-            Err(stored)
-        }
-    }
-
-    /// The list of the words. It takes no memory.
-    pub fn into_vec(self) -> Vec<Stored>
-        ensures { result.items ≡ self }
-    {
-        let Words { stored } = self;
-        stored
     }
 
     /// The word of a row, 0 where none is kept. It looks at no more rows than the binary logarithm of their number.
@@ -128,19 +107,4 @@ fn kept(row: u16, word: u32) -> Option<Stored>
     } else {
         Some(Stored { row, word })
     }
-}
-
-/// Whether the rows ascend and no word is 0.
-fn ascends(words: &[Stored]) -> bool
-    ensures { IsTrue result ↔ IsAscending words.now }
-{
-    let mut lowest = 0;
-    for stored in words {
-        let row = stored.row as u32;
-        if row < lowest || stored.word == 0 {
-            return false;
-        }
-        lowest = row + 1;
-    }
-    true
 }

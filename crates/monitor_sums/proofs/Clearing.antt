@@ -3,7 +3,7 @@ use Rattle.std.proofs.Common.{◌≡◌, ℕ, ◌+◌, ◌<◌, ◌≤◌, Bool,
 use Rattle.std.specs.Prelude.{◌==◌, ◌&&◌, nat_lt, nat_le}
 use Rattle.std.proofs.lemmas.Bool.Decides.{nat_tests}
 use Rattle.omega_net.specs.Numbers.{components}
-use Rattle.project_book.specs.declared.limits.TheConstants.{MAX_HORIZON}
+use Rattle.project_book.specs.Limits.{max_horizon}
 use Rattle.machine_cells.specs.declared.state.MachineState.{MachineState}
 use Rattle.monitor_sums.specs.declared.counted.Counted.{Counted}
 use Rattle.monitor_sums.specs.Sums.{States, cleared}
@@ -18,7 +18,7 @@ chosen false true x y f g = let e : false ≡ true = g refl in cc
 
 -- what is kept stands for the map without those states
 pub stands_cleared : (old new : Kept) (from to : ℕ) (at : States) → new.k ≡ old.k
-    → ((u d : ℕ) → u ≤ MAX_HORIZON → d < components old.k → kept_at new.cells u d ≡ cond (nat_le from u && nat_lt u (to + 1)) nothing (kept_at old.cells u d))
+    → ((u d : ℕ) → u ≤ max_horizon → d < components old.k → kept_at new.cells u d ≡ cond (nat_le from u && nat_lt u (to + 1)) nothing (kept_at old.cells u d))
     → StandsFor old at → StandsFor new (cleared at from to)
 stands_cleared old new from to at same each stands u d b there =
     each u d b old_there

@@ -1,19 +1,20 @@
 -- Sums over the cells of components and cycles.
 use Rattle.std.proofs.Common.{◌≡◌, ℕ, zero, suc, ◌+◌, ◌-◌, ◌*◌, ◌^◌, ◌<◌, ◌≤◌, refl, ap, ◌∙◌, arith, Option, None, Some}
 use Rattle.std.specs.Option.{ForSome}
-use Rattle.page_map.specs.declared.map.TheConstants.{MAX_K}
+use Rattle.page_map.specs.Limits.{max_k}
 use Rattle.omega_net.specs.Numbers.{components}
-use Rattle.project_book.specs.declared.limits.TheConstants.{MAX_HORIZON}
+use Rattle.project_book.specs.Limits.{max_horizon}
 use Rattle.monitor_sums.specs.Adding.{sum_below}
 use Rattle.monitor_sums.specs.Sums.{sum_over}
 use Rattle.monitor_sums.proofs.Adding.{sum_none, sum_more, sum_below-same, sum_below-change, sum_below-le, sum_below-part, sum_below-cut}
+use Rattle.monitor_sums.specs.Limits.{max_components}
 
 -- a component's sum over the cycles `from` to `to`
 abbrev pub over_cycles : (ℕ → ℕ → ℕ) → ℕ → ℕ → ℕ → ℕ
 over_cycles f from to c = sum_below (λ i. f (i + from) c) (to + 1 - from)
 
 -- a machine of 2^k processors has at most 224 components
-pub components_few : (k : ℕ) → k ≤ MAX_K → components k ≤ 224
+pub components_few : (k : ℕ) → k ≤ max_k → components k ≤ max_components
 components_few zero h = omega arith
 components_few (suc zero) h = omega arith
 components_few (suc (suc zero)) h = omega arith
@@ -85,15 +86,15 @@ part_all k f t c to in_time there =
 pub small_cycles : (f : ℕ → ℕ → ℕ) (from to c : ℕ) → ((t : ℕ) → f t c < 256) → over_cycles f from to c ≤ 256 * (to + 1 - from)
 small_cycles f from to c small = sum_below-le (λ i. f (i + from) c) 256 (to + 1 - from) (λ i b. let one : f (i + from) c < 256 = small (i + from) in omega arith)
 
-pub small_own : (k : ℕ) (f : ℕ → ℕ → ℕ) (c : ℕ) → ((t c : ℕ) → f t c < 256) → sum_over k f (Some c) 0 MAX_HORIZON < 2 ^ 32
+pub small_own : (k : ℕ) (f : ℕ → ℕ → ℕ) (c : ℕ) → ((t c : ℕ) → f t c < 256) → sum_over k f (Some c) 0 max_horizon < 2 ^ 32
 small_own k f c small =
-    let few : over_cycles f 0 MAX_HORIZON c ≤ 256 * 1001 = small_cycles f 0 MAX_HORIZON c (λ t. small t c) in
+    let few : over_cycles f 0 max_horizon c ≤ 256 * 1001 = small_cycles f 0 max_horizon c (λ t. small t c) in
     omega arith
 
-pub small_all : (k : ℕ) (f : ℕ → ℕ → ℕ) → k ≤ MAX_K → ((t c : ℕ) → f t c < 256) → sum_over k f None 0 MAX_HORIZON < 2 ^ 32
+pub small_all : (k : ℕ) (f : ℕ → ℕ → ℕ) → k ≤ max_k → ((t c : ℕ) → f t c < 256) → sum_over k f None 0 max_horizon < 2 ^ 32
 small_all k f few small =
-    let most : sum_over k f None 0 MAX_HORIZON ≤ 256256 * components k =
-    sum_below-le (over_cycles f 0 MAX_HORIZON) 256256 (components k) (λ c there. small_cycles f 0 MAX_HORIZON c (λ t. small t c)) in
+    let most : sum_over k f None 0 max_horizon ≤ 256256 * components k =
+    sum_below-le (over_cycles f 0 max_horizon) 256256 (components k) (λ c there. small_cycles f 0 max_horizon c (λ t. small t c)) in
     omega (arith, components_few k few)
 
 -- where every cell has nothing, so have the sums

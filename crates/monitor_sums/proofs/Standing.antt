@@ -10,7 +10,7 @@ use Rattle.machine_cells.proofs.Runs.{length-below, below-get}
 use Rattle.omega_net.specs.declared.component.Net.{Net}
 use Rattle.omega_net.specs.Numbers.{components}
 use Rattle.omega_net.specs.Wires.{below}
-use Rattle.project_book.specs.declared.limits.TheConstants.{MAX_HORIZON}
+use Rattle.project_book.specs.Limits.{max_horizon}
 use Rattle.monitor_sums.specs.declared.counter.Counter.{Counter}
 use Rattle.monitor_sums.specs.declared.counted.Counted.{Counted}
 use Rattle.monitor_sums.specs.Counts.{count, output_lengths}
@@ -21,35 +21,36 @@ use Rattle.monitor_sums.specs.Whole.{counted_of, lengths_of}
 use Rattle.monitor_sums.proofs.Parts.{part_counted, in_profile_nothing}
 use Rattle.monitor_sums.proofs.Over.{same_over, cut_over}
 use Rattle.monitor_sums.proofs.Putting.{kept_here, kept_elsewhere}
+use Rattle.monitor_sums.specs.Limits.{profile_lengths}
 
 -- two maps that are equal at each cell stand alike
-pub stands_as : (kept : Kept) (at other : States) → ((t c : ℕ) → t ≤ MAX_HORIZON → c < components kept.k → at t c ≡ other t c)
+pub stands_as : (kept : Kept) (at other : States) → ((t c : ℕ) → t ≤ max_horizon → c < components kept.k → at t c ≡ other t c)
     → StandsFor kept at → StandsFor kept other
 stands_as kept at other same stands t c b there = stands t c b there ∙ ap counted (same t c b there)
 
 -- what was counted of the cells is what the map's states count
 pub stands_sum : (kept : Kept) (at : States) (counter : Counter) (who : Option ℕ) (from to : ℕ) → StandsFor kept at
-    → ForSome who (λ c. c < components kept.k) → to ≤ MAX_HORIZON → counted_of kept.k counter kept.cells who from to ≡ sum_of kept.k counter at who from to
+    → ForSome who (λ c. c < components kept.k) → to ≤ max_horizon → counted_of kept.k counter kept.cells who from to ≡ sum_of kept.k counter at who from to
 stands_sum kept at counter who from to stands asked within =
     same_over kept.k (λ t c. part counter (kept_at kept.cells t c)) (λ t c. count counter (at t c)) who from to asked
     (λ t c b there. ap (part counter) (stands t c (omega arith) there) ∙ part_counted counter (at t c))
 
 -- where the cells past h hold no state, they can be left out
 pub stands_sum_to : (kept : Kept) (at : States) (counter : Counter) (who : Option ℕ) (h : ℕ) → StandsFor kept at
-    → ForSome who (λ c. c < components kept.k) → NonePast kept.k at h → h ≤ MAX_HORIZON
-    → counted_of kept.k counter kept.cells who 0 MAX_HORIZON ≡ sum_of kept.k counter at who 0 h
+    → ForSome who (λ c. c < components kept.k) → NonePast kept.k at h → h ≤ max_horizon
+    → counted_of kept.k counter kept.cells who 0 max_horizon ≡ sum_of kept.k counter at who 0 h
 stands_sum_to kept at counter who h stands asked none within =
-    stands_sum kept at counter who 0 MAX_HORIZON stands asked (omega arith)
-    ∙ cut_over kept.k (λ t c. count counter (at t c)) who h MAX_HORIZON asked within (λ t c a b there. ap (count counter) (none t c a b there))
+    stands_sum kept at counter who 0 max_horizon stands asked (omega arith)
+    ∙ cut_over kept.k (λ t c. count counter (at t c)) who h max_horizon asked within (λ t c a b there. ap (count counter) (none t c a b there))
 
 -- how often a queue was of a length, too
-pub stands_pairs : (kept : Kept) (at : States) (net : Net) (stage h n : ℕ) → StandsFor kept at → NonePast kept.k at h → h ≤ MAX_HORIZON
+pub stands_pairs : (kept : Kept) (at : States) (net : Net) (stage h n : ℕ) → StandsFor kept at → NonePast kept.k at h → h ≤ max_horizon
     → lengths_of kept.k kept.cells net stage n ≡ pairs_of kept.k at net stage h n
 stands_pairs kept at net stage h n stands none within =
     same_over kept.k (λ t c. in_profile kept.k net stage n c (kept_at kept.cells t c).lengths) (λ t c. in_profile kept.k net stage n c (output_lengths (at t c)))
-    None 0 MAX_HORIZON (λ c e. absurd (some_none e))
+    None 0 max_horizon (λ c e. absurd (some_none e))
     (λ t c b there. ap (λ (x : Counted). in_profile kept.k net stage n c x.lengths) (stands t c b there))
-    ∙ cut_over kept.k (λ t c. in_profile kept.k net stage n c (output_lengths (at t c))) None h MAX_HORIZON (λ c e. absurd (some_none e)) within
+    ∙ cut_over kept.k (λ t c. in_profile kept.k net stage n c (output_lengths (at t c))) None h max_horizon (λ c e. absurd (some_none e)) within
     (λ t c a b there. ap (λ s. in_profile kept.k net stage n c (output_lengths s)) (none t c a b there) ∙ in_profile_nothing kept.k net stage n c)
   where
     some_none : {c : ℕ} → None ≡ Some c → ⊥
@@ -73,19 +74,19 @@ listed ns f n long each =
     at_each i d b = get_or_default ns i d 0 b ∙ each i (omega arith) ∙ sym (found i d (omega arith))
 
 -- a profile from its numbers
-pub stands_profile : (kept : Kept) (at : States) (net : Net) (stage h : ℕ) (ns : List ℕ) → StandsFor kept at → NonePast kept.k at h → h ≤ MAX_HORIZON
-    → length ns ≡ 17 → ((n : ℕ) → n < 17 → slice_index ns n ≡ lengths_of kept.k kept.cells net stage n) → ns ≡ profile_of kept.k at net stage h
+pub stands_profile : (kept : Kept) (at : States) (net : Net) (stage h : ℕ) (ns : List ℕ) → StandsFor kept at → NonePast kept.k at h → h ≤ max_horizon
+    → length ns ≡ profile_lengths → ((n : ℕ) → n < profile_lengths → slice_index ns n ≡ lengths_of kept.k kept.cells net stage n) → ns ≡ profile_of kept.k at net stage h
 unfolding profile_of
 stands_profile kept at net stage h ns stands none within long each =
-    listed ns (pairs_of kept.k at net stage h) 17 long (λ n b. each n b ∙ stands_pairs kept at net stage h n stands none within)
+    listed ns (pairs_of kept.k at net stage h) profile_lengths long (λ n b. each n b ∙ stands_pairs kept at net stage h n stands none within)
 
 -- no cell is past the greatest horizon
-pub none_past : (k : ℕ) (at : States) → NonePast k at MAX_HORIZON
+pub none_past : (k : ℕ) (at : States) → NonePast k at max_horizon
 none_past k at t c a b there = absurd (omega arith)
 
 -- a cell's counts were replaced, and no other's
-pub put_each : (k t c : ℕ) (cells : List Counted) (x : Counted) → length cells ≡ components k * (MAX_HORIZON + 1) → t ≤ MAX_HORIZON → c < components k
-    → (u d : ℕ) → u ≤ MAX_HORIZON
+pub put_each : (k t c : ℕ) (cells : List Counted) (x : Counted) → length cells ≡ components k * (max_horizon + 1) → t ≤ max_horizon → c < components k
+    → (u d : ℕ) → u ≤ max_horizon
     → kept_at (slice_set cells (place_of c t) x) u d ≡ cond ((u == t) && (d == c)) x (kept_at cells u d)
 put_each k t c cells x room in_time there u d also = by_tests (u == t) (d == c) refl refl
   where
@@ -100,7 +101,7 @@ put_each k t c cells x room in_time there u d also = by_tests (u == t) (d == c) 
 
 -- so what is kept stands for the map where that cell holds that state
 pub stands_changed : (old new : Kept) (t c : ℕ) (x : Counted) (s : Option MachineState) (at : States) → new.k ≡ old.k → x ≡ counted s
-    → ((u d : ℕ) → u ≤ MAX_HORIZON → d < components old.k → kept_at new.cells u d ≡ cond ((u == t) && (d == c)) x (kept_at old.cells u d))
+    → ((u d : ℕ) → u ≤ max_horizon → d < components old.k → kept_at new.cells u d ≡ cond ((u == t) && (d == c)) x (kept_at old.cells u d))
     → StandsFor old at → StandsFor new (changed at t c s)
 stands_changed old new t c x s at same is each stands u d b there =
     each u d b old_there ∙ by_test ((u == t) && (d == c))

@@ -3,10 +3,10 @@ use Rattle.std.proofs.Common.{◌≡◌, ℕ, zero, suc, ◌+◌, ◌*◌, ◌<�
 use Rattle.std.specs.Prelude.{slice_index, slice_index_or}
 use Rattle.std.proofs.lemmas.Bool.{cases_lt}
 use Rattle.std.proofs.lemmas.List.{get_or-replicate, get_or_past, length-replicate}
-use Rattle.page_map.specs.declared.map.TheConstants.{MAX_K}
+use Rattle.page_map.specs.Limits.{max_k}
 use Rattle.omega_net.specs.declared.component.Net.{Net}
 use Rattle.omega_net.specs.Numbers.{components}
-use Rattle.project_book.specs.declared.limits.TheConstants.{MAX_HORIZON}
+use Rattle.project_book.specs.Limits.{max_horizon}
 use Rattle.monitor_sums.specs.declared.counter.Counter.{Counter}
 use Rattle.monitor_sums.specs.declared.counter.Counter.TheVariants.{Issued, Answered, Served, Combined, Waiting}
 use Rattle.monitor_sums.specs.declared.counted.Counted.{Counted}
@@ -17,6 +17,7 @@ use Rattle.monitor_sums.specs.Kept.{Kept, StandsFor, nothing, place_of, kept_at,
 use Rattle.monitor_sums.specs.Whole.{counted_of, lengths_of, none, tally_at, profile_place, profile_at, AddsUp}
 use Rattle.monitor_sums.proofs.Parts.{part_nothing, in_profile_nothing}
 use Rattle.monitor_sums.proofs.Over.{none_over}
+use Rattle.monitor_sums.specs.Limits.{profile_lengths}
 
 -- a copy among copies, or the default past them
 copy_or : {X : Type 0} (n i : ℕ) (x d : X) → (get_or (replicate n x) i d ≡ x) ⊎ (get_or (replicate n x) i d ≡ d)
@@ -47,14 +48,14 @@ module _ (k n m : ℕ) where
   nothing_kept : (t c : ℕ) → kept_at (replicate n nothing) t c ≡ nothing
   nothing_kept t c = copy_of n (place_of c t) nothing
 
-  nothing_counted : (counter : Counter) (who : Option ℕ) → counted_of k counter (replicate n nothing) who 0 MAX_HORIZON ≡ 0
+  nothing_counted : (counter : Counter) (who : Option ℕ) → counted_of k counter (replicate n nothing) who 0 max_horizon ≡ 0
   nothing_counted counter who =
-      none_over k (λ t c. part counter (kept_at (replicate n nothing) t c)) who MAX_HORIZON
+      none_over k (λ t c. part counter (kept_at (replicate n nothing) t c)) who max_horizon
       (λ t c. ap (part counter) (nothing_kept t c) ∙ part_nothing counter)
 
   nothing_long : (net : Net) (stage n' : ℕ) → lengths_of k (replicate n nothing) net stage n' ≡ 0
   nothing_long net stage n' =
-      none_over k (λ t c. in_profile k net stage n' c (kept_at (replicate n nothing) t c).lengths) None MAX_HORIZON
+      none_over k (λ t c. in_profile k net stage n' c (kept_at (replicate n nothing) t c).lengths) None max_horizon
       (λ t c. ap (λ (x : Counted). in_profile k net stage n' c x.lengths) (nothing_kept t c) ∙ in_profile_nothing k net stage n' c)
 
   zero_at : (zeros : List ℕ) (net : Net) (stage i : ℕ) → ((j : ℕ) → slice_index zeros j ≡ 0) → slice_index (profile_at k (replicate m zeros) net stage) i ≡ 0
@@ -69,7 +70,7 @@ zeros_are : (n j : ℕ) → slice_index (replicate n 0) j ≡ 0
 zeros_are n j = copy_of n j 0
 
 -- where every cell holds no state, what is kept adds up
-pub blank_adds : (k n count m : ℕ) (zeros : List ℕ) → k ≤ MAX_K → n ≡ components k * (MAX_HORIZON + 1) → count ≡ components k → m ≡ k + k → zeros ≡ replicate 17 0
+pub blank_adds : (k n count m : ℕ) (zeros : List ℕ) → k ≤ max_k → n ≡ components k * (max_horizon + 1) → count ≡ components k → m ≡ k + k → zeros ≡ replicate profile_lengths 0
     → AddsUp k (replicate n nothing) (replicate count none) none (replicate m zeros)
 blank_adds k n count m zeros few cells_are count_is stages_are zeros_is = record {
   few = few;
@@ -79,7 +80,7 @@ blank_adds k n count m zeros few cells_are count_is stages_are zeros_is = record
   small = λ i. subst IsSmall (sym (copy_of n i nothing)) small_nothing;
   parts = λ counter c there. ap (tallied counter) (copy_of count c none) ∙ tallied_none counter ∙ sym (nothing_counted k n m counter (Some c));
   whole = λ counter. tallied_none counter ∙ sym (nothing_counted k n m counter None);
-  lengths = λ net stage i in_net short. zero_at k n m zeros net stage i (λ j. ap (λ ns. slice_index ns j) zeros_is ∙ zeros_are 17 j) ∙ sym (nothing_long k n m net stage i);
+  lengths = λ net stage i in_net short. zero_at k n m zeros net stage i (λ j. ap (λ ns. slice_index ns j) zeros_is ∙ zeros_are profile_lengths j) ∙ sym (nothing_long k n m net stage i);
 }
 
 -- and stands for the map without states
@@ -87,14 +88,14 @@ pub blank_stands : (kept : Kept) (k n : ℕ) → kept ≡ record { k = k; cells 
 blank_stands kept k n is t c b there = ap (λ (v : Kept). kept_at v.cells t c) is ∙ copy_of n (place_of c t) nothing
 
 -- what is kept at first, from what was made
-pub blank_is : (k count stages : ℕ) (cells : List Counted) (totals : List Tally) (all : Tally) (profiles : List (List ℕ)) (x : Counted) (z : Tally) → k ≤ MAX_K
+pub blank_is : (k count stages : ℕ) (cells : List Counted) (totals : List Tally) (all : Tally) (profiles : List (List ℕ)) (x : Counted) (z : Tally) → k ≤ max_k
     → count ≡ components k → stages ≡ k → cells ≡ replicate (count * 1001) x → x ≡ nothing → totals ≡ replicate count z → z ≡ none → all ≡ none
-    → profiles ≡ replicate (2 * stages) (replicate 17 0) → AddsUp k cells totals all profiles
+    → profiles ≡ replicate (2 * stages) (replicate profile_lengths 0) → AddsUp k cells totals all profiles
 blank_is k count stages cells totals all profiles x z few count_is stages_is cells_are x_is totals_are z_is all_is profiles_are =
     let cells_none : cells ≡ replicate (count * 1001) nothing = cells_are ∙ ap (replicate (count * 1001)) x_is in
     let totals_none : totals ≡ replicate count none = totals_are ∙ ap (replicate count) z_is in
-    let made : AddsUp k (replicate (count * 1001) nothing) (replicate count none) none (replicate (2 * stages) (replicate 17 0)) =
-    blank_adds k (count * 1001) count (2 * stages) (replicate 17 0) few (ap (λ n. n * 1001) count_is) count_is (omega arith) refl in
+    let made : AddsUp k (replicate (count * 1001) nothing) (replicate count none) none (replicate (2 * stages) (replicate profile_lengths 0)) =
+    blank_adds k (count * 1001) count (2 * stages) (replicate profile_lengths 0) few (ap (λ n. n * 1001) count_is) count_is (omega arith) refl in
     subst (λ v. AddsUp k v totals all profiles) (sym cells_none)
     (subst (λ v. AddsUp k (replicate (count * 1001) nothing) v all profiles) (sym totals_none)
     (subst (λ v. AddsUp k (replicate (count * 1001) nothing) (replicate count none) v profiles) (sym all_is)

@@ -1,7 +1,7 @@
 -- What is kept of a run: what each cell counts.
 use Rattle.std.specs.Prelude.{◌≡◌, ℕ, ◌+◌, ◌*◌, ◌<◌, ◌≤◌, List, Option, Some, None, slice_index_or}
 use Rattle.omega_net.specs.Numbers.{components}
-use Rattle.project_book.specs.declared.limits.TheConstants.{MAX_HORIZON}
+use Rattle.project_book.specs.Limits.{max_horizon}
 use Rattle.monitor_sums.specs.declared.counter.Counter.TheVariants.{Issued, Answered, Served, Combined, Waiting}
 use Rattle.monitor_sums.specs.declared.counted.Counted.{Counted}
 use Rattle.monitor_sums.specs.Counts.{count, output_lengths}
@@ -30,7 +30,7 @@ pub record Kept : Type 0 where
 
 -- where a cell stands among them
 abbrev pub place_of : ℕ → ℕ → ℕ
-place_of c t = c * (MAX_HORIZON + 1) + t
+place_of c t = c * (max_horizon + 1) + t
 
 -- what is kept of a cell
 abbrev pub kept_at : List Counted → ℕ → ℕ → Counted
@@ -38,4 +38,4 @@ kept_at cells t c = slice_index_or cells (place_of c t) nothing
 
 -- `stands`: what is kept of each cell is what the map's state counts
 abbrev pub StandsFor : Kept → States → Type 0
-StandsFor kept at = (t c : ℕ) → t ≤ MAX_HORIZON → c < components kept.k → kept_at kept.cells t c ≡ counted (at t c)
+StandsFor kept at = (t c : ℕ) → t ≤ max_horizon → c < components kept.k → kept_at kept.cells t c ≡ counted (at t c)

@@ -4,6 +4,7 @@ use Rattle.monitor_sums.specs.declared.counter.Counter.{Counter}
 use Rattle.monitor_sums.specs.declared.counter.Counter.TheVariants.{Issued, Answered, Served, Combined, Waiting}
 use Rattle.monitor_sums.specs.declared.counted.Counted.{Counted}
 use Rattle.monitor_sums.specs.declared.tally.Tally.{Tally}
+use Rattle.monitor_sums.specs.Limits.{profile_lengths}
 
 -- what a cell counted
 abbrev pub part : Counter → Counted → ℕ
@@ -24,7 +25,7 @@ tallied Waiting x = x.waiting
 -- queues have at most 16 places
 abbrev pub AreShort : Option (List ℕ) → Type 0
 AreShort None = Unit {0}
-AreShort (Some ls) = (slice_index ls 0 < 17) × (slice_index ls 1 < 17)
+AreShort (Some ls) = (slice_index ls 0 < profile_lengths) × (slice_index ls 1 < profile_lengths)
 
 -- counts fit a byte
 pub record IsSmall (x : Counted) : Type 0 where

@@ -6,10 +6,11 @@ use Rattle.omega_net.specs.declared.component.Component.TheVariants.{Switch}
 use Rattle.omega_net.specs.Numbers.{components, component_of}
 use Rattle.omega_net.specs.Wires.{below, net_number}
 use Rattle.machine_cells.specs.declared.state.MachineState.{MachineState}
-use Rattle.project_book.specs.declared.limits.TheConstants.{MAX_HORIZON}
+use Rattle.project_book.specs.Limits.{max_horizon}
 use Rattle.monitor_sums.specs.declared.counter.Counter.{Counter}
 use Rattle.monitor_sums.specs.Counts.{one, count, output_lengths}
 use Rattle.monitor_sums.specs.Adding.{sum_below}
+use Rattle.monitor_sums.specs.Limits.{profile_lengths}
 
 -- a map from cycle and component to the state held there, if there is one
 abbrev pub States : Type 0
@@ -26,7 +27,7 @@ sum_of k counter at who from to = sum_over k (λ t c. count counter (at t c)) wh
 
 -- what the components asked count over all cycles
 abbrev pub total_of : ℕ → Counter → States → Option ℕ → ℕ
-total_of k counter at who = sum_of k counter at who 0 MAX_HORIZON
+total_of k counter at who = sum_of k counter at who 0 max_horizon
 
 -- whether a component is a switch of a stage
 abbrev pub is_in_stage : Net → ℕ → Option Component → Bool
@@ -48,7 +49,7 @@ pairs_of k at net stage h n = sum_over k (λ t c. in_profile k net stage n c (ou
 
 -- `profile`: at place n those pairs of length n, for n from 0 to 16
 unfoldable pub profile_of : ℕ → States → Net → ℕ → ℕ → List ℕ
-profile_of k at net stage h = map (pairs_of k at net stage h) (below 17)
+profile_of k at net stage h = map (pairs_of k at net stage h) (below profile_lengths)
 
 -- the map where a cell holds another state, or none
 abbrev pub changed : States → ℕ → ℕ → Option MachineState → States
@@ -60,4 +61,4 @@ cleared at from to u d = if nat_le from u && nat_le u to then None else at u d
 
 -- whether the cells of the cycles past h hold no state
 abbrev pub NonePast : ℕ → States → ℕ → Type 0
-NonePast k at h = (t c : ℕ) → h < t → t ≤ MAX_HORIZON → c < components k → at t c ≡ None
+NonePast k at h = (t c : ℕ) → h < t → t ≤ max_horizon → c < components k → at t c ≡ None

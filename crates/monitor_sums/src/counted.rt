@@ -3,6 +3,7 @@ ghost use Rattle.std.specs.Prelude.{◌≡◌, ◌+◌, ◌<◌, ◌≤◌, leng
 ghost use Rattle.std.specs.Option.{option_copied};
 ghost use Rattle.machine_cells.specs.declared.state.MachineState.TheVariants.{Proc, Module, Low, Comb};
 ghost use Rattle.monitor_sums.specs.Counts.{in_queues, lengths};
+ghost use Rattle.monitor_sums.specs.Limits.{profile_lengths};
 
 use crate::Counter;
 use comb_switch::CombState;
@@ -136,8 +137,8 @@ fn in_queues<T>(queues: &[Queue<T>; 2]) -> u8
 
 fn lengths_of<T>(queues: &[Queue<T>; 2]) -> [u8; 2]
     ensures value { result ≡ lengths queues.now }
-    ensures first { slice_index result 0 < 17 }
-    ensures second { slice_index result 1 < 17 }
+    ensures first { slice_index result 0 < profile_lengths }
+    ensures second { slice_index result 1 < profile_lengths }
 {
     [length_of(&queues[0]), length_of(&queues[1])]
 }

@@ -43,21 +43,21 @@ impl Counter {
         }
     }
 
-    fn has_name(self, text: &str) -> bool
-        ensures { result ≡ bytes_eq (counter_name self) text.now }
+    fn has_name(self, word: &[u8]) -> bool
+        ensures { result ≡ bytes_eq (counter_name self) word.now }
     {
-        self.name() == text
+        self.name().as_bytes() == word
     }
 
-    /// The counter of a name; None where no counter has it.
-    pub fn from_name(text: &str) -> Option<Self>
-        ensures counter { result ≡ counter_named text.now }
-        ensures named { IfSome result (λ counter. counter_name counter ≡ text.now) }
-        ensures read { (counter : Counter) → counter_name counter ≡ text.now → result ≡ Some counter }
+    /// The counter that a word names; None where no counter has that name.
+    pub fn from_name(word: &[u8]) -> Option<Self>
+        ensures counter { result ≡ counter_named word.now }
+        ensures named { IfSome result (λ counter. counter_name counter ≡ word.now) }
+        ensures read { (counter : Counter) → counter_name counter ≡ word.now → result ≡ Some counter }
     {
         Counter::ALL
             .iter()
-            .find(|counter| counter.has_name(text))
+            .find(|counter| counter.has_name(word))
             .copied()
     }
 }

@@ -6,17 +6,21 @@ ghost use Rattle.monitor_sums.specs.Counts.{one};
 ghost use Rattle.monitor_sums.specs.Sums.{of_length, in_profile};
 ghost use Rattle.monitor_sums.specs.Parts.{AreShort};
 ghost use Rattle.monitor_sums.specs.Whole.{profile_place, profile_at};
+ghost use Rattle.monitor_sums.specs.Limits.{profile_lengths};
 
-use omega_net::{Component, Net, Shape};
+use omega_net::{Component, Net, QUEUE_PLACES, Shape};
+
+/// How many lengths a queue can have: from 0 to the places that it has.
+pub const LENGTHS: usize = QUEUE_PLACES + 1;
 
 /// At place n the pairs of a queue and a cycle at which its length is n.
-pub type Profile = [u64; 17];
+pub type Profile = [u64; LENGTHS];
 
 /// Counts these lengths no more.
 fn take_lengths(profile: Profile, lengths: Option<[u8; 2]>) -> Profile
     requires short { AreShort lengths }
-    requires held { (n : ℕ) → n < 17 → of_length n lengths ≤ slice_index profile n }
-    ensures { (n : ℕ) → n < 17 → slice_index result n + of_length n lengths ≡ slice_index profile n }
+    requires held { (n : ℕ) → n < profile_lengths → of_length n lengths ≤ slice_index profile n }
+    ensures { (n : ℕ) → n < profile_lengths → slice_index result n + of_length n lengths ≡ slice_index profile n }
 {
     match lengths {
         Some(lengths) => less(less(profile, lengths[0]), lengths[1]),
@@ -27,8 +31,8 @@ fn take_lengths(profile: Profile, lengths: Option<[u8; 2]>) -> Profile
 /// Counts these lengths too.
 fn add_lengths(profile: Profile, lengths: Option<[u8; 2]>) -> Profile
     requires short { AreShort lengths }
-    requires room { (n : ℕ) → n < 17 → slice_index profile n < 2 ^ 32 }
-    ensures { (n : ℕ) → n < 17 → slice_index result n ≡ slice_index profile n + of_length n lengths }
+    requires room { (n : ℕ) → n < profile_lengths → slice_index profile n < 2 ^ 32 }
+    ensures { (n : ℕ) → n < profile_lengths → slice_index result n ≡ slice_index profile n + of_length n lengths }
 {
     match lengths {
         Some(lengths) => more(more(profile, lengths[0]), lengths[1]),
@@ -38,9 +42,9 @@ fn add_lengths(profile: Profile, lengths: Option<[u8; 2]>) -> Profile
 
 /// One queue of that length less.
 fn less(profile: Profile, length: u8) -> Profile
-    requires short { length < 17 }
+    requires short { length < profile_lengths }
     requires held { 0 < slice_index profile length }
-    ensures { (n : ℕ) → n < 17 → slice_index result n + one (length == n) ≡ slice_index profile n }
+    ensures { (n : ℕ) → n < profile_lengths → slice_index result n + one (length == n) ≡ slice_index profile n }
 {
     let mut profile = profile;
     profile[usize::from(length)] -= 1;
@@ -49,9 +53,9 @@ fn less(profile: Profile, length: u8) -> Profile
 
 /// One queue of that length more.
 fn more(profile: Profile, length: u8) -> Profile
-    requires short { length < 17 }
+    requires short { length < profile_lengths }
     requires room { slice_index profile length < 2 ^ 33 }
-    ensures { (n : ℕ) → n < 17 → slice_index result n ≡ slice_index profile n + one (length == n) }
+    ensures { (n : ℕ) → n < profile_lengths → slice_index result n ≡ slice_index profile n + one (length == n) }
 {
     let mut profile = profile;
     profile[usize::from(length)] += 1;
@@ -70,11 +74,11 @@ pub fn move_lengths(
     requires stages { vec_len profiles.old ≡ shape + shape }
     requires short_old { AreShort old }
     requires short_new { AreShort new }
-    requires held { (net : NetIs) (stage n : ℕ) → stage < shape → n < 17
+    requires held { (net : NetIs) (stage n : ℕ) → stage < shape → n < profile_lengths
         → in_profile shape net stage n component old ≤ slice_index (profile_at shape profiles.old.items net stage) n }
-    requires room { (net : NetIs) (stage n : ℕ) → stage < shape → n < 17 → slice_index (profile_at shape profiles.old.items net stage) n < 2 ^ 32 }
+    requires room { (net : NetIs) (stage n : ℕ) → stage < shape → n < profile_lengths → slice_index (profile_at shape profiles.old.items net stage) n < 2 ^ 32 }
     ensures stages { length profiles.new.items ≡ length profiles.old.items }
-    ensures moved { (net : NetIs) (stage n : ℕ) → stage < shape → n < 17
+    ensures moved { (net : NetIs) (stage n : ℕ) → stage < shape → n < profile_lengths
         → slice_index (profile_at shape profiles.new.items net stage) n + in_profile shape net stage n component old
         ≡ slice_index (profile_at shape profiles.old.items net stage) n + in_profile shape net stage n component new }
 {
@@ -97,9 +101,9 @@ pub fn profile_at(profiles: &Vec<Profile>, place: usize) -> Profile
 fn moved(profile: Profile, old: Option<[u8; 2]>, new: Option<[u8; 2]>) -> Profile
     requires short_old { AreShort old }
     requires short_new { AreShort new }
-    requires held { (n : ℕ) → n < 17 → of_length n old ≤ slice_index profile n }
-    requires room { (n : ℕ) → n < 17 → slice_index profile n < 2 ^ 32 }
-    ensures { (n : ℕ) → n < 17 → slice_index result n + of_length n old ≡ slice_index profile n + of_length n new }
+    requires held { (n : ℕ) → n < profile_lengths → of_length n old ≤ slice_index profile n }
+    requires room { (n : ℕ) → n < profile_lengths → slice_index profile n < 2 ^ 32 }
+    ensures { (n : ℕ) → n < profile_lengths → slice_index result n + of_length n old ≡ slice_index profile n + of_length n new }
 {
     add_lengths(take_lengths(profile, old), new)
 }

@@ -7,10 +7,12 @@ ghost use Rattle.monitor_sums.specs.Kept.{StandsFor, place_of, kept_at, nothing}
 ghost use Rattle.monitor_sums.specs.Adding.{sum_below};
 ghost use Rattle.monitor_sums.specs.Parts.{part, IsSmall};
 ghost use Rattle.monitor_sums.specs.Whole.{tally_at, counted_of, lengths_of};
+ghost use Rattle.project_book.specs.Limits.{max_horizon};
+ghost use Rattle.monitor_sums.specs.Limits.{max_components, profile_lengths};
 
 use crate::Counter;
 use crate::counted::Counted;
-use crate::profile::{Profile, move_lengths, place_of as profile_place, profile_at};
+use crate::profile::{LENGTHS, Profile, move_lengths, place_of as profile_place, profile_at};
 use crate::tally::Tally;
 use grid_law::NoMemory;
 use machine_cells::MachineState;
@@ -57,7 +59,7 @@ impl Sums {
     }
 
     fn blank(alloc: Global, shape: Shape) -> Result<Sums, NoMemory>
-        ensures { IfOk result (λ sums. sums ≡ record { k = shape; cells = replicate (components shape * (MAX_HORIZON + 1)) nothing }) }
+        ensures { IfOk result (λ sums. sums ≡ record { k = shape; cells = replicate (components shape * (max_horizon + 1)) nothing }) }
     {
         let components = shape.components() as usize;
         Ok(Sums {
@@ -65,7 +67,7 @@ impl Sums {
             cells: filled(alloc, Counted::nothing(), components * CYCLES)?,
             totals: filled(alloc, Tally::zero(), components)?,
             all: Tally::zero(),
-            profiles: filled(alloc, [0; 17], 2 * shape.k() as usize)?,
+            profiles: filled(alloc, [0; LENGTHS], 2 * shape.k() as usize)?,
         })
     }
 
@@ -79,7 +81,7 @@ impl Sums {
     /// A cell holds this state now, or none. It takes no memory, and a fixed time.
     pub fn change(&mut self, component: u32, cycle: u32, new: Option<&MachineState>)
         requires component { component < components self.old.k }
-        requires cycle { cycle ≤ MAX_HORIZON }
+        requires cycle { cycle ≤ max_horizon }
         ensures shape { self.new.k ≡ self.old.k }
         ensures stands { (at : States) → StandsFor self.old at → StandsFor self.new (changed at cycle component (option_copied new.entry)) }
     {
@@ -90,18 +92,19 @@ impl Sums {
     /// time for each of those cells.
     pub fn clear(&mut self, from: u32, to: u32)
         requires window { from ≤ to }
-        requires within { to ≤ MAX_HORIZON }
+        requires within { to ≤ max_horizon }
         ensures shape { self.new.k ≡ self.old.k }
         ensures stands { (at : States) → StandsFor self.old at → StandsFor self.new (cleared at from to) }
     {
         self.clear_cycles(from, to);
     }
 
+    /// `clear`, cell by cell: the loop keeps this, and one lemma makes it the clause over each map.
     fn clear_cycles(&mut self, from: u32, to: u32)
         requires window { from ≤ to }
-        requires within { to ≤ MAX_HORIZON }
+        requires within { to ≤ max_horizon }
         ensures shape { self.new.k ≡ self.old.k }
-        ensures each { (t c : ℕ) → t ≤ MAX_HORIZON → c < components self.old.k
+        ensures each { (t c : ℕ) → t ≤ max_horizon → c < components self.old.k
             → kept_at self.new.cells t c ≡ (if nat_le from t && nat_lt t (to + 1) then nothing else kept_at self.old.cells t c) }
     {
         for cycle in from..to + 1 {
@@ -110,9 +113,9 @@ impl Sums {
     }
 
     fn clear_cycle(&mut self, cycle: u32)
-        requires { cycle ≤ MAX_HORIZON }
+        requires { cycle ≤ max_horizon }
         ensures shape { self.new.k ≡ self.old.k }
-        ensures each { (t c : ℕ) → t ≤ MAX_HORIZON → c < components self.old.k
+        ensures each { (t c : ℕ) → t ≤ max_horizon → c < components self.old.k
             → kept_at self.new.cells t c ≡ (if t == cycle then nothing else kept_at self.old.cells t c) }
     {
         for component in 0..self.shape().components() {
@@ -124,14 +127,15 @@ impl Sums {
     pub fn total(&self, counter: Counter, who: Option<u32>) -> u64
         requires { ForSome who (λ c. c < components self.now.k) }
         ensures whole { (at : States) → StandsFor self.now at → result ≡ total_of self.now.k counter at who }
-        ensures up_to { (at : States) (h : ℕ) → StandsFor self.now at → NonePast self.now.k at h → h ≤ MAX_HORIZON → result ≡ sum_of self.now.k counter at who 0 h }
+        ensures up_to { (at : States) (h : ℕ) → StandsFor self.now at → NonePast self.now.k at h → h ≤ max_horizon → result ≡ sum_of self.now.k counter at who 0 h }
     {
         self.total_kept(counter, who)
     }
 
+    /// `total`, over the cells kept: both its clauses follow from this one.
     fn total_kept(&self, counter: Counter, who: Option<u32>) -> u64
         requires { ForSome who (λ c. c < components self.now.k) }
-        ensures { result ≡ counted_of self.now.k counter self.now.cells who 0 MAX_HORIZON }
+        ensures { result ≡ counted_of self.now.k counter self.now.cells who 0 max_horizon }
     {
         match who {
             Some(component) => self.totals[component as usize].of(counter),
@@ -144,16 +148,17 @@ impl Sums {
     pub fn sum(&self, counter: Counter, who: Option<u32>, from: u32, to: u32) -> u64
         requires who { ForSome who (λ c. c < components self.now.k) }
         requires window { from ≤ to }
-        requires within { to ≤ MAX_HORIZON }
+        requires within { to ≤ max_horizon }
         ensures { (at : States) → StandsFor self.now at → result ≡ sum_of self.now.k counter at who from to }
     {
         self.sum_kept(counter, who, from, to)
     }
 
+    /// `sum`, over the cells kept: its two branches have this in common.
     fn sum_kept(&self, counter: Counter, who: Option<u32>, from: u32, to: u32) -> u64
         requires who { ForSome who (λ c. c < components self.now.k) }
         requires window { from ≤ to }
-        requires within { to ≤ MAX_HORIZON }
+        requires within { to ≤ max_horizon }
         ensures { result ≡ counted_of self.now.k counter self.now.cells who from to }
     {
         match who {
@@ -164,18 +169,19 @@ impl Sums {
 
     /// How long the output queues of a stage were: at place n the number of pairs of a queue and a
     /// cycle at which that queue's length is n. Each switch has two of them.
-    pub fn profile(&self, net: Net, stage: u32) -> [u64; 17]
+    pub fn profile(&self, net: Net, stage: u32) -> Profile
         requires { stage < self.now.k }
-        ensures whole { (at : States) → StandsFor self.now at → result ≡ profile_of self.now.k at net stage MAX_HORIZON }
-        ensures up_to { (at : States) (h : ℕ) → StandsFor self.now at → NonePast self.now.k at h → h ≤ MAX_HORIZON → result ≡ profile_of self.now.k at net stage h }
+        ensures whole { (at : States) → StandsFor self.now at → result ≡ profile_of self.now.k at net stage max_horizon }
+        ensures up_to { (at : States) (h : ℕ) → StandsFor self.now at → NonePast self.now.k at h → h ≤ max_horizon → result ≡ profile_of self.now.k at net stage h }
     {
         self.profile_kept(net, stage)
     }
 
+    /// `profile`, over the cells kept: both its clauses follow from this.
     fn profile_kept(&self, net: Net, stage: u32) -> Profile
         requires { stage < self.now.k }
-        ensures size { length result ≡ 17 }
-        ensures each { (n : ℕ) → n < 17 → slice_index result n ≡ lengths_of self.now.k self.now.cells net stage n }
+        ensures size { length result ≡ profile_lengths }
+        ensures each { (n : ℕ) → n < profile_lengths → slice_index result n ≡ lengths_of self.now.k self.now.cells net stage n }
     {
         profile_at(&self.profiles, profile_place(self.shape, net, stage))
     }
@@ -183,10 +189,10 @@ impl Sums {
     /// What was counted for a cell is replaced, and with it the totals and the profiles that it is in.
     fn put(&mut self, component: u32, cycle: u32, new: Counted)
         requires component { component < components self.old.k }
-        requires cycle { cycle ≤ MAX_HORIZON }
+        requires cycle { cycle ≤ max_horizon }
         requires small { IsSmall new }
         ensures shape { self.new.k ≡ self.old.k }
-        ensures each { (t c : ℕ) → t ≤ MAX_HORIZON → c < components self.old.k
+        ensures each { (t c : ℕ) → t ≤ max_horizon → c < components self.old.k
             → kept_at self.new.cells t c ≡ (if (t == cycle) && (c == component) then new else kept_at self.old.cells t c) }
     {
         let old = cell_at(&self.cells, component, cycle);
@@ -210,10 +216,10 @@ impl Sums {
 /// What so many components counted over the cycles `from` to `to`.
 #[tactic(auto, using(crate::proofs::Adding::sum_none, crate::proofs::Adding::sum_more))]
 fn sum_all(cells: &Vec<Counted>, components: u32, counter: Counter, from: u32, to: u32) -> u64
-    requires room { length cells.now.items ≡ components * (MAX_HORIZON + 1) }
-    requires few { components ≤ 224 }
+    requires room { length cells.now.items ≡ components * (max_horizon + 1) }
+    requires few { components ≤ max_components }
     requires window { from ≤ to }
-    requires within { to ≤ MAX_HORIZON }
+    requires within { to ≤ max_horizon }
     ensures { result ≡ sum_below (λ c. sum_below (λ i. part counter (kept_at cells.now.items (i + from) c)) (to + 1 - from)) components }
 {
     let mut total = 0;
@@ -225,9 +231,9 @@ fn sum_all(cells: &Vec<Counted>, components: u32, counter: Counter, from: u32, t
 
 /// What a component counted over the cycles `from` to `to`.
 fn sum_at(cells: &Vec<Counted>, counter: Counter, component: u32, from: u32, to: u32) -> u64
-    requires there { place_of component MAX_HORIZON < length cells.now.items }
+    requires there { place_of component max_horizon < length cells.now.items }
     requires window { from ≤ to }
-    requires within { to ≤ MAX_HORIZON }
+    requires within { to ≤ max_horizon }
     ensures value { result ≡ sum_below (λ i. part counter (kept_at cells.now.items (i + from) component)) (to + 1 - from) }
     ensures bound { result ≤ 256 * (to + 1 - from) }
 {
@@ -240,7 +246,7 @@ fn sum_at(cells: &Vec<Counted>, counter: Counter, component: u32, from: u32, to:
 
 /// What was counted for a cell.
 fn cell_at(cells: &Vec<Counted>, component: u32, cycle: u32) -> Counted
-    requires cycle { cycle ≤ MAX_HORIZON }
+    requires cycle { cycle ≤ max_horizon }
     requires there { place_of component cycle < length cells.now.items }
     ensures { result ≡ kept_at cells.now.items cycle component }
 {
@@ -257,7 +263,7 @@ fn tally_at(totals: &Vec<Tally>, component: u32) -> Tally
 
 /// Where a cell stands: those of component 0 by cycle, then those of component 1, and so on.
 fn place_of(component: u32, cycle: u32) -> usize
-    requires { cycle ≤ MAX_HORIZON }
+    requires { cycle ≤ max_horizon }
     ensures { result ≡ place_of component cycle }
 {
     component as usize * CYCLES + cycle as usize

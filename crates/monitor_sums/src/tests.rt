@@ -176,12 +176,15 @@ fn a_cell_without_a_state_counts_nothing(rt: HostRuntime) -> Result<(), Fail> {
 #[test]
 fn names_are_read_back(rt: HostRuntime) -> Result<(), Fail> {
     for counter in Counter::ALL {
-        assert_eq!(rt; Counter::from_name(counter.name()), Some(counter));
+        assert_eq!(rt;
+            Counter::from_name(counter.name().as_bytes()),
+            Some(counter)
+        );
         assert_eq!(rt;
             format!(in rt.alloc(); "{counter}")?.as_str(),
             counter.name()
         );
     }
-    assert_eq!(rt; Counter::from_name("idle"), None);
+    assert_eq!(rt; Counter::from_name(b"idle".as_slice()), None);
     Ok(())
 }

@@ -5,6 +5,7 @@ use Rattle.std.specs.Option.{option_to_list}
 use Rattle.std.proofs.lemmas.Bool.Decides.{nat_tests}
 use Rattle.std.proofs.lemmas.Grind.{common_steps}
 use Rattle.arrayvec.specs.ArrayVec.{ArrayVec}
+use Rattle.omega_net.specs.Limits.{queue_places}
 use Rattle.omega_net.specs.Queues.{free, has_room, without_head, joined, queue_after}
 use Rattle.omega_net.specs.Kept.{KeepsAll, NothingIsLost}
 
@@ -16,10 +17,10 @@ pub both_room : (f turn : ℕ) → (nat_le 2 f || ((f == 1) && (turn == 0))) ≡
 both_room f turn a b = grind (arith, nat_tests)
 
 module _ {T : Type 0} where
-  pub joined_in : (q : ArrayVec T) (m : T) → length q.items < 16 → (joined q (Some m)).items ≡ q.items ++ m ∷ []
-  joined_in q m h = by_test (nat_lt (length q.items) 16) refl
+  pub joined_in : (q : ArrayVec T) (m : T) → length q.items < queue_places → (joined q (Some m)).items ≡ q.items ++ m ∷ []
+  joined_in q m h = by_test (nat_lt (length q.items) queue_places) refl
     where
-      by_test : (t : Bool) → nat_lt (length q.items) 16 ≡ t → (let kept : ArrayVec T = cond t (record { items = q.items ++ m ∷ [] }) q in kept.items ≡ q.items ++ m ∷ [])
+      by_test : (t : Bool) → nat_lt (length q.items) queue_places ≡ t → (let kept : ArrayVec T = cond t (record { items = q.items ++ m ∷ [] }) q in kept.items ≡ q.items ++ m ∷ [])
       by_test true e = refl
       by_test false e = absurd (grind (arith, nat_tests))
 

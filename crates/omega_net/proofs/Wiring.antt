@@ -19,7 +19,7 @@ same_net Comb Comb e = refl
 abbrev wire_at : Net → ℕ → ℕ → Wire
 wire_at n s l = record { net = n; stage = s; line = l }
 
-wire_is : (v w : Wire) → v.net ≡ w.net → v.stage ≡ w.stage → v.line ≡ w.line → v ≡ w
+pub wire_is : (v w : Wire) → v.net ≡ w.net → v.stage ≡ w.stage → v.line ≡ w.line → v ≡ w
 wire_is v w a b c =
     ap (λ n. wire_at n v.stage v.line) a ∙ ap (λ n. wire_at w.net n v.line) b ∙ ap (λ n. wire_at w.net w.stage n) c
 
@@ -29,11 +29,11 @@ same_wire-true v w e =
     let inner = and_parts (net_number v.net == net_number w.net) (v.stage == w.stage) outer.0 in
     wire_is v w (same_net v.net w.net inner.0) (eqb-true _ _ inner.1) (eqb-true _ _ outer.1)
 
-or_left : (a b : Bool) → a ≡ true → (a || b) ≡ true
+pub or_left : (a b : Bool) → a ≡ true → (a || b) ≡ true
 or_left true b e = refl
 or_left false b e = absurd (false≢true e)
 
-or_right : (a b : Bool) → b ≡ true → (a || b) ≡ true
+pub or_right : (a b : Bool) → b ≡ true → (a || b) ≡ true
 or_right true b e = refl
 or_right false b e = e
 

@@ -1,6 +1,7 @@
 -- Queues: free places, room by turns, and what a queue holds after a step.
 use Rattle.std.specs.Prelude.{ℕ, ◌-◌, ◌==◌, ◌&&◌, ◌||◌, nat_lt, nat_le, Bool, true, false, if◌then◌else◌, List, [], ◌∷◌, ◌++◌, length, drop, Option, None, Some, slice_get}
 use Rattle.arrayvec.specs.ArrayVec.{ArrayVec}
+use Rattle.omega_net.specs.Limits.{queue_places}
 
 -- the free places: depth less length, and none where the queue is longer
 abbrev pub free : {T : Type 0} → ℕ → ArrayVec T → ℕ
@@ -18,10 +19,10 @@ head q = slice_get q.items 0
 abbrev pub without_head : {T : Type 0} → Bool → ArrayVec T → ArrayVec T
 without_head leaves q = if leaves then record { items = drop 1 q.items } else q
 
--- the queue with a message last, if one comes; one of 16 messages takes no other, and no sender that may send meets it
+-- the queue with a message last, if one comes; a full one takes no other, and no sender that may send meets it
 abbrev pub joined : {T : Type 0} → ArrayVec T → Option T → ArrayVec T
 joined q None = q
-joined q (Some m) = if nat_lt (length q.items) 16 then record { items = q.items ++ m ∷ [] } else q
+joined q (Some m) = if nat_lt (length q.items) queue_places then record { items = q.items ++ m ∷ [] } else q
 
 -- the queue one cycle later: the head leaves, then the messages from 0 and from 1 join
 abbrev pub queue_after : {T : Type 0} → Bool → Option T → Option T → ArrayVec T → ArrayVec T

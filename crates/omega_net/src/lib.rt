@@ -32,7 +32,7 @@ mod wire;
 
 pub use component::{Component, Net};
 pub use listed::Listed;
-pub use message::{Queue, Reply, Request, Tag, Traffic};
+pub use message::{QUEUE_PLACES, Queue, Reply, Request, Tag, Traffic};
 pub use name::{Name, names_are_read_back};
 pub use near::near_is_mutual;
 pub use queues::{

@@ -59,8 +59,11 @@ impl fmt::Display for Reply {
     }
 }
 
-/// A queue of at most 16 messages.
-pub type Queue<T> = ArrayVec<T, 16>;
+/// How many messages a queue can hold, whatever depth its machine gives it.
+pub const QUEUE_PLACES: usize = 16;
+
+/// A queue of messages.
+pub type Queue<T> = ArrayVec<T, QUEUE_PLACES>;
 
 /// What a switch is handed in one step: what arrives, by port, and which heads leave, by port.
 #[derive(Clone, Copy, PartialEq, Eq, Debug)]

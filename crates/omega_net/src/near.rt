@@ -22,6 +22,7 @@ impl Shape {
         self.near_numbers(component)
     }
 
+    /// The list of `near`, branch by branch; that all of it is there follows from the list as a whole.
     fn near_numbers(self, component: Component) -> ArrayVec<u32, 5>
         requires { Exists self component }
         ensures listed { result.items ≡ near_of self (Some component) }

@@ -3,7 +3,7 @@
 ghost use Rattle.std.specs.Prelude.{◌≡◌, ◌<◌, ◌≤◌, ◌*◌, ◌+◌, ◌^◌, ◌↔◌, IsTrue, IsSome, IfSome, Some};
 ghost use Rattle.std.specs.Option.{SomeIff};
 ghost use Rattle.omega_net.specs.Numbers.{components, half, number_of, component_of, Exists, first_switch, switch_at};
-ghost use Rattle.page_map.specs.declared.map.TheConstants.{MAX_K};
+ghost use Rattle.page_map.specs.Limits.{max_k};
 
 use crate::{Component, Net, Shape};
 
@@ -70,7 +70,7 @@ impl Shape {
     /// The number of a network's first switch.
     fn first_switch(self, net: Net) -> u32
         ensures value { result ≡ first_switch self net }
-        ensures within { result ≤ (2 + MAX_K) * 2 ^ MAX_K }
+        ensures within { result ≤ (2 + max_k) * 2 ^ max_k }
     {
         match net {
             Net::Low => 2 * self.lines(),

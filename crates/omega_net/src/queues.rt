@@ -36,7 +36,7 @@ pub fn head<T: Copy>(queue: &Queue<T>) -> Option<T>
 }
 
 /// Puts what a queue holds one cycle later into an empty one: its head leaves where it does, and the messages that
-/// come go last. A queue takes room for 16 messages, so a state is made once and its queues are filled where they
+/// come go last. A queue takes room for [`QUEUE_PLACES`](crate::QUEUE_PLACES) messages, so a state is made once and its queues are filled where they
 /// stand.
 pub fn put_after<T: Copy>(
     queue: &Queue<T>,
@@ -66,17 +66,17 @@ pub fn put_rest<T: Copy>(queue: &Queue<T>, leaves: bool, next: &mut Queue<T>)
 }
 
 /// Whether the queues of two ports hold the same requests in the same order.
-pub fn same_requests(first: &[Queue<Request>; 2], second: &[Queue<Request>; 2]) -> bool
-    ensures { IsTrue result ↔ (first.now ≡ second.now) }
+pub fn same_requests(requests: &[Queue<Request>; 2], others: &[Queue<Request>; 2]) -> bool
+    ensures { IsTrue result ↔ (requests.now ≡ others.now) }
 {
-    first == second
+    requests == others
 }
 
 /// Whether the queues of two ports hold the same replies in the same order.
-pub fn same_replies(first: &[Queue<Reply>; 2], second: &[Queue<Reply>; 2]) -> bool
-    ensures { IsTrue result ↔ (first.now ≡ second.now) }
+pub fn same_replies(replies: &[Queue<Reply>; 2], others: &[Queue<Reply>; 2]) -> bool
+    ensures { IsTrue result ↔ (replies.now ≡ others.now) }
 {
-    first == second
+    replies == others
 }
 
 /// Puts a message last, if one comes and there is room.
@@ -88,7 +88,7 @@ pub fn join<T: Copy>(queue: &mut Queue<T>, message: Option<T>)
     }
 }
 
-/// Where each message comes only from a sender that may send, a queue of depth 16 at most loses none: all that stays
+/// Where each message comes only from a sender that may send, a queue that is no deeper than it has places loses none: all that stays
 /// and all that comes stand in it one cycle later.
 pub fn nothing_is_lost()
     ensures { NothingIsLost }

@@ -2,6 +2,7 @@
 ghost use Rattle.std.specs.Prelude.{◌≡◌, ◌≤◌, ◌+◌, ◌*◌, ◌^◌};
 ghost use Rattle.std.specs.Option.{SomeIff};
 ghost use Rattle.omega_net.specs.Numbers.{lines, half, components};
+ghost use Rattle.page_map.specs.Limits.{max_k};
 
 use page_map::MAX_K;
 use std::marker::Model;
@@ -17,13 +18,13 @@ pub struct Shape {
 
 impl Model for Shape {
     ghost use Rattle.std.specs.Prelude.{ℕ, ◌≤◌};
-    ghost use Rattle.page_map.specs.declared.map.TheConstants.{MAX_K};
+    ghost use Rattle.page_map.specs.Limits.{max_k};
 
     ghost Value = { ℕ };
 
     ghost view = { λ s. s.stages };
 
-    ghost invariant = { λ s. s.stages ≤ MAX_K };
+    ghost invariant = { λ s. s.stages ≤ max_k };
 
     ghost inverse = { λ k. record { stages = k } };
 }
@@ -31,7 +32,7 @@ impl Model for Shape {
 impl Shape {
     /// The machine of 2^k processors, or None where k is above [`MAX_K`].
     pub fn new(k: u32) -> Option<Self>
-        ensures { SomeIff result (k ≤ MAX_K) k }
+        ensures { SomeIff result (k ≤ max_k) k }
     {
         if k <= MAX_K {
             Some(Shape { stages: k })
@@ -43,7 +44,7 @@ impl Shape {
     /// The stages of each network.
     pub fn k(self) -> u32
         ensures value { result ≡ self }
-        ensures within { result ≤ MAX_K }
+        ensures within { result ≤ max_k }
     {
         self.stages
     }
@@ -51,7 +52,7 @@ impl Shape {
     /// The lines of each network: as many as there are processors, and modules.
     pub fn lines(self) -> u32
         ensures value { result ≡ lines self }
-        ensures within { result ≤ 2 ^ MAX_K }
+        ensures within { result ≤ 2 ^ max_k }
     {
         1 << self.stages
     }
@@ -59,7 +60,7 @@ impl Shape {
     /// The switches of each stage; none where there is no stage.
     pub fn half(self) -> u32
         ensures value { result ≡ half self }
-        ensures within { result + result ≤ 2 ^ MAX_K }
+        ensures within { result + result ≤ 2 ^ max_k }
     {
         self.lines() / 2
     }
@@ -67,7 +68,7 @@ impl Shape {
     /// How many components there are.
     pub fn components(self) -> u32
         ensures value { result ≡ components self }
-        ensures within { result ≤ (2 + MAX_K) * 2 ^ MAX_K }
+        ensures within { result ≤ (2 + max_k) * 2 ^ max_k }
     {
         2 * self.lines() + 2 * (self.k() * self.half())
     }

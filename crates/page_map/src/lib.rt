@@ -10,6 +10,7 @@
 #![tactic(auto)]
 
 mod fault;
+mod limits;
 mod map;
 mod page;
 mod place;
@@ -17,6 +18,7 @@ mod place;
 mod tests;
 
 pub use fault::PageFault;
+pub use limits::constants_are_limits;
 pub use map::{ADDRESSES, MAX_K, PAGES, PageMap};
 pub use page::PAGE_WORDS;
 pub use place::Place;

@@ -1,5 +1,6 @@
 //! The map from addresses to places.
 ghost use Rattle.std.specs.Prelude.{◌≤◌};
+ghost use Rattle.page_map.specs.Limits.{max_k, page_count, address_count};
 
 use crate::page::{PAGE_WORDS, Page, fits};
 use crate::{PageFault, Place};
@@ -14,12 +15,14 @@ pub const ADDRESSES: u32 = 16_384;
 /// The greatest k: a machine has 2^k modules.
 pub const MAX_K: u32 = 5;
 
+const PAGES_HELD: usize = PAGES as usize;
+
 /// How each of the 64 pages is spread over 2^k modules, chosen page by page as on the RP3 (Pfister
 /// and others 1985). It is 129 bytes, and takes no memory.
 #[derive(Clone, Copy, PartialEq, Eq, Debug)]
 pub struct PageMap {
     k: u8,
-    pages: [Page; 64],
+    pages: [Page; PAGES_HELD],
 }
 
 impl Model for PageMap {
@@ -41,13 +44,13 @@ impl PageMap {
 
     /// The map with every page spread over all 2^k modules.
     pub fn new(k: u32) -> Self
-        requires { k ≤ MAX_K }
+        requires { k ≤ max_k }
         ensures { result ≡ whole_pages k }
     {
         let k = k as u8;
         PageMap {
             k,
-            pages: [Page::new(k, 0); 64],
+            pages: [Page::new(k, 0); PAGES_HELD],
         }
     }
 
@@ -64,7 +67,7 @@ impl PageMap {
     /// base + o mod 2^amount, row 256 g + o div 2^amount. No other address stands there.
     pub fn place(&self, address: u32) -> Option<Place>
         ensures place { result ≡ place_in self.now address }
-        ensures within { IfSome result (λ p. (p.module < 2 ^ self.now.k) × (p.row < 16384)) }
+        ensures within { IfSome result (λ p. (p.module < 2 ^ self.now.k) × (p.row < address_count)) }
         ensures alone { IfSome result (λ p. (other : ℕ) → place_in self.now other ≡ Some p → other ≡ address) }
     {
         if address < ADDRESSES {
@@ -76,7 +79,7 @@ impl PageMap {
 
     /// The amount and base of a page; None exactly from 64 on.
     pub fn page(&self, page: u32) -> Option<(u32, u32)>
-        ensures outside { IsNone result ↔ (64 ≤ page) }
+        ensures outside { IsNone result ↔ (page_count ≤ page) }
         ensures page { result ≡ option_map (λ p. (p.amount, p.base)) (page_in self.now page) }
     {
         let page = self.pages.get(page as usize)?;
@@ -85,9 +88,9 @@ impl PageMap {
 
     /// A page that is there.
     fn page_at(&self, page: u32) -> Page
-        requires { page < PAGES }
+        requires { page < page_count }
         ensures page { result ≡ page_of self.now page }
-        ensures small { self.now.k ≤ MAX_K }
+        ensures small { self.now.k ≤ max_k }
         ensures amount { result.amount ≤ self.now.k }
         ensures room { result.base + 2 ^ result.amount ≤ 2 ^ self.now.k }
     {

@@ -1,5 +1,6 @@
 //! How one page is spread.
 ghost use Rattle.std.specs.Prelude.{◌≡◌, ◌≤◌};
+ghost use Rattle.page_map.specs.Limits.{address_count};
 ghost use Rattle.page_map.specs.Pages.{is_spread};
 
 use crate::Place;
@@ -53,10 +54,10 @@ impl Page {
     pub fn place(self, address: u32) -> Place
         requires amount { self.amount ≤ 8 }
         requires modules { self.base + 2 ^ self.amount ≤ 2 ^ 8 }
-        requires address { address < 16384 }
+        requires address { address < address_count }
         ensures place { result ≡ place_on self address }
         ensures module { result.module < self.base + 2 ^ self.amount }
-        ensures row { result.row < 16384 }
+        ensures row { result.row < address_count }
     {
         let modules = 1 << self.amount;
         let offset = address % PAGE_WORDS;

@@ -4,8 +4,8 @@ use Rattle.std.proofs.lemmas.Bool.Decides.{nat_tests}
 use Rattle.std.proofs.lemmas.Bool.{not-false}
 use Rattle.std.proofs.lemmas.List.{length-set}
 use Rattle.omega_net.specs.declared.script.ScriptEntry.{ScriptEntry}
-use Rattle.page_map.specs.declared.map.TheConstants.{PAGES}
-use Rattle.project_book.specs.declared.limits.TheConstants.{SCRIPT_ENTRIES, MAX_HORIZON}
+use Rattle.page_map.specs.Limits.{page_count}
+use Rattle.project_book.specs.Limits.{script_entries, max_horizon}
 use Rattle.project_book.specs.declared.depths.QueueDepths.{QueueDepths}
 use Rattle.project_book.specs.declared.edit.Depths.{Depths}
 use Rattle.project_book.specs.declared.edit.Depths.TheVariants.{LowForward, LowReverse, CombForward, CombReverse, ModuleQueue}
@@ -27,7 +27,7 @@ passed false fault others e = (refl, e)
 pub record IsPlaced (P : Project) (p i : ℕ) (entry : ScriptEntry) : Type 0 where
   pub processor : p < 2 ^ P.k
   pub there : i ≤ length_at P p
-  pub room : i ≡ length_at P p → i ≢ SCRIPT_ENTRIES
+  pub room : i ≡ length_at P p → i ≢ script_entries
   pub within : IsEntry entry
 
 pub placed : (P : Project) (p i : ℕ) (entry : ScriptEntry) → accepts P 0 (Entry p i entry) ≡ Ok tt → IsPlaced P p i entry
@@ -61,8 +61,8 @@ kept P p n h =
 pub staged : (P : Project) (s : ℕ) (on : Bool) → accepts P 0 (Combine s on) ≡ Ok tt → s < P.k
 staged P s on h = let t = (passed (nat_le P.k s) BadStage _ h).0 in grind (arith, nat_tests)
 
-pub paged : (P : Project) (g amount base : ℕ) → accepts P 0 (Page g amount base) ≡ Ok tt → g < PAGES
-paged P g amount base h = let t = (passed (nat_le PAGES g) BadPage _ h).0 in grind (arith, nat_tests)
+pub paged : (P : Project) (g amount base : ℕ) → accepts P 0 (Page g amount base) ≡ Ok tt → g < page_count
+paged P g amount base h = let t = (passed (nat_le page_count g) BadPage _ h).0 in grind (arith, nat_tests)
 
 -- one depth is changed to one that is allowed
 depths_within : (ds : QueueDepths) (q : Depths) (d : ℕ) → ((r : Depths) → is_depth r (depth_in ds r) ≡ true) → is_depth q d ≡ true → (r : Depths) → is_depth r (depth_in (with_depth ds q d) r) ≡ true
@@ -96,5 +96,5 @@ is_project_edited P (Combine s on) h ok =
 is_project_edited P (Window w) h ok =
     record { small = h.small; mapped = h.mapped; paged = h.paged; short = h.short; window = not-false _ (passed (not (is_window w)) BadWindow _ ok).0; depths = h.depths; wait = h.wait; flags = h.flags; scripts = h.scripts }
 is_project_edited P (Horizon t) h ok =
-    let short = (passed (nat_lt MAX_HORIZON t) BadHorizon _ ok).0 in
+    let short = (passed (nat_lt max_horizon t) BadHorizon _ ok).0 in
     record { small = h.small; mapped = h.mapped; paged = h.paged; short = grind (arith, nat_tests); window = h.window; depths = h.depths; wait = h.wait; flags = h.flags; scripts = h.scripts }

@@ -4,7 +4,7 @@ use Rattle.std.specs.Prelude.{AllPairs}
 use Rattle.std.proofs.lemmas.Bool.Decides.{nat_tests}
 use Rattle.std.proofs.lemmas.List.Elements.{All-nil, All-cons, All-head, All-tail, All-append, All-filter, All-weaker, filter_passes}
 use Rattle.std.proofs.lemmas.List.Kept.{AllPairs-cons, AllPairs-filter}
-use Rattle.page_map.specs.declared.map.TheConstants.{ADDRESSES}
+use Rattle.page_map.specs.Limits.{address_count}
 use Rattle.project_book.specs.declared.words.FirstWord.{FirstWord}
 use Rattle.project_book.specs.FirstWords.{IsListing, with_word, listed, words_below, words_above}
 
@@ -43,7 +43,7 @@ pairs_listed a word = by_word (word == 0)
     by_word true = λ i j d h l. absurd (omega arith)
     by_word false = λ i j d h l. absurd (omega arith)
 
-pub listing_with_word : (ws : List FirstWord) (a word : ℕ) → a < ADDRESSES → IsListing ws → IsListing (with_word ws a word)
+pub listing_with_word : (ws : List FirstWord) (a word : ℕ) → a < address_count → IsListing ws → IsListing (with_word ws a word)
 listing_with_word ws a word there listing =
     let low = words_below ws a in
     let at = listed a word in
@@ -52,6 +52,6 @@ listing_with_word ws a word there listing =
     let below = All-append (λ w. w.address < a + 1) low at (All-weaker (λ w. w.address < a) (λ w. w.address < a + 1) (λ w h. omega arith) low (are_below ws a)) (all_listed (λ w. w.address < a + 1) a word (λ _. omega arith)) in
     record {
       ascending = pairs_append IsBefore (low ++ at) high (pairs_append IsBefore low at (AllPairs-filter IsBefore _ ws listing.ascending) (pairs_listed a word) (all_before low at a (are_below ws a) at_least)) (AllPairs-filter IsBefore _ ws listing.ascending) (all_before (low ++ at) high (a + 1) below (are_above ws a));
-      within = All-append (λ w. w.address < ADDRESSES) (low ++ at) high (All-append (λ w. w.address < ADDRESSES) low at (All-filter _ (λ w. w.address < ADDRESSES) ws listing.within) (all_listed (λ w. w.address < ADDRESSES) a word (λ _. there))) (All-filter _ (λ w. w.address < ADDRESSES) ws listing.within);
+      within = All-append (λ w. w.address < address_count) (low ++ at) high (All-append (λ w. w.address < address_count) low at (All-filter _ (λ w. w.address < address_count) ws listing.within) (all_listed (λ w. w.address < address_count) a word (λ _. there))) (All-filter _ (λ w. w.address < address_count) ws listing.within);
       nonzero = All-append (λ w. 0 < w.word) (low ++ at) high (All-append (λ w. 0 < w.word) low at (All-filter _ (λ w. 0 < w.word) ws listing.nonzero) (all_listed (λ w. 0 < w.word) a word (λ h. h))) (All-filter _ (λ w. 0 < w.word) ws listing.nonzero);
     }

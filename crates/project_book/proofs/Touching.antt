@@ -7,8 +7,8 @@ use Rattle.std.proofs.lemmas.Option.{slice_get_past, slice_get-get_or, get_or_fr
 use Rattle.omega_net.specs.declared.script.ScriptEntry.{ScriptEntry}
 use Rattle.omega_net.specs.declared.script.ScriptEntry.TheVariants.{Fence}
 use Rattle.page_map.specs.Places.{Page as Spread}
-use Rattle.page_map.specs.declared.map.TheConstants.{ADDRESSES, PAGES}
-use Rattle.project_book.specs.declared.limits.TheConstants.{SCRIPT_ENTRIES}
+use Rattle.page_map.specs.Limits.{address_count, page_count}
+use Rattle.project_book.specs.Limits.{script_entries}
 use Rattle.project_book.specs.declared.depths.QueueDepths.{QueueDepths}
 use Rattle.project_book.specs.declared.edit.Depths.{Depths}
 use Rattle.project_book.specs.declared.edit.Depths.TheVariants.{LowForward, LowReverse, CombForward, CombReverse, ModuleQueue}
@@ -27,12 +27,12 @@ use Rattle.project_book.proofs.Leaving.{put_other, set_other, take_below, word_o
 -- an entry of another processor's script
 row_other : (P : Project) (p q j : ℕ) (es : List ScriptEntry) → q ≢ p → entry_at P q j ≡ entry_at (record P { scripts = slice_set P.scripts p es }) q j
 row_other P p q j es ne =
-    ap (λ (row : List ScriptEntry). cond (nat_lt q (2 ^ P.k) && nat_lt j SCRIPT_ENTRIES) (slice_get row j) None) (sym (get_or-set_other P.scripts p q es [] ne))
+    ap (λ (row : List ScriptEntry). cond (nat_lt q (2 ^ P.k) && nat_lt j script_entries) (slice_get row j) None) (sym (get_or-set_other P.scripts p q es [] ne))
 
 -- an entry of the changed script, where the new script shows the same there
 row_same : (P : Project) (p q j : ℕ) (es : List ScriptEntry) → p < length P.scripts → q ≡ p → slice_get es j ≡ slice_get (script_of P.scripts p) j → entry_at P q j ≡ entry_at (record P { scripts = slice_set P.scripts p es }) q j
 row_same P p q j es there is same =
-    ap (λ (o : Option ScriptEntry). cond (nat_lt q (2 ^ P.k) && nat_lt j SCRIPT_ENTRIES) o None) (subst Shows (sym is) (sym (ap (λ (row : List ScriptEntry). slice_get row j) (get_or-set_same P.scripts p es [] there) ∙ same)))
+    ap (λ (o : Option ScriptEntry). cond (nat_lt q (2 ^ P.k) && nat_lt j script_entries) o None) (subst Shows (sym is) (sym (ap (λ (row : List ScriptEntry). slice_get row j) (get_or-set_same P.scripts p es [] there) ∙ same)))
   where
     Shows : ℕ → Type 0
     Shows r = slice_get (script_of P.scripts r) j ≡ slice_get (script_of (slice_set P.scripts p es) r) j
@@ -57,7 +57,7 @@ differ_word P a word = record { shape = refl; others = others }
   where
     by : (b : ℕ) → (b ≡ a) ⊎ (b ≢ a) → (WordSlot b ≡ WordSlot a) ⊎ SameAt P (edited P (Word a word)) (WordSlot b)
     by b (inl is) = inl (ap (λ (n : ℕ). WordSlot n) is)
-    by b (inr ne) = inr (ap (λ (n : ℕ). cond (nat_lt b ADDRESSES) n 0) (sym (word_other P.words a word b ne)))
+    by b (inr ne) = inr (ap (λ (n : ℕ). cond (nat_lt b address_count) n 0) (sym (word_other P.words a word b ne)))
 
     others : (other : Slot) → (other ≡ WordSlot a) ⊎ SameAt P (edited P (Word a word)) other
     others (WordSlot b) = by b (cases_eq b a)
@@ -69,7 +69,7 @@ differ_page P g amount base = record { shape = refl; others = others }
     by : (h : ℕ) → (h ≡ g) ⊎ (h ≢ g) → (PageSlot h ≡ PageSlot g) ⊎ SameAt P (edited P (Page g amount base)) (PageSlot h)
     by h (inl is) = inl (ap (λ (n : ℕ). PageSlot n) is)
     by h (inr ne) =
-        inr (ap (λ (o : Option Spread). unwrap_or (cond (nat_lt h PAGES) o None) (record { amount = 0; base = 0 })) (sym (set_other P.pages.pages g h (record { amount = amount; base = base }) ne)))
+        inr (ap (λ (o : Option Spread). unwrap_or (cond (nat_lt h page_count) o None) (record { amount = 0; base = 0 })) (sym (set_other P.pages.pages g h (record { amount = amount; base = base }) ne)))
 
     others : (other : Slot) → (other ≡ PageSlot g) ⊎ SameAt P (edited P (Page g amount base)) other
     others (PageSlot h) = by h (cases_eq h g)
@@ -172,7 +172,7 @@ touches_horizon P t = record { shape = refl; complete = complete; exact = λ oth
     complete _ absent = refl
 
 -- a cut touches the entries that it removes
-pub touches_cut : (P : Project) (p n : ℕ) (slots : List Slot) → IsProject P → length_at P p ≤ SCRIPT_ENTRIES → accepts P 0 (Cut p n) ≡ Ok tt → AreEntries p n (length_at P p) slots → Touches P (edited P (Cut p n)) slots
+pub touches_cut : (P : Project) (p n : ℕ) (slots : List Slot) → IsProject P → length_at P p ≤ script_entries → accepts P 0 (Cut p n) ≡ Ok tt → AreEntries p n (length_at P p) slots → Touches P (edited P (Cut p n)) slots
 touches_cut P p n slots h few ok are = record { shape = refl; complete = complete; exact = exact; once = once }
   where
     at : (k : ℕ) (d : Slot) → k < length slots → slice_index_or slots k d ≡ EntrySlot p (n + k)
@@ -208,7 +208,7 @@ touches_cut P p n slots h few ok are = record { shape = refl; complete = complet
         let cut = kept P p n ok in
         let within : n + k < length (script_of P.scripts p) = omega (arith, are.count) in
         let processor = lt-ltb p (2 ^ P.k) cut.processor in
-        let index : nat_lt (n + k) SCRIPT_ENTRIES ≡ true = lt-ltb (n + k) SCRIPT_ENTRIES (omega arith) in
+        let index : nat_lt (n + k) script_entries ≡ true = lt-ltb (n + k) script_entries (omega arith) in
         let shows = rw (processor, index) at (subst (SameAt P (edited P (Cut p n))) named same) in
         let some = slice_get-get_or (script_of P.scripts p) (n + k) Fence within in
         let none = ap (λ (row : List ScriptEntry). slice_get row (n + k)) (get_or-set_same P.scripts p (take n (script_of P.scripts p)) [] there) ∙ slice_get_past (take n (script_of P.scripts p)) (n + k) (omega (arith, length-take n (script_of P.scripts p))) in

@@ -1,8 +1,8 @@
 -- What an edit does, and when it is refused.
 use Rattle.std.specs.Prelude.{ℕ, ◌^◌, ◌==◌, ◌&&◌, nat_le, nat_lt, Bool, false, not, if◌then◌else◌, List, [], ◌∷◌, Option, None, Some, Result, Ok, Err, find, slice_set}
-use Rattle.page_map.specs.declared.map.TheConstants.{ADDRESSES, PAGES}
+use Rattle.page_map.specs.Limits.{address_count, page_count}
 use Rattle.page_map.specs.Pages.{with_page, is_spread}
-use Rattle.project_book.specs.declared.limits.TheConstants.{MAX_EDITS, MAX_HORIZON, SCRIPT_ENTRIES}
+use Rattle.project_book.specs.Limits.{max_edits, max_horizon, script_entries}
 use Rattle.project_book.specs.declared.edit.Edit.{Edit}
 use Rattle.project_book.specs.declared.edit.Edit.TheVariants.{Entry, Cut, Word, Page, Depth, WaitDepth, Combine, Window, Horizon}
 use Rattle.project_book.specs.declared.slot.Slot.{Slot}
@@ -39,11 +39,11 @@ lacks_entry P _ = false
 
 abbrev pub lacks_address : Edit → Bool
 lacks_address (Entry proc index entry) = not (is_addressed entry)
-lacks_address (Word address word) = nat_le ADDRESSES address
+lacks_address (Word address word) = nat_le address_count address
 lacks_address _ = false
 
 abbrev pub lacks_page : Edit → Bool
-lacks_page (Page page amount base) = nat_le PAGES page
+lacks_page (Page page amount base) = nat_le page_count page
 lacks_page _ = false
 
 abbrev pub lacks_stage : Project → Edit → Bool
@@ -52,7 +52,7 @@ lacks_stage P _ = false
 
 -- whether an edit appends to a full script
 abbrev pub overfills : Project → Edit → Bool
-overfills P (Entry proc index entry) = (index == length_at P proc) && (index == SCRIPT_ENTRIES)
+overfills P (Entry proc index entry) = (index == length_at P proc) && (index == script_entries)
 overfills P _ = false
 
 -- whether an edit's number is out of its limits
@@ -74,12 +74,12 @@ has_bad_times (Entry proc index entry) = not (is_timed entry)
 has_bad_times _ = false
 
 abbrev pub has_bad_horizon : Edit → Bool
-has_bad_horizon (Horizon horizon) = nat_lt MAX_HORIZON horizon
+has_bad_horizon (Horizon horizon) = nat_lt max_horizon horizon
 has_bad_horizon _ = false
 
 -- whether a fault applies to an edit of this project after v accepted edits
 abbrev pub applies : Project → ℕ → Edit → EditFault → Bool
-applies P v e JournalFull = nat_le MAX_EDITS v
+applies P v e JournalFull = nat_le max_edits v
 applies P v e BadProcessor = lacks_processor P e
 applies P v e BadEntry = lacks_entry P e
 applies P v e ScriptFull = overfills P e

@@ -1,7 +1,7 @@
 -- The first words: a list by addresses upwards, in which words of 0 are left out.
 use Rattle.std.specs.Prelude.{ℕ, ◌<◌, ◌==◌, nat_lt, if◌then◌else◌, List, [], ◌∷◌, ◌++◌, filter, find, All, AllPairs}
 use Rattle.std.specs.Option.{option_map_or}
-use Rattle.page_map.specs.declared.map.TheConstants.{ADDRESSES}
+use Rattle.page_map.specs.Limits.{address_count}
 use Rattle.project_book.specs.declared.words.FirstWord.{FirstWord}
 
 -- the word of an address, 0 where it isn't listed
@@ -26,5 +26,5 @@ with_word ws a word = words_below ws a ++ listed a word ++ words_above ws a
 -- the list is by addresses upwards, each of which exists, and has no 0
 pub record IsListing (ws : List FirstWord) : Type 0 where
   pub ascending : AllPairs (λ v w. v.address < w.address) ws
-  pub within : All (λ w. w.address < ADDRESSES) ws
+  pub within : All (λ w. w.address < address_count) ws
   pub nonzero : All (λ w. 0 < w.word) ws

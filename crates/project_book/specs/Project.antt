@@ -1,7 +1,7 @@
 -- What a project says of the machine and of its scripts and first words.
 use Rattle.std.specs.Prelude.{◌≡◌, ℕ, ◌/◌, ◌^◌, ◌≤◌, ◌&&◌, nat_le, nat_lt, Bool, true, false, if◌then◌else◌, List, [], length, replicate, Option, None, Some, slice_get, slice_index_or}
 use Rattle.page_map.specs.declared.place.Place.{Place}
-use Rattle.page_map.specs.declared.map.TheConstants.{ADDRESSES, MAX_K, PAGES}
+use Rattle.page_map.specs.Limits.{address_count, max_k, page_count, page_words}
 use Rattle.page_map.specs.Places.{Page, place_on}
 use Rattle.page_map.specs.Pages.{Pages, page_of as page_among, whole_pages}
 use Rattle.omega_net.specs.declared.component.Net.{Net}
@@ -10,8 +10,8 @@ use Rattle.omega_net.specs.declared.script.ScriptEntry.TheVariants.{Reference, F
 use Rattle.project_book.specs.declared.edit.Depths.{Depths}
 use Rattle.project_book.specs.declared.depths.QueueDepths.{QueueDepths}
 use Rattle.project_book.specs.declared.words.FirstWord.{FirstWord}
-use Rattle.project_book.specs.declared.limits.TheConstants.{MAX_HORIZON, SCRIPT_ENTRIES, MAX_WINDOW}
-use Rattle.project_book.specs.Queues.{depth_in, forward_queue, reverse_queue, is_depth, is_wait}
+use Rattle.project_book.specs.Limits.{max_horizon, script_entries, max_window}
+use Rattle.project_book.specs.Queues.{depth_in, forward_queue, reverse_queue, usual_depths, usual_wait, is_depth, is_wait}
 use Rattle.project_book.specs.FirstWords.{word_at}
 use Rattle.project_book.specs.Scripts.{script_of}
 
@@ -35,11 +35,11 @@ page_of P g = page_among P.pages g
 
 -- `place`: where an address stands, by the amount and base of its page
 abbrev pub place_in : Project → ℕ → Place
-place_in P a = place_on (page_of P (a / 256)) a
+place_in P a = place_on (page_of P (a / page_words)) a
 
 -- the entry of a processor's script, where both exist
 abbrev pub entry_at : Project → ℕ → ℕ → Option ScriptEntry
-entry_at P p i = if nat_lt p (2 ^ P.k) && nat_lt i SCRIPT_ENTRIES then slice_get (script_of P.scripts p) i else None
+entry_at P p i = if nat_lt p (2 ^ P.k) && nat_lt i script_entries then slice_get (script_of P.scripts p) i else None
 
 -- how many entries a processor's script has
 abbrev pub length_at : Project → ℕ → ℕ
@@ -47,7 +47,7 @@ length_at P p = length (script_of P.scripts p)
 
 -- the first word of an address
 abbrev pub word_of : Project → ℕ → ℕ
-word_of P a = if nat_lt a ADDRESSES then word_at P.words a else 0
+word_of P a = if nat_lt a address_count then word_at P.words a else 0
 
 -- the depth of queues; of a network's queues towards the modules, and towards the processors
 abbrev pub depth_of : Project → Depths → ℕ
@@ -72,7 +72,7 @@ place_for P (Some (Idle turns)) = record { «module» = 0; row = 0 }
 
 -- whether a window is allowed
 abbrev pub is_window : ℕ → Bool
-is_window w = nat_le 1 w && nat_le w MAX_WINDOW
+is_window w = nat_le 1 w && nat_le w max_window
 
 -- the project that says nothing but its size
 abbrev pub blank : ℕ → ℕ → Project
@@ -80,9 +80,9 @@ blank k horizon = record {
   k = k;
   horizon = horizon;
   window = 1;
-  depths = record { low_forward = 4; low_reverse = 4; comb_forward = 4; comb_reverse = 8; module_queue = 4 };
-  wait = 4;
-  combine = replicate MAX_K false;
+  depths = usual_depths;
+  wait = usual_wait;
+  combine = replicate max_k false;
   pages = whole_pages k;
   words = [];
   scripts = replicate (2 ^ k) [];
@@ -90,12 +90,12 @@ blank k horizon = record {
 
 -- the numbers are within the limits, and there is a script for each processor
 pub record IsProject (P : Project) : Type 0 where
-  pub small : P.k ≤ MAX_K
+  pub small : P.k ≤ max_k
   pub mapped : P.pages.k ≡ P.k
-  pub paged : length P.pages.pages ≡ PAGES
-  pub short : P.horizon ≤ MAX_HORIZON
+  pub paged : length P.pages.pages ≡ page_count
+  pub short : P.horizon ≤ max_horizon
   pub window : is_window P.window ≡ true
   pub depths : (q : Depths) → is_depth q (depth_of P q) ≡ true
   pub wait : is_wait P.wait ≡ true
-  pub flags : length P.combine ≡ MAX_K
+  pub flags : length P.combine ≡ max_k
   pub scripts : length P.scripts ≡ 2 ^ P.k

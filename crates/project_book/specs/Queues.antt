@@ -5,7 +5,7 @@ use Rattle.omega_net.specs.declared.component.Net.TheVariants.{Low, Comb}
 use Rattle.project_book.specs.declared.edit.Depths.{Depths}
 use Rattle.project_book.specs.declared.edit.Depths.TheVariants.{LowForward, LowReverse, CombForward, CombReverse, ModuleQueue}
 use Rattle.project_book.specs.declared.depths.QueueDepths.{QueueDepths}
-use Rattle.project_book.specs.declared.limits.TheConstants.{MIN_DEPTH, MIN_COMB_REVERSE, MIN_WAIT, MAX_DEPTH}
+use Rattle.project_book.specs.Limits.{min_depth, min_comb_reverse, min_wait, max_depth}
 
 -- a network's queues towards the modules, and towards the processors
 abbrev pub forward_queue : Net → Depths
@@ -32,17 +32,24 @@ with_depth ds CombForward d = record ds { comb_forward = d }
 with_depth ds CombReverse d = record ds { comb_reverse = d }
 with_depth ds ModuleQueue d = record ds { module_queue = d }
 
+-- the depths of queues and of wait buffers where nothing else is said
+abbrev pub usual_depths : QueueDepths
+usual_depths = record { low_forward = 4; low_reverse = 4; comb_forward = 4; comb_reverse = 8; module_queue = 4 }
+
+abbrev pub usual_wait : ℕ
+usual_wait = 4
+
 -- how many places some queues have at least
 abbrev pub least_depth : Depths → ℕ
-least_depth LowForward = MIN_DEPTH
-least_depth LowReverse = MIN_DEPTH
-least_depth CombForward = MIN_DEPTH
-least_depth CombReverse = MIN_COMB_REVERSE
-least_depth ModuleQueue = MIN_DEPTH
+least_depth LowForward = min_depth
+least_depth LowReverse = min_depth
+least_depth CombForward = min_depth
+least_depth CombReverse = min_comb_reverse
+least_depth ModuleQueue = min_depth
 
 -- whether queues may have a depth, and whether wait buffers may
 abbrev pub is_depth : Depths → ℕ → Bool
-is_depth q d = nat_le (least_depth q) d && nat_le d MAX_DEPTH
+is_depth q d = nat_le (least_depth q) d && nat_le d max_depth
 
 abbrev pub is_wait : ℕ → Bool
-is_wait d = nat_le MIN_WAIT d && nat_le d MAX_DEPTH
+is_wait d = nat_le min_wait d && nat_le d max_depth

@@ -2,8 +2,8 @@
 use Rattle.std.specs.Prelude.{◌≡◌, ℕ, ◌+◌, ◌≤◌, ◌&&◌, nat_le, nat_lt, Bool, true, List, [], ◌∷◌, ◌++◌, length, take, drop, slice_index_or, slice_set, All}
 use Rattle.omega_net.specs.declared.script.ScriptEntry.{ScriptEntry}
 use Rattle.omega_net.specs.declared.script.ScriptEntry.TheVariants.{Reference, Fence, Idle}
-use Rattle.page_map.specs.declared.map.TheConstants.{ADDRESSES}
-use Rattle.project_book.specs.declared.limits.TheConstants.{SCRIPT_ENTRIES, MAX_TIMES}
+use Rattle.page_map.specs.Limits.{address_count}
+use Rattle.project_book.specs.Limits.{script_entries, max_times}
 
 -- a processor's script, empty where there is no such processor
 abbrev pub script_of : List (List ScriptEntry) → ℕ → List ScriptEntry
@@ -22,13 +22,13 @@ with_cut scripts p n = slice_set scripts p (take n (script_of scripts p))
 
 -- whether an entry's address is there, if it names one
 abbrev pub is_addressed : ScriptEntry → Bool
-is_addressed (Reference sync op address times) = nat_lt address ADDRESSES
+is_addressed (Reference sync op address times) = nat_lt address address_count
 is_addressed Fence = true
 is_addressed (Idle turns) = true
 
 -- whether a reference may be issued so often, or an idle last so long
 abbrev pub are_times : ℕ → Bool
-are_times n = nat_le 1 n && nat_le n MAX_TIMES
+are_times n = nat_le 1 n && nat_le n max_times
 
 abbrev pub is_timed : ScriptEntry → Bool
 is_timed (Reference sync op address times) = are_times times
@@ -41,5 +41,5 @@ pub record IsEntry (entry : ScriptEntry) : Type 0 where
   pub timed : is_timed entry ≡ true
 
 pub record IsScript (es : List ScriptEntry) : Type 0 where
-  pub few : length es ≤ SCRIPT_ENTRIES
+  pub few : length es ≤ script_entries
   pub entries : All IsEntry es

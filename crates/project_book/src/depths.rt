@@ -14,7 +14,19 @@ pub struct QueueDepths {
     pub module_queue: u32,
 }
 
+/// How many places a wait buffer has where nothing else is said.
+pub const USUAL_WAIT: u32 = 4;
+
 impl QueueDepths {
+    /// The depths where nothing else is said: 4, and 8 in the reverse queues of combining switches.
+    pub const USUAL: QueueDepths = QueueDepths {
+        low_forward: 4,
+        low_reverse: 4,
+        comb_forward: 4,
+        comb_reverse: 8,
+        module_queue: 4,
+    };
+
     /// The depth of some queues.
     pub fn depth(&self, queue: Depths) -> u32
         ensures { result ≡ depth_in self.now queue }

@@ -1,6 +1,6 @@
 //! Edits of a project, and the settings that they change.
 ghost use Rattle.std.specs.Prelude.{◌≡◌};
-ghost use Rattle.project_book.specs.Queues.{forward_queue, reverse_queue, least_depth, is_depth, is_wait};
+ghost use Rattle.project_book.specs.Queues.{forward_queue, least_depth, is_depth, is_wait};
 ghost use Rattle.project_book.specs.Project.{is_window};
 ghost use Rattle.project_book.specs.Scripts.{is_addressed, is_timed, are_times};
 ghost use Rattle.project_book.specs.Edits.{slot_of};
@@ -29,16 +29,6 @@ impl Depths {
         match net {
             Net::Low => Depths::LowForward,
             Net::Comb => Depths::CombForward,
-        }
-    }
-
-    /// The reverse queues of a network's switches.
-    pub fn reverse(net: Net) -> Depths
-        ensures { result ≡ reverse_queue net }
-    {
-        match net {
-            Net::Low => Depths::LowReverse,
-            Net::Comb => Depths::CombReverse,
         }
     }
 

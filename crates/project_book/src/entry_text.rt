@@ -1,8 +1,7 @@
 //! The texts of script entries.
-ghost use Rattle.std.specs.Prelude.{◌≡◌, Some, bytes_eq};
+ghost use Rattle.std.specs.Prelude.{◌≡◌, Some};
 ghost use Rattle.line_words.specs.Words.{words_of};
 ghost use Rattle.omega_net.specs.declared.script.ScriptEntry.{ScriptEntry};
-ghost use Rattle.word_ops.specs.Names.{kind_name, kind_named};
 ghost use Rattle.project_book.specs.EntryTexts.{entry_text, entry_of, IsNumbered, reference_of, times_of, fence_of, idle_of};
 
 use line_words::{number, split_word};
@@ -54,6 +53,7 @@ pub fn read_entry(text: &[u8]) -> Option<ScriptEntry>
     read_words(text)
 }
 
+/// `read_entry`, branch by branch; that it undoes the writing follows from the entry as a whole.
 fn read_words(text: &[u8]) -> Option<ScriptEntry>
     ensures { result ≡ entry_of (words_of text.now) }
 {
@@ -77,7 +77,7 @@ fn read_reference(sync: bool, text: &[u8]) -> Option<ScriptEntry>
     let (kind, rest) = split_word(text)?;
     let (address, rest) = split_word(rest)?;
     let (operand, rest) = split_word(rest)?;
-    let kind = kind_of(kind)?;
+    let kind = Kind::from_name(kind)?;
     let address = number(address)?;
     let operand = number(operand)?;
     let times = read_times(rest)?;
@@ -118,19 +118,4 @@ fn read_idle(text: &[u8]) -> Option<ScriptEntry>
         return None;
     }
     Some(ScriptEntry::Idle(number(turns)?))
-}
-
-fn has_name(kind: Kind, word: &[u8]) -> bool
-    ensures { result ≡ bytes_eq (kind_name kind) word.now }
-{
-    kind.name().as_bytes() == word
-}
-
-fn kind_of(word: &[u8]) -> Option<Kind>
-    ensures { result ≡ kind_named word.now }
-{
-    Kind::ALL
-        .iter()
-        .find(|kind| has_name(**kind, word))
-        .copied()
 }

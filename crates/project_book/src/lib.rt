@@ -29,13 +29,13 @@ mod slot;
 mod tests;
 mod words;
 
-pub use depths::QueueDepths;
+pub use depths::{QueueDepths, USUAL_WAIT};
 pub use edit::{Depths, Edit};
 pub use entry_text::{EntryText, read_entry};
 pub use fault::EditFault;
 pub use limits::{
     MAX_DEPTH, MAX_EDITS, MAX_HORIZON, MAX_TIMES, MAX_WINDOW, MIN_COMB_REVERSE, MIN_DEPTH,
-    MIN_WAIT, SCRIPT_ENTRIES,
+    MIN_WAIT, SCRIPT_ENTRIES, STAGES, constants_are_limits,
 };
 pub use omega_net::ScriptEntry;
 pub use parts::Parts;

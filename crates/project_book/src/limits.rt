@@ -1,4 +1,12 @@
 //! The limits of a project, beside those of its page map.
+ghost use Rattle.std.specs.Prelude.{◌≡◌};
+ghost use Rattle.page_map.specs.Limits.{max_k};
+ghost use Rattle.project_book.specs.Limits.{max_horizon, script_entries, max_times, max_window, min_depth, min_comb_reverse, min_wait, max_depth, max_edits};
+
+use page_map::MAX_K;
+
+/// How many stages a network has at most.
+pub const STAGES: usize = MAX_K as usize;
 
 /// The last cycle that a horizon may name.
 pub const MAX_HORIZON: u32 = 1_000;
@@ -27,3 +35,17 @@ pub const MAX_DEPTH: u32 = 16;
 
 /// How many edits a bench accepts.
 pub const MAX_EDITS: u32 = 65_535;
+
+/// Each constant is the number that contracts speak of.
+pub fn constants_are_limits()
+    ensures stages { STAGES ≡ max_k }
+    ensures horizon { MAX_HORIZON ≡ max_horizon }
+    ensures entries { SCRIPT_ENTRIES ≡ script_entries }
+    ensures times { MAX_TIMES ≡ max_times }
+    ensures window { MAX_WINDOW ≡ max_window }
+    ensures shallowest { MIN_DEPTH ≡ min_depth }
+    ensures splitting { MIN_COMB_REVERSE ≡ min_comb_reverse }
+    ensures waiting { MIN_WAIT ≡ min_wait }
+    ensures deepest { MAX_DEPTH ≡ max_depth }
+    ensures edits { MAX_EDITS ≡ max_edits }
+{}

@@ -4,6 +4,7 @@ ghost use Rattle.project_book.specs.Project.{IsProject};
 ghost use Rattle.project_book.specs.Parts.{project_of};
 
 use crate::depths::QueueDepths;
+use crate::limits::STAGES;
 use crate::project::Project;
 use crate::scripts::Scripts;
 use crate::words::FirstWords;
@@ -21,7 +22,7 @@ pub struct Parts {
     pub depths: QueueDepths,
     pub wait: u32,
     /// Whether the switches of a stage combine; what stands from stage k on is never read.
-    pub combine: [bool; 5],
+    pub combine: [bool; STAGES],
     pub pages: PageMap,
     pub words: FirstWords,
     pub scripts: Scripts,

@@ -1,23 +1,22 @@
 //! A project: a machine's settings, its scripts and its first words.
 ghost use Rattle.std.specs.Prelude.{◌≡◌, ◌<◌, ◌≤◌, ◌^◌, ◌&&◌, nat_le, nat_lt, true, false, IfOk, IfSome, if◌then◌else◌, Some, None};
-ghost use Rattle.page_map.specs.declared.map.TheConstants.{ADDRESSES, MAX_K};
+ghost use Rattle.page_map.specs.Limits.{address_count, max_k};
 ghost use Rattle.project_book.specs.Queues.{is_depth, is_wait};
 ghost use Rattle.project_book.specs.Scripts.{IsEntry};
 ghost use Rattle.project_book.specs.FirstWords.{IsListing};
+ghost use Rattle.project_book.specs.Limits.{max_horizon, script_entries};
 
-use crate::depths::QueueDepths;
+use crate::depths::{QueueDepths, USUAL_WAIT};
 use crate::edit::Depths;
-use crate::limits::{MAX_HORIZON, SCRIPT_ENTRIES};
+use crate::limits::{MAX_HORIZON, SCRIPT_ENTRIES, STAGES};
 use crate::scripts::Scripts;
 use crate::words::{FirstWord, FirstWords};
 use grid_law::NoMemory;
-use omega_net::ScriptEntry;
+use omega_net::{ScriptEntry, Shape};
 use page_map::{ADDRESSES, MAX_K, PageMap, Place};
 use std::alloc::Global;
 use std::marker::Model;
 use std::sync::Arc;
-
-const STAGES: usize = MAX_K as usize;
 
 /// A machine's settings, its scripts and its first words, each within its limits. An edited copy
 /// shares with its origin what the edit leaves alone.
@@ -54,8 +53,8 @@ impl Project {
     /// in the reverse queues of combining switches, every page spread over all modules, first words
     /// of 0, and no script entries. None exactly where k is above 5 or the horizon above 1,000.
     pub fn new(alloc: Global, k: u32, horizon: u32) -> Result<Option<Project>, NoMemory>
-        ensures refused { (nat_le k MAX_K && nat_le horizon MAX_HORIZON) ≡ false → result ≡ Ok None }
-        ensures made { IfOk result (λ o. o ≡ (if nat_le k MAX_K && nat_le horizon MAX_HORIZON then Some (blank k horizon) else None)) }
+        ensures refused { (nat_le k max_k && nat_le horizon max_horizon) ≡ false → result ≡ Ok None }
+        ensures made { IfOk result (λ o. o ≡ (if nat_le k max_k && nat_le horizon max_horizon then Some (blank k horizon) else None)) }
     {
         if k > MAX_K || horizon > MAX_HORIZON {
             return Ok(None);
@@ -71,8 +70,8 @@ impl Project {
     }
 
     fn blank(alloc: Global, k: u32, horizon: u32) -> Result<Project, NoMemory>
-        requires small { k ≤ MAX_K }
-        requires short { horizon ≤ MAX_HORIZON }
+        requires small { k ≤ max_k }
+        requires short { horizon ≤ max_horizon }
         ensures { IfOk result (λ p. p ≡ blank k horizon) }
     {
         let words = Arc::new(alloc, FirstWords::new(alloc))?;
@@ -81,14 +80,8 @@ impl Project {
             k,
             horizon,
             window: 1,
-            depths: QueueDepths {
-                low_forward: 4,
-                low_reverse: 4,
-                comb_forward: 4,
-                comb_reverse: 8,
-                module_queue: 4,
-            },
-            wait: 4,
+            depths: QueueDepths::USUAL,
+            wait: USUAL_WAIT,
             combine: [false; STAGES],
             pages: PageMap::new(k),
             words,
@@ -120,9 +113,16 @@ impl Project {
     /// There are 2^k processors and as many modules; k is at most 5.
     pub fn k(&self) -> u32
         ensures k { result ≡ self.now.k }
-        ensures small { result ≤ MAX_K }
+        ensures small { result ≤ max_k }
     {
         self.k
+    }
+
+    /// The machine's shape.
+    pub fn shape(&self) -> Shape
+        ensures { result ≡ self.now.k }
+    {
+        Shape::new(self.k).unwrap()
     }
 
     /// How many processors there are, 1 to 32.
@@ -135,7 +135,7 @@ impl Project {
     /// The last cycle, at most 1,000.
     pub fn horizon(&self) -> u32
         ensures horizon { result ≡ self.now.horizon }
-        ensures short { result ≤ MAX_HORIZON }
+        ensures short { result ≤ max_horizon }
     {
         self.horizon
     }
@@ -190,8 +190,8 @@ impl Project {
 
     /// Where an address stands; None exactly from 16,384 on.
     pub fn place(&self, address: u32) -> Option<Place>
-        ensures place { result ≡ (if nat_lt address ADDRESSES then Some (place_in self.now address) else None) }
-        ensures within { IfSome result (λ p. (p.module < 2 ^ self.now.k) × (p.row < ADDRESSES)) }
+        ensures place { result ≡ (if nat_lt address address_count then Some (place_in self.now address) else None) }
+        ensures within { IfSome result (λ p. (p.module < 2 ^ self.now.k) × (p.row < address_count)) }
     {
         self.pages.place(address)
     }
@@ -218,7 +218,7 @@ impl Project {
     /// How many entries a processor's script has, at most 256; 0 where there is no such processor.
     pub fn length(&self, proc: u32) -> u32
         ensures length { result ≡ length_at self.now proc }
-        ensures few { result ≤ SCRIPT_ENTRIES }
+        ensures few { result ≤ script_entries }
     {
         if proc < self.processors() {
             self.scripts.script(proc).length()

@@ -2,6 +2,7 @@
 ghost use Rattle.std.specs.Prelude.{◌≡◌, ◌≢◌, ◌<◌, ◌≤◌, IfOk, OnOk, OnErr, IfSome, [], map, length, take, slice_get, slice_set, replicate};
 ghost use Rattle.std.specs.Arc.{arc_value};
 ghost use Rattle.project_book.specs.Scripts.{put_entry, script_of, IsEntry, IsScript};
+ghost use Rattle.project_book.specs.Limits.{script_entries};
 
 use crate::limits::SCRIPT_ENTRIES;
 use grid_law::NoMemory;
@@ -58,7 +59,7 @@ impl Script {
     /// How many entries there are.
     pub fn length(&self) -> u32
         ensures length { result ≡ length self.now }
-        ensures few { result ≤ SCRIPT_ENTRIES }
+        ensures few { result ≤ script_entries }
     {
         self.entries.len() as u32
     }
@@ -79,7 +80,7 @@ impl Script {
         entry: ScriptEntry,
     ) -> Result<Script, NoMemory>
         requires there { index ≤ length self.now }
-        requires room { index ≡ length self.now → index ≢ SCRIPT_ENTRIES }
+        requires room { index ≡ length self.now → index ≢ script_entries }
         requires entry { IsEntry entry }
         ensures { IfOk result (λ s. s ≡ put_entry self.now index entry) }
     {

@@ -61,8 +61,8 @@ fn blank_projects(rt: HostRuntime) -> Result<(), Fail> {
     for net in [Net::Low, Net::Comb] {
         assert_eq!(rt; project.depth(Depths::forward(net)), 4);
     }
-    assert_eq!(rt; project.depth(Depths::reverse(Net::Low)), 4);
-    assert_eq!(rt; project.depth(Depths::reverse(Net::Comb)), 8);
+    assert_eq!(rt; project.depth(Depths::LowReverse), 4);
+    assert_eq!(rt; project.depth(Depths::CombReverse), 8);
     assert_eq!(rt; project.depth(Depths::ModuleQueue), 4);
     assert!(rt; (0..6).all(|stage| !project.combine(stage)));
     // the 256 words of a page go round the 32 modules, 8 to each
@@ -105,6 +105,45 @@ fn refusals(rt: HostRuntime) -> Result<(), Fail> {
     ] {
         assert_eq!(rt; refused(&project, edit), Some(number), "{edit:?}");
     }
+    Ok(())
+}
+
+/// The last values of each limit, and the first past it.
+#[test]
+fn limits(rt: HostRuntime) -> Result<(), Fail> {
+    let alloc = rt.alloc();
+    let project = base(alloc)?;
+    for (edit, number) in [
+        (word(16_383, 1), None),
+        (page(63, 1, 0), None),
+        (depth(Depths::ModuleQueue, 2), None),
+        (depth(Depths::LowForward, 16), None),
+        (depth(Depths::LowForward, 17), Some(9)),
+        (depth(Depths::LowReverse, 17), Some(9)),
+        (depth(Depths::CombForward, 1), Some(9)),
+        (depth(Depths::CombForward, 17), Some(9)),
+        (depth(Depths::CombReverse, 4), None),
+        (depth(Depths::CombReverse, 16), None),
+        (depth(Depths::CombReverse, 17), Some(9)),
+        (depth(Depths::ModuleQueue, 17), Some(9)),
+        (Edit::WaitDepth(1), None),
+        (Edit::WaitDepth(16), None),
+        (Edit::WaitDepth(17), Some(9)),
+        (Edit::Window(0), Some(10)),
+        (Edit::Window(1), None),
+        (Edit::Window(8), None),
+        (entry(0, 0, add(16_383, 1)), None),
+        (entry(0, 0, add(0, 0)), Some(11)),
+        (entry(0, 0, add(0, 1_000)), None),
+        (entry(0, 0, ScriptEntry::Idle(1)), None),
+        (entry(0, 0, ScriptEntry::Idle(1_000)), None),
+        (entry(0, 0, ScriptEntry::Idle(1_001)), Some(11)),
+        (Edit::Horizon(0), None),
+        (Edit::Horizon(1_000), None),
+    ] {
+        assert_eq!(rt; refused(&project, edit), number, "{edit:?}");
+    }
+    assert_eq!(rt; MAX_EDITS, 65_535);
     Ok(())
 }
 

@@ -1,6 +1,7 @@
 //! The words that stand in memory at cycle 0.
 ghost use Rattle.std.specs.Prelude.{◌≡◌, ◌<◌, ◌==◌, find, IfOk, [], ◌++◌};
 ghost use Rattle.project_book.specs.FirstWords.{word_at, with_word, listed, words_below, words_above, IsListing};
+ghost use Rattle.page_map.specs.Limits.{address_count};
 
 use grid_law::NoMemory;
 use page_map::ADDRESSES;
@@ -71,7 +72,7 @@ impl FirstWords {
 
     /// The words where this address has this word. Copies the list.
     pub fn with_word(&self, alloc: Global, address: u32, word: u32) -> Result<FirstWords, NoMemory>
-        requires { address < ADDRESSES }
+        requires { address < address_count }
         ensures { IfOk result (λ w. w ≡ with_word self.now address word) }
     {
         let words = words_with(alloc, &self.words, address, word)?;

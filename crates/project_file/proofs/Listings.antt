@@ -4,7 +4,7 @@ use Rattle.std.specs.Prelude.{AllPairs, unwrap_or}
 use Rattle.std.proofs.lemmas.Bool.Decides.{nat_tests}
 use Rattle.std.proofs.lemmas.List.Elements.{All-nil, All-cons, All-append}
 use Rattle.std.proofs.lemmas.List.Kept.{AllPairs-cons}
-use Rattle.page_map.specs.declared.map.TheConstants.{ADDRESSES}
+use Rattle.page_map.specs.Limits.{address_count}
 use Rattle.project_book.specs.declared.words.FirstWord.{FirstWord}
 use Rattle.project_book.specs.FirstWords.{IsListing, listed}
 use Rattle.project_file.specs.Words.{Memory, words_from}
@@ -40,9 +40,9 @@ pairs_from a [] = λ i j d h l. absurd (omega arith)
 pairs_from a (m ∷ memory) =
     pairs_more a (unwrap_or m 0) (words_from (a + 1) memory) (pairs_from (a + 1) memory) (all_from (IsBefore (at a (unwrap_or m 0))) (a + 1) memory (λ b word low high some. omega arith))
 
-pub words_are_listed : (memory : Memory) → length memory ≤ ADDRESSES → IsListing (words_from 0 memory)
+pub words_are_listed : (memory : Memory) → length memory ≤ address_count → IsListing (words_from 0 memory)
 words_are_listed memory few = record {
   ascending = pairs_from 0 memory;
-  within = all_from (λ w. w.address < ADDRESSES) 0 memory (λ b word low high some. omega arith);
+  within = all_from (λ w. w.address < address_count) 0 memory (λ b word low high some. omega arith);
   nonzero = all_from (λ w. 0 < w.word) 0 memory (λ b word low high some. some);
 }

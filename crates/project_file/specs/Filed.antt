@@ -3,15 +3,16 @@ use Rattle.std.specs.Prelude.{ℕ, ◌^◌, nat_lt, Bool, false, if◌then◌els
 use Rattle.std.specs.Str.{is_utf8}
 use Rattle.toml.specs.Data.{Members}
 use Rattle.toml.specs.Parse.{parse_document}
-use Rattle.page_map.specs.declared.map.TheConstants.{MAX_K}
+use Rattle.page_map.specs.Limits.{max_k}
 use Rattle.page_map.specs.Pages.{whole_pages}
-use Rattle.project_book.specs.declared.limits.TheConstants.{MAX_HORIZON, MAX_WINDOW}
+use Rattle.project_book.specs.Limits.{max_horizon, max_window}
 use Rattle.project_book.specs.Project.{Project}
 use Rattle.project_file.specs.declared.fault.ProjectFault.{ProjectFault}
 use Rattle.project_file.specs.declared.fault.ProjectFault.TheVariants.{TooLong, Text, Format}
-use Rattle.project_file.specs.declared.reading.TheConstants.{MAX_BYTES}
+use Rattle.project_file.specs.Limits.{max_bytes}
 use Rattle.project_file.specs.Fields.{◌>>=◌, check, known, optional, number_in, number_at}
-use Rattle.project_file.specs.Depths.{depths_in, usual_depths}
+use Rattle.project_book.specs.Queues.{usual_depths, usual_wait}
+use Rattle.project_file.specs.Depths.{depths_in}
 use Rattle.project_file.specs.Stages.{combine_in}
 use Rattle.project_file.specs.Pages.{pages_in}
 use Rattle.project_file.specs.Words.{words_in}
@@ -23,9 +24,9 @@ root_keys = codes "format" ∷ codes "k" ∷ codes "horizon" ∷ codes "window" 
 -- the rest of a project of 2^k processors, in the order of the keys
 abbrev pub sized_project : ℕ → ℕ → Members → Result Project ProjectFault
 sized_project k horizon ms = do
-  window ← optional (codes "window") (number_in 1 MAX_WINDOW) 1 ms
-  combine ← optional (codes "combine") (combine_in k) (replicate MAX_K false) ms
-  depths ← optional (codes "depths") depths_in usual_depths ms
+  window ← optional (codes "window") (number_in 1 max_window) 1 ms
+  combine ← optional (codes "combine") (combine_in k) (replicate max_k false) ms
+  depths ← optional (codes "depths") depths_in (usual_depths, usual_wait) ms
   pages ← optional (codes "page") (pages_in k) (whole_pages k) ms
   words ← optional (codes "word") words_in [] ms
   scripts ← optional (codes "script") (scripts_in k) (replicate (2 ^ k) []) ms
@@ -36,8 +37,8 @@ abbrev pub document_project : Members → Result Project ProjectFault
 document_project ms = do
   _ ← check (is_ok (number_at (codes "format") 1 1 ms)) Format
   _ ← known root_keys ms
-  k ← number_at (codes "k") 0 MAX_K ms
-  horizon ← number_at (codes "horizon") 0 MAX_HORIZON ms
+  k ← number_at (codes "k") 0 max_k ms
+  horizon ← number_at (codes "horizon") 0 max_horizon ms
   sized_project k horizon ms
 
 -- the document that a text is
@@ -46,4 +47,4 @@ document_of bytes = if is_utf8 bytes then ok_or (parse_document bytes) Text else
 
 -- `filed`: the project that a file's bytes are, or the first fault
 abbrev pub filed : List ℕ → Result Project ProjectFault
-filed bytes = if nat_lt MAX_BYTES (length bytes) then Err TooLong else document_of bytes >>= document_project
+filed bytes = if nat_lt max_bytes (length bytes) then Err TooLong else document_of bytes >>= document_project

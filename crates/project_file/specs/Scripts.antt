@@ -4,7 +4,8 @@ use Rattle.std.specs.List.{list_all}
 use Rattle.toml.specs.Data.{Data, Items, Members, as_str}
 use Rattle.line_words.specs.Words.{words_of}
 use Rattle.omega_net.specs.declared.script.ScriptEntry.{ScriptEntry}
-use Rattle.project_book.specs.declared.limits.TheConstants.{SCRIPT_ENTRIES}
+use Rattle.page_map.specs.Limits.{max_k}
+use Rattle.project_book.specs.Limits.{script_entries}
 use Rattle.project_book.specs.EntryTexts.{entry_of}
 use Rattle.project_book.specs.Scripts.{is_addressed, is_timed}
 use Rattle.project_file.specs.declared.fault.ProjectFault.{ProjectFault}
@@ -27,7 +28,7 @@ abbrev pub is_entry : ScriptEntry → Bool
 is_entry e = is_addressed e && is_timed e
 
 abbrev pub is_script : List ScriptEntry → Bool
-is_script es = nat_le (length es) SCRIPT_ENTRIES && list_all is_entry es
+is_script es = nat_le (length es) script_entries && list_all is_entry es
 
 -- the entries of an array of texts
 abbrev pub entries_in : Data → Result (List ScriptEntry) ProjectFault
@@ -58,7 +59,7 @@ with_script_item k S d = do
 
 -- no script has entries
 unfoldable pub no_scripts : ℕ → GivenScripts
-no_scripts k = record { given = replicate 32 false; scripts = replicate (2 ^ k) [] }
+no_scripts k = record { given = replicate (2 ^ max_k) false; scripts = replicate (2 ^ k) [] }
 
 abbrev pub scripts_in : ℕ → Data → Result (List (List ScriptEntry)) ProjectFault
 scripts_in k d = do

@@ -1,7 +1,7 @@
 -- The key `word`: the first words, each given at most once.
 use Rattle.std.specs.Prelude.{ℕ, ◌+◌, List, [], ◌∷◌, ◌++◌, replicate, Option, None, Some, Result, Ok, codes, is_none, unwrap_or, slice_index_or, slice_set}
 use Rattle.toml.specs.Data.{Data, Members}
-use Rattle.page_map.specs.declared.map.TheConstants.{ADDRESSES}
+use Rattle.page_map.specs.Limits.{address_count}
 use Rattle.project_book.specs.declared.words.FirstWord.{FirstWord}
 use Rattle.project_book.specs.FirstWords.{listed}
 use Rattle.project_file.specs.declared.fault.ProjectFault.{ProjectFault}
@@ -41,5 +41,5 @@ no_words n = replicate n None
 abbrev pub words_in : Data → Result (List FirstWord) ProjectFault
 words_in d = do
   ds ← tables_in d
-  memory ← walk with_word_item (no_words ADDRESSES) ds
+  memory ← walk with_word_item (no_words address_count) ds
   Ok (words_from 0 memory)

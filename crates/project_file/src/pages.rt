@@ -1,7 +1,7 @@
 //! The key `page`.
 ghost use Rattle.std.specs.Prelude.{◌≡◌, codes, ◌≤◌, Ok, Err, MatchResult, IfOk};
 ghost use Rattle.toml.specs.View.{view, array_view, table_view};
-ghost use Rattle.page_map.specs.declared.map.TheConstants.{MAX_K};
+ghost use Rattle.page_map.specs.Limits.{max_k};
 ghost use Rattle.page_map.specs.Pages.{whole_pages};
 ghost use Rattle.project_file.specs.Fields.{Reads, optional, walk};
 ghost use Rattle.project_file.specs.Pages.{pages_in, with_page_item, with_page_of, no_pages};
@@ -9,7 +9,7 @@ ghost use Rattle.project_file.specs.Pages.{pages_in, with_page_item, with_page_o
 use crate::fault::ProjectFault;
 use crate::fields::{check, find, number_at, refuse_others};
 use crate::items::{Array, table_in, tables_in};
-use page_map::PageMap;
+use page_map::{PAGES, PageMap};
 use toml::{Table, Value};
 
 const KEYS: [&str; 3] = ["number", "amount", "base"];
@@ -17,13 +17,13 @@ const KEYS: [&str; 3] = ["number", "amount", "base"];
 /// Which pages were given, and the pages as they are spread so far.
 #[derive(Clone, Copy)]
 struct GivenPages {
-    given: [bool; 64],
+    given: [bool; PAGES as usize],
     pages: PageMap,
 }
 
 /// The pages of a project's root, in a machine of 2^k modules.
 pub(crate) fn read_pages(root: &Table, k: u32) -> Result<PageMap, ProjectFault>
-    requires { k ≤ MAX_K }
+    requires { k ≤ max_k }
     ensures pages { result ≡ optional (codes "page") (pages_in k) (whole_pages k) (table_view root.now) }
     ensures k { IfOk result (λ m. m.k ≡ k) }
 {
@@ -34,7 +34,7 @@ pub(crate) fn read_pages(root: &Table, k: u32) -> Result<PageMap, ProjectFault>
 }
 
 fn pages_in(value: &Value, k: u32) -> Result<PageMap, ProjectFault>
-    requires { k ≤ MAX_K }
+    requires { k ≤ max_k }
     ensures pages { result ≡ pages_in k (view value.now) }
     ensures k { IfOk result (λ m. m.k ≡ k) }
 {
@@ -46,12 +46,12 @@ fn pages_in(value: &Value, k: u32) -> Result<PageMap, ProjectFault>
 impl GivenPages {
     #[tactic(auto, unfolding(crate::specs::Pages::no_pages))]
     fn new(k: u32) -> GivenPages
-        requires { k ≤ MAX_K }
+        requires { k ≤ max_k }
         ensures none { result ≡ no_pages k }
         ensures k { result.pages.k ≡ k }
     {
         GivenPages {
-            given: [false; 64],
+            given: [false; PAGES as usize],
             pages: PageMap::new(k),
         }
     }
@@ -80,7 +80,7 @@ impl GivenPages {
         ensures item { MatchResult result (λ _. with_page_of self.old (table_view table.now) ≡ Ok self.new) (λ fault. with_page_of self.old (table_view table.now) ≡ Err fault) }
         ensures k { self.new.pages.k ≡ self.old.pages.k }
     {
-        let page = number_at(table, "number", 0, 63)?;
+        let page = number_at(table, "number", 0, PAGES - 1)?;
         let is_new = !self.given[page as usize];
         check(is_new, ProjectFault::Twice)?;
         let amount = number_at(table, "amount", 0, u32::MAX)?;

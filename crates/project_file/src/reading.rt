@@ -1,8 +1,8 @@
 //! A whole project file.
 ghost use Rattle.std.specs.Prelude.{◌≡◌, codes, ◌≤◌};
 ghost use Rattle.toml.specs.View.{table_view};
-ghost use Rattle.page_map.specs.declared.map.TheConstants.{MAX_K};
-ghost use Rattle.project_book.specs.declared.limits.TheConstants.{MAX_HORIZON};
+ghost use Rattle.page_map.specs.Limits.{max_k};
+ghost use Rattle.project_book.specs.Limits.{max_horizon};
 ghost use Rattle.project_file.specs.Fields.{Gives, check};
 ghost use Rattle.project_file.specs.Filed.{filed, document_of, document_project, sized_project};
 ghost use Rattle.project_file.specs.declared.fault.ProjectFault.TheVariants.{Format};
@@ -80,8 +80,8 @@ fn check_format(root: &Table) -> Result<(), ProjectFault>
 }
 
 fn sized_project(alloc: Global, root: &Table, k: u32, horizon: u32) -> Result<Project, ProjectFault>
-    requires small { k ≤ MAX_K }
-    requires short { horizon ≤ MAX_HORIZON }
+    requires small { k ≤ max_k }
+    requires short { horizon ≤ max_horizon }
     ensures { Gives (λ p. p) result (sized_project k horizon (table_view root.now)) }
 {
     let window = number_or(root, "window", 1, MAX_WINDOW, 1)?;

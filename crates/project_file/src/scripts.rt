@@ -2,7 +2,7 @@
 ghost use Rattle.std.specs.Prelude.{◌≡◌, codes, ◌≤◌, ◌^◌, [], Ok, Err, length, replicate, MatchResult, IfOk, ◌≢◌};
 ghost use Rattle.std.specs.List.{list_all};
 ghost use Rattle.toml.specs.View.{view, array_view, table_view};
-ghost use Rattle.page_map.specs.declared.map.TheConstants.{MAX_K};
+ghost use Rattle.page_map.specs.Limits.{max_k};
 ghost use Rattle.project_book.specs.Scripts.{IsScript, are_times};
 ghost use Rattle.project_file.specs.declared.fault.ProjectFault.TheVariants.{Memory};
 ghost use Rattle.project_file.specs.Fields.{Gives, optional, walk};
@@ -12,23 +12,26 @@ use crate::fault::ProjectFault;
 use crate::fields::{check, find, number_at, refuse_others, require};
 use crate::items::{Array, are_texts, array_in, table_in, tables_in};
 use grid_law::NoMemory;
-use page_map::ADDRESSES;
+use page_map::{ADDRESSES, MAX_K};
 use project_book::{MAX_TIMES, SCRIPT_ENTRIES, ScriptEntry, Scripts, read_entry};
 use std::alloc::Global;
 use toml::{Table, Value};
 
 const KEYS: [&str; 2] = ["processor", "entries"];
 
+/// How many processors the largest machine has.
+const PROCESSORS: usize = 1 << MAX_K;
+
 /// Which processors were given, and the scripts so far.
 #[derive(Drop)]
 struct GivenScripts {
-    given: [bool; 32],
+    given: [bool; PROCESSORS],
     scripts: Scripts,
 }
 
 /// The scripts of a project's root, by processor, in a machine of 2^k processors.
 pub(crate) fn read_scripts(alloc: Global, root: &Table, k: u32) -> Result<Scripts, ProjectFault>
-    requires { k ≤ MAX_K }
+    requires { k ≤ max_k }
     ensures scripts { Gives (λ s. s) result (optional (codes "script") (scripts_in k) (replicate (2 ^ k) []) (table_view root.now)) }
     ensures count { IfOk result (λ s. length s ≡ 2 ^ k) }
 {
@@ -39,7 +42,7 @@ pub(crate) fn read_scripts(alloc: Global, root: &Table, k: u32) -> Result<Script
 }
 
 fn scripts_in(alloc: Global, value: &Value, k: u32) -> Result<Scripts, ProjectFault>
-    requires { k ≤ MAX_K }
+    requires { k ≤ max_k }
     ensures scripts { Gives (λ s. s) result (scripts_in k (view value.now)) }
     ensures count { IfOk result (λ s. length s ≡ 2 ^ k) }
 {
@@ -51,19 +54,19 @@ fn scripts_in(alloc: Global, value: &Value, k: u32) -> Result<Scripts, ProjectFa
 impl GivenScripts {
     #[tactic(auto, unfolding(crate::specs::Scripts::no_scripts))]
     fn new(alloc: Global, k: u32) -> Result<GivenScripts, NoMemory>
-        requires { k ≤ MAX_K }
+        requires { k ≤ max_k }
         ensures none { IfOk result (λ s. s ≡ no_scripts k) }
         ensures count { IfOk result (λ s. length s.scripts ≡ 2 ^ k) }
     {
         let scripts = Scripts::new(alloc, 1 << k)?;
         Ok(GivenScripts {
-            given: [false; 32],
+            given: [false; PROCESSORS],
             scripts,
         })
     }
 
     fn with_items(self, alloc: Global, array: &Array, k: u32) -> Result<GivenScripts, ProjectFault>
-        requires small { k ≤ MAX_K }
+        requires small { k ≤ max_k }
         requires count { length self.scripts ≡ 2 ^ k }
         ensures items { Gives (λ s. s) result (walk (with_script_item k) self (array_view array.now)) }
         ensures count { IfOk result (λ s. length s.scripts ≡ 2 ^ k) }
@@ -76,7 +79,7 @@ impl GivenScripts {
     }
 
     fn add_item(&mut self, alloc: Global, item: &Value, k: u32) -> Result<(), ProjectFault>
-        requires small { k ≤ MAX_K }
+        requires small { k ≤ max_k }
         requires count { length self.old.scripts ≡ 2 ^ k }
         ensures item { MatchResult result (λ _. with_script_item k self.old (view item.now) ≡ Ok self.new) (λ fault. fault ≢ Memory → with_script_item k self.old (view item.now) ≡ Err fault) }
         ensures count { length self.new.scripts ≡ 2 ^ k }
@@ -87,7 +90,7 @@ impl GivenScripts {
     }
 
     fn add(&mut self, alloc: Global, table: &Table, k: u32) -> Result<(), ProjectFault>
-        requires small { k ≤ MAX_K }
+        requires small { k ≤ max_k }
         requires count { length self.old.scripts ≡ 2 ^ k }
         ensures item { MatchResult result (λ _. with_script_of k self.old (table_view table.now) ≡ Ok self.new) (λ fault. fault ≢ Memory → with_script_of k self.old (table_view table.now) ≡ Err fault) }
         ensures count { length self.new.scripts ≡ 2 ^ k }

@@ -209,7 +209,7 @@ fn prefixes(rt: HostRuntime) -> Result<(), Fail> {
 #[test]
 fn many_bytes(rt: HostRuntime) -> Result<(), Fail> {
     let alloc = rt.alloc();
-    let spaces = vec![in alloc; b' '; MAX_BYTES + 1]?;
+    let spaces = vec![in alloc; b' '; 4_194_305]?;
     assert_eq!(rt; number_of(alloc, &spaces), 1);
     assert_eq!(rt; number_of(alloc, &spaces[1..]), 3);
     let brackets = vec![in alloc; b'['; 100_000]?;

@@ -1,7 +1,7 @@
 //! The key `word`.
 ghost use Rattle.std.specs.Prelude.{◌≡◌, codes, ◌≤◌, ◌+◌, [], Ok, Err, length, MatchResult, IfOk};
 ghost use Rattle.toml.specs.View.{view, array_view, table_view};
-ghost use Rattle.page_map.specs.declared.map.TheConstants.{ADDRESSES};
+ghost use Rattle.page_map.specs.Limits.{address_count};
 ghost use Rattle.project_file.specs.Fields.{Gives, Reads, optional, walk};
 ghost use Rattle.project_file.specs.Words.{no_words, words_in, with_word_item, with_word_of, words_from};
 
@@ -45,9 +45,9 @@ fn no_words(alloc: Global, count: usize) -> Result<Vec<Option<u32>>, NoMemory>
 }
 
 fn with_items(memory: Vec<Option<u32>>, array: &Array) -> Result<Vec<Option<u32>>, ProjectFault>
-    requires { length memory.items ≡ ADDRESSES }
+    requires { length memory.items ≡ address_count }
     ensures items { Reads (λ v. v.items) result (walk with_word_item memory.items (array_view array.now)) }
-    ensures length { IfOk result (λ v. length v.items ≡ ADDRESSES) }
+    ensures length { IfOk result (λ v. length v.items ≡ address_count) }
 {
     let mut memory = memory;
     'items: for item in array {
@@ -57,9 +57,9 @@ fn with_items(memory: Vec<Option<u32>>, array: &Array) -> Result<Vec<Option<u32>
 }
 
 fn add_item(memory: &mut Vec<Option<u32>>, item: &Value) -> Result<(), ProjectFault>
-    requires { length memory.old.items ≡ ADDRESSES }
+    requires { length memory.old.items ≡ address_count }
     ensures item { MatchResult result (λ _. with_word_item memory.old.items (view item.now) ≡ Ok memory.new.items) (λ fault. with_word_item memory.old.items (view item.now) ≡ Err fault) }
-    ensures length { length memory.new.items ≡ ADDRESSES }
+    ensures length { length memory.new.items ≡ address_count }
 {
     let table = table_in(item)?;
     refuse_others(table, &KEYS)?;
@@ -67,9 +67,9 @@ fn add_item(memory: &mut Vec<Option<u32>>, item: &Value) -> Result<(), ProjectFa
 }
 
 fn add(memory: &mut Vec<Option<u32>>, table: &Table) -> Result<(), ProjectFault>
-    requires { length memory.old.items ≡ ADDRESSES }
+    requires { length memory.old.items ≡ address_count }
     ensures item { MatchResult result (λ _. with_word_of memory.old.items (table_view table.now) ≡ Ok memory.new.items) (λ fault. with_word_of memory.old.items (table_view table.now) ≡ Err fault) }
-    ensures length { length memory.new.items ≡ ADDRESSES }
+    ensures length { length memory.new.items ≡ address_count }
 {
     let address = number_at(table, "address", 0, 16_383)?;
     check(memory[address as usize].is_none(), ProjectFault::Twice)?;
@@ -81,14 +81,14 @@ fn add(memory: &mut Vec<Option<u32>>, table: &Table) -> Result<(), ProjectFault>
 /// The words of a memory that aren't 0, by address upwards.
 #[tactic(auto, using(crate::proofs::Listings::words_are_listed))]
 fn first_words(alloc: Global, memory: &[Option<u32>]) -> Result<FirstWords, NoMemory>
-    requires { length memory.now ≤ ADDRESSES }
+    requires { length memory.now ≤ address_count }
     ensures { IfOk result (λ w. w ≡ words_from 0 memory.now) }
 {
     Ok(FirstWords::from_listing(listing(alloc, memory)?))
 }
 
 fn listing(alloc: Global, memory: &[Option<u32>]) -> Result<Vec<FirstWord>, NoMemory>
-    requires { length memory.now ≤ ADDRESSES }
+    requires { length memory.now ≤ address_count }
     ensures { IfOk result (λ v. v.items ≡ words_from 0 memory.now) }
 {
     let mut words = Vec::new(alloc);

@@ -1,7 +1,7 @@
 -- What is answered to a query of a project: a look-up in its run, or the first reason against it.
 use Rattle.std.specs.Prelude.{ℕ, zero, suc, ◌+◌, ◌==◌, nat_le, nat_lt, Bool, false, if◌then◌else◌, Option, None, Some, Result, Ok, Err}
 use Rattle.std.specs.Option.{option_map, unwrap_or}
-use Rattle.page_map.specs.declared.map.TheConstants.{ADDRESSES}
+use Rattle.page_map.specs.Limits.{address_count}
 use Rattle.omega_net.specs.declared.message.Reply.{Reply}
 use Rattle.omega_net.specs.Numbers.{lines, components}
 use Rattle.omega_net.specs.Ports.{message_at}

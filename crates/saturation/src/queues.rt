@@ -3,11 +3,11 @@ ghost use Rattle.std.specs.Prelude.{◌≡◌, ◌<◌, ◌≤◌, ◌+◌, ◌-
 ghost use Rattle.std.specs.Option.{option_copied};
 ghost use Rattle.omega_net.specs.declared.component.Component.TheVariants.{Switch};
 ghost use Rattle.omega_net.specs.Numbers.{lines, half, number_of};
-ghost use Rattle.project_book.specs.Project.{forward};
+ghost use Rattle.page_map.specs.Limits.{max_k};
 ghost use Rattle.saturation.specs.Towards.{is_full, is_full_on, is_full_stage};
 
 use machine_cells::MachineState;
-use omega_net::{Component, Net, Shape, free};
+use omega_net::{Component, Net, free};
 use project_book::{Depths, Project};
 
 /// Whether all queues of a stage that lead to a module are full. It looks at those queues alone.
@@ -34,7 +34,7 @@ pub(crate) fn is_full_stage(
 
 /// How many queues of a stage lead to a module.
 fn queues_towards(k: u32, stage: u32) -> u32
-    requires k { k ≤ 5 }
+    requires k { k ≤ max_k }
     requires stage { stage < k }
     ensures { result ≡ 2 ^ (k - 1 - stage) }
 {
@@ -43,7 +43,7 @@ fn queues_towards(k: u32, stage: u32) -> u32
 
 /// The line of one of these queues, by its place among them: the module's first bits come last.
 fn line_towards(k: u32, module: u32, stage: u32, place: u32) -> u32
-    requires k { k ≤ 5 }
+    requires k { k ≤ max_k }
     requires stage { stage < k }
     requires there { «module» < lines k }
     requires place { place < 2 ^ (k - 1 - stage) }
@@ -61,7 +61,11 @@ fn is_full_on(project: &Project, row: &[&MachineState], net: Net, stage: u32, li
     ensures { result ≡ is_full_on project.now net (slice_get (map (λ r. r.now) row.now)) stage line }
 {
     let state = state_at(row, switch_number(project, net, stage, line / 2));
-    is_full(depth(project, net), (line % 2) as usize, state)
+    is_full(
+        project.depth(Depths::forward(net)),
+        (line % 2) as usize,
+        state,
+    )
 }
 
 /// Whether the queue at an output of a switch is full; false where the state is no switch's.
@@ -76,23 +80,13 @@ fn is_full(depth: u32, output: usize, state: Option<&MachineState>) -> bool
     }
 }
 
-/// The depth of a network's queues towards the modules.
-fn depth(project: &Project, net: Net) -> u32
-    ensures { result ≡ forward project.now net }
-{
-    match net {
-        Net::Low => project.depth(Depths::LowForward),
-        Net::Comb => project.depth(Depths::CombForward),
-    }
-}
-
 /// The component number of a switch.
 fn switch_number(project: &Project, net: Net, stage: u32, index: u32) -> u32
     requires stage { stage < project.now.k }
     requires index { index < half project.now.k }
     ensures { result ≡ number_of project.now.k (Switch net stage index) }
 {
-    let shape = Shape::new(project.k()).unwrap();
+    let shape = project.shape();
     let switch = Component::Switch {
         net,
         stage: stage as u8,

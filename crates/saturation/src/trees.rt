@@ -1,5 +1,6 @@
 //! The saturation of a whole run.
 ghost use Rattle.std.specs.Prelude.{◌≡◌, ◌<◌, ◌≤◌, ◌+◌, IfOk, length, slice_get, map, find, slice_index, nat_le};
+ghost use Rattle.page_map.specs.Limits.{max_k};
 ghost use Rattle.omega_net.specs.Numbers.{lines};
 ghost use Rattle.omega_net.specs.Wires.{below};
 ghost use Rattle.machine_cells.specs.Runs.{state_in};
@@ -67,7 +68,7 @@ fn levels_of(
 
 /// For each level from 1 to k, the first of these cycles that has it or a higher one.
 fn first_cycles(levels: &[u8], cycles: u32, k: u32) -> ArrayVec<Option<u32>, 6>
-    requires few { k ≤ 5 }
+    requires few { k ≤ max_k }
     requires there { cycles ≤ length levels.now }
     ensures { result.items ≡ map (λ j. find (λ t. nat_le (j + 1) (slice_index levels.now t)) (below cycles)) (below k) }
 {

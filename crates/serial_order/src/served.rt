@@ -25,7 +25,7 @@ pub(crate) fn push_served<S: States>(
     requires { place.«module» < lines project.now.k }
     ensures { IfOk result (λ _. tags.new.items ≡ tags.old.items ++ served_now project.now (S.at states.now cycle) place) }
 {
-    let shape = Shape::new(project.k()).unwrap();
+    let shape = project.shape();
     let number = shape.number(Component::Module(place.module)).unwrap();
     let served = served_request(
         states.state(cycle, number),

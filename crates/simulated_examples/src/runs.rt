@@ -43,7 +43,20 @@ impl Run {
         Counts::over(&self.rows)
     }
 
-    fn last_word(&self) -> Option<u32> {
+    /// How many replies the processors received.
+    pub(crate) fn answers(&self) -> usize {
+        let mut answers: usize = 0;
+        for row in &self.rows {
+            for state in row {
+                if let MachineState::Proc(s) = state {
+                    answers = answers.saturating_add(s.got.iter().flatten().count());
+                }
+            }
+        }
+        answers
+    }
+
+    pub(crate) fn last_word(&self) -> Option<u32> {
         match self.rows.last()?.get(self.processors)? {
             MachineState::Module(module) => Some(module.word(0)),
             _ => None,

@@ -425,3 +425,39 @@ fn example_15_narrow(rt: HostRuntime) -> Result<(), Fail> {
     assert_eq!(rt; queues(rt.alloc(), &run)?.as_str(), NARROW_QUEUES);
     Ok(())
 }
+
+/// Eight processors ask one module through the deepest queues: each of their 160 references is served
+/// and answered.
+const EIGHT_AT_ONCE: Setup = Setup {
+    k: 3,
+    horizon: 400,
+    window: 8,
+    low_forward: 16,
+    comb_reverse: 16,
+    modules: &[0],
+    word: 0,
+    scripts: &[
+        &["plain add 0 1 20"],
+        &["plain add 0 1 20"],
+        &["plain add 0 1 20"],
+        &["plain add 0 1 20"],
+        &["plain add 0 1 20"],
+        &["plain add 0 1 20"],
+        &["plain add 0 1 20"],
+        &["plain add 0 1 20"],
+    ],
+    ..BASE
+};
+
+#[test]
+fn deepest_queues(rt: HostRuntime) -> Result<(), Fail> {
+    let alloc = rt.alloc();
+    let run = Run::of(alloc, &EIGHT_AT_ONCE)?;
+    let counts = run.counts();
+    assert_eq!(rt;
+        format!(in alloc; "{counts}")?.as_str(),
+        "issued 160, served 160, combined 0"
+    );
+    assert_eq!(rt; (run.answers(), run.last_word()), (160, Some(160)));
+    Ok(())
+}

@@ -56,19 +56,19 @@ impl Kind {
         }
     }
 
-    fn has_name(self, text: &str) -> bool
-        ensures { result ≡ bytes_eq (kind_name self) text.now }
+    fn has_name(self, word: &[u8]) -> bool
+        ensures { result ≡ bytes_eq (kind_name self) word.now }
     {
-        self.name() == text
+        self.name().as_bytes() == word
     }
 
-    /// The kind of a name; None where no kind has it.
-    pub fn from_name(text: &str) -> Option<Self>
-        ensures kind { result ≡ kind_named text.now }
-        ensures named { IfSome result (λ kind. kind_name kind ≡ text.now) }
-        ensures read { (kind : Kind) → kind_name kind ≡ text.now → result ≡ Some kind }
+    /// The kind that a word names; None where no kind has that name.
+    pub fn from_name(word: &[u8]) -> Option<Self>
+        ensures kind { result ≡ kind_named word.now }
+        ensures named { IfSome result (λ kind. kind_name kind ≡ word.now) }
+        ensures read { (kind : Kind) → kind_name kind ≡ word.now → result ≡ Some kind }
     {
-        Kind::ALL.iter().find(|kind| kind.has_name(text)).copied()
+        Kind::ALL.iter().find(|kind| kind.has_name(word)).copied()
     }
 }
 

@@ -73,11 +73,11 @@ fn prints_and_reads_names(rt: HostRuntime) -> Result<(), Fail> {
         "store",
         "store-if-zero",
     ] {
-        let kind = Kind::from_name(name).ok_or("no kind")?;
+        let kind = Kind::from_name(name.as_bytes()).ok_or("no kind")?;
         assert_eq!(rt; format!(in rt.alloc(); "{kind}")?.as_str(), name);
     }
-    assert_eq!(rt; Kind::from_name("Load"), None);
-    assert_eq!(rt; Kind::from_name(""), None);
+    assert_eq!(rt; Kind::from_name(b"Load".as_slice()), None);
+    assert_eq!(rt; Kind::from_name(b"".as_slice()), None);
     let op = Op {
         kind: Kind::Add,
         operand: 3,

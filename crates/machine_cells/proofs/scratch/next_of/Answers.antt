@@ -17,11 +17,11 @@ returns c =
     let x = c.component_at-component.result in
     let own = c.index-row-c.result in
     let N = map (λ (r : Bor MachineState). r.now) c.first.result.now in
-    let size = ap components c.shape_of-shape.ensures in
+    let size = ap components c.shape-shape.ensures in
     let found : slice_get S c.args.c ≡ Some own = slice_get_read S (length S) c.args.c own refl (omega (arith, c.requires.size, c.requires.there)) c.index-row-c.is in
     let there : All (λ n. n < length S) ns = λ i d lt. omega (arith, c.near-near.ensures.there i d lt, c.requires.size, size) in
-    let is : component_of P.k c.args.c ≡ Some x = sym (ap (λ k. component_of k c.args.c) c.shape_of-shape.ensures) ∙ c.component_at-component.ensures.is in
-    let numbers : ns ≡ near P.k c.args.c = c.near-near.ensures.listed ∙ ap (near_of c.shape_of-shape.result) (sym c.component_at-component.ensures.is) ∙ ap (λ k. near k c.args.c) c.shape_of-shape.ensures in
+    let is : component_of P.k c.args.c ≡ Some x = sym (ap (λ k. component_of k c.args.c) c.shape-shape.ensures) ∙ c.component_at-component.ensures.is in
+    let numbers : ns ≡ near P.k c.args.c = c.near-near.ensures.listed ∙ ap (near_of c.shape-shape.result) (sym c.component_at-component.ensures.is) ∙ ap (λ k. near k c.args.c) c.shape-shape.ensures in
     let places = map (λ (r : Bor MachineState). r.now) c.near_states-states.result in
     let states : N ≡ states_at S (near P.k c.args.c) =
     c.first.ensures

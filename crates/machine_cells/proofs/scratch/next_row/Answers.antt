@@ -16,4 +16,4 @@ loop-c-preserved c =
 pub returns : goal.returns
 returns c =
     c.loop-c.invariant
-    ∙ take_all c.loop-c.c (cycle c.args.project.now c.args.row.now) (omega (arith, length-cycle c.args.project.now c.args.row.now, ap components c.shape_of.ensures))
+    ∙ take_all c.loop-c.c (cycle c.args.project.now c.args.row.now) (omega (arith, length-cycle c.args.project.now c.args.row.now, ap components c.shape.ensures))

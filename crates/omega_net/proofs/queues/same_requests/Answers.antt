@@ -3,4 +3,4 @@ use Rattle.omega_net.proofs.Same.{queue_decides, request_decides}
 use Rattle.omega_net.proofs.queues.same_requests.Goals as goal
 
 pub returns : goal.returns
-returns c = slice_eq-Decides (queue_decides request_decides) c.args.first.now c.args.second.now c.eq.result c.eq.ensures
+returns c = slice_eq-Decides (queue_decides request_decides) c.args.requests.now c.args.others.now c.eq.result c.eq.ensures

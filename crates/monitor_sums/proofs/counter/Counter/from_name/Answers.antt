@@ -8,7 +8,7 @@ use Rattle.monitor_sums.proofs.counter.Counter.from_name.Goals as goal
 
 pub returns-clause-counter : goal.returns-clause-counter
 returns-clause-counter c =
-    let found = find_from_yields_List (λ counter. bytes_eq (counter_name counter) c.args.text.now) _ _ c.find.result c.find.ensures.ran (YieldsList-from_slice counters cc) (λ x b q k. search (rules, tests)) in
+    let found = find_from_yields_List (λ counter. bytes_eq (counter_name counter) c.args.word.now) _ _ c.find.result c.find.ensures.ran (YieldsList-from_slice counters cc) (λ x b q k. search (rules, tests)) in
     c.copied.ensures ∙ found
 
 pub returns-clause-read : goal.returns-clause-read

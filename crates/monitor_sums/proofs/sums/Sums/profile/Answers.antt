@@ -1,11 +1,11 @@
 use Rattle.std.proofs.Common.{arith}
-use Rattle.project_book.specs.declared.limits.TheConstants.{MAX_HORIZON}
+use Rattle.project_book.specs.Limits.{max_horizon}
 use Rattle.monitor_sums.proofs.Standing.{stands_profile, none_past}
 use Rattle.monitor_sums.proofs.sums.Sums.profile.Goals as goal
 
 pub returns-clause-whole : goal.returns-clause-whole
 returns-clause-whole c = λ at stands.
-    stands_profile c.args.self.now at c.args.net c.args.stage MAX_HORIZON c.profile_kept.result stands (none_past c.args.self.now.k at) (omega arith)
+    stands_profile c.args.self.now at c.args.net c.args.stage max_horizon c.profile_kept.result stands (none_past c.args.self.now.k at) (omega arith)
     c.profile_kept.ensures.size c.profile_kept.ensures.each
 
 pub returns-clause-up_to : goal.returns-clause-up_to

@@ -8,7 +8,7 @@ use Rattle.word_ops.proofs.kind.Kind.from_name.Goals as goal
 
 pub returns-clause-kind : goal.returns-clause-kind
 returns-clause-kind c =
-    let found = find_from_yields_List (λ kind. bytes_eq (kind_name kind) c.args.text.now) _ _ c.find.result c.find.ensures.ran (YieldsList-from_slice kinds cc) (λ x b q k. search (rules, tests)) in
+    let found = find_from_yields_List (λ kind. bytes_eq (kind_name kind) c.args.word.now) _ _ c.find.result c.find.ensures.ran (YieldsList-from_slice kinds cc) (λ x b q k. search (rules, tests)) in
     c.copied.ensures ∙ found
 
 pub returns-clause-read : goal.returns-clause-read

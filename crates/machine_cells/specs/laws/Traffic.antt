@@ -1,3 +1,4 @@
+-- Nothing in this file needs believing: it is proofs, which stand here since a definition of `specs/` cites them.
 -- Equal messages make equal traffic.
 use Rattle.std.proofs.Common.{◌≡◌, ℕ, true, [], ◌∷◌, refl, Option, ◌||◌, eq-eqb}
 use Rattle.std.specs.Prelude.{◌==◌, is_some}

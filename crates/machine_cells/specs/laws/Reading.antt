@@ -1,3 +1,4 @@
+-- Nothing in this file needs believing: it is proofs, which stand here since a definition of `specs/` cites them.
 -- Where two projects agree in what a cell reads after cycle 0, its step is the same.
 use Rattle.std.proofs.Common.{◌≡◌, ℕ, zero, suc, ◌+◌, ◌*◌, ◌-◌, ◌%◌, ◌^◌, Bool, true, false, cond, List, [], ◌∷◌, ◌++◌, refl, ap, sym, ◌∙◌, Option, None, Some, arith, subst}
 use Rattle.std.specs.Prelude.{slice_get, ◌==◌, is_none, ◌&&◌, nat_lt, if◌then◌else◌}
@@ -42,7 +43,7 @@ use Rattle.machine_cells.specs.Moves.{takes_request, takes_request_at, takes_rep
 use Rattle.machine_cells.specs.Cells.{beside_on, proc_pulls, module_pulls, request_pulled, reply_pulled, switch_pulls, pulled}
 use Rattle.machine_cells.specs.Reads.{later_reads, index_reads, last_reads, entry_reads, out_reads, back_reads, SameAtAll}
 use Rattle.omega_net.proofs.Ends.{into_ends}
-use Rattle.machine_cells.specs.TrafficLaws.{same_net, same_traffic, same_proc, same_module, module_end}
+use Rattle.machine_cells.specs.laws.Traffic.{same_net, same_traffic, same_proc, same_module, module_end}
 
 -- the depth that is read at a wire's end
 abbrev SameInto : Project → Project → Component → Type 0

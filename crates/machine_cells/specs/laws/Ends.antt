@@ -1,3 +1,4 @@
+-- Nothing in this file needs believing: it is proofs, which stand here since a definition of `specs/` cites them.
 -- Laws of the numbers of components.
 use Rattle.std.proofs.Common.{◌≡◌, ℕ, Bool, true, false, refl, sym, ◌∙◌, subst, None, Some, arith}
 use Rattle.std.specs.Prelude.{nat_lt}

@@ -1,3 +1,4 @@
+-- Nothing in this file needs believing: it is proofs, which stand here since a definition of `specs/` cites them.
 -- What a component reads, it may read: the law of readers.
 use Rattle.std.proofs.Common.{◌≡◌, ℕ, zero, suc, Bool, true, false, List, [], ◌∷◌, ◌++◌, refl, sym, ◌∙◌, Option, None, Some, ◌||◌, ◌⊎◌, inl, inr}
 use Rattle.std.specs.Prelude.{◌==◌, nat_lt, if◌then◌else◌}
@@ -17,7 +18,7 @@ use Rattle.machine_cells.specs.declared.state.MachineState.{MachineState}
 use Rattle.machine_cells.specs.declared.state.MachineState.TheVariants.{Proc, Module, Low, Comb}
 use Rattle.project_book.specs.Project.{Project, entry_at}
 use Rattle.project_book.specs.Queues.{forward_queue}
-use Rattle.project_book.specs.declared.limits.TheConstants.{SCRIPT_ENTRIES}
+use Rattle.project_book.specs.Limits.{script_entries}
 use Rattle.project_book.specs.declared.slot.Slot.{Slot}
 use Rattle.project_book.specs.declared.slot.Slot.TheVariants.{Shape, Entry, Word, Page as PageAt, Depth, Wait, Combine, Window}
 use Rattle.project_book.specs.declared.edit.Depths.TheVariants.{LowForward, LowReverse, CombForward, CombReverse, ModuleQueue}
@@ -31,7 +32,7 @@ listed_apart : (xs ys : List Slot) (slot : Slot) → is_listed (xs ++ ys) slot �
 listed_apart xs ys slot e = either (is_listed xs slot) (is_listed ys slot) (sym (list_any-append (same_slot slot) xs ys) ∙ e)
 
 index_may : (k p i : ℕ) (slot : Slot) → is_listed (index_reads p i) slot ≡ true → proc_may_read k p slot ≡ true
-index_may k p i slot e = by_test (nat_lt i SCRIPT_ENTRIES) slot e
+index_may k p i slot e = by_test (nat_lt i script_entries) slot e
   where
     by_test : (b : Bool) (slot : Slot) → is_listed (if b then Entry p i ∷ [] else []) slot ≡ true → proc_may_read k p slot ≡ true
     by_test false slot e = absurd (false≢true e)

@@ -1,3 +1,4 @@
+-- Nothing in this file needs believing: it is proofs, which stand here since a definition of `specs/` cites them.
 -- Where two projects agree in their pages and first words, a module starts the same.
 use Rattle.std.proofs.Common.{◌≡◌, ℕ, suc, ◌+◌, ◌*◌, ◌/◌, ◌%◌, ◌^◌, ◌<◌, ◌≤◌, Bool, true, false, cond, List, [], ◌∷◌, ◌++◌, refl, ap, sym, ◌∙◌, append_assoc, None, Some, ◌⊎◌, inl, inr, arith, eq-eqb}
 use Rattle.std.specs.Prelude.{nat_lt, ◌==◌, ◌&&◌, filter, find}
@@ -11,7 +12,7 @@ use Rattle.mem_module.specs.declared.words.Stored.{Stored}
 use Rattle.mem_module.specs.Memory.{word_at, stored, rows_below, rows_above, with_word}
 use Rattle.project_book.specs.Project.{Project, page_of, place_in}
 use Rattle.project_book.specs.declared.words.FirstWord.{FirstWord}
-use Rattle.page_map.specs.declared.map.TheConstants.{ADDRESSES}
+use Rattle.page_map.specs.Limits.{address_count}
 use Rattle.project_book.specs.FirstWords.{word_at as first_at}
 use Rattle.machine_cells.specs.Run.{stands_in, words_in}
 use Rattle.machine_cells.specs.Reads.{SameMemory}
@@ -251,20 +252,20 @@ words_from P m (f ∷ fs) = by_test (stands_in P m f) (words_from P m fs)
 
 -- whether an address of the project stands in a row of a module
 pub record Stands (P : Project) (m row a : ℕ) : Type 0 where
-  pub there : a < ADDRESSES
+  pub there : a < address_count
   pub in_module : (place_in P a).«module» ≡ m
   pub in_row : (place_in P a).row ≡ row
 
 pub stands_when : (P : Project) (m : ℕ) (f : FirstWord) → stands_in P m f ≡ true → Stands P m (place_in P f.address).row f.address
 stands_when P m f e =
-    let both = and_parts (nat_lt f.address ADDRESSES) ((place_in P f.address).«module» == m) e in
-    let lt : nat_lt f.address ADDRESSES ≡ true = both.0 in
+    let both = and_parts (nat_lt f.address address_count) ((place_in P f.address).«module» == m) e in
+    let lt : nat_lt f.address address_count ≡ true = both.0 in
     record { there = grind (arith, nat_tests); in_module = eqb-true _ m both.1; in_row = refl }
 
 stands_true : (P : Project) (m row a : ℕ) (word : ℕ) → Stands P m row a → stands_in P m (record { address = a; word = word }) ≡ true
 stands_true P m row a word h =
-    let lt : a < ADDRESSES = h.there in
-    and_from (nat_lt a ADDRESSES) ((place_in P a).«module» == m) (grind (arith, nat_tests)) (eq-eqb _ m h.in_module)
+    let lt : a < address_count = h.there in
+    and_from (nat_lt a address_count) ((place_in P a).«module» == m) (grind (arith, nat_tests)) (eq-eqb _ m h.in_module)
 
 -- the row where an address stands holds its first word
 pub first_word : (P : Project) (m row a : ℕ) (fs : List FirstWord) → Stands P m row a → word_at (words_in P m fs) row ≡ first_at fs a
@@ -285,7 +286,7 @@ first_word P m row a (f ∷ fs) h = by_tests (stands_in P m f) (f.address == a) 
         ∙ ih
     by_tests false true es et ih =
         let same : f.address ≡ a = eqb-true f.address a et in
-        absurd (false≢true (sym es ∙ ap (λ n. nat_lt n ADDRESSES && ((place_in P n).«module» == m)) same ∙ stands_true P m row a 0 h))
+        absurd (false≢true (sym es ∙ ap (λ n. nat_lt n address_count && ((place_in P n).«module» == m)) same ∙ stands_true P m row a 0 h))
     by_tests false false es et ih = ih
 
 -- a row holds 0, or an address stands there
@@ -305,7 +306,7 @@ held_or_none P m row (f ∷ fs) = by_tests (stands_in P m f) ((place_in P f.addr
 
 -- where two projects have the same pages and first words, so have the modules
 module _ (P Q : Project) (same : SameMemory P Q) where
-  same_place : (a : ℕ) → a < ADDRESSES → place_in P a ≡ place_in Q a
+  same_place : (a : ℕ) → a < address_count → place_in P a ≡ place_in Q a
   same_place a h = ap (λ page. place_on page a) (same.pages (a / 256) (omega arith))
 
   stands_too : (m row a : ℕ) → Stands P m row a → Stands Q m row a
@@ -322,9 +323,9 @@ module _ (P Q : Project) (same : SameMemory P Q) where
     in_row = ap (λ p. p.row) (same_place a h.there) ∙ h.in_row;
   }
 
-  same_first : (a : ℕ) → a < ADDRESSES → first_at P.words a ≡ first_at Q.words a
+  same_first : (a : ℕ) → a < address_count → first_at P.words a ≡ first_at Q.words a
   same_first a h =
-      let lt : nat_lt a ADDRESSES ≡ true = grind (arith, nat_tests) in
+      let lt : nat_lt a address_count ≡ true = grind (arith, nat_tests) in
       sym (ap (λ t. cond t (first_at P.words a) 0) lt) ∙ same.words a h ∙ ap (λ t. cond t (first_at Q.words a) 0) lt
 
   same_row : (m row : ℕ) → word_at (words_in P m P.words) row ≡ word_at (words_in Q m Q.words) row

@@ -1,0 +1,10 @@
+-- The sizes of sums.
+use Rattle.std.specs.Prelude.{ℕ}
+
+-- how many components the largest machine has
+abbrev pub max_components : ℕ
+max_components = 224
+
+-- how many lengths a queue can have: from 0 to the places that it has
+abbrev pub profile_lengths : ℕ
+profile_lengths = 17
