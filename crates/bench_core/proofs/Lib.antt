@@ -11,3 +11,4 @@ pub mod Standing
 pub mod Waiting
 pub mod Happening
 mod Histories
+pub mod Ordering

@@ -8,7 +8,8 @@
 //! bench leaves it standing for that list with the call's own events in front.
 //!
 //! It stands on `cell_table` for the cells, on `machine_cells` for what they hold, on `project_book` for projects and
-//! edits, and on `run_queries` for questions and their answers.
+//! edits, on `run_queries` for questions and their answers, and on `serial_order` for the order of the references to a
+//! word.
 #![tactic(auto)]
 
 mod asked;

@@ -8,6 +8,7 @@ use omega_net::ScriptEntry;
 use page_map::Place;
 use project_book::{Edit, EditFault, Project};
 use run_queries::{Body, Query, Received};
+use serial_order::Ordered;
 use std::alloc::Global;
 use std::test::Fail;
 use std::thread::Threads;
@@ -288,5 +289,28 @@ fn a_spent_clock(rt: HostRuntime) -> Result<(), Fail> {
             Err(SettleFault::ClockSpent { computed: 0 })
         )
     );
+    Ok(())
+}
+
+/// What is answered for word 0, as text.
+fn ordered(alloc: Global, bench: &Bench) -> Result<String, Fail> {
+    match bench.order(0) {
+        Ordered::Order(tags) => Ok(format!(in alloc; "{tags}")?),
+        _ => Err(Fail::from("no order")),
+    }
+}
+
+#[test]
+fn an_order_due_or_settled(rt: HostRuntime) -> Result<(), Fail> {
+    let alloc = rt.alloc();
+    let mut bench = settled(alloc)?;
+    for edit in [add(0, 1), add(1, 2), Edit::Horizon(5)] {
+        bench.edit(0, edit)?;
+    }
+    assert_eq!(rt; ordered(alloc, &bench)?.as_str(), "order 0.0 1.0");
+    bench.settle().ok().ok_or("not settled")?;
+    assert_eq!(rt; ordered(alloc, &bench)?.as_str(), "order 0.0 1.0");
+    bench.edit(0, Edit::Horizon(3))?;
+    assert_eq!(rt; ordered(alloc, &bench)?.as_str(), "order");
     Ok(())
 }

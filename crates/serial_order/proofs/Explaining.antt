@@ -28,7 +28,7 @@ use Rattle.serial_order.specs.declared.ordered.Ordered.TheVariants.{Order, NoOrd
 use Rattle.serial_order.specs.Answers.{AnswersOrder, AnswerExplains}
 use Rattle.serial_order.specs.Laws.{OrdersExplain}
 use Rattle.serial_order.proofs.Always.{states_at, forward_always}
-use Rattle.serial_order.proofs.Next.{part_of}
+use Rattle.serial_order.proofs.Outgoings.{part_of}
 use Rattle.serial_order.proofs.Serial.{SentBy, GotBy}
 use Rattle.serial_order.proofs.Expansion.{part_tags}
 use Rattle.serial_order.proofs.Traced.{Orders, orders, read_is}

@@ -15,6 +15,7 @@ pub mod Ways
 pub mod Sides
 pub mod Shown
 pub mod Invariant
+pub mod Outgoings
 pub mod Next
 pub mod Unique
 pub mod Waits
@@ -24,7 +25,6 @@ pub mod Always
 pub mod Replies
 pub mod Remember
 pub mod Complete
-pub mod Arrive
 pub mod Serial
 pub mod Nodes
 pub mod NodesOn

@@ -26,117 +26,13 @@ use Rattle.machine_cells.specs.Cycle.{cycle, comb_settings, switch_traffic, modu
 use Rattle.serial_order.specs.Explains.{Reference, In}
 use Rattle.serial_order.specs.Combining.{Bundle}
 use Rattle.serial_order.proofs.GhostNetwork.{Histories, QueueStep}
-use Rattle.serial_order.proofs.GhostCycle.{to_output, OutStep, quiet, issues, IssueStep, none, one, Follows, SoFar}
+use Rattle.serial_order.proofs.GhostCycle.{to_output, OutStep, issues, IssueStep, none, one, Follows, SoFar}
 use Rattle.serial_order.proofs.Meets.{reqs, queue}
 use Rattle.serial_order.proofs.Switches.{head_if, stays_if, goes_and_stays, req_of, Steps, queue_steps, CombSteps}
 use Rattle.machine_cells.proofs.Views.{Whole, state_at, proc_of, module_of, low_of, comb_of, proc_cycle, module_cycle, low_cycle, comb_cycle}
 use Rattle.serial_order.proofs.Shown.{Shown, wire_at, wire_head, over, over_is, comb_cycles, low_cycles}
 use Rattle.serial_order.proofs.Sides.{Served, Does, quiet as does_nothing, issues as does_issue, proc_does, served_there, served_is}
-
-abbrev Holds : Bool → Type 0
-Holds true = Unit {0}
-Holds false = ⊥
-
-pick : (b : Bool) → (Holds b → List Bundle) → List Bundle
-pick true f = f tt
-pick false f = []
-
-pick_is : (b : Bool) (f : Holds b → List Bundle) (h : Holds b) → pick b f ≡ f h
-unfolding pick
-pick_is true f h = refl
-pick_is false f h = absurd h
-
-holds_true : (b : Bool) → Holds b → b ≡ true
-holds_true true h = refl
-holds_true false h = absurd h
-
-true_holds : (b : Bool) → b ≡ true → Holds b
-true_holds true e = tt
-true_holds false e = absurd (false≢true e)
-
-lt_of : (a b : ℕ) → nat_lt a b ≡ true → a < b
-lt_of a b e = grind (arith, nat_tests)
-
-of_lt : (a b : ℕ) → a < b → nat_lt a b ≡ true
-of_lt a b h = grind (arith, nat_tests)
-
-head_of : (t : Bool) (A : List Bundle) (a : Bundle) → head_if t A ≡ Some a → (rest : List Bundle) × (A ≡ a ∷ rest)
-head_of true (b ∷ A) a e = let f : b ≡ a = cc in (A, ap (λ c. c ∷ A) f)
-head_of true [] a e = cc
-head_of false A a e = cc
-
-abbrev pub part_of : Outgoing → Reference
-part_of o = record { net = o.net; request = o.request }
-
-abbrev pub ann_of : Reference → Bundle
-ann_of g = record { request = g.request; parts = g ∷ [] }
-
--- of a network, the reference that is issued now
-abbrev issued_on : Net → Option Reference → List Bundle
-issued_on n None = []
-issued_on n (Some g) = cond (net_number g.net == net_number n) (ann_of g ∷ []) []
-
-out_same : (f g : Outgoing) → Some f ≡ Some g → f ≡ g
-out_same f g e = cc
-
-some_same : (f g : Reference) → Some f ≡ Some g → f ≡ g
-some_same f g e = cc
-
-first_of_option : {T : Type 0} (o : Option T) → slice_get (option_to_list o) 0 ≡ o
-first_of_option None = refl
-first_of_option (Some x) = refl
-
--- an outgoing request is of one network
-one_net_only : (o : Option Outgoing) (m n : Net) (r : Request) → (m ≡ n → ⊥) → out_on o m ≡ Some r → out_on o n ≡ None
-one_net_only None m n r d e = refl
-one_net_only (Some x) m n r d e = by_nets x.net m n refl refl refl d e
-  where
-    by_nets : (a b c : Net) → x.net ≡ a → m ≡ b → n ≡ c → (m ≡ n → ⊥) → out_on (Some x) m ≡ Some r → out_on (Some x) n ≡ None
-    by_nets LowNet LowNet CombNet e f g d h = rw (e, g) refl
-    by_nets CombNet CombNet LowNet e f g d h = rw (e, g) refl
-    by_nets LowNet CombNet c e f g d h = let k : None ≡ Some r = sym (rw (e, f) refl) ∙ h in cc
-    by_nets CombNet LowNet c e f g d h = let k : None ≡ Some r = sym (rw (e, f) refl) ∙ h in cc
-    by_nets LowNet LowNet LowNet e f g d h = absurd (d (f ∙ sym g))
-    by_nets CombNet CombNet CombNet e f g d h = absurd (d (f ∙ sym g))
-
--- what stays of one outgoing request, where it leaves over its own network
-stays_one : (A : List Bundle) (o : Option Outgoing) (n : Net) (mine any : Bool) → reqs A ≡ option_to_list (out_on o n) → (mine ≡ true → any ≡ true)
-    → (any ≡ true → (mine ≡ true) ⊎ (out_on o n ≡ None)) → reqs (stays_if mine A) ≡ option_to_list (out_on (cond any None o) n)
-stays_one A o n true true e f g = one_gone A (out_on o n) e
-  where
-    one_gone : (A : List Bundle) (q : Option Request) → reqs A ≡ option_to_list q → reqs (stays_if true A) ≡ []
-    one_gone [] q e = refl
-    one_gone (a ∷ []) q e = refl
-    one_gone (a ∷ b ∷ A) None e = cc
-    one_gone (a ∷ b ∷ A) (Some r) e = cc
-stays_one A o n true false e f g = absurd (false≢true (f refl))
-stays_one A o n false true e f g = elim (g refl) [ inl h ↦ absurd (false≢true h) | inr h ↦ e ∙ ap option_to_list h ]
-stays_one A o n false false e f g = e
-
-out_quiet : (n : Net) (A stay : List Bundle) (goes : Option Bundle) (nw : Option Reference) → A ≡ option_to_list goes ++ stay → nw ≡ None → OutStep n A goes (stay ++ issued_on n nw) nw
-out_quiet n A stay goes nw e f = rw f (quiet (e ∙ ap (λ q. option_to_list goes ++ q) (sym (append-nil stay))))
-
-shown_quiet : (n : Net) (stay : List Bundle) (o o' : Option Outgoing) (nw : Option Reference) → reqs stay ≡ option_to_list (out_on o n) → nw ≡ None → o' ≡ o
-    → reqs (stay ++ issued_on n nw) ≡ option_to_list (out_on o' n)
-shown_quiet n stay o o' nw e f g = rw (f, g, append-nil stay) e
-
-nothing : (A : List Bundle) → reqs A ≡ [] → A ≡ []
-nothing [] e = refl
-nothing (a ∷ A) e = cc
-
-same_net : (a b : Net) → (net_number a == net_number b) ≡ true → a ≡ b
-same_net LowNet LowNet e = refl
-same_net CombNet CombNet e = refl
-same_net LowNet CombNet e = cc
-same_net CombNet LowNet e = cc
-
-out_issues : (n : Net) (A stay : List Bundle) (goes : Option Bundle) (nw : Option Reference) (o : Outgoing) → A ≡ option_to_list goes ++ stay → nw ≡ Some (part_of o) → (out' : Option Outgoing) → out' ≡ Some o
-    → reqs stay ≡ [] → OutStep n A goes (stay ++ issued_on n nw) nw × (reqs (stay ++ issued_on n nw) ≡ option_to_list (out_on out' n))
-out_issues n A stay goes nw o e f out' g s = by_test (net_number o.net == net_number n) refl
-  where
-    by_test : (t : Bool) → (net_number o.net == net_number n) ≡ t → OutStep n A goes (stay ++ issued_on n nw) nw × (reqs (stay ++ issued_on n nw) ≡ option_to_list (out_on out' n))
-    by_test true h = (issues stay (part_of o) f e (same_net o.net n h) (rw (f, h) refl), rw (f, g, h, nothing stay s) refl)
-    by_test false h = (quiet (e ∙ rw (f, h, append-nil stay) refl), rw (f, g, h, nothing stay s) refl)
+use Rattle.serial_order.proofs.Outgoings.{Holds, pick, pick_is, holds_true, true_holds, lt_of, of_lt, head_of, part_of, issued_on, out_same, some_same, first_of_option, one_net_only, stays_one, out_quiet, shown_quiet, out_issues}
 
 module _ (P : Project) (S : List MachineState) (w : Whole P S) (G : Histories) (sh : Shown P S G) where
   abbrev k : ℕ

@@ -7,6 +7,7 @@ use crate::setups::{BASE, BUILT_IN, Setup};
 use comb_switch::{CombSettings, CombState};
 use omega_net::{Request, Tag, Traffic};
 use page_map::Place;
+use serial_order::{Ordered, order};
 use std::alloc::Global;
 use std::test::Fail;
 use word_ops::{Kind, Op};
@@ -226,23 +227,25 @@ const COMBINED: Examples = &[(
     "p0 6:10, p1 6:11, issued 2, served 1, combined 1, word 13",
 )];
 
+const FOUR_ADDS: Setup = Setup {
+    k: 2,
+    combine: true,
+    modules: &[0],
+    word: 0,
+    scripts: &[
+        &["sync add 0 1"],
+        &["sync add 0 2"],
+        &["sync add 0 4"],
+        &["sync add 0 8"],
+    ],
+    ..BASE
+};
+
 /// 5.1: four references to one word, combined at both stages, are one request at the module. Line 1
 /// meets line 3 at a switch of stage 0 and is second there, and so are lines 0 and 2; stage 1 puts the
 /// pair of 0 and 2 first: the words are those before 1, then 4, then 2, then 8.
 const FOUR_COMBINED: Examples = &[(
-    Setup {
-        k: 2,
-        combine: true,
-        modules: &[0],
-        word: 0,
-        scripts: &[
-            &["sync add 0 1"],
-            &["sync add 0 2"],
-            &["sync add 0 4"],
-            &["sync add 0 8"],
-        ],
-        ..BASE
-    },
+    FOUR_ADDS,
     "p0 8:0, p1 8:5, p2 8:1, p3 8:7, issued 4, served 1, combined 3, word 15",
 )];
 
@@ -459,5 +462,45 @@ fn deepest_queues(rt: HostRuntime) -> Result<(), Fail> {
         "issued 160, served 160, combined 0"
     );
     assert_eq!(rt; (run.answers(), run.last_word()), (160, Some(160)));
+    Ok(())
+}
+
+/// What `order` answers for an address of a machine.
+fn ordered(alloc: Global, setup: &Setup, address: u32) -> Result<String, Fail> {
+    match order(alloc, &setup.project(alloc)?, address) {
+        Ordered::Order(tags) => Ok(format!(in alloc; "{tags}")?),
+        Ordered::NoOrder => Ok(format!(in alloc; "none")?),
+        Ordered::BadAddress => Ok(format!(in alloc; "bad address")?),
+        Ordered::Memory => Err(Fail::from("no memory")),
+    }
+}
+
+fn cut_at(horizon: u32) -> Setup<'static> {
+    Setup {
+        horizon,
+        ..TWO_ADDS
+    }
+}
+
+/// 16.1: four references that become one request have one order that explains them. 16.2: a run that is cut off orders
+/// what was served by then. 28: combined or not, a word that nothing names, an address that isn't there.
+#[test]
+fn examples_16_1_16_2_28(rt: HostRuntime) -> Result<(), Fail> {
+    let alloc = rt.alloc();
+    assert_eq!(rt;
+        ordered(alloc, &FOUR_ADDS, 0)?.as_str(),
+        "order 0.0 2.0 1.0 3.0"
+    );
+    assert_eq!(rt; ordered(alloc, &cut_at(3), 0)?.as_str(), "order");
+    assert_eq!(rt; ordered(alloc, &cut_at(5), 0)?.as_str(), "order 0.0 1.0");
+    for combine in [false, true] {
+        let setup = Setup {
+            combine,
+            ..TWO_ADDS
+        };
+        assert_eq!(rt; ordered(alloc, &setup, 0)?.as_str(), "order 0.0 1.0");
+        assert_eq!(rt; ordered(alloc, &setup, 300)?.as_str(), "order");
+        assert_eq!(rt; ordered(alloc, &setup, 16_384)?.as_str(), "bad address");
+    }
     Ok(())
 }

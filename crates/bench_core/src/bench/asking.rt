@@ -87,7 +87,7 @@ impl Bench {
     }
 
     /// How many cells up to a cycle are due.
-    fn pending_to(&self, to: u32) -> u64
+    pub(super) fn pending_to(&self, to: u32) -> u64
         requires { to ≤ (project_of self.now).horizon }
         ensures count { result ≡ count_to rp3_rules (project_of self.now) (project_of self.now).horizon (due_at self.now.table.rows) to }
         ensures ready { result ≡ 0 → HoldsRunTo self.now to }

@@ -1,0 +1,42 @@
+//! Serial orders.
+ghost use Rattle.std.specs.Prelude.{◌≡◌};
+ghost use Rattle.serial_order.specs.Answers.{AnswersOrder, AnswerExplains};
+ghost use Rattle.bench_core.specs.Shown.{project_of, held};
+
+use super::Bench;
+use cell_table::{Cell, Table};
+use machine_cells::{MachineState, Rp3};
+use serial_order::{Ordered, States, order, order_in};
+
+/// The states that a table holds.
+#[derive(Clone, Copy)]
+struct Cells<'a> {
+    table: &'a Table<Rp3>,
+}
+
+impl<'a> States for Cells<'a> {
+    ghost at = { λ s t c. held s.table.now t c };
+
+    fn state(&self, cycle: u32, component: u32) -> Option<&MachineState> {
+        self.table.state(Cell { cycle, component })
+    }
+}
+
+impl Bench {
+    /// The references to the word of an address, in their serial order, in the run of the project as it stands: what
+    /// `serial_order` answers for that project. BadAddress exactly from 16,384 on; Memory only below; NoOrder never.
+    ///
+    /// Where no cell up to the horizon is due, it looks at the states held, a few in each cycle; else it simulates the
+    /// project from cycle 0, and nothing of the bench is changed.
+    pub fn order(&self, address: u32) -> Ordered
+        ensures order { AnswersOrder (project_of self.now) address result }
+        ensures explains { AnswerExplains (project_of self.now) address result }
+    {
+        let alloc = *self.journal.allocator();
+        if self.pending_to(self.project().horizon()) == 0 {
+            let cells = Cells { table: &self.table };
+            return order_in(alloc, self.project(), &cells, address);
+        }
+        order(alloc, self.project(), address)
+    }
+}
