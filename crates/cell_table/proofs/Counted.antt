@@ -3,7 +3,7 @@ use Rattle.std.proofs.Common.{◌≡◌, ℕ, zero, suc, ◌+◌, ◌<◌, ◌�
 use Rattle.std.specs.Prelude.{min, nat_le, nat_lt}
 use Rattle.std.specs.List.{range_with_len}
 use Rattle.std.proofs.Math.Nat.{min-le_right, le-min, min-eq_left, min-eq_right}
-use Rattle.std.proofs.lemmas.Bool.{cases_lt, and_parts}
+use Rattle.std.proofs.lemmas.Bool.{cases_lt}
 use Rattle.std.proofs.lemmas.Bool.Decides.{nat_tests}
 use Rattle.std.proofs.lemmas.List.{take_all}
 use Rattle.std.proofs.lemmas.List.Sums.{sum_by_more}
@@ -12,7 +12,7 @@ use Rattle.grid_law.specs.Run.{run}
 use Rattle.cell_table.specs.Seen.{Held, Seen, nothing, held_in, held_at, row_at, due_at, due_in_row, due_up_to}
 use Rattle.cell_table.specs.Cells.{IsThere}
 use Rattle.cell_table.specs.Consistent.{IsWhole, IsTable}
-use Rattle.cell_table.specs.Cones.{every, earlier, count_below, count_to, count_in, count_cone}
+use Rattle.cell_table.specs.Cones.{earlier, count_below, count_to, count_in, count_cone}
 use Rattle.cell_table.specs.Events.{Event, Start, slots_of, horizon_of}
 use Rattle.cell_table.specs.Due.{due}
 use Rattle.cell_table.specs.Stands.{Stands}

@@ -127,6 +127,7 @@ impl Bench {
         }
     }
 
+    // What it answers of the bench as it is; the clauses over all lists of events follow from this one.
     #[tactic(auto, using(crate::proofs::Asking::asks_bad, crate::proofs::Asking::asks_pending, crate::proofs::Asking::asks_wanting, crate::proofs::Asking::asks_found))]
     fn ask_plain<R: Threads + Sync>(&self, rt: &R, query: Query) -> Asked
         ensures { AsksAs self.now query result }

@@ -1,6 +1,6 @@
-use Rattle.std.proofs.Common.{◌≡◌, ◌+◌, ◌<◌, ◌∙◌, sym, ap, subst, arith, cond, length, All, [], List}
+use Rattle.std.proofs.Common.{◌≡◌, ◌+◌, ◌<◌, ◌∙◌, sym, ap, subst, arith, cond, length, All, []}
 use Rattle.std.proofs.lemmas.List.{get_or_default}
-use Rattle.cell_table.specs.Seen.{row_at, held_in, marked, Held}
+use Rattle.cell_table.specs.Seen.{row_at, held_in, marked}
 use Rattle.cell_table.specs.Readers.{has, readers_at}
 use Rattle.cell_table.proofs.Marking.{IsMarkedTo, mark_more, keep_more}
 use Rattle.cell_table.proofs.marks.mark_rows.Goals as goal

@@ -1,4 +1,4 @@
-use Rattle.std.proofs.Common.{◌≡◌, ℕ, ◌+◌, ◌<◌, ◌++◌, ◌∷◌, [], ◌∙◌, sym, ap, subst, arith, length, List, All, Bool}
+use Rattle.std.proofs.Common.{◌≡◌, ℕ, ◌+◌, ◌<◌, ◌++◌, ◌∷◌, [], ◌∙◌, sym, ap, subst, arith, length, All, Bool}
 use Rattle.std.proofs.lemmas.List.{length-append}
 use Rattle.cell_table.specs.Readers.{readers_at}
 use Rattle.cell_table.specs.Touches.{is_marked, cell_reads}
