@@ -115,7 +115,8 @@ fn example_16(rt: HostRuntime) -> Result<(), Fail> {
     let mut b = split(&mut a)?;
     assert_eq!(rt; b.length(), 1);
     let (b, told) = does(&rt, b, Task::Ask(FIRST_WORD));
-    assert_eq!(rt; told, now);
+    let (b, shared) = does(&rt, b, Task::Project);
+    assert_eq!(rt; (told, shared), (now, now));
     assert!(rt; matches!(a.split(), Err(SplitFault::NoSeat)));
     let Err(a) = a.close() else {
         panic!(rt; "two other passes are there")

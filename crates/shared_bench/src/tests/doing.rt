@@ -21,6 +21,8 @@ impl<R: Threads + Wait + Sync> Host for R {}
 pub(super) enum Task {
     Edit(Edit),
     Ask(Query),
+    /// Takes the project: its word at address 0.
+    Project,
     /// Computes the claim, and gives the result.
     Give(Claim<Rp3>),
 }
@@ -66,6 +68,13 @@ pub(super) fn does<R: Host>(rt: &R, mut pass: Pass, what: Task) -> (Pass, Came)
             Err(fault) => Came::Refused(fault),
         },
         Task::Ask(query) => told(pass.ask(rt, query)),
+        Task::Project => match pass.project(rt) {
+            Ok((version, project)) => Came::Word {
+                version,
+                word: project.word(0),
+            },
+            Err(_) => Came::Other,
+        },
         Task::Give(claim) => match claim.compute() {
             Ok(done) => given(pass.give(rt, done)),
             Err(_) => Came::Other,
