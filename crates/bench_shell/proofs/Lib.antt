@@ -1,4 +1,5 @@
 mod Benches
 mod Lines
 mod Printing
+mod Steps
 mod Writes

@@ -1,14 +1,12 @@
--- Lemmas on lines and on the output of a line.
-use Rattle.std.proofs.Common.{◌≡◌, ℕ, ◌<◌, ◌≤◌, Bool, true, false, ◌||◌, cond, List, [], ◌∷◌, ◌++◌, length, refl, sym, ◌∙◌, ap, append_assoc, append-nil, length-append, arith, eqb-true}
+-- Lemmas on lines, on the output of a line, and on the store after it.
+use Rattle.std.proofs.Common.{◌≡◌, ℕ, ◌<◌, ◌≤◌, Bool, true, false, ◌||◌, cond, List, [], ◌∷◌, ◌++◌, length, refl, sym, ◌∙◌, ap, append_assoc, append-nil, arith}
 use Rattle.std.proofs.lemmas.Bool.Decides.{nat_tests}
-use Rattle.std.specs.Prelude.{◌==◌, Result, Ok, Err, IfOk, OnOk, Option}
-use Rattle.bench_shell.specs.declared.answer.Answer.{Answer}
-use Rattle.commands.specs.declared.command.Command.{Command}
-use Rattle.std.specs.Io.BufRead.{drop_through}
+use Rattle.std.specs.Prelude.{◌==◌}
 use Rattle.bench_shell.specs.Lines.{Line, Whole, Cut, lines_of, onto_line}
 use Rattle.bench_shell.specs.Store.{Store}
 use Rattle.bench_shell.specs.Text.{line_text}
-use Rattle.bench_shell.specs.Output.{output, output_lines, output_from, has_lf, is_long, reply, after, command_in}
+use Rattle.bench_shell.specs.Output.{output, output_lines, after_lines, store_after, is_long, reply, after, command_in}
+use Rattle.bench_shell.specs.Steps.{has_lf, Splits}
 use Rattle.bench_shell.specs.declared.answer.Answer.TheVariants.{BadLine, BadCut}
 
 whole_step : (t : Bool) (b : ℕ) (bs : List ℕ) (ls rest : List Line) → t || has_lf bs ≡ false
@@ -62,42 +60,6 @@ is_long-yes h q = grind (arith, nat_tests)
 is_long-no : (h : List ℕ) → length h ≤ 4096 → is_long h ≡ false
 is_long-no h q = grind (arith, nat_tests)
 
-pub output-whole-long : (s : Store) (h more : List ℕ) → has_lf h ≡ false → 4096 < length h → output s (h ++ 10 ∷ more) ≡ line_text BadLine ++ output s more
-output-whole-long s h more p q = ap (output_lines s) (lines_of-whole h more p) ∙ long_whole s h (lines_of more) (is_long-yes h q)
-
-pub output-cut-long : (s : Store) (h : List ℕ) → has_lf h ≡ false → 4096 < length h → output s h ≡ line_text BadLine ++ []
-output-cut-long s [] p q = absurd (omega arith)
-output-cut-long s (b ∷ h) p q = ap (output_lines s) (lines_of-cut b h p) ∙ long_cut s (b ∷ h) [] (is_long-yes (b ∷ h) q)
-
-long_step : (t : Bool) (s : Store) (h : List ℕ) (b : ℕ) (more : List ℕ) → (b == 10) ≡ t → has_lf h ≡ false → 4096 < length h
-    → ((g : List ℕ) → has_lf g ≡ false → 4096 < length g → output s (g ++ more) ≡ line_text BadLine ++ output s (drop_through 10 more))
-    → output s (h ++ b ∷ more) ≡ line_text BadLine ++ output s (cond t more (drop_through 10 more))
-long_step true s h b more e p q ih = rw (eqb-true b 10 e) (output-whole-long s h more p q)
-long_step false s h b more e p q ih =
-    let longer : 4096 < length (h ++ b ∷ []) = omega (arith, length-append h (b ∷ [])) in
-    let joined : h ++ b ∷ more ≡ (h ++ b ∷ []) ++ more = sym (append_assoc h (b ∷ []) more) in
-    rw joined (ih (h ++ b ∷ []) (has_lf-snoc h b p e) longer)
-
--- what a text that begins with too long a line is answered with
-pub output-long : (s : Store) (more h : List ℕ) → has_lf h ≡ false → 4096 < length h
-    → output s (h ++ more) ≡ line_text BadLine ++ output s (drop_through 10 more)
-output-long s [] h p q = rw (append-nil h) (output-cut-long s h p q)
-output-long s (b ∷ more) h p q = long_step (b == 10) s h b more refl p q (output-long s more)
-
--- one byte more of a line that has room
-pub held_fits : (s : Store) (long : Bool) (h : List ℕ) (b : ℕ) (more : List ℕ) → (b == 10) ≡ false
-    → output_from s long h (b ∷ more) ≡ output_from s long (h ++ b ∷ []) more
-held_fits s true h b more e = rw e refl
-held_fits s false h b more e = ap (output s) (sym (append_assoc h (b ∷ []) more))
-
--- one byte more of a line that is full
-pub held_full : (s : Store) (long : Bool) (h : List ℕ) (b : ℕ) (more : List ℕ) → (b == 10) ≡ false → has_lf h ≡ false → length h ≡ 4096
-    → output_from s long h (b ∷ more) ≡ output_from s true h more
-held_full s true h b more e p q = rw e refl
-held_full s false h b more e p q =
-    let longer : 4096 < length (h ++ b ∷ []) = omega (arith, length-append h (b ∷ [])) in
-    ap (output s) (sym (append_assoc h (b ∷ []) more)) ∙ output-long s more (h ++ b ∷ []) (has_lf-snoc h b p e) longer
-
 short_whole : (s : Store) (h : List ℕ) (ls : List Line) → is_long h ≡ false
     → output_lines s (Whole h ∷ ls) ≡ line_text (reply s (command_in s h)) ++ output_lines (after s (command_in s h)) ls
 short_whole s h ls e = rw e refl
@@ -105,29 +67,96 @@ short_whole s h ls e = rw e refl
 short_cut : (s : Store) (h : List ℕ) → is_long h ≡ false → output_lines s (Cut h ∷ []) ≡ line_text BadCut
 short_cut s h e = rw e refl
 
--- the answer to a line that has ended
-pub output-whole : (s : Store) (h more : List ℕ) → has_lf h ≡ false → length h ≤ 4096
-    → output s (h ++ 10 ∷ more) ≡ line_text (reply s (command_in s h)) ++ output (after s (command_in s h)) more
-output-whole s h more p q = ap (output_lines s) (lines_of-whole h more p) ∙ short_whole s h (lines_of more) (is_long-no h q)
+long_store : (s : Store) (h : List ℕ) (ls : List Line) → is_long h ≡ true → after_lines s (Whole h ∷ ls) ≡ after_lines s ls
+long_store s h ls e = rw e refl
 
--- the answer to a line that the end cuts
-pub output-cut : (s : Store) (h : List ℕ) → has_lf h ≡ false → 0 < length h → length h ≤ 4096 → output s (h ++ []) ≡ line_text BadCut
+short_store : (s : Store) (h : List ℕ) (ls : List Line) → is_long h ≡ false → after_lines s (Whole h ∷ ls) ≡ after_lines (after s (command_in s h)) ls
+short_store s h ls e = rw e refl
+
+-- a line that has ended and is too long: its answer, and the store after it
+pub output-long : (s : Store) (h : List ℕ) → has_lf h ≡ false → 4096 < length h → output s (h ++ 10 ∷ []) ≡ line_text BadLine
+output-long s h p q = ap (output_lines s) (lines_of-whole h [] p) ∙ long_whole s h [] (is_long-yes h q) ∙ append-nil (line_text BadLine)
+
+pub store-long : (s : Store) (h : List ℕ) → has_lf h ≡ false → 4096 < length h → store_after s (h ++ 10 ∷ []) ≡ s
+store-long s h p q = ap (after_lines s) (lines_of-whole h [] p) ∙ long_store s h [] (is_long-yes h q)
+
+-- and of any other
+pub output-whole : (s : Store) (h : List ℕ) → has_lf h ≡ false → length h ≤ 4096 → output s (h ++ 10 ∷ []) ≡ line_text (reply s (command_in s h))
+output-whole s h p q = ap (output_lines s) (lines_of-whole h [] p) ∙ short_whole s h [] (is_long-no h q) ∙ append-nil (line_text (reply s (command_in s h)))
+
+pub store-whole : (s : Store) (h : List ℕ) → has_lf h ≡ false → length h ≤ 4096 → store_after s (h ++ 10 ∷ []) ≡ after s (command_in s h)
+store-whole s h p q = ap (after_lines s) (lines_of-whole h [] p) ∙ short_store s h [] (is_long-no h q)
+
+-- a line that the end cuts
+pub output-cut-long : (s : Store) (h : List ℕ) → has_lf h ≡ false → 4096 < length h → output s h ≡ line_text BadLine
+output-cut-long s [] p q = absurd (omega arith)
+output-cut-long s (b ∷ h) p q = ap (output_lines s) (lines_of-cut b h p) ∙ long_cut s (b ∷ h) [] (is_long-yes (b ∷ h) q) ∙ append-nil (line_text BadLine)
+
+pub output-cut : (s : Store) (h : List ℕ) → has_lf h ≡ false → 0 < length h → length h ≤ 4096 → output s h ≡ line_text BadCut
 output-cut s [] p q r = absurd (omega arith)
-output-cut s (b ∷ h) p q r = ap (output s) (append-nil (b ∷ h)) ∙ ap (output_lines s) (lines_of-cut b h p) ∙ short_cut s (b ∷ h) (is_long-no (b ∷ h) r)
+output-cut s (b ∷ h) p q r = ap (output_lines s) (lines_of-cut b h p) ∙ short_cut s (b ∷ h) (is_long-no (b ∷ h) r)
 
--- the answer to a command answers its line
-pub line_answered : {E : Type 0} (r : Result Answer E) (s s' : Store) (long : Bool) (h : List ℕ) (cmd : Option Command) → long ≡ false → has_lf h ≡ false
-    → length h ≤ 4096 → cmd ≡ command_in s h → IfOk r (λ a. a ≡ reply s cmd) → OnOk r (s' ≡ after s cmd)
-    → IfOk r (λ a. (more : List ℕ) → output_from s long h (10 ∷ more) ≡ line_text a ++ output s' more)
-line_answered (Ok a) s s' true h cmd e no_lf fits is answer store = λ more. cc
-line_answered (Ok a) s s' false h cmd e no_lf fits is answer store = λ more. rw (answer, store, is) (output-whole s h more no_lf fits)
-line_answered (Err x) s s' long h cmd e no_lf fits is answer store = tt
+pub store-cut : (s : Store) (h : List ℕ) → has_lf h ≡ false → store_after s h ≡ s
+store-cut s [] p = refl
+store-cut s (b ∷ h) p = ap (after_lines s) (lines_of-cut b h p)
 
--- the answer to a line that has begun where the text ends
-pub cut_answered : (s : Store) (long : Bool) (h : List ℕ) → long ≡ false → has_lf h ≡ false → 0 < length h → length h ≤ 4096
-    → output_from s long h [] ≡ line_text BadCut
-cut_answered s true h e p q r = cc
-cut_answered s false h e p q r = output-cut s h p q r
+-- it is one line at most
+pub cut_is_one : (h : List ℕ) → has_lf h ≡ false → length (lines_of h) ≤ 1
+cut_is_one [] p = omega arith
+cut_is_one (b ∷ h) p = rw (lines_of-cut b h p) (omega arith)
+
+pub whole_is_one : (h : List ℕ) → has_lf h ≡ false → length (lines_of (h ++ 10 ∷ [])) ≤ 1
+whole_is_one h p = rw (lines_of-whole h [] p) (omega arith)
+
+-- a text that ends where a line does splits what stands before and behind it
+pub splits_none : Splits []
+splits_none = λ more. refl
+
+pub splits_line : (h : List ℕ) → has_lf h ≡ false → Splits (h ++ 10 ∷ [])
+splits_line h p = λ more.
+    ap lines_of (append_assoc h (10 ∷ []) more) ∙ lines_of-whole h more p ∙ sym (ap (λ ls. ls ++ lines_of more) (lines_of-whole h [] p))
+
+pub splits_both : (a b : List ℕ) → Splits a → Splits b → Splits (a ++ b)
+splits_both a b p q = λ more.
+    ap lines_of (append_assoc a b more) ∙ p (b ++ more) ∙ ap (λ ls. lines_of a ++ ls) (q more) ∙ sym (append_assoc (lines_of a) (lines_of b) (lines_of more))
+    ∙ sym (ap (λ ls. ls ++ lines_of more) (p b))
+
+-- the answers to some lines and to more
+answers_step : (t : Bool) (x y : List ℕ) (s s' : Store) (ls ms : List Line)
+    → output_lines s (ls ++ ms) ≡ output_lines s ls ++ output_lines (after_lines s ls) ms
+    → output_lines s' (ls ++ ms) ≡ output_lines s' ls ++ output_lines (after_lines s' ls) ms
+    → cond t (x ++ output_lines s (ls ++ ms)) (y ++ output_lines s' (ls ++ ms))
+    ≡ cond t (x ++ output_lines s ls) (y ++ output_lines s' ls) ++ output_lines (cond t (after_lines s ls) (after_lines s' ls)) ms
+answers_step true x y s s' ls ms p q = ap (λ l. x ++ l) p ∙ sym (append_assoc x (output_lines s ls) (output_lines (after_lines s ls) ms))
+answers_step false x y s s' ls ms p q = ap (λ l. y ++ l) q ∙ sym (append_assoc y (output_lines s' ls) (output_lines (after_lines s' ls) ms))
+
+output_lines-append : (s : Store) (ls ms : List Line) → output_lines s (ls ++ ms) ≡ output_lines s ls ++ output_lines (after_lines s ls) ms
+output_lines-append s [] ms = refl
+output_lines-append s (Whole l ∷ ls) ms =
+    let t = after s (command_in s l) in
+    answers_step (is_long l) (line_text BadLine) (line_text (reply s (command_in s l))) s t ls ms (output_lines-append s ls ms) (output_lines-append t ls ms)
+output_lines-append s (Cut l ∷ ls) ms =
+    let x = line_text (cond (is_long l) BadLine BadCut) in
+    ap (λ o. x ++ o) (output_lines-append s ls ms) ∙ sym (append_assoc x (output_lines s ls) (output_lines (after_lines s ls) ms))
+
+stores_step : (t : Bool) (s s' : Store) (ls ms : List Line) → after_lines s (ls ++ ms) ≡ after_lines (after_lines s ls) ms
+    → after_lines s' (ls ++ ms) ≡ after_lines (after_lines s' ls) ms
+    → cond t (after_lines s (ls ++ ms)) (after_lines s' (ls ++ ms)) ≡ after_lines (cond t (after_lines s ls) (after_lines s' ls)) ms
+stores_step true s s' ls ms p q = p
+stores_step false s s' ls ms p q = q
+
+after_lines-append : (s : Store) (ls ms : List Line) → after_lines s (ls ++ ms) ≡ after_lines (after_lines s ls) ms
+after_lines-append s [] ms = refl
+after_lines-append s (Whole l ∷ ls) ms =
+    let t = after s (command_in s l) in
+    stores_step (is_long l) s t ls ms (after_lines-append s ls ms) (after_lines-append t ls ms)
+after_lines-append s (Cut l ∷ ls) ms = after_lines-append s ls ms
+
+pub output-split : (s : Store) (a b : List ℕ) → Splits a → output s (a ++ b) ≡ output s a ++ output (store_after s a) b
+output-split s a b p = ap (output_lines s) (p b) ∙ output_lines-append s (lines_of a) (lines_of b)
+
+pub store-split : (s : Store) (a b : List ℕ) → Splits a → store_after s (a ++ b) ≡ store_after (store_after s a) b
+store-split s a b p = ap (after_lines s) (p b) ∙ after_lines-append s (lines_of a) (lines_of b)
 
 pub zero_lt : (xs : List ℕ) → (length xs == 0) ≡ false → 0 < length xs
 zero_lt [] e = cc

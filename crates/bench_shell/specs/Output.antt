@@ -1,7 +1,6 @@
 -- The output for an input: a line for each line.
-use Rattle.std.specs.Prelude.{◌≡◌, ℕ, ◌+◌, Bool, true, false, ◌||◌, List, [], ◌∷◌, ◌++◌, length, Option, None, Some, Result, Ok, Err, nat_lt, ◌==◌, if◌then◌else◌}
-use Rattle.std.specs.Io.KnownBytes.{Appends, Consumes}
-use Rattle.std.specs.Io.BufRead.{drop_through}
+use Rattle.std.specs.Prelude.{◌≡◌, ℕ, ◌+◌, ◌≤◌, Bool, List, [], ◌∷◌, ◌++◌, length, Option, None, Some, Result, Ok, Err, nat_lt, if◌then◌else◌}
+use Rattle.std.specs.Io.KnownBytes.{Appends, Consumes, IsAtEnd}
 use Rattle.project_book.specs.Edits.{accepts}
 use Rattle.project_book.specs.Faults.{number_of}
 use Rattle.project_book.specs.declared.fault.EditFault.{EditFault}
@@ -12,7 +11,7 @@ use Rattle.commands.specs.declared.command.Command.TheVariants.{Edit, Query}
 use Rattle.run_queries.specs.Answers.{answer}
 use Rattle.run_queries.specs.declared.body.Body.{Body}
 use Rattle.bench_shell.specs.Lines.{Line, Whole, Cut, lines_of}
-use Rattle.bench_shell.specs.Store.{Store, edited_store}
+use Rattle.bench_shell.specs.Store.{Store, version_in, edited_store}
 use Rattle.bench_shell.specs.Text.{line_text}
 use Rattle.bench_shell.specs.declared.answer.Answer.{Answer}
 use Rattle.bench_shell.specs.declared.answer.Answer.TheVariants.{Accepted, Refused, Told as Says, Bad, BadLine, BadCut, BadCommand}
@@ -32,12 +31,12 @@ query_reply v (Err n) = Bad n
 -- what a command is answered with, and the store after it
 abbrev pub reply : Store → Option Command → Answer
 reply s None = BadCommand
-reply s (Some (Edit e)) = edit_reply (accepts s.project s.version e) (s.version + 1)
-reply s (Some (Query q)) = query_reply s.version (answer s.project q)
+reply s (Some (Edit e)) = edit_reply (accepts s.project (version_in s) e) (version_in s + 1)
+reply s (Some (Query q)) = query_reply (version_in s) (answer s.project q)
 
 abbrev pub after : Store → Option Command → Store
 after s None = s
-after s (Some (Edit e)) = edit_after (accepts s.project s.version e) s (edited_store s e)
+after s (Some (Edit e)) = edit_after (accepts s.project (version_in s) e) s (edited_store s e)
 after s (Some (Query q)) = s
 
 -- the command that a line is
@@ -59,28 +58,37 @@ output_lines s (Cut l ∷ ls) = line_text (if is_long l then BadLine else BadCut
 abbrev pub output : Store → List ℕ → List ℕ
 output s bytes = output_lines s (lines_of bytes)
 
--- the output of what is to come, where a line has begun: with these bytes, or with too many
-abbrev pub output_from : Store → Bool → List ℕ → List ℕ → List ℕ
-output_from s true held more = line_text BadLine ++ output s (drop_through 10 more)
-output_from s false held more = output s (held ++ more)
+-- the store after each line in turn
+abbrev pub after_lines : Store → List Line → Store
+after_lines s [] = s
+after_lines s (Whole l ∷ ls) = if is_long l then after_lines s ls else after_lines (after s (command_in s l)) ls
+after_lines s (Cut l ∷ ls) = after_lines s ls
 
--- some byte is LF
-abbrev pub has_lf : List ℕ → Bool
-has_lf [] = false
-has_lf (b ∷ bs) = (b == 10) || has_lf bs
+-- THE STORE AFTERWARDS: that of a desk which has obeyed an input
+abbrev pub store_after : Store → List ℕ → Store
+store_after s bytes = after_lines s (lines_of bytes)
 
--- The writer gained what one output begins with, whatever more comes, and the other is the rest of it.
-abbrev pub Told : Option (List ℕ) → Option (List ℕ) → (List ℕ → List ℕ) → (List ℕ → List ℕ) → Type 0
-Told old new whole rest = (told : List ℕ) × Appends old new told × ((more : List ℕ) → whole more ≡ told ++ rest more)
+-- All was read to its end, the output was written, and the store is that after it.
+abbrev pub AnswersAll : Option (List ℕ) → Option (List ℕ) → Option (List ℕ) → Option (List ℕ) → Store → Store → Type 0
+AnswersAll reader reader' writer writer' s t =
+    (read : List ℕ) × Consumes reader reader' read × IsAtEnd reader' × Appends writer writer' (output s read) × (t ≡ store_after s read)
 
--- The writer gained what the output of this piece and of any more begins with, and the rest of it is still to come.
-abbrev pub TellsOn : Option (List ℕ) → Option (List ℕ) → (List ℕ → List ℕ) → List ℕ → (List ℕ → List ℕ) → Type 0
-TellsOn old new before piece later = Told old new (λ more. before (piece ++ more)) later
+-- Where a run stops: it has answered what stands in `before`, has written a beginning of the answer to one line more at
+-- most, and has done nothing about the rest of what it read. What was written is a beginning of the whole output.
+pub record StopsIn (s : Store) (read written : List ℕ) (t : Store) : Type 0 where
+  pub before : List ℕ
+  pub line : List ℕ
+  pub rest : List ℕ
+  pub part : List ℕ
+  pub missing : List ℕ
+  pub is_read : read ≡ before ++ (line ++ rest)
+  pub one_line : length (lines_of line) ≤ 1
+  pub is_written : written ≡ output s before ++ part
+  pub answer : output (store_after s before) line ≡ part ++ missing
+  pub is_store : t ≡ store_after (store_after s before) line
+  pub begins : (later : List ℕ) × (output s read ≡ written ++ later)
 
--- The writer gained what the output of this piece and of any more begins with.
-abbrev pub TellsPart : Option (List ℕ) → Option (List ℕ) → (List ℕ → List ℕ) → List ℕ → Type 0
-TellsPart old new before piece = (told : List ℕ) × Appends old new told × ((more : List ℕ) → (later : List ℕ) × (before (piece ++ more) ≡ told ++ later))
-
--- What was written is a part of the output of what was read, from its beginning.
-abbrev pub WritesPart : Option (List ℕ) → Option (List ℕ) → Option (List ℕ) → Option (List ℕ) → (List ℕ → List ℕ) → Type 0
-WritesPart reader reader' writer writer' out = (read told later : List ℕ) × Consumes reader reader' read × Appends writer writer' told × (out read ≡ told ++ later)
+-- A part was read, from the beginning, and the run has stopped in it.
+abbrev pub AnswersPart : Option (List ℕ) → Option (List ℕ) → Option (List ℕ) → Option (List ℕ) → Store → Store → Type 0
+AnswersPart reader reader' writer writer' s t =
+    (read written : List ℕ) × Consumes reader reader' read × Appends writer writer' written × StopsIn s read written t

@@ -1,5 +1,5 @@
 -- What a desk stands for, and what it answers by it.
-use Rattle.std.specs.Prelude.{◌≡◌, ℕ, ◌+◌, Result, Ok, Err}
+use Rattle.std.specs.Prelude.{◌≡◌, ℕ, ◌+◌, List, [], ◌∷◌, ◌++◌, length, Result, Ok, Err}
 use Rattle.project_book.specs.Project.{Project}
 use Rattle.project_book.specs.Edits.{accepts, edited}
 use Rattle.project_book.specs.declared.edit.Edit.{Edit}
@@ -7,37 +7,50 @@ use Rattle.project_book.specs.declared.fault.EditFault.{EditFault}
 use Rattle.project_book.specs.declared.fault.EditFault.TheVariants.{ClockSpent, Memory}
 use Rattle.run_queries.specs.Answers.{answer}
 use Rattle.run_queries.specs.declared.query.Query.{Query}
-use Rattle.bench_core.specs.Shown.{Shown, project_of, version_of}
+use Rattle.bench_core.specs.Shown.{Shown, project_of}
+use Rattle.bench_core.specs.declared.noted.Noted.{Noted}
 use Rattle.bench_core.specs.declared.told.Told.{Told}
 use Rattle.bench_core.specs.declared.told.Told.TheVariants as told
 
--- a project, and its version: the number of edits that were accepted
+-- a project, the number under which its edits are noted, and the journal of those that were accepted, the oldest first
 pub record Store : Type 0 where
   pub project : Project
-  pub version : ℕ
+  pub author : ℕ
+  pub journal : List Noted
+
+-- the version: how many edits were accepted
+abbrev pub version_in : Store → ℕ
+version_in s = length s.journal
 
 -- the store after an accepted edit
 abbrev pub edited_store : Store → Edit → Store
-edited_store s e = record { project = edited s.project e; version = s.version + 1 }
+edited_store s e = record { project = edited s.project e; author = s.author; journal = s.journal ++ record { author = s.author; edit = e } ∷ [] }
 
 -- a refusal is the first fault that applies; want of memory and a spent clock aside
 abbrev pub Refuses : Store → Edit → EditFault → Type 0
 Refuses s e ClockSpent = Unit {0}
 Refuses s e Memory = Unit {0}
-Refuses s e fault = accepts s.project s.version e ≡ Err fault
+Refuses s e fault = accepts s.project (version_in s) e ≡ Err fault
 
 -- what an edit answers, and what the store is afterwards
 abbrev pub EditGives : Store → Edit → Result ℕ EditFault → Store → Type 0
-EditGives s e (Ok v) t = (accepts s.project s.version e ≡ Ok tt) × (t ≡ edited_store s e) × (v ≡ s.version + 1)
+EditGives s e (Ok v) t = (accepts s.project (version_in s) e ≡ Ok tt) × (t ≡ edited_store s e) × (v ≡ version_in s + 1)
 EditGives s e (Err fault) t = Refuses s e fault × (t ≡ s)
 
 -- what is told of a query
 abbrev pub Tells : Store → Query → Told → Type 0
-Tells s q (told.Answer v body) = (answer s.project q ≡ Ok body) × (v ≡ s.version)
+Tells s q (told.Answer v body) = (answer s.project q ≡ Ok body) × (v ≡ version_in s)
 Tells s q (told.BadQuery n) = answer s.project q ≡ Err n
 Tells s q told.ClockSpent = Unit {0}
 Tells s q told.Memory = Unit {0}
 
--- what a bench stands for as a desk
+-- an answer at this version
+abbrev pub IsToldAt : ℕ → Told → Type 0
+IsToldAt version (told.Answer v body) = v ≡ version
+IsToldAt version (told.BadQuery n) = ⊥
+IsToldAt version told.ClockSpent = ⊥
+IsToldAt version told.Memory = ⊥
+
+-- what a bench stands for as a desk: its edits are noted under 0, as those of one editor alone are
 abbrev pub store_of : Shown → Store
-store_of b = record { project = project_of b; version = version_of b }
+store_of b = record { project = project_of b; author = 0; journal = b.journal }

@@ -12,9 +12,13 @@ const AUTHOR: u32 = 0;
 
 impl Desk for Bench {
     ghost use Rattle.std.specs.Prelude.{◌≡◌, ◌-◌, ◌^◌};
+    ghost use Rattle.bench_core.specs.Shown.{version_of};
     ghost use Rattle.bench_shell.specs.Store.{store_of};
 
     ghost store = { store_of };
+
+    // Each run opens a bench anew.
+    ghost opening = { version_of };
 
     ghost is_alone = { λ _. Unit {0} };
 

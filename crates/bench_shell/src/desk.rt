@@ -1,5 +1,5 @@
 //! What a run drives.
-ghost use Rattle.std.specs.Prelude.{◌≡◌, ◌+◌, ◌≤◌, IfOk, OnErr, Err};
+ghost use Rattle.std.specs.Prelude.{◌≡◌, ℕ, ◌+◌, ◌≤◌, IfOk, OnErr, Err};
 ghost use Rattle.page_map.specs.declared.map.TheConstants.{MAX_K};
 
 use bench_core::Told;
@@ -10,10 +10,13 @@ use std::thread::Threads;
 /// What takes edits and is asked. Others may edit beside it.
 pub trait Desk {
     ghost use Rattle.std.specs.Thread.{IsSync};
-    ghost use Rattle.bench_shell.specs.Store.{Store, EditGives, Tells};
+    ghost use Rattle.bench_shell.specs.Store.{Store, version_in, EditGives, Tells, IsToldAt};
 
-    /// The project and the version, where nobody else has edited.
+    /// The project and the journal, where nobody else has edited.
     ghost store: { Self → Store };
+
+    /// The version at the opening, from which this desk's own edits are counted.
+    ghost opening: { Self → ℕ };
 
     /// Nobody else has edited, as far as the desk has seen.
     ghost is_alone: { Self → Type 0 };
@@ -21,9 +24,9 @@ pub trait Desk {
     /// The clock behind the desk is at its last value, so that no edit and no new state is taken any more.
     ghost clock_is_spent: { Self → Type 0 };
 
-    /// The k of the machine, and the version.
+    /// The k of the machine, and the version at the opening.
     fn opened(&self) -> (u32, u32)
-        ensures both { result ≡ ((store self.now).project.k, (store self.now).version) }
+        ensures both { result ≡ ((store self.now).project.k, opening self.now) }
         ensures small { result.0 ≤ MAX_K };
 
     /// Makes an edit: the new version, or why it was refused.
@@ -31,9 +34,9 @@ pub trait Desk {
         ensures earlier { is_alone self.new → is_alone self.old }
         ensures gives { is_alone self.new → EditGives (store self.old) edit result (store self.new) }
         // A version that is one more than the edits of this desk alone says that there are no others.
-        ensures alone { IfOk result (λ v. v ≡ (store self.old).version + 1 → is_alone self.new) }
-        ensures counts { IfOk result (λ v. (store self.new).version ≡ (store self.old).version + 1) }
-        ensures kept { OnErr result ((store self.new).version ≡ (store self.old).version) }
+        ensures alone { IfOk result (λ v. v ≡ version_in (store self.old) + 1 → is_alone self.new) }
+        ensures counts { IfOk result (λ v. version_in (store self.new) ≡ version_in (store self.old) + 1) }
+        ensures kept { OnErr result (version_in (store self.new) ≡ version_in (store self.old)) }
         ensures spent { result ≡ Err EditFault.ClockSpent → clock_is_spent self.new };
 
     /// Brings the run up to date, and answers a question about it. Threads may take part.
@@ -42,6 +45,8 @@ pub trait Desk {
         requires { IsSync T.row }
         ensures earlier { is_alone self.new → is_alone self.old }
         ensures told { is_alone self.new → Tells (store self.old) query result }
+        // So does an answer at the version of the edits of this desk alone.
+        ensures alone { IsToldAt (version_in (store self.old)) result → is_alone self.new }
         ensures spent { result ≡ Told.ClockSpent → clock_is_spent self.new }
         ensures same { store self.new ≡ store self.old };
 }

@@ -1,7 +1,6 @@
 //! The line that has begun, in bounded memory.
-ghost use Rattle.std.specs.Prelude.{◌≡◌, ◌≢◌, ℕ, List, ◌∷◌, [], false};
-ghost use Rattle.bench_shell.specs.Store.{Store};
-ghost use Rattle.bench_shell.specs.Output.{has_lf, output_from};
+ghost use Rattle.std.specs.Prelude.{◌≡◌, ◌≢◌, ℕ, List, ◌∷◌, ◌++◌, [], false};
+ghost use Rattle.bench_shell.specs.Steps.{Holds};
 
 use arrayvec::ArrayVec;
 
@@ -36,11 +35,9 @@ impl Held {
 
     /// Takes one byte more of the line.
     pub fn hold(&mut self, byte: u8)
-        requires no_lf { has_lf self.old.bytes.items ≡ false }
-        requires byte { byte ≢ 10 }
-        ensures no_lf { has_lf self.new.bytes.items ≡ false }
-        ensures same { (s : Store) (more : List ℕ) → output_from s self.old.is_long self.old.bytes.items (byte ∷ more)
-            ≡ output_from s self.new.is_long self.new.bytes.items more }
+        requires { byte ≢ 10 }
+        ensures { (line : List ℕ) → Holds self.old.is_long self.old.bytes.items line
+            → Holds self.new.is_long self.new.bytes.items (line ++ byte ∷ []) }
     {
         match self.bytes.try_push(byte) {
             Ok(()) => {}

@@ -2,12 +2,14 @@
 ghost use Rattle.std.specs.Prelude.{◌≡◌, ℕ, List, [], ◌∷◌, ◌++◌, true, false, OnOk, OnErr, IfOk, IfSome, ◌≤◌};
 ghost use Rattle.std.specs.Io.KnownBytes.{Appends};
 ghost use Rattle.bench_shell.specs.Cause.{HasCause, CantRead};
+ghost use Rattle.bench_shell.specs.Store.{Store, version_in};
 ghost use Rattle.bench_shell.specs.Text.{line_text};
-ghost use Rattle.bench_shell.specs.Output.{reply, after, command_in, output, output_from, has_lf, TellsOn, TellsPart, WritesPart};
+ghost use Rattle.bench_shell.specs.Output.{reply, after, command_in, output, AnswersAll, AnswersPart};
+ghost use Rattle.bench_shell.specs.Steps.{Holds, AnswersLine, MovesOn, FailsOn};
 
 use crate::answer::Answer;
 use crate::desk::Desk;
-use crate::ends::{Sink, Source};
+use crate::ends::{Reading, Sink, Source, Writing};
 use crate::fault::RunFault;
 use crate::held::Held;
 use bench_core::Told;
@@ -15,6 +17,7 @@ use commands::Command;
 use omega_net::Shape;
 use project_book::EditFault;
 use std::alloc::Global;
+use std::io::{Read, Write};
 use std::thread::Threads;
 
 /// Writes all of the bytes.
@@ -22,6 +25,7 @@ fn write_bytes<W: Sink>(writer: &mut W, bytes: &[u8]) -> Result<(), RunFault>
     ensures ok { OnOk result (Appends (W.contents writer.old) (W.contents writer.new) bytes.now) }
     ensures err { OnErr result ((told later : List ℕ) × Appends (W.contents writer.old) (W.contents writer.new) told × (bytes.now ≡ told ++ later)) }
     ensures cause { HasCause result ⊥ (W.has_failed writer.new ≡ true) ⊥ ⊥ }
+    ensures same_reference { W.lender writer.new ≡ W.lender writer.old }
 {
     let mut rest = bytes;
     while !rest.is_empty() {
@@ -37,7 +41,9 @@ fn write_bytes<W: Sink>(writer: &mut W, bytes: &[u8]) -> Result<(), RunFault>
 fn tell<W: Sink>(alloc: Global, writer: &mut W, answer: Answer) -> Result<(), RunFault>
     ensures ok { OnOk result (Appends (W.contents writer.old) (W.contents writer.new) (line_text answer)) }
     ensures err { OnErr result ((told later : List ℕ) × Appends (W.contents writer.old) (W.contents writer.new) told × (line_text answer ≡ told ++ later)) }
+    ensures flushed { OnOk result (W.is_flushed writer.new ≡ true) }
     ensures cause { HasCause result ⊥ (W.has_failed writer.new ≡ true) ⊥ ⊥ }
+    ensures same_reference { W.lender writer.new ≡ W.lender writer.old }
 {
     let Ok(text) = format!(in alloc; "{answer}\n") else {
         return Err(RunFault::Memory);
@@ -58,12 +64,13 @@ fn obey<T: Threads + Sync, D: Desk>(
     version: &mut u32,
     command: Option<Command>,
 ) -> Result<Answer, RunFault>
-    requires { version.old ≡ (D.store desk.old).version }
-    ensures version { OnOk result (version.new ≡ (D.store desk.new).version) }
+    requires { version.old ≡ version_in (D.store desk.old) }
+    ensures version { OnOk result (version.new ≡ version_in (D.store desk.new)) }
     ensures earlier { D.is_alone desk.new → D.is_alone desk.old }
     ensures cause { HasCause result ⊥ ⊥ (¬ D.is_alone desk.new) (D.clock_is_spent desk.new) }
     ensures answer { D.is_alone desk.new → IfOk result (λ a. a ≡ reply (D.store desk.old) command) }
     ensures store { D.is_alone desk.new → OnOk result (D.store desk.new ≡ after (D.store desk.old) command) }
+    ensures kept { D.is_alone desk.new → OnErr result (D.store desk.new ≡ D.store desk.old) }
 {
     match command {
         None => Ok(Answer::BadCommand),
@@ -108,14 +115,13 @@ fn line_answer<T: Threads + Sync, D: Desk>(
     desk: &mut D,
     version: &mut u32,
 ) -> Result<Answer, RunFault>
-    requires no_lf { has_lf held.now.bytes.items ≡ false }
-    requires version { version.old ≡ (D.store desk.old).version }
-    ensures version { OnOk result (version.new ≡ (D.store desk.new).version) }
+    requires { version.old ≡ version_in (D.store desk.old) }
+    ensures version { OnOk result (version.new ≡ version_in (D.store desk.new)) }
     ensures earlier { D.is_alone desk.new → D.is_alone desk.old }
     ensures cause { HasCause result ⊥ ⊥ (¬ D.is_alone desk.new) (D.clock_is_spent desk.new) }
-    ensures answer { D.is_alone desk.new → IfOk result (λ a. (more : List ℕ) →
-        output_from (D.store desk.old) held.now.is_long held.now.bytes.items (10 ∷ more)
-        ≡ line_text a ++ output (D.store desk.new) more) }
+    ensures answers { D.is_alone desk.new → IfOk result (λ a. (line : List ℕ) → Holds held.now.is_long held.now.bytes.items line
+        → AnswersLine (D.store desk.old) line a (D.store desk.new)) }
+    ensures kept { D.is_alone desk.new → OnErr result (D.store desk.new ≡ D.store desk.old) }
 {
     if held.is_long {
         return Ok(Answer::BadLine);
@@ -134,17 +140,17 @@ fn take_byte<T: Threads + Sync, W: Sink, D: Desk>(
     desk: &mut D,
     version: &mut u32,
 ) -> Result<(), RunFault>
-    requires no_lf { has_lf held.old.bytes.items ≡ false }
-    requires version { version.old ≡ (D.store desk.old).version }
-    ensures version { OnOk result (version.new ≡ (D.store desk.new).version) }
+    requires version { version.old ≡ version_in (D.store desk.old) }
+    requires flushed { W.is_flushed writer.old ≡ true }
+    ensures version { OnOk result (version.new ≡ version_in (D.store desk.new)) }
+    ensures flushed { OnOk result (W.is_flushed writer.new ≡ true) }
     ensures earlier { D.is_alone desk.new → D.is_alone desk.old }
     ensures cause { HasCause result ⊥ (W.has_failed writer.new ≡ true) (¬ D.is_alone desk.new) (D.clock_is_spent desk.new) }
-    ensures no_lf { OnOk result (has_lf held.new.bytes.items ≡ false) }
-    ensures ok { D.is_alone desk.new → OnOk result (TellsOn (W.contents writer.old) (W.contents writer.new)
-        (output_from (D.store desk.old) held.old.is_long held.old.bytes.items) (byte ∷ [])
-        (output_from (D.store desk.new) held.new.is_long held.new.bytes.items)) }
-    ensures err { D.is_alone desk.new → OnErr result (TellsPart (W.contents writer.old) (W.contents writer.new)
-        (output_from (D.store desk.old) held.old.is_long held.old.bytes.items) (byte ∷ [])) }
+    ensures moves { D.is_alone desk.new → OnOk result (MovesOn (W.contents writer.old) (W.contents writer.new)
+        (D.store desk.old) held.old.is_long held.old.bytes.items (byte ∷ []) (D.store desk.new) held.new.is_long held.new.bytes.items) }
+    ensures fails { D.is_alone desk.new → OnErr result (FailsOn (W.contents writer.old) (W.contents writer.new)
+        (D.store desk.old) held.old.is_long held.old.bytes.items (byte ∷ []) (D.store desk.new)) }
+    ensures same_reference { W.lender writer.new ≡ W.lender writer.old }
 {
     if byte != b'\n' {
         held.hold(byte);
@@ -169,17 +175,17 @@ fn take_piece<T: Threads + Sync, W: Sink, D: Desk>(
     desk: &mut D,
     version: &mut u32,
 ) -> Result<(), RunFault>
-    requires no_lf { has_lf held.old.bytes.items ≡ false }
-    requires version { version.old ≡ (D.store desk.old).version }
-    ensures version { OnOk result (version.new ≡ (D.store desk.new).version) }
+    requires version { version.old ≡ version_in (D.store desk.old) }
+    requires flushed { W.is_flushed writer.old ≡ true }
+    ensures version { OnOk result (version.new ≡ version_in (D.store desk.new)) }
+    ensures flushed { OnOk result (W.is_flushed writer.new ≡ true) }
     ensures earlier { D.is_alone desk.new → D.is_alone desk.old }
     ensures cause { HasCause result ⊥ (W.has_failed writer.new ≡ true) (¬ D.is_alone desk.new) (D.clock_is_spent desk.new) }
-    ensures no_lf { OnOk result (has_lf held.new.bytes.items ≡ false) }
-    ensures ok { D.is_alone desk.new → OnOk result (TellsOn (W.contents writer.old) (W.contents writer.new)
-        (output_from (D.store desk.old) held.old.is_long held.old.bytes.items) piece.now
-        (output_from (D.store desk.new) held.new.is_long held.new.bytes.items)) }
-    ensures err { D.is_alone desk.new → OnErr result (TellsPart (W.contents writer.old) (W.contents writer.new)
-        (output_from (D.store desk.old) held.old.is_long held.old.bytes.items) piece.now) }
+    ensures moves { D.is_alone desk.new → OnOk result (MovesOn (W.contents writer.old) (W.contents writer.new)
+        (D.store desk.old) held.old.is_long held.old.bytes.items piece.now (D.store desk.new) held.new.is_long held.new.bytes.items) }
+    ensures fails { D.is_alone desk.new → OnErr result (FailsOn (W.contents writer.old) (W.contents writer.new)
+        (D.store desk.old) held.old.is_long held.old.bytes.items piece.now (D.store desk.new)) }
+    ensures same_reference { W.lender writer.new ≡ W.lender writer.old }
 {
     for byte in piece {
         match take_byte(rt, alloc, held, *byte, writer, desk, version) {
@@ -191,18 +197,15 @@ fn take_piece<T: Threads + Sync, W: Sink, D: Desk>(
 }
 
 /// Answers the line that the end of the input cuts.
-fn finish<W: Sink, D: Desk>(
-    alloc: Global,
-    held: &Held,
-    writer: &mut W,
-    desk: &D,
-) -> Result<(), RunFault>
-    requires { has_lf held.now.bytes.items ≡ false }
+fn finish<W: Sink>(alloc: Global, held: &Held, writer: &mut W) -> Result<(), RunFault>
+    requires flushed { W.is_flushed writer.old ≡ true }
+    ensures flushed { OnOk result (W.is_flushed writer.new ≡ true) }
     ensures cause { HasCause result ⊥ (W.has_failed writer.new ≡ true) ⊥ ⊥ }
-    ensures ok { OnOk result (Appends (W.contents writer.old) (W.contents writer.new)
-        (output_from (D.store desk.now) held.now.is_long held.now.bytes.items [])) }
-    ensures err { OnErr result ((told later : List ℕ) × Appends (W.contents writer.old) (W.contents writer.new) told
-        × (output_from (D.store desk.now) held.now.is_long held.now.bytes.items [] ≡ told ++ later)) }
+    ensures ok { OnOk result ((written : List ℕ) × Appends (W.contents writer.old) (W.contents writer.new) written
+        × ((line : List ℕ) → Holds held.now.is_long held.now.bytes.items line → (s : Store) → output s line ≡ written)) }
+    ensures err { OnErr result ((written : List ℕ) × Appends (W.contents writer.old) (W.contents writer.new) written
+        × ((line : List ℕ) → Holds held.now.is_long held.now.bytes.items line → (s : Store) → (missing : List ℕ) × (output s line ≡ written ++ missing))) }
+    ensures same_reference { W.lender writer.new ≡ W.lender writer.old }
 {
     if held.is_long {
         return tell(alloc, writer, Answer::BadLine);
@@ -213,40 +216,49 @@ fn finish<W: Sink, D: Desk>(
     tell(alloc, writer, Answer::BadCut)
 }
 
-/// Answers each line that comes, until the input ends. Each answer is one line, and is flushed before the next line is
-/// looked at. A line of any length takes bounded memory, and no byte is looked at twice. Threads take part in reports
-/// alone.
+/// Answers each line that comes, until the input ends, over a reader and a writer that are watched. Each answer is one
+/// line, and is flushed before the next line is looked at and before more input is read. A line of any length takes
+/// bounded memory, and no byte is looked at twice. Threads take part in reports alone. The desk must not have edited since
+/// its opening.
 ///
 /// # Errors
 ///
 /// `Read` where the reader failed or no read was left, `Write` where the writer failed or took nothing, `OtherEditor`
 /// where somebody else has edited the project, `Memory` where a growth was refused, and `Clock` where the desk's clock is
-/// at its last value. What was written then is a beginning of the output of what was read.
-pub fn run<T: Threads + Sync, R: Source, W: Sink, D: Desk>(
+/// at its last value. The lines that were answered before stand as they were obeyed, and of one line more at most a
+/// beginning of the answer was written.
+pub fn run_watched<T: Threads + Sync, R: Source, W: Sink, D: Desk>(
     rt: &T,
     alloc: Global,
     reader: &mut R,
     writer: &mut W,
     desk: &mut D,
 ) -> Result<(), RunFault>
+    requires opened { D.opening desk.old ≡ version_in (D.store desk.old) }
+    requires flushed { W.is_flushed writer.old ≡ true }
     ensures ok { D.is_alone desk.new → OnOk result (IfSome (R.remaining reader.old) (λ input.
         Appends (W.contents writer.old) (W.contents writer.new) (output (D.store desk.old) input))) }
-    ensures fault { D.is_alone desk.new → OnErr result (WritesPart (R.remaining reader.old) (R.remaining reader.new)
-        (W.contents writer.old) (W.contents writer.new) (output (D.store desk.old))) }
+    ensures all { D.is_alone desk.new → OnOk result (AnswersAll (R.remaining reader.old) (R.remaining reader.new)
+        (W.contents writer.old) (W.contents writer.new) (D.store desk.old) (D.store desk.new)) }
+    ensures fault { D.is_alone desk.new → OnErr result (AnswersPart (R.remaining reader.old) (R.remaining reader.new)
+        (W.contents writer.old) (W.contents writer.new) (D.store desk.old) (D.store desk.new)) }
     ensures cause { HasCause result (CantRead (R.has_failed reader.new) (R.left reader.new)) (W.has_failed writer.new ≡ true)
         (¬ D.is_alone desk.new) (D.clock_is_spent desk.new) }
     ensures bound { R.left reader.new ≤ R.left reader.old }
+    ensures flushed { OnOk result (W.is_flushed writer.new ≡ true) }
+    ensures same_reader { R.lender reader.new ≡ R.lender reader.old }
+    ensures same_writer { W.lender writer.new ≡ W.lender writer.old }
 {
     let mut held = Held::new();
     let mut buffer = [0u8; 4096];
     let mut version = desk.opened().1;
     'pieces: loop {
-        let count = match reader.read(&mut buffer) {
+        let count = match reader.read(writer, &mut buffer) {
             Ok(count) => count,
             Err(_) => return Err(RunFault::Read),
         };
         if count == 0 {
-            return finish(alloc, &held, writer, desk);
+            return finish(alloc, &held, writer);
         }
         let piece = buffer.split_at(count).0;
         match take_piece(rt, alloc, &mut held, piece, writer, desk, &mut version) {
@@ -254,4 +266,56 @@ pub fn run<T: Threads + Sync, R: Source, W: Sink, D: Desk>(
             Err(fault) => return Err(fault),
         }
     }
+}
+
+/// As [`run_watched`], over any reader and writer: `Read` where the reader failed, or where the next read would be one
+/// more than `reads`.
+///
+/// # Errors
+///
+/// Those of [`run_watched`].
+pub fn run_within<T: Threads + Sync, R: Read, W: Write, D: Desk>(
+    rt: &T,
+    alloc: Global,
+    reader: &mut R,
+    writer: &mut W,
+    desk: &mut D,
+    reads: u32,
+) -> Result<(), RunFault>
+    requires { D.opening desk.old ≡ version_in (D.store desk.old) }
+    ensures ok { D.is_alone desk.new → OnOk result (IfSome (R.remaining reader.old) (λ input.
+        Appends (W.contents writer.old) (W.contents writer.new) (output (D.store desk.old) input))) }
+    ensures all { D.is_alone desk.new → OnOk result (AnswersAll (R.remaining reader.old) (R.remaining reader.new)
+        (W.contents writer.old) (W.contents writer.new) (D.store desk.old) (D.store desk.new)) }
+    ensures fault { D.is_alone desk.new → OnErr result (AnswersPart (R.remaining reader.old) (R.remaining reader.new)
+        (W.contents writer.old) (W.contents writer.new) (D.store desk.old) (D.store desk.new)) }
+    ensures cause { HasCause result (Unit {0}) (Unit {0}) (¬ D.is_alone desk.new) (D.clock_is_spent desk.new) }
+{
+    let mut source = Reading::within(reader, reads);
+    let mut sink = Writing::new(writer);
+    run_watched(rt, alloc, &mut source, &mut sink, desk)
+}
+
+/// As [`run_within`], in 4,294,967,295 reads at most.
+///
+/// # Errors
+///
+/// Those of [`run_watched`].
+pub fn run<T: Threads + Sync, R: Read, W: Write, D: Desk>(
+    rt: &T,
+    alloc: Global,
+    reader: &mut R,
+    writer: &mut W,
+    desk: &mut D,
+) -> Result<(), RunFault>
+    requires { D.opening desk.old ≡ version_in (D.store desk.old) }
+    ensures ok { D.is_alone desk.new → OnOk result (IfSome (R.remaining reader.old) (λ input.
+        Appends (W.contents writer.old) (W.contents writer.new) (output (D.store desk.old) input))) }
+    ensures all { D.is_alone desk.new → OnOk result (AnswersAll (R.remaining reader.old) (R.remaining reader.new)
+        (W.contents writer.old) (W.contents writer.new) (D.store desk.old) (D.store desk.new)) }
+    ensures fault { D.is_alone desk.new → OnErr result (AnswersPart (R.remaining reader.old) (R.remaining reader.new)
+        (W.contents writer.old) (W.contents writer.new) (D.store desk.old) (D.store desk.new)) }
+    ensures cause { HasCause result (Unit {0}) (Unit {0}) (¬ D.is_alone desk.new) (D.clock_is_spent desk.new) }
+{
+    run_within(rt, alloc, reader, writer, desk, u32::MAX)
 }

@@ -1,8 +1,9 @@
 //! Sessions at the built-in project: in one piece, byte by byte, and with faults.
-use crate::{Reading, RunFault, Writing, run};
+use crate::{RunFault, run, run_within};
 use bench_core::Bench;
 use project_book::Project;
 use std::alloc::Global;
+use std::cell::Cell;
 use std::io::{Error, ErrorKind, Read, Result, Write};
 use std::test::Fail;
 
@@ -66,13 +67,13 @@ const ANSWERS: &[u8] =
 fn sessions_in_any_pieces(rt: HostRuntime) -> std::result::Result<(), Fail> {
     for most in [1, 7, 5000] {
         let mut desk = bench(rt.alloc(), 0)?;
-        let mut reader = Reading::new(Slow {
+        let mut reader = Slow {
             bytes: SESSION,
             most,
-        });
-        let mut writer = Writing::new(Vec::new(rt.alloc()));
+        };
+        let mut writer = Vec::new(rt.alloc());
         assert!(rt; run(&rt, rt.alloc(), &mut reader, &mut writer, &mut desk).is_ok());
-        assert_eq!(rt; writer.into_inner().as_slice(), ANSWERS);
+        assert_eq!(rt; writer.as_slice(), ANSWERS);
     }
     Ok(())
 }
@@ -82,17 +83,16 @@ fn sessions_in_any_pieces(rt: HostRuntime) -> std::result::Result<(), Fail> {
 fn reads_are_counted(rt: HostRuntime) -> std::result::Result<(), Fail> {
     for (reads, want) in [(11, Ok(())), (10, Err(RunFault::Read))] {
         let mut desk = bench(rt.alloc(), 0)?;
-        let slow = Slow {
+        let mut reader = Slow {
             bytes: b"word 0 10\n",
             most: 1,
         };
-        let mut reader = Reading::within(slow, reads);
-        let mut writer = Writing::new(Vec::new(rt.alloc()));
+        let mut writer = Vec::new(rt.alloc());
         assert_eq!(rt;
-            run(&rt, rt.alloc(), &mut reader, &mut writer, &mut desk),
+            run_within(&rt, rt.alloc(), &mut reader, &mut writer, &mut desk, reads),
             want
         );
-        assert_eq!(rt; writer.into_inner().as_slice(), b"ok 1\n".as_slice());
+        assert_eq!(rt; writer.as_slice(), b"ok 1\n".as_slice());
     }
     Ok(())
 }
@@ -106,11 +106,11 @@ fn long_lines_are_skipped(rt: HostRuntime) -> std::result::Result<(), Fail> {
     input.extend_from_slice(b"\nplace 5\nx")?;
     input.extend_from_slice(vec![in rt.alloc(); b'x'; 9000]?.as_slice())?;
     let mut desk = bench(rt.alloc(), 0)?;
-    let mut reader = Reading::new(input.as_slice());
-    let mut writer = Writing::new(Vec::new(rt.alloc()));
+    let mut reader = input.as_slice();
+    let mut writer = Vec::new(rt.alloc());
     assert!(rt; run(&rt, rt.alloc(), &mut reader, &mut writer, &mut desk).is_ok());
     assert_eq!(rt;
-        writer.into_inner().as_slice(),
+        writer.as_slice(),
         b"bad command\nbad line\nok 0 0:5\nbad line\n".as_slice()
     );
     Ok(())
@@ -121,13 +121,13 @@ fn a_writer_fails_at_each_call(rt: HostRuntime) -> std::result::Result<(), Fail>
     let output = b"ok 1\nok 1 0:0\n".as_slice();
     for calls in 0..15 {
         let mut desk = bench(rt.alloc(), 0)?;
-        let mut reader = Reading::new(b"word 0 10\nplace 0\n".as_slice());
-        let mut writer = Writing::new(Failing {
+        let mut reader = b"word 0 10\nplace 0\n".as_slice();
+        let mut writer = Failing {
             bytes: Vec::new(rt.alloc()),
             calls,
-        });
+        };
         let ended = run(&rt, rt.alloc(), &mut reader, &mut writer, &mut desk);
-        let written = writer.into_inner().bytes;
+        let written = writer.bytes;
         let want = if calls >= 14 {
             Ok(())
         } else {
@@ -144,10 +144,80 @@ fn a_writer_fails_at_each_call(rt: HostRuntime) -> std::result::Result<(), Fail>
 #[test]
 fn a_spent_clock_ends_the_run(rt: HostRuntime) -> std::result::Result<(), Fail> {
     let mut desk = bench(rt.alloc(), u64::MAX)?;
-    let mut reader = Reading::new(b"word 0 10\n".as_slice());
-    let mut writer = Writing::new(Vec::new(rt.alloc()));
+    let mut reader = b"word 0 10\n".as_slice();
+    let mut writer = Vec::new(rt.alloc());
     let ended = run(&rt, rt.alloc(), &mut reader, &mut writer, &mut desk);
     assert_eq!(rt; ended, Err(RunFault::Clock));
-    assert!(rt; writer.into_inner().is_empty());
+    assert!(rt; writer.is_empty());
+    Ok(())
+}
+
+/// Both ends of a run, of which one shows the other that nothing waits to be flushed.
+#[derive(Drop)]
+struct Waiting<'a> {
+    bytes: Vec<u8>,
+    waits: &'a Cell<bool>,
+    flushes: u32,
+}
+
+impl Write for Waiting<'_> {
+    fn write(&mut self, buf: &[u8]) -> Result<usize> {
+        self.waits.set(true);
+        self.bytes.extend_from_slice(buf)?;
+        Ok(buf.len())
+    }
+
+    fn flush(&mut self) -> Result<()> {
+        if self.flushes == 0 {
+            return Err(Error::from(ErrorKind::Other));
+        }
+        self.flushes -= 1;
+        self.waits.set(false);
+        Ok(())
+    }
+}
+
+/// A reader that fails where an answer still waits.
+#[derive(Drop)]
+struct Impatient<'a> {
+    slow: Slow<'a>,
+    waits: &'a Cell<bool>,
+}
+
+impl Read for Impatient<'_> {
+    fn read(&mut self, buf: &mut [u8]) -> Result<usize> {
+        if self.waits.get() {
+            return Err(Error::from(ErrorKind::Other));
+        }
+        self.slow.read(buf)
+    }
+}
+
+// The flush of each answer reaches the writer before the next read, and an error of a flush ends the run as `Write`: of
+// two answers both are flushed, or the second isn't.
+#[test]
+fn answers_are_flushed_before_the_next_read(rt: HostRuntime) -> std::result::Result<(), Fail> {
+    for (flushes, want) in [
+        (2, Ok(())),
+        (1, Err(RunFault::Write)),
+        (0, Err(RunFault::Write)),
+    ] {
+        let mut desk = bench(rt.alloc(), 0)?;
+        let waits = Cell::new(false);
+        let mut reader = Impatient {
+            slow: Slow {
+                bytes: b"word 0 10\nplace 0\n",
+                most: 10,
+            },
+            waits: &waits,
+        };
+        let mut writer = Waiting {
+            bytes: Vec::new(rt.alloc()),
+            waits: &waits,
+            flushes,
+        };
+        let ended = run(&rt, rt.alloc(), &mut reader, &mut writer, &mut desk);
+        assert_eq!(rt; ended, want);
+    }
     Ok(())
 }

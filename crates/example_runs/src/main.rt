@@ -4,7 +4,7 @@
 mod page;
 
 use bench_core::Bench;
-use bench_shell::{Reading, Writing, run};
+use bench_shell::run;
 use command_line::read_file;
 use page::{Session, sessions};
 use project_book::Project;
@@ -85,8 +85,8 @@ fn answers<T: Threads + Sync>(
     commands: &[u8],
 ) -> Option<Vec<u8>> {
     let mut bench = Bench::new(alloc, project, 0).ok()?;
-    let mut reader = Reading::new(commands);
-    let mut writer = Writing::new(Vec::new(alloc));
-    run(rt, alloc, &mut reader, &mut writer, &mut bench).ok()?;
-    Some(writer.into_inner())
+    let mut reader = commands;
+    let mut given = Vec::new(alloc);
+    run(rt, alloc, &mut reader, &mut given, &mut bench).ok()?;
+    Some(given)
 }

@@ -2,7 +2,7 @@
 #![tactic(auto)]
 
 use bench_core::Bench;
-use bench_shell::{Reading, Writing, run};
+use bench_shell::run;
 use command_line::{End, arguments, read_file, refusal, status};
 use project_book::Project;
 use project_file::read_project;
@@ -19,8 +19,8 @@ fn main(rt: HostRuntime) -> ExitCode {
         Ok(bench) => bench,
         Err(end) => return ended(&rt, &end),
     };
-    let mut reader = Reading::new(rt.reader());
-    let mut writer = Writing::new(io::writer(&rt));
+    let mut reader = rt.reader();
+    let mut writer = io::writer(&rt);
     match run(&rt, rt.alloc(), &mut reader, &mut writer, &mut bench) {
         Ok(()) => ended(&rt, &End::Ended),
         Err(fault) => ended(&rt, &End::Served(fault)),

@@ -2,7 +2,7 @@
 use crate::benches::{Host, same_cells};
 use crate::stories::{Stage, Step};
 use bench_core::Bench;
-use bench_shell::{Reading, RunFault, Writing, run};
+use bench_shell::{RunFault, run, run_within};
 use project_book::Project;
 use std::alloc::Global;
 use std::io::{self, Read};
@@ -31,21 +31,13 @@ impl Read for ByteByByte<'_> {
     }
 }
 
-/// A run of the shell on what this reader gives.
-fn run_from<R: Read>(
-    rt: &impl Host,
-    bench: &mut Bench,
-    reader: &mut Reading<R>,
-) -> Result<Written, Fail> {
-    let mut writer = Writing::new(Vec::new(rt.alloc()));
-    let ended = run(rt, rt.alloc(), reader, &mut writer, bench);
-    let text = String::from_utf8(writer.into_inner())?;
-    Ok(Written { ended, text })
-}
-
 /// A run of the shell on these bytes.
 pub(crate) fn run_on(rt: &impl Host, bench: &mut Bench, input: &[u8]) -> Result<Written, Fail> {
-    run_from(rt, bench, &mut Reading::new(input))
+    let mut reader = input;
+    let mut writer = Vec::new(rt.alloc());
+    let ended = run(rt, rt.alloc(), &mut reader, &mut writer, bench);
+    let text = String::from_utf8(writer)?;
+    Ok(Written { ended, text })
 }
 
 /// What a run of the shell writes on these bytes, where it ends well.
@@ -62,8 +54,11 @@ pub(crate) fn run_in_reads(
     input: &[u8],
     reads: u32,
 ) -> Result<Written, Fail> {
-    let bytes = ByteByByte { bytes: input };
-    run_from(rt, bench, &mut Reading::within(bytes, reads))
+    let mut reader = ByteByByte { bytes: input };
+    let mut writer = Vec::new(rt.alloc());
+    let ended = run_within(rt, rt.alloc(), &mut reader, &mut writer, bench, reads);
+    let text = String::from_utf8(writer)?;
+    Ok(Written { ended, text })
 }
 
 /// What a run of the shell writes on this input at a fresh bench of a project, where it isn't what is

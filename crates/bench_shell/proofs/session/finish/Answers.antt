@@ -1,17 +1,33 @@
 use Rattle.std.proofs.Common.{sym, ◌∙◌, ◌<◌, ◌≤◌, length}
-use Rattle.bench_shell.proofs.Lines.{cut_answered, zero_lt}
+use Rattle.std.proofs.lemmas.Result.{on_ok_weaker, on_err_weaker}
+use Rattle.bench_shell.specs.Text.{line_text}
+use Rattle.bench_shell.specs.declared.answer.Answer.TheVariants.{BadLine, BadCut}
+use Rattle.bench_shell.proofs.Lines.{zero_lt}
+use Rattle.bench_shell.proofs.Steps.{cut_answered, long_cut_answered}
 use Rattle.bench_shell.proofs.session.finish.Goals as goal
+
+pub returns-then-held-clause-ok : goal.returns-then-held-clause-ok
+returns-then-held-clause-ok g c =
+    let held = c.args.held.now in
+    on_ok_weaker c.tell.result (λ q. (line_text BadLine, q, λ line p s. long_cut_answered held.is_long held.bytes.items line s c.if-held.true p)) c.tell.ensures.ok
+
+pub returns-then-held-clause-err : goal.returns-then-held-clause-err
+returns-then-held-clause-err g c =
+    let held = c.args.held.now in
+    on_err_weaker c.tell.result (λ q. (q.0, q.2, λ line p s. (q.1, long_cut_answered held.is_long held.bytes.items line s c.if-held.true p ∙ q.3))) c.tell.ensures.err
 
 pub returns-clause-ok : goal.returns-clause-ok
 returns-clause-ok g c =
-    let h = c.args.held.now.bytes.items in
+    let held = c.args.held.now in
+    let h = held.bytes.items in
     let fits : length h ≤ 4096 = rw (← c.as_slice.ensures.value) c.as_slice.ensures.fits in
     let some : 0 < length h = rw (← c.as_slice.ensures.value) (zero_lt c.as_slice.result.now (sym c.is_empty.ensures ∙ c.if-is_empty.false)) in
-    rw (cut_answered (g.D.Desk.store c.args.desk.now) c.args.held.now.is_long h c.if-held.false c.requires some fits) c.tell-2.ensures.ok
+    on_ok_weaker c.tell-2.result (λ q. (line_text BadCut, q, λ line p s. cut_answered held.is_long h line s c.if-held.false some fits p)) c.tell-2.ensures.ok
 
 pub returns-clause-err : goal.returns-clause-err
 returns-clause-err g c =
-    let h = c.args.held.now.bytes.items in
+    let held = c.args.held.now in
+    let h = held.bytes.items in
     let fits : length h ≤ 4096 = rw (← c.as_slice.ensures.value) c.as_slice.ensures.fits in
     let some : 0 < length h = rw (← c.as_slice.ensures.value) (zero_lt c.as_slice.result.now (sym c.is_empty.ensures ∙ c.if-is_empty.false)) in
-    rw (cut_answered (g.D.Desk.store c.args.desk.now) c.args.held.now.is_long h c.if-held.false c.requires some fits) c.tell-2.ensures.err
+    on_err_weaker c.tell-2.result (λ q. (q.0, q.2, λ line p s. (q.1, cut_answered held.is_long h line s c.if-held.false some fits p ∙ q.3))) c.tell-2.ensures.err

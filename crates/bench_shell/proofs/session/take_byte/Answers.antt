@@ -1,10 +1,41 @@
+use Rattle.std.proofs.Common.{[], ◌∷◌}
+use Rattle.std.proofs.KnownBytes.{Appends-nil}
+use Rattle.std.proofs.lemmas.Result.{on_ok_weaker, on_err_weaker}
 use Rattle.bench_shell.specs.Text.{line_text}
-use Rattle.bench_shell.specs.Output.{output, output_from}
-use Rattle.bench_shell.proofs.Writes.{byte_part}
+use Rattle.bench_shell.proofs.Steps.{moves_held, moves_line, fails_line, fails_at_once}
 use Rattle.bench_shell.proofs.session.take_byte.Goals as goal
 
-pub returns-in-Ok-clause-err : goal.returns-in-Ok-clause-err
-returns-in-Ok-clause-err g c = λ alone.
+pub returns-then-byte-ne10-clause-moves : goal.returns-then-byte-ne10-clause-moves
+returns-then-byte-ne10-clause-moves g c = λ alone.
     let held = c.args.held.now in
-    byte_part c.tell.result _ _ (line_text c.in-Ok.answer) (output_from (g.D.Desk.store c.args.desk.now) held.is_long held.bytes.items)
-    (output (g.D.Desk.store c.line_answer.new.desk)) c.args.byte c.if-byte-ne10.false c.tell.ensures.err (c.in-Ok.ensures.answer alone)
+    let next = c.hold.new.self in
+    ([], Appends-nil _, moves_held (g.D.Desk.store c.args.desk.now) held.is_long next.is_long held.bytes.items next.bytes.items c.args.byte c.hold.ensures)
+
+pub returns-in-Ok-clause-moves : goal.returns-in-Ok-clause-moves
+returns-in-Ok-clause-moves g c = λ alone.
+    let held = c.args.held.now in
+    let answer = c.in-Ok.answer in
+    rw (c.clear.ensures.is_long, c.clear.ensures.bytes, c.if-byte-ne10.false)
+    (on_ok_weaker c.tell.result
+    (λ q. (line_text answer, q, moves_line (g.D.Desk.store c.args.desk.now) (g.D.Desk.store c.line_answer.new.desk) held.is_long held.bytes.items answer (c.in-Ok.ensures.answers alone)))
+    c.tell.ensures.ok)
+
+pub returns-in-Ok-clause-fails : goal.returns-in-Ok-clause-fails
+returns-in-Ok-clause-fails g c = λ alone.
+    let held = c.args.held.now in
+    let answer = c.in-Ok.answer in
+    rw c.if-byte-ne10.false
+    (on_err_weaker c.tell.result
+    (λ q. (
+      q.0,
+      q.2,
+      fails_line (g.D.Desk.store c.args.desk.now) (g.D.Desk.store c.line_answer.new.desk) held.is_long held.bytes.items answer q.0 q.1 (c.in-Ok.ensures.answers alone) q.3,
+    )) c.tell.ensures.err)
+
+pub returns-in-Err-clause-fails : goal.returns-in-Err-clause-fails
+returns-in-Err-clause-fails g c = λ alone.
+    let held = c.args.held.now in (
+      [],
+      Appends-nil _,
+      fails_at_once (g.D.Desk.store c.args.desk.now) (g.D.Desk.store c.line_answer.new.desk) held.is_long held.bytes.items (c.args.byte ∷ []) (c.in-Err.ensures.kept alone),
+    )

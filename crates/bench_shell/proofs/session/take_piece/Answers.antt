@@ -1,15 +1,26 @@
-use Rattle.std.proofs.Common.{refl}
-use Rattle.bench_shell.specs.Output.{output_from}
-use Rattle.bench_shell.proofs.Writes.{piece_step, piece_part}
+use Rattle.std.proofs.Common.{refl, [], ◌∙◌}
+use Rattle.std.proofs.KnownBytes.{Appends-nil}
+use Rattle.bench_shell.proofs.Steps.{moves_none, piece_step, piece_fails}
 use Rattle.bench_shell.proofs.session.take_piece.Goals as goal
 
-pub returns-in-Err-clause-err : goal.returns-in-Err-clause-err
-returns-in-Err-clause-err g c = λ alone.
+pub loop-byte-init : goal.loop-byte-init
+loop-byte-init g c =
+    let held = c.args.held.now in
+    record {
+      version = c.requires.version;
+      flushed = c.requires.flushed;
+      same_reference = refl;
+      earlier = λ alone. alone;
+      moves = λ alone. ([], Appends-nil _, moves_none (g.D.Desk.store c.args.desk.now) held.is_long held.bytes.items);
+    }
+
+pub returns-in-Err-clause-fails : goal.returns-in-Err-clause-fails
+returns-in-Err-clause-fails g c = λ alone.
     let first = c.args.held.now in
     let held = c.loop-byte.held in
-    piece_part _ _ _ (output_from (g.D.Desk.store c.args.desk.now) first.is_long first.bytes.items)
-    (output_from (g.D.Desk.store c.loop-byte.desk) held.is_long held.bytes.items) c.args.piece.now c.loop-byte.byte-index _ c.loop-byte-test.true refl
-    (c.loop-byte.invariant.told (c.take_byte.ensures.earlier alone)) (c.in-Err.ensures.err alone)
+    piece_fails _ _ _ (g.D.Desk.store c.args.desk.now) (g.D.Desk.store c.loop-byte.desk) (g.D.Desk.store c.take_byte.new.desk)
+    first.is_long held.is_long first.bytes.items held.bytes.items c.args.piece.now c.loop-byte.byte-index _ c.loop-byte-test.true refl
+    (c.loop-byte.invariant.moves (c.take_byte.ensures.earlier alone)) (c.in-Err.ensures.fails alone)
 
 pub loop-byte-preserved : goal.loop-byte-preserved
 loop-byte-preserved g c =
@@ -17,11 +28,11 @@ loop-byte-preserved g c =
     let held = c.loop-byte.held in
     let next = c.take_byte.new.held in
     record {
-      no_lf = c.in-Ok.ensures.no_lf;
       version = c.in-Ok.ensures.version;
+      flushed = c.in-Ok.ensures.flushed;
+      same_reference = c.take_byte.ensures.same_reference ∙ c.loop-byte.invariant.same_reference;
       earlier = λ alone. c.loop-byte.invariant.earlier (c.take_byte.ensures.earlier alone);
-      told = λ alone. piece_step _ _ _ _
-          (output_from (g.D.Desk.store c.loop-byte.desk) held.is_long held.bytes.items)
-          (output_from (g.D.Desk.store c.take_byte.new.desk) next.is_long next.bytes.items) c.args.piece.now c.loop-byte.byte-index _ c.loop-byte-test.true refl
-          (c.loop-byte.invariant.told (c.take_byte.ensures.earlier alone)) (c.in-Ok.ensures.ok alone);
+      moves = λ alone. piece_step _ _ _ (g.D.Desk.store c.args.desk.now) (g.D.Desk.store c.loop-byte.desk) (g.D.Desk.store c.take_byte.new.desk)
+          first.is_long held.is_long next.is_long first.bytes.items held.bytes.items next.bytes.items c.args.piece.now c.loop-byte.byte-index _ c.loop-byte-test.true refl
+          (c.loop-byte.invariant.moves (c.take_byte.ensures.earlier alone)) (c.in-Ok.ensures.moves alone);
     }

@@ -1,13 +1,15 @@
-use Rattle.std.proofs.Common.{◌≡◌, ◌++◌, false, drop}
-use Rattle.bench_shell.specs.Output.{output_from, has_lf, Told}
+use Rattle.std.proofs.Common.{◌≡◌, true, take}
+use Rattle.bench_shell.specs.Store.{version_in}
+use Rattle.bench_shell.specs.Steps.{MovesOn}
 use Rattle.bench_shell.proofs.session.take_piece.Given as goal
 
 abbrev pub invariant-loop-byte : goal.invariant-loop-byte
 invariant-loop-byte g l = record {
-  version : l.version ≡ (g.D.Desk.store l.desk).version;
+  version : l.version ≡ version_in (g.D.Desk.store l.desk);
+  flushed : g.W.Sink.is_flushed l.writer ≡ true;
+  same_reference : g.W.Sink.lender l.writer ≡ g.W.Sink.lender l.initial.writer;
   earlier : g.D.Desk.is_alone l.desk → g.D.Desk.is_alone l.initial.desk;
-  no_lf : has_lf l.held.bytes.items ≡ false;
-  told : g.D.Desk.is_alone l.desk → Told (g.W.Sink.contents l.initial.writer) (g.W.Sink.contents l.writer)
-      (λ more. output_from (g.D.Desk.store l.initial.desk) l.initial.held.is_long l.initial.held.bytes.items (l.piece ++ more))
-      (λ more. output_from (g.D.Desk.store l.desk) l.held.is_long l.held.bytes.items (drop l.byte-index l.piece ++ more));
+  moves : g.D.Desk.is_alone l.desk → MovesOn (g.W.Sink.contents l.initial.writer) (g.W.Sink.contents l.writer)
+      (g.D.Desk.store l.initial.desk) l.initial.held.is_long l.initial.held.bytes.items (take l.byte-index l.piece)
+      (g.D.Desk.store l.desk) l.held.is_long l.held.bytes.items;
 }

@@ -1,0 +1,356 @@
+-- Lemmas on what a run has done so far.
+use Rattle.std.proofs.Common.{◌≡◌, ℕ, ◌+◌, ◌<◌, ◌≤◌, Bool, true, false, List, [], ◌∷◌, ◌++◌, length, get_or, take, drop, refl, sym, ◌∙◌, ap, subst, append_assoc, append-nil, take-append-drop, arith}
+use Rattle.std.proofs.lemmas.List.{take_more, length-append}
+use Rattle.std.specs.Prelude.{◌==◌, Option, Some, None, Result, Ok, Err, IfOk, OnOk, IfSome}
+use Rattle.std.specs.Io.KnownBytes.{Appends, Consumes, Keeps, IsAtEnd}
+use Rattle.std.proofs.KnownBytes.{Appends-trans, Appends-nil, Consumes-nil, Consumes-trans, Consumes-kept}
+use Rattle.commands.specs.declared.command.Command.{Command}
+use Rattle.bench_shell.specs.Store.{Store}
+use Rattle.bench_shell.specs.Text.{line_text}
+use Rattle.bench_shell.specs.Output.{output, store_after, reply, after, command_in, StopsIn, AnswersAll, AnswersPart}
+use Rattle.bench_shell.specs.Steps.{has_lf, Holds, AnswersLine, Reaches, StopsWithin, Moves, Fails, MovesOn, FailsOn}
+use Rattle.bench_shell.specs.declared.answer.Answer.{Answer}
+use Rattle.bench_shell.specs.declared.answer.Answer.TheVariants.{BadLine, BadCut}
+use Rattle.bench_shell.proofs.Lines.{has_lf-snoc, output-long, store-long, output-whole, store-whole, output-cut, output-cut-long, store-cut, cut_is_one, whole_is_one, splits_none, splits_line, splits_both, output-split, store-split}
+
+-- nothing of a line has come
+pub holds_none : Holds false [] []
+holds_none = record { no_lf = refl; short = λ e. refl; long = λ e. cc }
+
+longer : (h : List ℕ) (b : ℕ) → 4096 < length h → 4096 < length (h ++ b ∷ [])
+longer h b q = omega (arith, length-append h (b ∷ []))
+
+-- one byte more of a line that has room
+pub holds_more : (is_long : Bool) (h line : List ℕ) (b : ℕ) → (b == 10) ≡ false → Holds is_long h line → Holds is_long (h ++ b ∷ []) (line ++ b ∷ [])
+holds_more is_long h line b e p = record {
+  no_lf = has_lf-snoc line b p.no_lf e;
+  short = λ s. ap (λ l. l ++ b ∷ []) (p.short s);
+  long = λ l. longer line b (p.long l);
+}
+
+-- one byte more of a line that is full
+full : (is_long : Bool) (h line : List ℕ) (b : ℕ) → length h ≡ 4096 → Holds is_long h line → 4096 < length (line ++ b ∷ [])
+full true h line b e p = longer line b (p.long refl)
+full false h line b e p = omega (arith, length-append line (b ∷ []), ap (λ l. length l) (p.short refl), e)
+
+pub holds_full : (is_long : Bool) (h line : List ℕ) (b : ℕ) → (b == 10) ≡ false → length h ≡ 4096 → Holds is_long h line → Holds true h (line ++ b ∷ [])
+holds_full is_long h line b e q p = record {
+  no_lf = has_lf-snoc line b p.no_lf e;
+  short = λ s. cc;
+  long = λ l. full is_long h line b q p;
+}
+
+-- the answer to a line that has ended
+pub long_answered : (s : Store) (line : List ℕ) → has_lf line ≡ false → 4096 < length line → AnswersLine s line BadLine s
+long_answered s line p q = (output-long s line p q, sym (store-long s line p q))
+
+pub short_answered : (s t : Store) (line : List ℕ) (a : Answer) (cmd : Option Command) → has_lf line ≡ false → length line ≤ 4096 → cmd ≡ command_in s line
+    → a ≡ reply s cmd → t ≡ after s cmd → AnswersLine s line a t
+short_answered s t line a cmd p q is answer store =
+    (output-whole s line p q ∙ sym (ap line_text (answer ∙ ap (reply s) is)), store ∙ ap (after s) is ∙ sym (store-whole s line p q))
+
+pub line_answered : {E : Type 0} (r : Result Answer E) (s t : Store) (is_long : Bool) (h : List ℕ) (cmd : Option Command) → is_long ≡ false → length h ≤ 4096
+    → cmd ≡ command_in s h → IfOk r (λ a. a ≡ reply s cmd) → OnOk r (t ≡ after s cmd) → IfOk r (λ a. (line : List ℕ) → Holds is_long h line → AnswersLine s line a t)
+line_answered (Ok a) s t is_long h cmd e fits is answer store = λ line p.
+    let same : h ≡ line = sym (p.short e) in
+    let P : List ℕ → Type 0 = λ l. length l ≤ 4096 in
+    short_answered s t line a cmd p.no_lf (subst P same fits) (is ∙ ap (command_in s) same) answer store
+line_answered (Err x) s t is_long h cmd e fits is answer store = tt
+
+-- the answer to a line that the end cuts
+pub cut_answered : (is_long : Bool) (h line : List ℕ) (s : Store) → is_long ≡ false → 0 < length h → length h ≤ 4096 → Holds is_long h line → output s line ≡ line_text BadCut
+cut_answered is_long h line s e some fits p =
+    let same : h ≡ line = sym (p.short e) in
+    let P : List ℕ → Type 0 = λ l. 0 < length l in
+    let Q : List ℕ → Type 0 = λ l. length l ≤ 4096 in
+    output-cut s line p.no_lf (subst P same some) (subst Q same fits)
+
+pub long_cut_answered : (is_long : Bool) (h line : List ℕ) (s : Store) → is_long ≡ true → Holds is_long h line → output s line ≡ line_text BadLine
+long_cut_answered is_long h line s e p = output-cut-long s line p.no_lf (p.long e)
+
+-- a byte that ends no line
+pub moves_held : (s : Store) (is_long is_long' : Bool) (h h' : List ℕ) (b : ℕ)
+    → ((line : List ℕ) → Holds is_long h line → Holds is_long' h' (line ++ b ∷ [])) → Moves s is_long h (b ∷ []) [] s is_long' h'
+moves_held s is_long is_long' h h' b f = λ line p. record {
+  before = [];
+  line = line ++ b ∷ [];
+  is_text = refl;
+  splits = splits_none;
+  is_written = refl;
+  is_store = refl;
+  holds = f line p;
+}
+
+-- a line that ends and is answered
+pub moves_line : (s t : Store) (is_long : Bool) (h : List ℕ) (a : Answer) → ((line : List ℕ) → Holds is_long h line → AnswersLine s line a t)
+    → Moves s is_long h (10 ∷ []) (line_text a) t false []
+moves_line s t is_long h a f = λ line p.
+    let ended = f line p in record {
+      before = line ++ 10 ∷ [];
+      line = [];
+      is_text = sym (append-nil (line ++ 10 ∷ []));
+      splits = splits_line line p.no_lf;
+      is_written = sym ended.0;
+      is_store = ended.1;
+      holds = holds_none;
+    }
+
+-- of whose answer a part is written
+pub fails_line : (s t : Store) (is_long : Bool) (h : List ℕ) (a : Answer) (part missing : List ℕ)
+    → ((line : List ℕ) → Holds is_long h line → AnswersLine s line a t) → line_text a ≡ part ++ missing → Fails s is_long h (10 ∷ []) part t
+fails_line s t is_long h a part missing f e = λ line p.
+    let ended = f line p in record {
+      before = [];
+      line = line ++ 10 ∷ [];
+      rest = [];
+      part = part;
+      missing = missing;
+      is_text = sym (append-nil (line ++ 10 ∷ []));
+      splits = splits_none;
+      line_splits = splits_line line p.no_lf;
+      one_line = whole_is_one line p.no_lf;
+      is_written = refl;
+      answer = ended.0 ∙ e;
+      is_store = ended.1;
+    }
+
+-- a line that isn't obeyed
+pub fails_at_once : (s t : Store) (is_long : Bool) (h more : List ℕ) → t ≡ s → Fails s is_long h more [] t
+fails_at_once s t is_long h more e = λ line p. record {
+  before = [];
+  line = [];
+  rest = line ++ more;
+  part = [];
+  missing = [];
+  is_text = refl;
+  splits = splits_none;
+  line_splits = splits_none;
+  one_line = omega arith;
+  is_written = refl;
+  answer = refl;
+  is_store = e;
+}
+
+-- a piece, and then another
+pub moves_none : (s : Store) (is_long : Bool) (h : List ℕ) → Moves s is_long h [] [] s is_long h
+moves_none s is_long h = λ line p. record {
+  before = [];
+  line = line;
+  is_text = append-nil line;
+  splits = splits_none;
+  is_written = refl;
+  is_store = refl;
+  holds = p;
+}
+
+joined : (line a b before held rest : List ℕ) → line ++ a ≡ before ++ held → held ++ b ≡ rest → line ++ (a ++ b) ≡ before ++ rest
+joined line a b before held rest p q =
+    sym (append_assoc line a b) ∙ ap (λ l. l ++ b) p ∙ append_assoc before held b ∙ ap (λ l. before ++ l) q
+
+pub moves_trans : (s t u : Store) (l0 l1 l2 : Bool) (h0 h1 h2 a b x y : List ℕ) → Moves s l0 h0 a x t l1 h1 → Moves t l1 h1 b y u l2 h2
+    → Moves s l0 h0 (a ++ b) (x ++ y) u l2 h2
+moves_trans s t u l0 l1 l2 h0 h1 h2 a b x y p q = λ line is.
+    let m = p line is in
+    let n = q m.line m.holds in record {
+      before = m.before ++ n.before;
+      line = n.line;
+      is_text = joined line a b m.before m.line (n.before ++ n.line) m.is_text n.is_text ∙ sym (append_assoc m.before n.before n.line);
+      splits = splits_both m.before n.before m.splits n.splits;
+      is_written = ap (λ l. l ++ y) m.is_written ∙ ap (λ l. output s m.before ++ l) (n.is_written ∙ ap (λ r. output r n.before) m.is_store)
+          ∙ sym (output-split s m.before n.before m.splits);
+      is_store = n.is_store ∙ ap (λ r. store_after r n.before) m.is_store ∙ sym (store-split s m.before n.before m.splits);
+      holds = n.holds;
+    }
+
+pub moves_fails : (s t u : Store) (l0 l1 : Bool) (h0 h1 a b x y : List ℕ) → Moves s l0 h0 a x t l1 h1 → Fails t l1 h1 b y u
+    → Fails s l0 h0 (a ++ b) (x ++ y) u
+moves_fails s t u l0 l1 h0 h1 a b x y p q = λ line is.
+    let m = p line is in
+    let n = q m.line m.holds in
+    let s1 = store_after s m.before in
+    let two : store_after s (m.before ++ n.before) ≡ store_after s1 n.before = store-split s m.before n.before m.splits in record {
+      before = m.before ++ n.before;
+      line = n.line;
+      rest = n.rest;
+      part = n.part;
+      missing = n.missing;
+      is_text = joined line a b m.before m.line (n.before ++ (n.line ++ n.rest)) m.is_text n.is_text ∙ sym (append_assoc m.before n.before (n.line ++ n.rest));
+      splits = splits_both m.before n.before m.splits n.splits;
+      line_splits = n.line_splits;
+      one_line = n.one_line;
+      is_written = ap (λ l. l ++ y) m.is_written ∙ ap (λ l. output s m.before ++ l) (n.is_written ∙ ap (λ r. output r n.before ++ n.part) m.is_store)
+          ∙ sym (append_assoc (output s m.before) (output s1 n.before) n.part) ∙ sym (ap (λ l. l ++ n.part) (output-split s m.before n.before m.splits));
+      answer = ap (λ r. output r n.line) (two ∙ sym (ap (λ r. store_after r n.before) m.is_store)) ∙ n.answer;
+      is_store = n.is_store ∙ ap (λ r. store_after r n.line) (ap (λ r. store_after r n.before) m.is_store ∙ sym two);
+    }
+
+-- what stands behind the place where a run stopped
+pub fails_more : (s t : Store) (is_long : Bool) (h a b x : List ℕ) → Fails s is_long h a x t → Fails s is_long h (a ++ b) x t
+fails_more s t is_long h a b x p = λ line is.
+    let m = p line is in record {
+      before = m.before;
+      line = m.line;
+      rest = m.rest ++ b;
+      part = m.part;
+      missing = m.missing;
+      is_text = sym (append_assoc line a b) ∙ ap (λ l. l ++ b) m.is_text ∙ append_assoc m.before (m.line ++ m.rest) b
+          ∙ ap (λ l. m.before ++ l) (append_assoc m.line m.rest b);
+      splits = m.splits;
+      line_splits = m.line_splits;
+      one_line = m.one_line;
+      is_written = m.is_written;
+      answer = m.answer;
+      is_store = m.is_store;
+    }
+
+-- bytes of a piece, one after another
+taken : (xs : List ℕ) (i x : ℕ) → i < length xs → x ≡ get_or xs i 0 → take i xs ++ x ∷ [] ≡ take (i + 1) xs
+taken xs i x lt is = ap (λ n. take i xs ++ n ∷ []) is ∙ sym (take_more xs i 0 lt)
+
+pub piece_step : (w0 w1 w2 : Option (List ℕ)) (s t u : Store) (l0 l1 l2 : Bool) (h0 h1 h2 xs : List ℕ) (i x : ℕ) → i < length xs → x ≡ get_or xs i 0
+    → MovesOn w0 w1 s l0 h0 (take i xs) t l1 h1 → MovesOn w1 w2 t l1 h1 (x ∷ []) u l2 h2 → MovesOn w0 w2 s l0 h0 (take (i + 1) xs) u l2 h2
+piece_step w0 w1 w2 s t u l0 l1 l2 h0 h1 h2 xs i x lt is p q =
+    let P : List ℕ → Type 0 = λ text. Moves s l0 h0 text (p.0 ++ q.0) u l2 h2 in
+    (p.0 ++ q.0, Appends-trans w0 w1 w2 p.0 q.0 p.1 q.1, subst P (taken xs i x lt is) (moves_trans s t u l0 l1 l2 h0 h1 h2 (take i xs) (x ∷ []) p.0 q.0 p.2 q.2))
+
+pub piece_fails : (w0 w1 w2 : Option (List ℕ)) (s t u : Store) (l0 l1 : Bool) (h0 h1 xs : List ℕ) (i x : ℕ) → i < length xs → x ≡ get_or xs i 0
+    → MovesOn w0 w1 s l0 h0 (take i xs) t l1 h1 → FailsOn w1 w2 t l1 h1 (x ∷ []) u → FailsOn w0 w2 s l0 h0 xs u
+piece_fails w0 w1 w2 s t u l0 l1 h0 h1 xs i x lt is p q =
+    let rest = drop (i + 1) xs in
+    let all : (take i xs ++ x ∷ []) ++ rest ≡ xs = ap (λ l. l ++ rest) (taken xs i x lt is) ∙ take-append-drop (i + 1) xs in
+    let P : List ℕ → Type 0 = λ text. Fails s l0 h0 text (p.0 ++ q.0) u in (
+      p.0 ++ q.0,
+      Appends-trans w0 w1 w2 p.0 q.0 p.1 q.1,
+      subst P all (fails_more s u l0 h0 (take i xs ++ x ∷ []) rest (p.0 ++ q.0) (moves_fails s t u l0 l1 h0 h1 (take i xs) (x ∷ []) p.0 q.0 p.2 q.2)),
+    )
+
+-- what was read and written so far, from the start of a run
+abbrev pub SoFar : Option (List ℕ) → Option (List ℕ) → Option (List ℕ) → Option (List ℕ) → Store → Store → Bool → List ℕ → Type 0
+SoFar r0 r w0 w s t is_long h = (read written : List ℕ) × Consumes r0 r read × Appends w0 w written × Moves s false [] read written t is_long h
+
+pub so_far_none : (r w : Option (List ℕ)) (s : Store) → SoFar r r w w s s false []
+so_far_none r w s = ([], [], Consumes-nil r, Appends-nil w, moves_none s false [])
+
+pub so_far_step : (r0 r1 r2 w0 w1 w2 : Option (List ℕ)) (s t u : Store) (l1 l2 : Bool) (h1 h2 piece : List ℕ)
+    → SoFar r0 r1 w0 w1 s t l1 h1 → Consumes r1 r2 piece → MovesOn w1 w2 t l1 h1 piece u l2 h2 → SoFar r0 r2 w0 w2 s u l2 h2
+so_far_step r0 r1 r2 w0 w1 w2 s t u l1 l2 h1 h2 piece p c q = (
+  p.0 ++ piece,
+  p.1 ++ q.0,
+  Consumes-trans r0 r1 r2 p.0 piece p.2 c,
+  Appends-trans w0 w1 w2 p.1 q.0 p.3 q.1,
+  moves_trans s t u false l1 l2 [] h1 h2 p.0 piece p.1 q.0 p.4 q.2,
+)
+
+-- a run that stopped at the end of a line has written a beginning of the output
+stops : (s t : Store) (read written : List ℕ) → StopsWithin s read written t → StopsIn s read written t
+stops s t read written p =
+    let s1 = store_after s p.before in
+    let s2 = store_after s1 p.line in
+    let later = p.missing ++ output s2 p.rest in record {
+      before = p.before;
+      line = p.line;
+      rest = p.rest;
+      part = p.part;
+      missing = p.missing;
+      is_read = p.is_text;
+      one_line = p.one_line;
+      is_written = p.is_written;
+      answer = p.answer;
+      is_store = p.is_store;
+      begins = (
+        later,
+        ap (output s) p.is_text ∙ output-split s p.before (p.line ++ p.rest) p.splits
+            ∙ ap (λ l. output s p.before ++ l) (output-split s1 p.line p.rest p.line_splits ∙ ap (λ l. l ++ output s2 p.rest) p.answer ∙ append_assoc p.part p.missing (output s2 p.rest))
+            ∙ sym (append_assoc (output s p.before) p.part later) ∙ sym (ap (λ l. l ++ later) p.is_written),
+      );
+    }
+
+pub so_far_cut : (r0 r1 r2 w0 w1 w2 : Option (List ℕ)) (s t u : Store) (is_long : Bool) (h piece : List ℕ)
+    → SoFar r0 r1 w0 w1 s t is_long h → Consumes r1 r2 piece → FailsOn w1 w2 t is_long h piece u → AnswersPart r0 r2 w0 w2 s u
+so_far_cut r0 r1 r2 w0 w1 w2 s t u is_long h piece p c q = (
+  p.0 ++ piece,
+  p.1 ++ q.0,
+  Consumes-trans r0 r1 r2 p.0 piece p.2 c,
+  Appends-trans w0 w1 w2 p.1 q.0 p.3 q.1,
+  stops s u (p.0 ++ piece) (p.1 ++ q.0) (moves_fails s t u false is_long [] h p.0 piece p.1 q.0 p.4 q.2 [] holds_none),
+)
+
+-- a run that stopped behind the bytes that it holds, with a part of what their line is answered
+cut_in : (s t : Store) (read written part missing : List ℕ) (is_long : Bool) (h : List ℕ) (m : Reaches s read written t is_long h)
+    → output t m.line ≡ part ++ missing → StopsIn s read (written ++ part) t
+cut_in s t read written part missing is_long h m e =
+    let s1 = store_after s m.before in
+    let answer : output s1 m.line ≡ part ++ missing = ap (λ r. output r m.line) (sym m.is_store) ∙ e in record {
+      before = m.before;
+      line = m.line;
+      rest = [];
+      part = part;
+      missing = missing;
+      is_read = m.is_text ∙ ap (λ l. m.before ++ l) (sym (append-nil m.line));
+      one_line = cut_is_one m.line m.holds.no_lf;
+      is_written = ap (λ l. l ++ part) m.is_written;
+      answer = answer;
+      is_store = m.is_store ∙ sym (store-cut s1 m.line m.holds.no_lf);
+      begins = (
+        missing,
+        ap (output s) m.is_text ∙ output-split s m.before m.line m.splits ∙ ap (λ l. l ++ output s1 m.line) (sym m.is_written) ∙ ap (λ l. written ++ l) answer
+            ∙ sym (append_assoc written part missing),
+      );
+    }
+
+pub so_far_part : (r0 r1 r2 w0 w1 : Option (List ℕ)) (s t : Store) (is_long : Bool) (h : List ℕ)
+    → SoFar r0 r1 w0 w1 s t is_long h → Keeps r1 r2 → AnswersPart r0 r2 w0 w1 s t
+so_far_part r0 r1 r2 w0 w1 s t is_long h p k =
+    let m = p.4 [] holds_none in
+    let P : List ℕ → Type 0 = λ l. StopsIn s p.0 l t in
+    (p.0, p.1, Consumes-kept r0 r1 r2 p.0 p.2 k, p.3, subst P (append-nil p.1) (cut_in s t p.0 p.1 [] (output t m.line) is_long h m refl))
+
+-- what the line that is held where the input ends is answered
+abbrev pub Ends : Bool → List ℕ → List ℕ → Type 0
+Ends is_long h written = (line : List ℕ) → Holds is_long h line → (s : Store) → output s line ≡ written
+
+abbrev pub EndsPart : Bool → List ℕ → List ℕ → Type 0
+EndsPart is_long h written = (line : List ℕ) → Holds is_long h line → (s : Store) → (missing : List ℕ) × (output s line ≡ written ++ missing)
+
+pub so_far_last : (r0 r1 r2 w0 w1 w2 : Option (List ℕ)) (s t : Store) (is_long : Bool) (h : List ℕ)
+    → SoFar r0 r1 w0 w1 s t is_long h → Consumes r1 r2 [] → (written : List ℕ) × Appends w1 w2 written × EndsPart is_long h written → AnswersPart r0 r2 w0 w2 s t
+so_far_last r0 r1 r2 w0 w1 w2 s t is_long h p c q =
+    let m = p.4 [] holds_none in
+    let missing = q.2 m.line m.holds t in
+    let P : List ℕ → Type 0 = λ read. StopsIn s read (p.1 ++ q.0) t in (
+      p.0 ++ [],
+      p.1 ++ q.0,
+      Consumes-trans r0 r1 r2 p.0 [] p.2 c,
+      Appends-trans w0 w1 w2 p.1 q.0 p.3 q.1,
+      subst P (sym (append-nil p.0)) (cut_in s t p.0 p.1 q.0 missing.0 is_long h m missing.1),
+    )
+
+-- all was read, and all is answered
+pub so_far_all : (r0 r1 r2 w0 w1 w2 : Option (List ℕ)) (s t : Store) (is_long : Bool) (h : List ℕ)
+    → SoFar r0 r1 w0 w1 s t is_long h → Consumes r1 r2 [] → IsAtEnd r2 → (written : List ℕ) × Appends w1 w2 written × Ends is_long h written → AnswersAll r0 r2 w0 w2 s t
+so_far_all r0 r1 r2 w0 w1 w2 s t is_long h p c e q =
+    let m = p.4 [] holds_none in
+    let s1 = store_after s m.before in
+    let text : p.1 ++ q.0 ≡ output s p.0 = ap (λ l. l ++ q.0) m.is_written
+    ∙ ap (λ l. output s m.before ++ l) (sym (q.2 m.line m.holds s1)) ∙ sym (output-split s m.before m.line m.splits) ∙ sym (ap (output s) m.is_text) in
+    let store : t ≡ store_after s p.0 = m.is_store ∙ sym (store-cut s1 m.line m.holds.no_lf) ∙ sym (store-split s m.before m.line m.splits) ∙ sym (ap (store_after s) m.is_text) in
+    let P : List ℕ → Type 0 = λ read. Appends w0 w2 (output s read) × (t ≡ store_after s read) in
+    let W : List ℕ → Type 0 = λ l. Appends w0 w2 l in
+    let both : P (p.0 ++ []) = subst P (sym (append-nil p.0)) (subst W text (Appends-trans w0 w1 w2 p.1 q.0 p.3 q.1), store) in
+    (p.0 ++ [], Consumes-trans r0 r1 r2 p.0 [] p.2 c, e, both.0, both.1)
+
+-- where the input was known
+at_end : (r0 r2 : Option (List ℕ)) (read : List ℕ) → Consumes r0 r2 read → IsAtEnd r2 → IfSome r0 (λ input. input ≡ read)
+at_end None r2 read p e = tt
+at_end (Some x) None read p e = absurd p
+at_end (Some x) (Some y) read p e = p ∙ ap (λ l. read ++ l) e ∙ append-nil read
+
+if_some_weaker : (o : Option (List ℕ)) (P Q : List ℕ → Type 0) → ((x : List ℕ) → P x → Q x) → IfSome o P → IfSome o Q
+if_some_weaker None P Q f p = tt
+if_some_weaker (Some x) P Q f p = f x p
+
+pub all_known : (r0 r2 w0 w2 : Option (List ℕ)) (s t : Store) → AnswersAll r0 r2 w0 w2 s t → IfSome r0 (λ input. Appends w0 w2 (output s input))
+all_known r0 r2 w0 w2 s t p =
+    let P : List ℕ → Type 0 = λ x. x ≡ p.0 in
+    let Q : List ℕ → Type 0 = λ x. Appends w0 w2 (output s x) in
+    if_some_weaker r0 P Q (λ x is. subst Q (sym is) p.3) (at_end r0 r2 p.0 p.1 p.2)

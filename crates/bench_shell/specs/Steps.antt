@@ -1,0 +1,69 @@
+-- What a run has done so far, for the contracts inside this crate. No public clause cites it, so nothing here needs believing.
+use Rattle.std.specs.Prelude.{◌≡◌, ℕ, ◌<◌, ◌≤◌, Bool, true, false, ◌||◌, List, [], ◌∷◌, ◌++◌, length, Option, ◌==◌}
+use Rattle.std.specs.Io.KnownBytes.{Appends}
+use Rattle.bench_shell.specs.Lines.{lines_of}
+use Rattle.bench_shell.specs.Store.{Store}
+use Rattle.bench_shell.specs.Text.{line_text}
+use Rattle.bench_shell.specs.Output.{output, store_after}
+use Rattle.bench_shell.specs.declared.answer.Answer.{Answer}
+
+-- some byte is LF
+abbrev pub has_lf : List ℕ → Bool
+has_lf [] = false
+has_lf (b ∷ bs) = (b == 10) || has_lf bs
+
+-- what is held of a line that has begun: all of it, or that it is too long
+pub record Holds (is_long : Bool) (bytes line : List ℕ) : Type 0 where
+  pub no_lf : has_lf line ≡ false
+  pub short : is_long ≡ false → line ≡ bytes
+  pub long : is_long ≡ true → 4096 < length line
+
+-- the text ends where a line does
+abbrev pub Splits : List ℕ → Type 0
+Splits text = (more : List ℕ) → lines_of (text ++ more) ≡ lines_of text ++ lines_of more
+
+-- the answer to a line that has ended, and the store after it
+abbrev pub AnswersLine : Store → List ℕ → Answer → Store → Type 0
+AnswersLine s line a t = (output s (line ++ 10 ∷ []) ≡ line_text a) × (t ≡ store_after s (line ++ 10 ∷ []))
+
+-- the text is lines that were answered, and one that has begun and is held
+pub record Reaches (s : Store) (text written : List ℕ) (t : Store) (is_long : Bool) (bytes : List ℕ) : Type 0 where
+  pub before : List ℕ
+  pub line : List ℕ
+  pub is_text : text ≡ before ++ line
+  pub splits : Splits before
+  pub is_written : written ≡ output s before
+  pub is_store : t ≡ store_after s before
+  pub holds : Holds is_long bytes line
+
+-- the run has stopped within the text, at the end of a line
+pub record StopsWithin (s : Store) (text written : List ℕ) (t : Store) : Type 0 where
+  pub before : List ℕ
+  pub line : List ℕ
+  pub rest : List ℕ
+  pub part : List ℕ
+  pub missing : List ℕ
+  pub is_text : text ≡ before ++ (line ++ rest)
+  pub splits : Splits before
+  pub line_splits : Splits line
+  pub one_line : length (lines_of line) ≤ 1
+  pub is_written : written ≡ output s before ++ part
+  pub answer : output (store_after s before) line ≡ part ++ missing
+  pub is_store : t ≡ store_after (store_after s before) line
+
+-- from a line that is held, by more bytes, to another that is
+abbrev pub Moves : Store → Bool → List ℕ → List ℕ → List ℕ → Store → Bool → List ℕ → Type 0
+Moves s is_long bytes more written t is_long' bytes' =
+    (line : List ℕ) → Holds is_long bytes line → Reaches s (line ++ more) written t is_long' bytes'
+
+-- and the same, stopped within them
+abbrev pub Fails : Store → Bool → List ℕ → List ℕ → List ℕ → Store → Type 0
+Fails s is_long bytes more written t = (line : List ℕ) → Holds is_long bytes line → StopsWithin s (line ++ more) written t
+
+-- the writer gained what was written
+abbrev pub MovesOn : Option (List ℕ) → Option (List ℕ) → Store → Bool → List ℕ → List ℕ → Store → Bool → List ℕ → Type 0
+MovesOn writer writer' s is_long bytes more t is_long' bytes' =
+    (written : List ℕ) × Appends writer writer' written × Moves s is_long bytes more written t is_long' bytes'
+
+abbrev pub FailsOn : Option (List ℕ) → Option (List ℕ) → Store → Bool → List ℕ → List ℕ → Store → Type 0
+FailsOn writer writer' s is_long bytes more t = (written : List ℕ) × Appends writer writer' written × Fails s is_long bytes more written t
