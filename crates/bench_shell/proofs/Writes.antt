@@ -1,6 +1,6 @@
 -- Lemmas on a text of which a part is written.
 use Rattle.std.proofs.Common.{◌≡◌, ℕ, List, [], ◌++◌, take, drop, ap, sym, subst, ◌∙◌, append_assoc, take-append-drop, append-nil}
-use Rattle.std.specs.Prelude.{Option, Some, None}
+use Rattle.std.specs.Prelude.{Option, Some, None, Result, Ok, Err, OnOk, OnErr}
 use Rattle.std.specs.Io.KnownBytes.{Appends, Keeps}
 use Rattle.std.proofs.KnownBytes.{Appends-trans}
 
@@ -35,3 +35,12 @@ written_more a b c bytes rest n w p = (
   Appends-trans a b c w.0 (take n rest) w.1 p,
   w.2 ∙ ap (λ l. w.0 ++ l) (sym (take-append-drop n rest)) ∙ sym (append_assoc w.0 (take n rest) (drop n rest)),
 )
+
+-- what holds in any case holds at Ok, and at Err
+pub kept_ok : {T E P : Type 0} (r : Result T E) → P → OnOk r P
+kept_ok (Ok x) p = p
+kept_ok (Err e) p = tt
+
+pub kept_err : {T E P : Type 0} (r : Result T E) → P → OnErr r P
+kept_err (Ok x) p = tt
+kept_err (Err e) p = p

@@ -1,6 +1,6 @@
 //! From a reader to a writer, line by line.
 ghost use Rattle.std.specs.Prelude.{◌≡◌, ℕ, List, [], ◌∷◌, ◌++◌, true, false, OnOk, OnErr, IfOk, IfSome, ◌≤◌};
-ghost use Rattle.std.specs.Io.KnownBytes.{Appends};
+ghost use Rattle.std.specs.Io.KnownBytes.{Appends, Keeps};
 ghost use Rattle.bench_shell.specs.Cause.{HasCause, CantRead};
 ghost use Rattle.bench_shell.specs.Store.{Store, version_in};
 ghost use Rattle.bench_shell.specs.Text.{line_text};
@@ -37,6 +37,32 @@ fn write_bytes<W: Sink>(writer: &mut W, bytes: &[u8]) -> Result<(), RunFault>
     Ok(())
 }
 
+/// Writes the line of an answer.
+fn write_line<W: Sink>(alloc: Global, writer: &mut W, answer: Answer) -> Result<(), RunFault>
+    ensures ok { OnOk result (Appends (W.contents writer.old) (W.contents writer.new) (line_text answer)) }
+    ensures err { OnErr result ((told later : List ℕ) × Appends (W.contents writer.old) (W.contents writer.new) told × (line_text answer ≡ told ++ later)) }
+    ensures cause { HasCause result ⊥ (W.has_failed writer.new ≡ true) ⊥ ⊥ }
+    ensures same_reference { W.lender writer.new ≡ W.lender writer.old }
+{
+    let Ok(text) = format!(in alloc; "{answer}\n") else {
+        return Err(RunFault::Memory);
+    };
+    write_bytes(writer, text.as_bytes())
+}
+
+/// Hands on all that was written.
+fn hand_on<W: Sink>(writer: &mut W) -> Result<(), RunFault>
+    ensures bytes { Keeps (W.contents writer.old) (W.contents writer.new) }
+    ensures flushed { OnOk result (W.is_flushed writer.new ≡ true) }
+    ensures cause { HasCause result ⊥ (W.has_failed writer.new ≡ true) ⊥ ⊥ }
+    ensures same_reference { W.lender writer.new ≡ W.lender writer.old }
+{
+    match writer.flush() {
+        Ok(()) => Ok(()),
+        Err(_) => Err(RunFault::Write),
+    }
+}
+
 /// Writes the line of an answer, and flushes.
 fn tell<W: Sink>(alloc: Global, writer: &mut W, answer: Answer) -> Result<(), RunFault>
     ensures ok { OnOk result (Appends (W.contents writer.old) (W.contents writer.new) (line_text answer)) }
@@ -45,14 +71,8 @@ fn tell<W: Sink>(alloc: Global, writer: &mut W, answer: Answer) -> Result<(), Ru
     ensures cause { HasCause result ⊥ (W.has_failed writer.new ≡ true) ⊥ ⊥ }
     ensures same_reference { W.lender writer.new ≡ W.lender writer.old }
 {
-    let Ok(text) = format!(in alloc; "{answer}\n") else {
-        return Err(RunFault::Memory);
-    };
-    match write_bytes(writer, text.as_bytes()) {
-        Ok(()) => match writer.flush() {
-            Ok(()) => Ok(()),
-            Err(_) => Err(RunFault::Write),
-        },
+    match write_line(alloc, writer, answer) {
+        Ok(()) => hand_on(writer),
         Err(fault) => Err(fault),
     }
 }
