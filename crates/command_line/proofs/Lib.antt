@@ -1,3 +1,4 @@
 mod Defaults
 mod Holding
+mod Starting
 mod Taking

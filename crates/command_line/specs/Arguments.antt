@@ -1,8 +1,8 @@
 -- The command line of the program, as `clap` reads it.
-use Rattle.std.specs.Prelude.{◌≡◌, ℕ, true, false, List, [], ◌∷◌, Some, None, Ok, codes, pos}
+use Rattle.std.specs.Prelude.{◌≡◌, ℕ, true, false, List, [], ◌∷◌, Option, Some, None, Ok, codes, pos}
 use Rattle.std.specs.Str.Parse.{ParsesUnsigned}
 use Rattle.std.specs.declared.num.ParseIntError.{ParseIntError}
-use Rattle.clap.specs.Words.{App, Row, Rule, Text, IsPlain, app_of, args_of, one_of, new_app, new_rule, rule_of, with_rule}
+use Rattle.clap.specs.Words.{App, Row, Rule, Text, IsPlain, app_of, args_of, first_of, matches_of, one_of, new_app, new_rule, rule_of, with_rule}
 use Rattle.clap.specs.Simple.{on_top}
 use Rattle.clap.specs.Built.{SameRules}
 use Rattle.clap.specs.Facts.{WantsDefault}
@@ -25,9 +25,13 @@ workers_rule = record (new_rule (codes "workers")) {
   parser = Some (Signed (pos 0) (pos 16));
 }
 
--- `hotspot [FILE] [--workers N]`, with a version
+-- `hotspot [FILE] [--workers N]`, with a version; the words are those behind the program's name
 unfoldable pub hotspot : App
-hotspot = with_rule (with_rule (on_top (λ s. record s { has_version = true }) (new_app (codes "hotspot"))) file_rule) workers_rule
+hotspot = with_rule (with_rule (on_top (λ s. record s { no_binary_name = true; has_version = true }) (new_app (codes "hotspot"))) file_rule) workers_rule
+
+-- the FILE that the words name, if they do
+abbrev pub file_in : List Text → Option Text
+file_in words = first_of (codes "FILE") (matches_of hotspot words)
 
 -- the matches hold a text at `--workers` that reads as this number
 abbrev pub IsNumberHeld : List Row → ℕ → Type 0

@@ -2,16 +2,20 @@
 use Rattle.std.specs.Prelude.{ℕ, List, [], ◌++◌, Option, Some, codes, decimal}
 use Rattle.clap.specs.declared.error.kind.ErrorKind.{ErrorKind}
 use Rattle.clap.specs.declared.error.kind.ErrorKind.TheVariants.{DisplayHelp, DisplayVersion, OutOfMemory}
+use Rattle.project_file.specs.Faults.{number_of}
 use Rattle.bench_shell.specs.Cause.{fault_text}
+use Rattle.clap.specs.Words.{kind_of}
 use Rattle.command_line.specs.declared.end.End.{End}
 use Rattle.command_line.specs.declared.end.End.TheVariants.{Ended, Words, Workers, NoFile, Project, Served, CannotStart}
+use Rattle.command_line.specs.declared.start.Stop.{Stop}
+use Rattle.command_line.specs.declared.start.Stop.TheVariants as stop
 
 abbrev pub status_of : End → ℕ
 status_of Ended = 0
 status_of Words = 2
 status_of Workers = 2
 status_of (NoFile name) = 3
-status_of (Project number) = 4
+status_of (Project fault) = 4
 status_of (Served fault) = 5
 status_of CannotStart = 6
 
@@ -28,6 +32,11 @@ end_text Ended = Some []
 end_text Words = Some []
 end_text Workers = Some (codes "hotspot: this version has no workers: --workers takes 0 alone")
 end_text (NoFile name) = Some (codes "hotspot: cannot read " ++ name.now)
-end_text (Project number) = Some (codes "hotspot: project refused: " ++ decimal number)
+end_text (Project fault) = Some (codes "hotspot: project refused: " ++ decimal (number_of fault))
 end_text (Served fault) = Some (codes "hotspot: " ++ fault_text fault)
 end_text CannotStart = Some (codes "hotspot: cannot start")
+
+-- how the program ends, by what it ends with
+abbrev pub end_at : Stop → End
+end_at (stop.Words error) = end_of (kind_of error)
+end_at (stop.At end) = end

@@ -6,6 +6,7 @@ ghost use Rattle.command_line.specs.Ends.{status_of, end_of};
 use bench_shell::RunFault;
 use clap::Error;
 use clap::error::ErrorKind;
+use project_file::ProjectFault;
 use std::fmt;
 
 /// How the program ends. It prints as its line on standard error, without LF; `Ended` and `Words` have none, since help,
@@ -20,8 +21,8 @@ pub enum End<'a> {
     Workers,
     /// FILE, by the name that was given, can't be read.
     NoFile(&'a str),
-    /// The project was refused, by the number of its fault.
-    Project(u8),
+    /// The project was refused.
+    Project(ProjectFault),
     /// The run met a fault.
     Served(RunFault),
     /// There was no memory at the start.
@@ -67,7 +68,7 @@ impl fmt::Display for End<'_> {
                 "hotspot: this version has no workers: --workers takes 0 alone"
             ),
             End::NoFile(name) => write!(f, "hotspot: cannot read {name}"),
-            End::Project(number) => write!(f, "hotspot: project refused: {number}"),
+            End::Project(fault) => write!(f, "hotspot: project refused: {}", fault.number()),
             End::Served(fault) => write!(f, "hotspot: {fault}"),
             End::CannotStart => write!(f, "hotspot: cannot start"),
         }

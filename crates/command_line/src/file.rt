@@ -1,4 +1,4 @@
-//! Reading a project file.
+//! The bytes of a project file.
 ghost use Rattle.std.specs.Prelude.{◌≡◌, IfOk, IfSome, take};
 
 use std::alloc::Global;

@@ -1,19 +1,29 @@
-//! The command line of the workbench, and how the program ends.
+//! The program but for its `main`: its command line, how it begins, and how it ends.
 //!
-//! [`arguments`] reads the program's words, `hotspot [FILE] [--workers N]`, with the crate `clap`. [`read_file`] reads
-//! the bytes of FILE. An [`End`] is what becomes of the program: it has a [`status`] and a line for standard error.
+//! [`arguments`] reads the program's words, `hotspot [FILE] [--workers N]`, with the crate `clap`. [`opening`] makes the
+//! bench that they ask for: it reads FILE from a [`Folder`]. [`serve`] then answers the lines of a reader to a writer. An
+//! [`End`] is what becomes of the program: it has a [`status`] and a line for standard error. [`program`] does it all over
+//! the host's arguments, files and standard error.
 //!
 //! Promise: where [`arguments`] answers Ok, it gives the FILE and the number of workers, at most 16, that the matches of
 //! the words hold, as `clap` defines them for the command of `specs/Arguments.antt`; and it answers Ok exactly where
-//! `clap` finds no fault in the words, want of memory aside. Statuses and lines are those of `specs/Ends.antt`.
+//! `clap` finds no fault in the words, want of memory aside. [`opening`] begins with the project that the words and the
+//! folder give, or answers why not, in a fixed order (`specs/Opening.antt`). Statuses and lines are those of
+//! `specs/Ends.antt`.
 #![tactic(auto)]
 
 mod end;
 mod file;
+mod folder;
+mod host;
+mod start;
 #[cfg(test)]
 mod tests;
 mod words;
 
 pub use end::{End, refusal, status};
 pub use file::{MOST_BYTES, read_bytes, read_file};
+pub use folder::{Disk, Folder};
+pub use host::{Host, program};
+pub use start::{Stop, opening, serve};
 pub use words::{CommandLine, arguments};

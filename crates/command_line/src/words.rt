@@ -1,11 +1,11 @@
 //! The words behind the program's name.
-ghost use Rattle.std.specs.Prelude.{◌≡◌, ◌≤◌, IfOk, codes, false, map, option_map};
-ghost use Rattle.clap.specs.Words.{FailsBy, IsPlainArg, fault_of, first_of, matches_of, rule_of};
-ghost use Rattle.command_line.specs.Arguments.{hotspot, file_rule, IsNumberHeld, IsHotspot, IsWorkers};
+ghost use Rattle.std.specs.Prelude.{◌≡◌, ◌≤◌, IfOk, false, option_map};
+ghost use Rattle.clap.specs.Walk.{texts};
+ghost use Rattle.clap.specs.Words.{FailsBy, IsPlainArg, fault_of, matches_of, rule_of};
+ghost use Rattle.command_line.specs.Arguments.{hotspot, file_in, file_rule, IsNumberHeld, IsHotspot, IsWorkers};
 
 use clap::{Arg, ArgAction, Command, Error, value_parser};
 use std::alloc::{AllocError, Global};
-use std::convert::AsStr;
 
 /// What the program is told by its words.
 #[derive(Clone, Copy, PartialEq, Eq, Debug)]
@@ -13,7 +13,7 @@ pub struct CommandLine<'a> {
     /// The project file, as it was written; without it the built-in project is opened.
     pub file: Option<&'a str>,
     /// How many workers run beside the shell, from 0 to 16.
-    pub workers: u8,
+    pub workers: u32,
 }
 
 /// The lines under the options in the help.
@@ -62,6 +62,7 @@ fn hotspot_command<'a>(alloc: Global) -> Result<Command<'a>, AllocError>
     ensures { IfOk result IsHotspot }
 {
     let described = Command::new(alloc, "hotspot")
+        .no_binary_name(true)
         .version("1.0.0")
         .about(
             "A workbench for hot-spot experiments on a machine with interleaved memory and a combining network",
@@ -72,18 +73,17 @@ fn hotspot_command<'a>(alloc: Global) -> Result<Command<'a>, AllocError>
     Ok(whole)
 }
 
-/// Reads the program's words, of which the first is its name.
+/// Reads the words behind the program's name.
 ///
 /// # Errors
 ///
 /// Where the words are no command line of the program, or ask for help or the version, or a growth was refused. The
 /// error's text is for the user, and its `exit_code` is 0 where it was asked for.
-pub fn arguments<'a, S: AsStr>(alloc: Global, words: &'a [S]) -> Result<CommandLine<'a>, Error>
-    ensures file { IfOk result (λ a. option_map (λ name. name.now) a.file
-        ≡ first_of (codes "FILE") (matches_of hotspot (map S.text words.entry.now))) }
-    ensures workers { IfOk result (λ a. IsNumberHeld (matches_of hotspot (map S.text words.entry.now)) a.workers) }
+pub fn arguments<'a>(alloc: Global, words: &'a [&'a str]) -> Result<CommandLine<'a>, Error>
+    ensures file { IfOk result (λ a. option_map (λ name. name.now) a.file ≡ file_in (texts words.entry.now)) }
+    ensures workers { IfOk result (λ a. IsNumberHeld (matches_of hotspot (texts words.entry.now)) a.workers) }
     ensures most { IfOk result (λ a. a.workers ≤ 16) }
-    ensures refused { FailsBy (fault_of hotspot (map S.text words.entry.now)) result }
+    ensures refused { FailsBy (fault_of hotspot (texts words.entry.now)) result }
 {
     let command = match hotspot_command(alloc) {
         Ok(command) => command,
@@ -96,6 +96,6 @@ pub fn arguments<'a, S: AsStr>(alloc: Global, words: &'a [S]) -> Result<CommandL
     let workers = matches.get_one::<u8>("workers").unwrap_or(0);
     Ok(CommandLine {
         file: matches.get_str("FILE"),
-        workers,
+        workers: u32::from(workers),
     })
 }

@@ -19,7 +19,7 @@ returns c =
     let none : args_of start ≡ [] = search rules in
     let no_groups : groups_of start ≡ [] = search rules in
     let no_globals : (out-Command start).has_globals ≡ false = search rules in
-    let start_is : app_of start ≡ on_top (λ s. record s { has_version = true }) (new_app (codes "hotspot")) = search rules in
+    let start_is : app_of start ≡ on_top (λ s. record s { no_binary_name = true; has_version = true }) (new_app (codes "hotspot")) = search rules in
     let plain_start : IsPlain start = (subst (All IsPlainArg) (sym none) (All-nil IsPlainArg), no_groups) in
     record {
       app = second.shape c.workers_argument.ensures.global ∙ ap₂ with_rule (first.shape c.file_argument.ensures.global ∙ ap₂ with_rule start_is c.file_argument.ensures.rule) c.workers_argument.ensures.is.rule;

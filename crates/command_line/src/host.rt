@@ -1,0 +1,60 @@
+//! The program at a terminal.
+use crate::end::{End, status};
+use crate::folder::Disk;
+use crate::start::{Stop, serve};
+use std::env;
+use std::io::{Eprint, ErrorKind, Print, Read, Write};
+use std::process::ExitCode;
+use std::rt::{Env, Files};
+use std::thread::Threads;
+
+/// What the program takes of its host: memory, arguments, files, threads, and both outputs.
+pub trait Host: AllocGlobal + Env + Files + Threads + Sync + Print + Eprint {}
+
+impl<R: AllocGlobal + Env + Files + Threads + Sync + Print + Eprint> Host for R {}
+
+/// The program, from the host's arguments to its exit status. It answers what is read from the reader, and writes to
+/// standard error why it ended, where that is no end of the input.
+pub fn program<H: Host, R: Read, W: Write>(rt: &H, reader: &mut R, writer: &mut W) -> ExitCode {
+    let words = match env::args(rt) {
+        Ok(words) => words.collect::<Vec<String>>(rt.alloc()),
+        Err(fault) if fault.kind() == ErrorKind::OutOfMemory => {
+            return ended(rt, &Stop::At(End::CannotStart));
+        }
+        Err(_) => {
+            let _ = eprintln!(rt; "hotspot: the command line is not UTF-8");
+            return ended(rt, &Stop::At(End::Words));
+        }
+    };
+    let Ok(words) = words else {
+        return ended(rt, &Stop::At(End::CannotStart));
+    };
+    let Ok(texts) = words
+        .iter()
+        .skip(1)
+        .map(String::as_str)
+        .collect::<Vec<&str>>(rt.alloc())
+    else {
+        return ended(rt, &Stop::At(End::CannotStart));
+    };
+    let stop = serve(
+        rt,
+        rt.alloc(),
+        texts.as_slice(),
+        &Disk::new(rt),
+        reader,
+        writer,
+    );
+    ended(rt, &stop)
+}
+
+/// Prints the text of an end that has one, and gives its status.
+fn ended<H: Host>(rt: &H, stop: &Stop<'_>) -> ExitCode {
+    let end = stop.end();
+    let _ = match stop {
+        Stop::Words(error) => error.print(rt),
+        Stop::At(End::Ended | End::Words) => Ok(()),
+        Stop::At(end) => eprintln!(rt; "{end}"),
+    };
+    ExitCode::from(status(&end))
+}

@@ -1,0 +1,126 @@
+//! From the program's words to its end.
+ghost use Rattle.std.specs.Prelude.{◌≡◌, [], IfOk, IfErr, option_map};
+ghost use Rattle.clap.specs.Walk.{texts};
+ghost use Rattle.bench_core.specs.Shown.{project_of};
+ghost use Rattle.command_line.specs.Ends.{end_at};
+ghost use Rattle.command_line.specs.Opening.{IsNamed, FileEnds, Opens, StopsFor, ServesFor};
+
+use crate::end::{End, refusal};
+use crate::folder::Folder;
+use crate::words::arguments;
+use bench_core::Bench;
+use bench_shell::run;
+use clap::Error;
+use project_book::Project;
+use project_file::read_project;
+use std::alloc::Global;
+use std::io::{Read, Write};
+use std::thread::Threads;
+
+/// What the program ends with.
+#[derive(Drop)]
+pub enum Stop<'a> {
+    /// The words are no command line, or ask for help or the version: the text is the error's.
+    Words(Error),
+    /// Any other end.
+    At(End<'a>),
+}
+
+impl<'a> Stop<'a> {
+    /// How the program ends.
+    pub fn end(&self) -> End<'a>
+        ensures { result ≡ end_at self.now }
+    {
+        match self {
+            Stop::Words(error) => refusal(error),
+            Stop::At(end) => *end,
+        }
+    }
+}
+
+/// The project that FILE is, or the built-in one without it.
+#[tactic(auto, using(crate::proofs::Starting::is_read, crate::proofs::Starting::is_refused))]
+fn project<'a, F: Folder>(
+    alloc: Global,
+    file: Option<&'a str>,
+    folder: &F,
+) -> Result<Project, End<'a>>
+    ensures ok { IfOk result (IsNamed (F.gives folder.now) (option_map (λ name. name.now) file.entry)) }
+    ensures err { IfErr result (FileEnds (F.gives folder.now) (option_map (λ name. name.now) file.entry)) }
+{
+    let name = match file {
+        Some(name) => name,
+        None => {
+            return match Project::built_in(alloc) {
+                Ok(project) => Ok(project),
+                Err(_) => Err(End::CannotStart),
+            };
+        }
+    };
+    let bytes = match folder.read(name) {
+        Ok(bytes) => bytes,
+        Err(_) => return Err(End::NoFile(name)),
+    };
+    match read_project(alloc, bytes.as_slice()) {
+        Ok(project) => Ok(project),
+        Err(fault) => Err(End::Project(fault)),
+    }
+}
+
+/// The bench with which the program begins: a fresh one, with its clock at 0, on the project of FILE, or without FILE on
+/// the built-in one.
+///
+/// # Errors
+///
+/// The first that applies: the words are no command line, or ask for help or the version; they ask for workers; FILE
+/// can't be read, for whatever cause; it is no project. Want of memory may stand in the place of each: it is `CannotStart`,
+/// `NoFile`, or the project's `Memory`.
+#[tactic(auto, using(crate::proofs::Starting::stops))]
+pub fn opening<'a, F: Folder>(
+    alloc: Global,
+    words: &'a [&'a str],
+    folder: &F,
+) -> Result<Bench, Stop<'a>>
+    ensures opens { IfOk result (λ b. Opens (F.gives folder.now) (texts words.entry.now) (project_of b)) }
+    ensures clock { IfOk result (λ b. b.table.clock ≡ 0) }
+    ensures journal { IfOk result (λ b. b.journal ≡ []) }
+    ensures stops { IfErr result (StopsFor (F.gives folder.now) (texts words.entry.now)) }
+{
+    let told = match arguments(alloc, words) {
+        Ok(told) => told,
+        Err(error) => return Err(Stop::Words(error)),
+    };
+    if told.workers != 0 {
+        return Err(Stop::At(End::Workers));
+    }
+    match project(alloc, told.file, folder) {
+        Ok(project) => match Bench::new(alloc, project, 0) {
+            Ok(bench) => Ok(bench),
+            Err(_) => Err(Stop::At(End::CannotStart)),
+        },
+        Err(end) => Err(Stop::At(end)),
+    }
+}
+
+/// The program but for its texts on standard error: it opens a bench as the words say, and answers what is read from the
+/// reader until the input ends. With help, the version or a refusal nothing is read.
+pub fn serve<'a, T: Threads + Sync, F: Folder, R: Read, W: Write>(
+    rt: &T,
+    alloc: Global,
+    words: &'a [&'a str],
+    folder: &F,
+    reader: &mut R,
+    writer: &mut W,
+) -> Stop<'a>
+    ensures { ServesFor (F.gives folder.now) (texts words.entry.now) (R.remaining reader.old) (R.remaining reader.new)
+        (W.contents writer.old) (W.contents writer.new) result }
+{
+    let mut bench = match opening(alloc, words, folder) {
+        Ok(bench) => bench,
+        Err(stop) => return stop,
+    };
+    match run(rt, alloc, reader, writer, &mut bench) {
+        Ok(()) => Stop::At(End::Ended),
+        Err(fault) => Stop::At(End::Served(fault)),
+    }
+}

@@ -1,0 +1,10 @@
+//! The program on words that it refuses, which ends it with status 2. What it reads is not answered.
+#![tactic(auto)]
+
+use command_line::program;
+use std::io;
+use std::process::ExitCode;
+
+fn main(rt: HostRuntime) -> ExitCode {
+    program(&rt, &mut rt.reader(), &mut io::writer(&rt))
+}
