@@ -17,7 +17,7 @@ use Rattle.machine_cells.specs.Texts.{state_text}
 use Rattle.run_queries.specs.declared.body.Body.{Body}
 use Rattle.run_queries.specs.declared.body.Body.TheVariants as body
 use Rattle.bench_shell.specs.declared.answer.Answer.{Answer}
-use Rattle.bench_shell.specs.declared.answer.Answer.TheVariants.{Accepted, Refused, Told, Bad, BadLine, BadCut, BadCommand}
+use Rattle.bench_shell.specs.declared.answer.Answer.TheVariants.{Accepted, Refused, Told, Ordered, Bad, BadLine, BadCut, BadCommand}
 use Rattle.run_queries.specs.Texts.{body_text}
 use Rattle.bench_shell.specs.Text.{text_of}
 
@@ -96,6 +96,7 @@ body_shows (body.Place p) = some _
 pub answer_shows : (a : Answer) → Shows (text_of a)
 answer_shows (Accepted v) = some _
 answer_shows (Refused n) = some _
+answer_shows (Ordered v tags) = some _
 answer_shows (Told v b) = after (codes "ok ") _ (after (decimal v) _ (after (codes " ") _ (body_shows b)))
 answer_shows (Bad n) = some _
 answer_shows BadLine = some _

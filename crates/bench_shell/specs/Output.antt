@@ -7,14 +7,16 @@ use Rattle.project_book.specs.declared.fault.EditFault.{EditFault}
 use Rattle.line_words.specs.Words.{words_of}
 use Rattle.commands.specs.Commands.{command_of}
 use Rattle.commands.specs.declared.command.Command.{Command}
-use Rattle.commands.specs.declared.command.Command.TheVariants.{Edit, Query}
+use Rattle.commands.specs.declared.command.Command.TheVariants.{Edit, Query, Order}
 use Rattle.run_queries.specs.Answers.{answer}
 use Rattle.run_queries.specs.declared.body.Body.{Body}
+use Rattle.omega_net.specs.declared.message.Tag.{Tag}
+use Rattle.serial_order.specs.Order.{order_of}
 use Rattle.bench_shell.specs.Lines.{Line, Whole, Cut, lines_of}
 use Rattle.bench_shell.specs.Store.{Store, version_in, edited_store}
 use Rattle.bench_shell.specs.Text.{line_text}
 use Rattle.bench_shell.specs.declared.answer.Answer.{Answer}
-use Rattle.bench_shell.specs.declared.answer.Answer.TheVariants.{Accepted, Refused, Told as Says, Bad, BadLine, BadCut, BadCommand}
+use Rattle.bench_shell.specs.declared.answer.Answer.TheVariants.{Accepted, Refused, Told as Says, Ordered, Bad, BadLine, BadCut, BadCommand}
 
 abbrev pub edit_reply : Result (Unit {0}) EditFault → ℕ → Answer
 edit_reply (Ok done) v = Accepted v
@@ -28,16 +30,23 @@ abbrev pub query_reply : ℕ → Result Body ℕ → Answer
 query_reply v (Ok body) = Says v body
 query_reply v (Err n) = Bad n
 
+-- the list of an address; an address that isn't there is bad 3
+abbrev pub order_reply : ℕ → Option (List Tag) → Answer
+order_reply v (Some tags) = Ordered v tags
+order_reply v None = Bad 3
+
 -- what a command is answered with, and the store after it
 abbrev pub reply : Store → Option Command → Answer
 reply s None = BadCommand
 reply s (Some (Edit e)) = edit_reply (accepts s.project (version_in s) e) (version_in s + 1)
 reply s (Some (Query q)) = query_reply (version_in s) (answer s.project q)
+reply s (Some (Order a)) = order_reply (version_in s) (order_of s.project a)
 
 abbrev pub after : Store → Option Command → Store
 after s None = s
 after s (Some (Edit e)) = edit_after (accepts s.project (version_in s) e) s (edited_store s e)
 after s (Some (Query q)) = s
+after s (Some (Order a)) = s
 
 -- the command that a line is
 abbrev pub command_in : Store → List ℕ → Option Command

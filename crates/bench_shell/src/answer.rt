@@ -1,5 +1,6 @@
 //! Answer lines.
 use run_queries::Body;
+use serial_order::Tags;
 use std::fmt;
 
 /// What a line is answered.
@@ -11,6 +12,8 @@ pub enum Answer {
     Refused(u8),
     /// A query, with the present version.
     Told(u32, Body),
+    /// A serial order, with the present version.
+    Ordered(u32, Tags),
     /// A refused query, with its number.
     Bad(u8),
     /// More than 4,096 bytes.
@@ -31,6 +34,7 @@ impl fmt::Display for Answer {
             Answer::Accepted(version) => write!(f, "ok {version}"),
             Answer::Refused(number) => write!(f, "refused {number}"),
             Answer::Told(version, body) => write!(f, "ok {version} {body}"),
+            Answer::Ordered(version, tags) => write!(f, "ok {version} {tags}"),
             Answer::Bad(number) => write!(f, "bad {number}"),
             Answer::BadLine => write!(f, "bad line"),
             Answer::BadCut => write!(f, "bad cut"),

@@ -3,8 +3,10 @@
 use crate::desk::Desk;
 use bench_core::{Asked, Bench, Told};
 use cell_table::SettleFault;
+use grid_law::NoMemory;
 use project_book::{Edit, EditFault};
 use run_queries::Query;
+use serial_order::Ordered;
 use std::thread::Threads;
 
 /// The author of the edits of a run on a bench.
@@ -46,5 +48,10 @@ impl Desk for Bench {
             Asked::Pending(_) => unreachable!(),
             Asked::Memory => Told::Memory,
         }
+    }
+    /// Settles the bench as far as it can, and reads the order from the cells held; where some stay due, from a simulation.
+    fn order(&mut self, address: u32) -> Result<(u32, Ordered), NoMemory> {
+        let _ = self.settle();
+        Ok((self.version(), Bench::order(self, address)))
     }
 }

@@ -14,11 +14,16 @@ use crate::fault::RunFault;
 use crate::held::Held;
 use bench_core::Told;
 use commands::Command;
+use grid_law::NoMemory;
 use omega_net::Shape;
 use project_book::EditFault;
+use serial_order::Ordered;
 use std::alloc::Global;
 use std::io::{Read, Write};
 use std::thread::Threads;
+
+/// The number that an address which isn't there is answered.
+const NO_ADDRESS: u8 = 3;
 
 /// Writes all of the bytes.
 fn write_bytes<W: Sink>(writer: &mut W, bytes: &[u8]) -> Result<(), RunFault>
@@ -116,6 +121,17 @@ fn obey<T: Threads + Sync, D: Desk>(
             Told::BadQuery(number) => Ok(Answer::Bad(number)),
             Told::ClockSpent => Err(RunFault::Clock),
             Told::Memory => Err(RunFault::Memory),
+        },
+        Some(Command::Order(address)) => match desk.order(address) {
+            Ok((at, Ordered::Order(tags))) => {
+                if at != *version {
+                    return Err(RunFault::OtherEditor);
+                }
+                Ok(Answer::Ordered(at, tags))
+            }
+            Ok((_, Ordered::NoOrder)) => unreachable!(),
+            Ok((_, Ordered::BadAddress)) => Ok(Answer::Bad(NO_ADDRESS)),
+            Ok((_, Ordered::Memory)) | Err(NoMemory) => Err(RunFault::Memory),
         },
     }
 }

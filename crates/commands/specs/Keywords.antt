@@ -1,7 +1,7 @@
 -- The first words of commands.
 use Rattle.std.specs.Prelude.{ℕ, Bool, true, false, List, [], ◌∷◌, Option, find, bytes_eq, codes}
 use Rattle.commands.specs.declared.keyword.Keyword.{Keyword}
-use Rattle.commands.specs.declared.keyword.Keyword.TheVariants.{Entry, Cut, Word, Page, Depth, Wait, Combine, Window, Horizon, Reply, State, Memory, Counter, Profile, Tree, Level, Bound, Place}
+use Rattle.commands.specs.declared.keyword.Keyword.TheVariants.{Entry, Cut, Word, Page, Depth, Wait, Combine, Window, Horizon, Reply, State, Memory, Counter, Profile, Tree, Level, Bound, Place, Order}
 
 abbrev pub keyword_name : Keyword → List ℕ
 keyword_name Entry = codes "entry"
@@ -22,9 +22,10 @@ keyword_name Tree = codes "tree"
 keyword_name Level = codes "level"
 keyword_name Bound = codes "bound"
 keyword_name Place = codes "place"
+keyword_name Order = codes "order"
 
 abbrev pub keywords : List Keyword
-keywords = Entry ∷ Cut ∷ Word ∷ Page ∷ Depth ∷ Wait ∷ Combine ∷ Window ∷ Horizon ∷ Reply ∷ State ∷ Memory ∷ Counter ∷ Profile ∷ Tree ∷ Level ∷ Bound ∷ Place ∷ []
+keywords = Entry ∷ Cut ∷ Word ∷ Page ∷ Depth ∷ Wait ∷ Combine ∷ Window ∷ Horizon ∷ Reply ∷ State ∷ Memory ∷ Counter ∷ Profile ∷ Tree ∷ Level ∷ Bound ∷ Place ∷ Order ∷ []
 
 -- the keyword that a word is, if it is one
 abbrev pub keyword_of : List ℕ → Option Keyword
@@ -42,3 +43,8 @@ is_query Level = true
 is_query Bound = true
 is_query Place = true
 is_query _ = false
+
+-- whether its command asks for a serial order
+abbrev pub is_order : Keyword → Bool
+is_order Order = true
+is_order _ = false

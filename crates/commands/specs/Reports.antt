@@ -1,6 +1,5 @@
 -- The words of counters and reports.
-use Rattle.std.specs.Prelude.{ℕ, if◌then◌else◌, List, [], ◌∷◌, Option, None, Some, option_map, bytes_eq, codes}
-use Rattle.line_words.specs.Numbers.{number_of}
+use Rattle.std.specs.Prelude.{ℕ, if◌then◌else◌, List, ◌∷◌, Option, None, Some, option_map, bytes_eq, codes}
 use Rattle.omega_net.specs.declared.component.Net.{Net}
 use Rattle.omega_net.specs.declared.component.Net.TheVariants.{Low as LowNet, Comb as CombNet}
 use Rattle.monitor_sums.specs.Names.{counter_named}

@@ -1,6 +1,6 @@
 //! The first words of commands.
 ghost use Rattle.std.specs.Prelude.{◌≡◌};
-ghost use Rattle.commands.specs.Keywords.{keyword_name, keyword_of, is_query};
+ghost use Rattle.commands.specs.Keywords.{keyword_name, keyword_of, is_query, is_order};
 
 /// The first word of a command.
 #[derive(Clone, Copy, PartialEq, Eq, Debug)]
@@ -23,11 +23,12 @@ pub enum Keyword {
     Level,
     Bound,
     Place,
+    Order,
 }
 
 impl Keyword {
     /// All of them, in the order of the command table.
-    pub const ALL: [Keyword; 18] = [
+    pub const ALL: [Keyword; 19] = [
         Keyword::Entry,
         Keyword::Cut,
         Keyword::Word,
@@ -46,6 +47,7 @@ impl Keyword {
         Keyword::Level,
         Keyword::Bound,
         Keyword::Place,
+        Keyword::Order,
     ];
 
     /// The word as it is written.
@@ -71,6 +73,7 @@ impl Keyword {
             Keyword::Level => b"level",
             Keyword::Bound => b"bound",
             Keyword::Place => b"place",
+            Keyword::Order => b"order",
         }
     }
 
@@ -90,6 +93,13 @@ impl Keyword {
                 | Keyword::Bound
                 | Keyword::Place
         )
+    }
+
+    /// Whether its command asks for a serial order.
+    pub fn is_order(self) -> bool
+        ensures { result ≡ is_order self }
+    {
+        matches!(self, Keyword::Order)
     }
 
     /// The keyword that a word is, if it is one.

@@ -88,6 +88,7 @@ fn queries(rt: HostRuntime) {
     assert!(rt; parse(1, b"reply 0 2".as_slice()) == Some(Command::Query(reply)));
     let place = Query::Place { address: 300 };
     assert!(rt; parse(1, b"place 300".as_slice()) == Some(Command::Query(place)));
+    assert!(rt; parse(1, b"order 16384".as_slice()) == Some(Command::Order(16384)));
 }
 
 #[test]
@@ -162,6 +163,8 @@ fn no_commands(rt: HostRuntime) -> Result<(), Fail> {
         b"tree low m0".as_slice(),
         b"level low 0".as_slice(),
         b"bound 1 10".as_slice(),
+        b"order".as_slice(),
+        b"order 0 0".as_slice(),
     ] {
         assert!(rt; parse(1, line).is_none());
     }

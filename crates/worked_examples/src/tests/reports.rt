@@ -84,10 +84,14 @@ const COMBINING: Session = &[
     ("memory 0 8", "ok 3 13"),
     ("counter served all 0 8", "ok 3 1"),
     ("place 300", "ok 3 1:300"),
+    ("order 0", "ok 3 order 0.0 1.0"),
+    ("order 300", "ok 3 order"),
+    ("order 16384", "bad 3"),
 ];
 
+/// 16.3 goes on where 18 ends, with serial orders.
 #[test]
-fn example_18(rt: HostRuntime) -> Result<(), Fail> {
+fn examples_16_3_and_18(rt: HostRuntime) -> Result<(), Fail> {
     let project = edited(base(rt.alloc())?, &[Edit::Horizon(8)])?;
     assert_eq!(rt; misanswered(&rt, project, COMBINING)?, None);
     Ok(())

@@ -1,5 +1,3 @@
-use Rattle.std.proofs.lemmas.Result.{on_ok_weaker, on_err_weaker}
-use Rattle.bench_shell.specs.Text.{line_text}
 use Rattle.bench_shell.proofs.Writes.{Part-whole, Appends-kept, kept_ok, kept_err}
 use Rattle.bench_shell.proofs.session.tell.Goals as goal
 
