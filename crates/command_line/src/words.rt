@@ -21,7 +21,7 @@ const HELP: &str = "\
 One command a line is read from standard input, and one line is written for each to standard output.
 
 Edits:    entry, cut, word, page, depth, wait, combine, window, horizon
-Queries:  reply, state, memory, counter, profile, tree, level, bound, place
+Queries:  reply, state, memory, counter, profile, tree, level, bound, place, order
 
 docs/COMMANDS.md describes each command and its answers, docs/PROJECT_FILE.md the project file.
 
