@@ -1,7 +1,13 @@
 //! Plays the examples and the sessions of the pages that lie beside it, and tells whether the answers are the expected ones.
 #![tactic(auto)]
 
+ghost use Rattle.std.specs.Prelude.{◌≡◌, IfSome};
+ghost use Rattle.bench_shell.specs.Output.{output};
+ghost use Rattle.command_line.specs.Opening.{first_store};
+ghost use Rattle.example_runs.specs.Verdicts.{Judges};
+
 mod page;
+mod verdict;
 
 use bench_core::Bench;
 use bench_shell::run;
@@ -11,8 +17,10 @@ use project_book::Project;
 use project_file::read_project;
 use std::alloc::{AllocGlobal, Global};
 use std::io;
+use std::process::ExitCode;
 use std::rt::Files;
 use std::thread::Threads;
+use verdict::{Verdict, status_after};
 
 /// An example NAME is a project file NAME.toml, commands NAME.in, and the answers NAME.out.
 const EXAMPLES: [&str; 3] = ["hot_word", "one_module", "saturation"];
@@ -20,26 +28,30 @@ const EXAMPLES: [&str; 3] = ["hot_word", "one_module", "saturation"];
 /// The pages whose sessions are played.
 const PAGES: [&str; 2] = ["README.md", "docs/LESSON.md"];
 
-fn main(rt: HostRuntime) -> io::Result<()> {
+fn main(rt: HostRuntime) -> io::Result<ExitCode> {
+    let mut status = 0;
     for name in EXAMPLES {
-        let says = match example(&rt, name) {
+        let verdict = match example(&rt, name) {
             Some(session) => says(&rt, &session),
-            None => "can't be read",
+            None => Verdict::NotRead,
         };
-        println!(rt; "{name}: {says}")?;
+        println!(rt; "{name}: {verdict}")?;
+        status = status_after(status, verdict);
     }
     for name in PAGES {
         let page = read_file(&rt, name)?;
         let Some(found) = sessions(rt.alloc(), page.as_slice()) else {
-            println!(rt; "{name}: can't be read")?;
+            println!(rt; "{name}: {}", Verdict::NotRead)?;
+            status = status_after(status, Verdict::NotRead);
             continue;
         };
         for session in &found {
-            let says = says(&rt, session);
-            println!(rt; "{name}, {session}: {says}")?;
+            let verdict = says(&rt, session);
+            println!(rt; "{name}, {session}: {verdict}")?;
+            status = status_after(status, verdict);
         }
     }
-    Ok(())
+    Ok(ExitCode::from(status))
 }
 
 /// An example as a session.
@@ -56,15 +68,39 @@ fn file<R: Files + AllocGlobal>(rt: &R, name: &str, kind: &str) -> Option<Vec<u8
     read_file(rt, path.as_str()).ok()
 }
 
-/// Whether the bench answers what is expected.
-fn says<R: Files + AllocGlobal + Threads + Sync>(rt: &R, session: &Session) -> &'static str {
-    let Some(project) = opened(rt, session.file.as_str()) else {
-        return "its project can't be read";
-    };
-    match answers(rt, rt.alloc(), project, session.typed.as_slice()) {
-        Some(given) if given == session.answered => "as expected",
-        Some(_) => "differs",
-        None => "can't be run",
+/// What is said of a session, whose project is read first.
+fn says<R: Files + AllocGlobal + Threads + Sync>(rt: &R, session: &Session) -> Verdict {
+    match opened(rt, session.file.as_str()) {
+        Some(project) => judged(
+            rt,
+            rt.alloc(),
+            project,
+            session.typed.as_slice(),
+            session.answered.as_slice(),
+        ),
+        None => Verdict::NotRead,
+    }
+}
+
+/// Whether a bench on the project answers what is expected.
+fn judged<T: Threads + Sync>(
+    rt: &T,
+    alloc: Global,
+    project: Project,
+    commands: &[u8],
+    expected: &[u8],
+) -> Verdict
+    ensures { Judges project commands.now expected.now result }
+{
+    match answers(rt, alloc, project, commands) {
+        Some(given) => {
+            if given.as_slice() == expected {
+                Verdict::AsExpected
+            } else {
+                Verdict::Differs
+            }
+        }
+        None => Verdict::NotRun,
     }
 }
 
@@ -83,10 +119,17 @@ fn answers<T: Threads + Sync>(
     alloc: Global,
     project: Project,
     commands: &[u8],
-) -> Option<Vec<u8>> {
-    let mut bench = Bench::new(alloc, project, 0).ok()?;
+) -> Option<Vec<u8>>
+    ensures { IfSome result (λ given. given.items ≡ output (first_store project) commands.now) }
+{
+    let mut bench = match Bench::new(alloc, project, 0) {
+        Ok(bench) => bench,
+        Err(_) => return None,
+    };
     let mut reader = commands;
     let mut given = Vec::new(alloc);
-    run(rt, alloc, &mut reader, &mut given, &mut bench).ok()?;
-    Some(given)
+    match run(rt, alloc, &mut reader, &mut given, &mut bench) {
+        Ok(()) => Some(given),
+        Err(_) => None,
+    }
 }
