@@ -2,8 +2,8 @@
 #![tactic(auto)]
 
 use command_line::program;
-use std::io::{Error, ErrorKind, Read, Result};
 use std::io;
+use std::io::{Error, ErrorKind, Read, Result};
 use std::process::ExitCode;
 
 /// Gives one line, and then fails.
