@@ -6,6 +6,7 @@ use bench_core::{Asked, Bench};
 use omega_net::ScriptEntry;
 use project_book::Edit;
 use run_queries::{Body, Query, Received};
+use serial_order::Ordered;
 use std::fmt;
 use std::thread::Threads;
 use std::time::Instant;
@@ -70,6 +71,7 @@ pub fn measure<T: Threads + Sync>(
     let entry = edited(&mut bench, edit)?;
     replied(threads, &mut bench, last)?;
     row(rt, "bench, a late entry and a reply", since, 1)?;
+    ordered(rt, &bench)?;
     Ok(Told {
         k,
         horizon,
@@ -78,6 +80,20 @@ pub fn measure<T: Threads + Sync>(
         entry,
         reply,
     })
+}
+
+/// Asks for the order of the hot word.
+fn ordered(rt: &HostRuntime, bench: &Bench) -> Result<()> {
+    let since = Instant::now(rt)?;
+    let Ordered::Order(tags) = bench.order(0) else {
+        return Err(Error::msg("no order"));
+    };
+    row(rt, "bench, an order of a settled bench", since, 1)?;
+    eprintln!(rt;
+        "bench, references in that order: {}",
+        tags.as_slice().len()
+    )?;
+    Ok(())
 }
 
 /// Edits one word so many times at 2 processors and horizon 10, each time with a question of that word at the horizon:

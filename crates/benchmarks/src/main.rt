@@ -3,8 +3,9 @@
 //! `benchmarks` measures every group of rows, small enough for a test; `benchmarks from-scratch K H`
 //! the plain simulation of 2^K processors up to horizon H; `benchmarks parts N` N steps of each
 //! component by itself; `benchmarks bench K H` a bench that is settled and edited; `benchmarks words N`
-//! N edits of one word, each with a question after it. Standard output gets one line of what was computed, which hangs on nothing
-//! but the words given; standard error gets the figures, a row each.
+//! N edits of one word, each with a question after it; `benchmarks turns N` N questions in turns of a shared bench, and a
+//! thread that waits for its turn. Standard output gets one line of what was computed, which hangs on nothing but the words
+//! given; standard error gets the figures, a row each.
 //!
 //! A further group of rows is a module with a call that takes the runtime and the group's numbers,
 //! writes its rows, and returns its part of the line; [`Asked`] gets its word.
@@ -17,11 +18,13 @@ mod parts;
 mod scratch;
 #[cfg(test)]
 mod tests;
+mod turns;
 
 use anyhow::Result;
 use line_words::number;
 use std::env;
 use std::process::ExitCode;
+use std::sync::Wait;
 use std::thread::Threads;
 
 /// The words are none of those above.
@@ -37,6 +40,7 @@ enum Asked {
     Parts { steps: u32 },
     Edits { k: u32, horizon: u32 },
     Words { edits: u32 },
+    Turns { turns: u32 },
 }
 
 fn main(rt: HostRuntime) -> ExitCode {
@@ -44,7 +48,7 @@ fn main(rt: HostRuntime) -> ExitCode {
         Ok(Some(asked)) => asked,
         Ok(None) => {
             let _ = eprintln!(rt;
-                "usage: benchmarks [from-scratch K H | parts N | bench K H | words N], K from 0 to 5, H to 1000, N of words to 65535"
+                "usage: benchmarks [from-scratch K H | parts N | bench K H | words N | turns N], K from 0 to 5, H to 1000, N of words to 65535"
             );
             return ExitCode::from(WRONG_WORDS);
         }
@@ -79,6 +83,9 @@ fn words(rt: &HostRuntime) -> Result<Option<Asked>> {
         "words" if second.is_none() => first
             .and_then(number_in)
             .map(|edits| Asked::Words { edits }),
+        "turns" if second.is_none() => first
+            .and_then(number_in)
+            .map(|turns| Asked::Turns { turns }),
         "parts" if second.is_none() => first
             .and_then(number_in)
             .map(|steps| Asked::Parts { steps }),
@@ -102,14 +109,18 @@ fn number_in(word: String) -> Option<u32> {
     number(word.as_bytes())
 }
 
-fn measure<T: Threads + Sync>(rt: &HostRuntime, threads: &T, asked: Asked) -> Result<()> {
+fn measure<T: Threads + Wait + Sync>(rt: &HostRuntime, threads: &T, asked: Asked) -> Result<()> {
     match asked {
         Asked::Everything => {
             let run = scratch::measure(rt, 0, 8)?;
             let sums = parts::measure(rt, 1000)?;
             let told = edits::measure(rt, threads, 0, 8)?;
             let word = edits::words(rt, threads, 10)?;
-            println!(rt; "{run}; {sums}; {told}; word {word} after 10 edits")?;
+            let looks = turns::measure(rt, threads, 10)?;
+            let both = turns::waiting(rt, threads, 0, 8)?;
+            println!(rt;
+                "{run}; {sums}; {told}; word {word} after 10 edits; {looks} looks answered, {both}"
+            )?;
         }
         Asked::FromScratch { k, horizon } => {
             let run = scratch::measure(rt, k, horizon)?;
@@ -126,6 +137,11 @@ fn measure<T: Threads + Sync>(rt: &HostRuntime, threads: &T, asked: Asked) -> Re
         Asked::Words { edits } => {
             let word = edits::words(rt, threads, edits)?;
             println!(rt; "word {word} after {edits} edits")?;
+        }
+        Asked::Turns { turns } => {
+            let looks = turns::measure(rt, threads, turns)?;
+            let both = turns::waiting(rt, threads, 5, 1000)?;
+            println!(rt; "{looks} looks answered, {both}")?;
         }
     }
     Ok(())
