@@ -1,18 +1,13 @@
 -- What a bench does is what a desk is to do.
-use Rattle.std.proofs.Common.{◌≡◌, ℕ, zero, suc, ◌+◌, ◌^◌, ◌-◌, Bool, true, false, [], ◌∷◌, ◌++◌, refl, ap}
+use Rattle.std.proofs.Common.{◌≡◌, ℕ, ◌+◌, ◌^◌, ◌-◌, Bool, true, false, [], ◌∷◌, ◌++◌, refl, ap}
 use Rattle.std.specs.Prelude.{◌==◌, Option, Some, None, Result, Ok, Err, IfOk, OnOk, OnErr, IsOkUnless}
 use Rattle.project_book.specs.Edits.{accepts, edited}
 use Rattle.project_book.specs.declared.edit.Edit.{Edit}
 use Rattle.project_book.specs.declared.fault.EditFault.{EditFault}
 use Rattle.project_book.specs.declared.fault.EditFault.TheVariants.{JournalFull, BadProcessor, BadEntry, ScriptFull, BadAddress, BadPage, BadInterleave, BadStage, BadDepth, BadWindow, BadTimes, BadHorizon, ClockSpent, Memory}
-use Rattle.run_queries.specs.declared.query.Query.{Query}
-use Rattle.run_queries.specs.declared.body.Body.{Body}
-use Rattle.run_queries.specs.Bad.{bad_query}
-use Rattle.run_queries.specs.Answers.{answer, unless}
-use Rattle.bench_core.specs.declared.asked.Asked.TheVariants as asked
 use Rattle.bench_core.specs.Shown.{Shown, project_of, version_of}
 use Rattle.bench_core.specs.Edits.{admits}
-use Rattle.bench_core.specs.Asks.{asked as asked_of, asked_unless, told_unless, told, pending}
+pub use Rattle.bench_core.proofs.Answered.{bad_told, never_pending}
 use Rattle.bench_shell.specs.Store.{Store, version_in, store_of, edited_store, Refuses, EditGives}
 
 refuses : (s : Store) (e : Edit) (f : EditFault) → accepts s.project (version_in s) e ≡ Err f → Refuses s e f
@@ -81,35 +76,3 @@ pub edit_gives : (b b' : Shown) (e : Edit) (r : Result ℕ EditFault)
 edit_gives b b' e r refused accepted version journal project err =
     edit_by b b' e r (accepts (project_of b) (version_of b) e) (b.table.clock == 2 ^ 64 - 1) refl refl refused accepted version
     (noted b b' e r journal project) (kept b b' r err)
-
--- what is asked, by its parts
-answer_of : (bad : Option ℕ) (n : ℕ) (version v : ℕ) (found says : Result Body ℕ) (body : Body) → says ≡ unless bad found
-    → asked.Answer v body ≡ asked_unless bad (told_unless n (told version says)) → (says ≡ Ok body) × (v ≡ version)
-answer_of (Some k) n version v found says body is h = cc
-answer_of None (suc n) version v found says body is h = cc
-answer_of None zero version v found (Err k) body is h = cc
-answer_of None zero version v found (Ok b) body is h = (cc, cc)
-
-bad_of : (bad : Option ℕ) (n : ℕ) (version k : ℕ) (found says : Result Body ℕ) → says ≡ unless bad found
-    → asked.BadQuery k ≡ asked_unless bad (told_unless n (told version says)) → says ≡ Err k
-bad_of (Some j) n version k found says is h = cc
-bad_of None (suc n) version k found says is h = cc
-bad_of None zero version k found (Err j) is h = cc
-bad_of None zero version k found (Ok b) is h = cc
-
-pub answer_told : (b : Shown) (q : Query) (v : ℕ) (body : Body) → asked.Answer v body ≡ asked_of b q → (answer (project_of b) q ≡ Ok body) × (v ≡ version_of b)
-answer_told b q v body h = answer_of (bad_query (project_of b) q) (pending b q) (version_of b) v _ (answer (project_of b) q) body refl h
-
-pub bad_told : (b : Shown) (q : Query) (k : ℕ) → asked.BadQuery k ≡ asked_of b q → answer (project_of b) q ≡ Err k
-bad_told b q k h = bad_of (bad_query (project_of b) q) (pending b q) (version_of b) k _ (answer (project_of b) q) refl h
-
-waits_of : (bad : Option ℕ) (n due : ℕ) (version : ℕ) (says : Result Body ℕ) → n ≡ 0
-    → asked.Pending due ≡ asked_unless bad (told_unless n (told version says)) → ⊥
-waits_of (Some j) n due version says none h = absurd cc
-waits_of None (suc n) due version says none h = absurd cc
-waits_of None zero due version (Err k) none h = absurd cc
-waits_of None zero due version (Ok b) none h = absurd cc
-
--- a query that waits for none isn't answered Pending
-pub never_pending : (b : Shown) (q : Query) (due : ℕ) → pending b q ≡ 0 → asked.Pending due ≡ asked_of b q → ⊥
-never_pending b q due none h = waits_of (bad_query (project_of b) q) (pending b q) due (version_of b) (answer (project_of b) q) none h

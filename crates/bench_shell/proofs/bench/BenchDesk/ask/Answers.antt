@@ -1,6 +1,6 @@
 use Rattle.std.proofs.Common.{rules, ◌∙◌, ap, sym, length}
 use Rattle.run_queries.specs.Answers.{answer}
-use Rattle.bench_shell.proofs.Benches.{answer_told}
+use Rattle.bench_core.proofs.Answered.{answer_told}
 use Rattle.bench_shell.proofs.bench.BenchDesk.ask.Goals as goal
 
 pub returns-in-Answer-clause-told : goal.returns-in-Answer-clause-told
