@@ -85,7 +85,8 @@ impl Bench {
     /// the cells that are computed to settle the bench again are those past the earlier horizon, those that read in the
     /// run a slot that got another value, and those with a near cell one cycle earlier that differs between the two runs.
     ///
-    /// Costs what `Project::apply` does, and asks each cell that stays once for each slot that got another value.
+    /// Costs what `Project::apply` does, and asks the cells that stay of each component that may read a slot that got
+    /// another value.
     ///
     /// # Errors
     ///
