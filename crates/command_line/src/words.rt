@@ -28,7 +28,7 @@ docs/COMMANDS.md describes each command and its answers, docs/PROJECT_FILE.md th
 A project file that is refused ends the program with status 4 and `hotspot: project refused: N`:
    1  longer than 4,194,304 bytes          6  a value of another type
    2  not UTF-8, or not TOML               7  a number out of its range
-   3  `format` is missing, or not 1        8  a text that is no script entry
+   3  `format` is missing, or not 1 or 2   8  a text that is no script entry
    4  an unknown key                       9  a page, address or processor given twice
    5  a missing key                       10  no memory";
 
