@@ -3,3 +3,4 @@ pub mod Accepting
 pub mod Leaving
 pub mod Touching
 pub mod Texts
+mod Same

@@ -1,5 +1,5 @@
 //! A project: a machine's settings, its scripts and its first words.
-ghost use Rattle.std.specs.Prelude.{◌≡◌, ◌<◌, ◌≤◌, ◌^◌, ◌&&◌, nat_le, nat_lt, true, false, IfOk, IfSome, if◌then◌else◌, Some, None};
+ghost use Rattle.std.specs.Prelude.{◌≡◌, ◌<◌, ◌≤◌, ◌^◌, ◌&&◌, ◌↔◌, IsTrue, nat_le, nat_lt, true, false, IfOk, IfSome, if◌then◌else◌, Some, None};
 ghost use Rattle.page_map.specs.Limits.{address_count, max_k};
 ghost use Rattle.project_book.specs.Queues.{is_depth, is_wait};
 ghost use Rattle.project_book.specs.Scripts.{IsEntry};
@@ -108,6 +108,21 @@ impl Project {
             scripts,
             alloc: self.alloc,
         })
+    }
+
+    /// Whether two projects are the same.
+    pub fn same(&self, other: &Project) -> bool
+        ensures { IsTrue result ↔ (self.now ≡ other.now) }
+    {
+        self.k == other.k
+            && self.horizon == other.horizon
+            && self.window == other.window
+            && same_depths(&self.depths, &other.depths)
+            && self.wait == other.wait
+            && same_flags(&self.combine, &other.combine)
+            && same_pages(&self.pages, &other.pages)
+            && self.words.same(&other.words)
+            && self.scripts.same(&other.scripts)
     }
 
     /// There are 2^k processors and as many modules; k is at most 6.
@@ -238,4 +253,22 @@ impl Project {
             None
         }
     }
+}
+
+fn same_depths(depths: &QueueDepths, others: &QueueDepths) -> bool
+    ensures { IsTrue result ↔ (depths.now ≡ others.now) }
+{
+    depths == others
+}
+
+fn same_flags(flags: &[bool; STAGES], others: &[bool; STAGES]) -> bool
+    ensures { IsTrue result ↔ (flags.now ≡ others.now) }
+{
+    flags == others
+}
+
+fn same_pages(pages: &PageMap, others: &PageMap) -> bool
+    ensures { IsTrue result ↔ (pages.now ≡ others.now) }
+{
+    pages == others
 }

@@ -1,5 +1,5 @@
 //! The processors' scripts.
-ghost use Rattle.std.specs.Prelude.{◌≡◌, ◌≢◌, ◌<◌, ◌≤◌, IfOk, OnOk, OnErr, IfSome, [], map, length, take, slice_get, slice_set, replicate};
+ghost use Rattle.std.specs.Prelude.{◌≡◌, ◌≢◌, ◌<◌, ◌≤◌, ◌↔◌, IsTrue, IfOk, OnOk, OnErr, IfSome, [], map, length, take, slice_get, slice_set, replicate};
 ghost use Rattle.std.specs.Arc.{arc_value};
 ghost use Rattle.project_book.specs.Scripts.{put_entry, script_of, IsEntry, IsScript};
 ghost use Rattle.project_book.specs.Limits.{script_entries};
@@ -54,6 +54,13 @@ impl Script {
         Script {
             entries: Vec::new(alloc),
         }
+    }
+
+    /// Whether two scripts are the same.
+    pub fn same(&self, other: &Script) -> bool
+        ensures { IsTrue result ↔ (self.now ≡ other.now) }
+    {
+        same_entries(&self.entries, &other.entries)
     }
 
     /// How many entries there are.
@@ -117,6 +124,13 @@ impl Scripts {
         Ok(Scripts { scripts })
     }
 
+    /// Whether all scripts are the same.
+    pub fn same(&self, other: &Scripts) -> bool
+        ensures { IsTrue result ↔ (self.now ≡ other.now) }
+    {
+        same_scripts(&self.scripts, &other.scripts)
+    }
+
     /// A processor's script.
     pub fn script(&self, proc: u32) -> &Script
         requires { proc < length self.now }
@@ -152,6 +166,34 @@ impl Scripts {
         self.scripts[proc as usize] = owner;
         Ok(())
     }
+}
+
+fn same_entries(entries: &[ScriptEntry], others: &[ScriptEntry]) -> bool
+    ensures { IsTrue result ↔ (entries.now ≡ others.now) }
+{
+    entries == others
+}
+
+fn same_scripts(scripts: &[Arc<Script>], others: &[Arc<Script>]) -> bool
+    ensures { IsTrue result ↔ (map arc_value scripts.now ≡ map arc_value others.now) }
+{
+    if scripts.len() != others.len() {
+        return false;
+    }
+    for proc in 0..scripts.len() {
+        if !same_script(scripts, others, proc) {
+            return false;
+        }
+    }
+    true
+}
+
+fn same_script(scripts: &[Arc<Script>], others: &[Arc<Script>], proc: usize) -> bool
+    requires here { proc < length scripts.now }
+    requires there { proc < length others.now }
+    ensures { IsTrue result ↔ (script_of (map arc_value scripts.now) proc ≡ script_of (map arc_value others.now) proc) }
+{
+    scripts[proc].same(&others[proc])
 }
 
 fn share_each(alloc: Global, scripts: &[Arc<Script>]) -> Result<Vec<Arc<Script>>, NoMemory>

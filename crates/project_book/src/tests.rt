@@ -282,8 +282,6 @@ fn entry_texts(rt: HostRuntime) -> Result<(), Fail> {
             "plain max 16384 4294967295 0",
             reference(false, Kind::Max, 16_384, u32::MAX, 0),
         ),
-        ("until sync load 7 0 12", until(7, 1_000)),
-        ("until sync load 7 0 12 2", until(7, 2)),
         ("fence", ScriptEntry::Fence),
         ("idle 4294967295", ScriptEntry::Idle(u32::MAX)),
     ] {
@@ -304,16 +302,35 @@ fn entry_texts(rt: HostRuntime) -> Result<(), Fail> {
         "sync sub 0 1",
         "Sync add 0 1",
         "sync add 0 -1",
-        "until load 0 0 12",
-        "until sync load 0 0",
-        "until sync load 0 0 12 2 1",
-        "until fence 0 0 12",
-        "sync until load 0 0 12",
         "fence 1",
         "idle",
         "idle 1 2",
         "idle 4294967296",
         "idle 00000000004",
+    ] {
+        assert_eq!(rt; read_entry(text.as_bytes()), None, "{text}");
+    }
+    Ok(())
+}
+
+/// Entries that wait for a word, and texts that are none.
+#[test]
+fn until_texts(rt: HostRuntime) -> Result<(), Fail> {
+    for (text, entry) in [
+        ("until sync load 7 0 12", until(7, 1_000)),
+        ("until sync load 7 0 12 2", until(7, 2)),
+    ] {
+        assert_eq!(rt;
+            format!(in rt.alloc(); "{}", EntryText(entry))?.as_str(),
+            text
+        );
+        assert_eq!(rt; read_entry(text.as_bytes()), Some(entry), "{text}");
+    }
+    for text in [
+        "until load 0 0 12",
+        "until sync load 0 0",
+        "until sync load 0 0 12 2 1",
+        "until fence 0 0 12",
     ] {
         assert_eq!(rt; read_entry(text.as_bytes()), None, "{text}");
     }

@@ -1,5 +1,5 @@
 //! The words that stand in memory at cycle 0.
-ghost use Rattle.std.specs.Prelude.{◌≡◌, ◌<◌, ◌==◌, find, IfOk, [], ◌++◌};
+ghost use Rattle.std.specs.Prelude.{◌≡◌, ◌<◌, ◌==◌, ◌↔◌, IsTrue, find, IfOk, [], ◌++◌};
 ghost use Rattle.project_book.specs.FirstWords.{word_at, with_word, listed, words_below, words_above, IsListing};
 ghost use Rattle.page_map.specs.Limits.{address_count};
 
@@ -58,6 +58,13 @@ impl FirstWords {
         ensures listing { IsListing self.now }
     {
         &self.words
+    }
+
+    /// Whether two lists are the same.
+    pub fn same(&self, other: &FirstWords) -> bool
+        ensures { IsTrue result ↔ (self.now ≡ other.now) }
+    {
+        same_words(&self.words, &other.words)
     }
 
     /// The word of an address, 0 where none is listed. Looks through the list.
@@ -130,4 +137,10 @@ fn push_listed(to: &mut Vec<FirstWord>, address: u32, word: u32) -> Result<(), N
         to.push(FirstWord { address, word })?;
     }
     Ok(())
+}
+
+fn same_words(words: &[FirstWord], others: &[FirstWord]) -> bool
+    ensures { IsTrue result ↔ (words.now ≡ others.now) }
+{
+    words == others
 }

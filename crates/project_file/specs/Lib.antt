@@ -1,5 +1,6 @@
 pub mod Limits
 pub mod Faults
+pub mod WriteFaults
 pub mod Fields
 pub mod Formats
 pub mod Depths

@@ -21,6 +21,10 @@ mod stages;
 #[cfg(test)]
 mod tests;
 mod words;
+mod write_fault;
+mod writing;
 
 pub use fault::ProjectFault;
 pub use reading::{MAX_BYTES, read_project};
+pub use write_fault::WriteFault;
+pub use writing::write_project;

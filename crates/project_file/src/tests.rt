@@ -41,6 +41,24 @@ processor = 1
 entries = [\"sync add 0 1 2\", \"fence\", \"idle 4\"]
 ";
 
+/// Two processors and the horizon 10; page 0 in module 0, page 1 in module 1; word 0 is 10.
+const BASE: &str = "format = 1
+k = 1
+horizon = 10
+page = [{number = 0, amount = 0, base = 0}, {number = 1, amount = 0, base = 1}]
+word = [{address = 0, value = 10}]
+";
+
+/// The largest machine, whose last processor has every entry that there is.
+const LARGEST: &str = "format = 2
+k = 6
+horizon = 2000
+combine = [true, false, false, false, false, true]
+[[script]]
+processor = 63
+entries = [\"until sync store-if-zero 0 1 0\", \"until plain load 16383 0 12 7\", \"fence\", \"idle 1000\", \"plain store 0 0\"]
+";
+
 /// The number of a file's fault, 0 where there is none; a refused growth is tried again.
 fn number_of(alloc: Global, text: &[u8]) -> u8 {
     for _ in 0..2 {
@@ -229,6 +247,32 @@ fn whole(rt: HostRuntime) -> Result<(), Fail> {
     Ok(())
 }
 
+/// What is written of a project is read as it; a refused growth says so and the project is written again.
+fn comes_back(alloc: Global, project: &Project) -> Result<bool, Fail> {
+    for _ in 0..2 {
+        match write_project(alloc, project) {
+            Ok(bytes) => return Ok(read_project(alloc, &bytes)?.same(project)),
+            Err(WriteFault::Memory) => {}
+            Err(_) => return Ok(false),
+        }
+    }
+    Err(Fail::from("no memory twice"))
+}
+
+/// 15.3: projects are written and read: the base project, one that says something at every key, the largest one.
+#[test]
+fn written_and_read(rt: HostRuntime) -> Result<(), Fail> {
+    let alloc = rt.alloc();
+    for text in [BASE, FULL, LARGEST] {
+        let project = match read_project(alloc, text.as_bytes()) {
+            Ok(project) => project,
+            Err(_) => read_project(alloc, text.as_bytes())?,
+        };
+        assert!(rt; comes_back(alloc, &project)?);
+    }
+    Ok(())
+}
+
 /// A file that is cut is a project only where its first three keys are there.
 #[test]
 fn prefixes(rt: HostRuntime) -> Result<(), Fail> {
@@ -276,5 +320,11 @@ fn texts(rt: HostRuntime) -> Result<(), Fail> {
     ] {
         assert_eq!(rt; format!(in alloc; "{fault}")?.as_str(), text);
     }
+    let unread = WriteFault::Unread;
+    assert_eq!(rt; unread.number(), 3);
+    assert_eq!(rt;
+        format!(in alloc; "{unread}")?.as_str(),
+        "the file is not read as the project"
+    );
     Ok(())
 }
