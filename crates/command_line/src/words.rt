@@ -66,12 +66,12 @@ refused N                              bad N
    9  a depth out of its limits        `bad line`, one that the end of the input cuts `bad cut`.
   10  a window not within 1 to 8
   11  times not within 1 to 1,000
-  12  a horizon above 1,000
+  12  a horizon above 2,000
 
 A project file that is refused ends the program with status 4, `hotspot: project refused: N`, and a line that says where:
    1  longer than 4,194,304 bytes          6  a value of another type
    2  not UTF-8, or not TOML               7  a number out of its range
-   3  `format` is missing, or not 1        8  a text that is no script entry
+   3  `format` is missing, or not 1 or 2   8  a text that is no script entry
    4  an unknown key                       9  a page, address or processor given twice
    5  a missing key                       10  no memory
 

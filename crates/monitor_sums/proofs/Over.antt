@@ -13,7 +13,7 @@ use Rattle.monitor_sums.specs.Limits.{max_components}
 abbrev pub over_cycles : (ℕ → ℕ → ℕ) → ℕ → ℕ → ℕ → ℕ
 over_cycles f from to c = sum_below (λ i. f (i + from) c) (to + 1 - from)
 
--- a machine of 2^k processors has at most 224 components
+-- a machine of 2^k processors has at most max_components components
 pub components_few : (k : ℕ) → k ≤ max_k → components k ≤ max_components
 components_few zero h = omega arith
 components_few (suc zero) h = omega arith
@@ -21,7 +21,8 @@ components_few (suc (suc zero)) h = omega arith
 components_few (suc (suc (suc zero))) h = omega arith
 components_few (suc (suc (suc (suc zero)))) h = omega arith
 components_few (suc (suc (suc (suc (suc zero))))) h = omega arith
-components_few (suc (suc (suc (suc (suc (suc k)))))) h = absurd (omega arith)
+components_few (suc (suc (suc (suc (suc (suc zero)))))) h = omega arith
+components_few (suc (suc (suc (suc (suc (suc (suc k))))))) h = absurd (omega arith)
 
 -- sums of the same
 pub same_over : (k : ℕ) (f g : ℕ → ℕ → ℕ) (who : Option ℕ) (from to : ℕ) → ForSome who (λ c. c < components k)
@@ -88,13 +89,13 @@ small_cycles f from to c small = sum_below-le (λ i. f (i + from) c) 256 (to + 1
 
 pub small_own : (k : ℕ) (f : ℕ → ℕ → ℕ) (c : ℕ) → ((t c : ℕ) → f t c < 256) → sum_over k f (Some c) 0 max_horizon < 2 ^ 32
 small_own k f c small =
-    let few : over_cycles f 0 max_horizon c ≤ 256 * 1001 = small_cycles f 0 max_horizon c (λ t. small t c) in
+    let few : over_cycles f 0 max_horizon c ≤ 256 * (max_horizon + 1) = small_cycles f 0 max_horizon c (λ t. small t c) in
     omega arith
 
 pub small_all : (k : ℕ) (f : ℕ → ℕ → ℕ) → k ≤ max_k → ((t c : ℕ) → f t c < 256) → sum_over k f None 0 max_horizon < 2 ^ 32
 small_all k f few small =
-    let most : sum_over k f None 0 max_horizon ≤ 256256 * components k =
-    sum_below-le (over_cycles f 0 max_horizon) 256256 (components k) (λ c there. small_cycles f 0 max_horizon c (λ t. small t c)) in
+    let most : sum_over k f None 0 max_horizon ≤ 256 * (max_horizon + 1) * components k =
+    sum_below-le (over_cycles f 0 max_horizon) (256 * (max_horizon + 1)) (components k) (λ c there. small_cycles f 0 max_horizon c (λ t. small t c)) in
     omega (arith, components_few k few)
 
 -- where every cell has nothing, so have the sums

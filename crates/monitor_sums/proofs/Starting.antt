@@ -89,14 +89,14 @@ blank_stands kept k n is t c b there = ap (λ (v : Kept). kept_at v.cells t c) i
 
 -- what is kept at first, from what was made
 pub blank_is : (k count stages : ℕ) (cells : List Counted) (totals : List Tally) (all : Tally) (profiles : List (List ℕ)) (x : Counted) (z : Tally) → k ≤ max_k
-    → count ≡ components k → stages ≡ k → cells ≡ replicate (count * 1001) x → x ≡ nothing → totals ≡ replicate count z → z ≡ none → all ≡ none
+    → count ≡ components k → stages ≡ k → cells ≡ replicate (count * (max_horizon + 1)) x → x ≡ nothing → totals ≡ replicate count z → z ≡ none → all ≡ none
     → profiles ≡ replicate (2 * stages) (replicate profile_lengths 0) → AddsUp k cells totals all profiles
 blank_is k count stages cells totals all profiles x z few count_is stages_is cells_are x_is totals_are z_is all_is profiles_are =
-    let cells_none : cells ≡ replicate (count * 1001) nothing = cells_are ∙ ap (replicate (count * 1001)) x_is in
+    let cells_none : cells ≡ replicate (count * (max_horizon + 1)) nothing = cells_are ∙ ap (replicate (count * (max_horizon + 1))) x_is in
     let totals_none : totals ≡ replicate count none = totals_are ∙ ap (replicate count) z_is in
-    let made : AddsUp k (replicate (count * 1001) nothing) (replicate count none) none (replicate (2 * stages) (replicate profile_lengths 0)) =
-    blank_adds k (count * 1001) count (2 * stages) (replicate profile_lengths 0) few (ap (λ n. n * 1001) count_is) count_is (omega arith) refl in
+    let made : AddsUp k (replicate (count * (max_horizon + 1)) nothing) (replicate count none) none (replicate (2 * stages) (replicate profile_lengths 0)) =
+    blank_adds k (count * (max_horizon + 1)) count (2 * stages) (replicate profile_lengths 0) few (ap (λ n. n * (max_horizon + 1)) count_is) count_is (omega arith) refl in
     subst (λ v. AddsUp k v totals all profiles) (sym cells_none)
-    (subst (λ v. AddsUp k (replicate (count * 1001) nothing) v all profiles) (sym totals_none)
-    (subst (λ v. AddsUp k (replicate (count * 1001) nothing) (replicate count none) v profiles) (sym all_is)
-    (subst (λ v. AddsUp k (replicate (count * 1001) nothing) (replicate count none) none v) (sym profiles_are) made)))
+    (subst (λ v. AddsUp k (replicate (count * (max_horizon + 1)) nothing) v all profiles) (sym totals_none)
+    (subst (λ v. AddsUp k (replicate (count * (max_horizon + 1)) nothing) (replicate count none) v profiles) (sym all_is)
+    (subst (λ v. AddsUp k (replicate (count * (max_horizon + 1)) nothing) (replicate count none) none v) (sym profiles_are) made)))

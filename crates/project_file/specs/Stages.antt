@@ -18,4 +18,4 @@ combine_in k d = do
   ds ← array_in d
   _ ← check (all_items is_flag ds) WrongType
   _ ← check (count ds == k) Range
-  Ok (flag_at d 0 ∷ flag_at d 1 ∷ flag_at d 2 ∷ flag_at d 3 ∷ flag_at d 4 ∷ [])
+  Ok (flag_at d 0 ∷ flag_at d 1 ∷ flag_at d 2 ∷ flag_at d 3 ∷ flag_at d 4 ∷ flag_at d 5 ∷ [])

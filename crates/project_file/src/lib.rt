@@ -12,6 +12,7 @@
 mod depths;
 mod fault;
 mod fields;
+mod format;
 mod items;
 mod pages;
 mod place;

@@ -4,16 +4,15 @@ ghost use Rattle.page_map.specs.Limits.{max_k, address_count};
 
 use crate::depths::KEYS as DEPTH_KEYS;
 use crate::fields::{find, is_among};
+use crate::format::{FileFormat, read_format};
 use crate::items::Array;
 use crate::pages::{GivenPages, KEYS as PAGE_KEYS};
 use crate::reading::{KEYS as ROOT_KEYS, MAX_BYTES};
 use crate::scripts::{GivenScripts, KEYS as SCRIPT_KEYS, is_entry};
 use crate::words::{KEYS as WORD_KEYS, add_item as add_word, no_words};
 use grid_law::NoMemory;
-use page_map::{ADDRESSES, MAX_K, PAGES};
-use project_book::{
-    Depths, MAX_DEPTH, MAX_HORIZON, MAX_WINDOW, MIN_WAIT, SCRIPT_ENTRIES, read_entry,
-};
+use page_map::{ADDRESSES, PAGES};
+use project_book::{Depths, MAX_DEPTH, MAX_WINDOW, MIN_WAIT, SCRIPT_ENTRIES, read_entry};
 use std::alloc::{AllocError, Global};
 use std::fmt;
 use toml::{Table, Value, table_from_str};
@@ -118,10 +117,11 @@ fn joined(alloc: Global, lines: Result<String, AllocError>) -> Found {
 
 fn root_checked(alloc: Global, root: &Table) -> Result<(), Found> {
     let place = Place::Root;
-    number_checked(alloc, place, root, "format", 1, 1)?;
+    number_checked(alloc, place, root, "format", 1, 2)?;
     keys_checked(alloc, place, root, &ROOT_KEYS)?;
-    let k = number_checked(alloc, place, root, "k", 0, MAX_K)?;
-    number_checked(alloc, place, root, "horizon", 0, MAX_HORIZON)?;
+    let format = read_format(root).unwrap_or(FileFormat::Second);
+    let k = number_checked(alloc, place, root, "k", 0, format.most_k())?;
+    number_checked(alloc, place, root, "horizon", 0, format.most_horizon())?;
     optional_checked(alloc, place, root, "window", 1, MAX_WINDOW)?;
     combine_checked(alloc, root, k)?;
     depths_checked(alloc, root)?;

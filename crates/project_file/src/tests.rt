@@ -65,10 +65,17 @@ fn roots(rt: HostRuntime) -> Result<(), Fail> {
     let alloc = rt.alloc();
     for (text, number) in [
         ("", 3),
-        ("format = 2", 3),
+        ("format = 3", 3),
+        ("format = 0", 3),
         ("format = true", 3),
         ("format = 1", 5),
+        ("format = 2", 5),
+        ("format = 2\nk = 7", 7),
+        ("format = 2\nk = 6\nhorizon = 2001", 7),
+        ("format = 2\nk = 6\nhorizon = 2000", 0),
         ("format = 1\nk = 6", 7),
+        ("format = 1\nk = 5\nhorizon = 1001", 7),
+        ("format = 1\nk = 5\nhorizon = 1000", 0),
         ("format = 1\nk = \"1\"", 6),
         ("format = 1\nk = true", 6),
         ("format = 1\nk = -1", 7),
