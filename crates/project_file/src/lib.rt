@@ -14,6 +14,7 @@ mod fault;
 mod fields;
 mod items;
 mod pages;
+mod place;
 mod reading;
 mod scripts;
 mod stages;
@@ -22,4 +23,5 @@ mod tests;
 mod words;
 
 pub use fault::ProjectFault;
+pub use place::fault_place;
 pub use reading::{MAX_BYTES, read_project};
