@@ -1,5 +1,5 @@
 -- The project that a file is, or its first fault.
-use Rattle.std.specs.Prelude.{ℕ, ◌^◌, nat_lt, Bool, false, if◌then◌else◌, List, [], ◌∷◌, length, replicate, Result, Ok, Err, codes, ok_or}
+use Rattle.std.specs.Prelude.{ℕ, ◌^◌, nat_lt, false, if◌then◌else◌, List, [], ◌∷◌, length, replicate, Result, Ok, Err, codes, ok_or}
 use Rattle.std.specs.Str.{is_utf8}
 use Rattle.toml.specs.Data.{Members}
 use Rattle.toml.specs.Parse.{parse_document}

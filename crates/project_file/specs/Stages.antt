@@ -1,5 +1,5 @@
 -- The key `combine`: which stages of the combining network combine.
-use Rattle.std.specs.Prelude.{ℕ, ◌==◌, Bool, false, List, [], ◌∷◌, Option, None, Some, Result, Ok, is_some, option_and_then, unwrap_or}
+use Rattle.std.specs.Prelude.{ℕ, ◌==◌, Bool, false, List, [], ◌∷◌, Result, Ok, is_some, option_and_then, unwrap_or}
 use Rattle.toml.specs.Data.{Data, at, as_bool}
 use Rattle.project_file.specs.declared.fault.ProjectFault.{ProjectFault}
 use Rattle.project_file.specs.declared.fault.ProjectFault.TheVariants.{WrongType, Range}

@@ -15,6 +15,7 @@ mod fields;
 mod format;
 mod items;
 mod pages;
+mod place;
 mod reading;
 mod scripts;
 mod stages;
@@ -25,6 +26,7 @@ mod write_fault;
 mod writing;
 
 pub use fault::ProjectFault;
+pub use place::fault_place;
 pub use reading::{MAX_BYTES, read_project};
 pub use write_fault::WriteFault;
 pub use writing::write_project;

@@ -21,7 +21,7 @@ use toml::{Table, table_from_str};
 /// How many bytes a project file may have.
 pub const MAX_BYTES: usize = 4_194_304;
 
-const KEYS: [&str; 9] = [
+pub(crate) const KEYS: [&str; 9] = [
     "format", "k", "horizon", "window", "combine", "depths", "page", "word", "script",
 ];
 
