@@ -4,3 +4,4 @@ mod Printing
 mod Steps
 mod Writes
 mod Seats
+mod Openings

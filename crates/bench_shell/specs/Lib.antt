@@ -5,3 +5,4 @@ pub mod Output
 pub mod Steps
 pub mod Cause
 pub mod Seated
+pub mod Serving

@@ -56,3 +56,7 @@ HasOrder _ = Unit {0}
 -- what a bench stands for as a desk: its edits are noted under 0, as those of one editor alone are
 abbrev pub store_of : Shown → Store
 store_of b = record { project = project_of b; author = 0; journal = b.journal }
+
+-- a project at its opening: nothing was edited
+abbrev pub first_store : Project → Store
+first_store P = record { project = P; author = 0; journal = [] }

@@ -13,12 +13,14 @@
 #![tactic(auto)]
 
 mod answer;
+mod attendance;
 mod bench;
 mod desk;
 mod ends;
 mod fault;
 mod held;
 mod seated;
+mod serving;
 mod session;
 #[cfg(test)]
 mod tests;
@@ -28,4 +30,5 @@ pub use desk::Desk;
 pub use ends::{Reading, Sink, Source, Writing};
 pub use fault::RunFault;
 pub use seated::Seated;
+pub use serving::{Beside, Hall, ServeFault, run_beside, serve};
 pub use session::{run, run_watched, run_within};

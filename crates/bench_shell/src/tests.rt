@@ -1,4 +1,6 @@
 //! Sessions at the built-in project: in one piece, byte by byte, and with faults.
+mod workers;
+
 use crate::{RunFault, Seated, run, run_within};
 use bench_core::Bench;
 use project_book::{Edit, Project};

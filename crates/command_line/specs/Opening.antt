@@ -1,16 +1,16 @@
 -- How the program begins, or why it ends before its first line.
-use Rattle.std.specs.Prelude.{◌≡◌, ◌≢◌, ℕ, ◌<◌, List, [], Option, None, Some, Ok, Err}
+use Rattle.std.specs.Prelude.{◌≡◌, ◌≢◌, ℕ, List, [], Option, None, Some, Ok, Err}
 use Rattle.std.specs.Io.KnownBytes.{Keeps}
 use Rattle.clap.specs.Words.{Text, HasKind, fault_of, matches_of}
 use Rattle.project_book.specs.Project.{Project, blank}
 use Rattle.project_file.specs.Filed.{filed}
 use Rattle.project_file.specs.declared.fault.ProjectFault.{ProjectFault}
 use Rattle.project_file.specs.declared.fault.ProjectFault.TheVariants.{Memory}
-use Rattle.bench_shell.specs.Store.{Store}
-use Rattle.bench_shell.specs.Output.{AnswersAll, AnswersPart}
+use Rattle.bench_shell.specs.Store.{first_store}
+use Rattle.bench_shell.specs.Serving.{ServesAll, ServesPart}
 use Rattle.command_line.specs.Arguments.{hotspot, file_in, IsNumberHeld}
 use Rattle.command_line.specs.declared.end.End.{End}
-use Rattle.command_line.specs.declared.end.End.TheVariants.{Ended, Workers, NoFile, Project as Refused, Served, CannotStart}
+use Rattle.command_line.specs.declared.end.End.TheVariants.{Ended, NoFile, Project as Refused, Served, CannotStart}
 use Rattle.command_line.specs.declared.start.Stop.{Stop}
 use Rattle.command_line.specs.declared.start.Stop.TheVariants as stop
 
@@ -18,10 +18,9 @@ use Rattle.command_line.specs.declared.start.Stop.TheVariants as stop
 abbrev pub Gives : Type 1
 Gives = Text → Option (List ℕ) → Type 0
 
--- the words are a command line, and ask for no workers
-pub record IsTaken (words : List Text) : Type 0 where
-  pub no_fault : fault_of hotspot words ≡ []
-  pub no_workers : IsNumberHeld (matches_of hotspot words) 0
+-- the words are a command line
+abbrev pub IsTaken : List Text → Type 0
+IsTaken words = fault_of hotspot words ≡ []
 
 -- the project of FILE, or without it the built-in one: one processor, one module, the horizon 8
 abbrev pub IsNamed : Gives → Option Text → Project → Type 0
@@ -50,9 +49,8 @@ FileStops gives file (stop.Words error) = ⊥
 FileStops gives file (stop.Refused fault place) = IsRefused gives file fault
 FileStops gives file (stop.At end) = FileEnds gives file end
 
--- why there is no bench: the words are looked at first, then the workers, then FILE, then the project
+-- why there is no project: the words are looked at first, then FILE, then the project
 abbrev pub StopsAt : Gives → List Text → End → Type 0
-StopsAt gives words Workers = (fault_of hotspot words ≡ []) × ((n : ℕ) × (0 < n) × IsNumberHeld (matches_of hotspot words) n)
 StopsAt gives words (NoFile name) = IsTaken words × FileEnds gives (file_in words) (NoFile name)
 StopsAt gives words (Refused fault) = IsTaken words × FileEnds gives (file_in words) (Refused fault)
 StopsAt gives words CannotStart = Unit {0}
@@ -63,15 +61,14 @@ StopsFor gives words (stop.Words error) = HasKind (fault_of hotspot words) error
 StopsFor gives words (stop.Refused fault place) = StopsAt gives words (Refused fault)
 StopsFor gives words (stop.At end) = StopsAt gives words end
 
--- a bench with this project at its opening
-abbrev pub first_store : Project → Store
-first_store P = record { project = P; author = 0; journal = [] }
-
--- how the program ends: a run that ended well has answered all of the input, one that met a fault a part of what it read;
--- else nothing was read or written
+-- how the program ends, with as many workers as the words ask for: a session that ended well has answered all of the input,
+-- one that met a fault a part of what it read (`ServesAll`, `ServesPart` say what workers leave of that); else nothing was
+-- read or written
 abbrev pub ServesAt : Gives → List Text → Option (List ℕ) → Option (List ℕ) → Option (List ℕ) → Option (List ℕ) → End → Type 0
-ServesAt gives words r r' w w' Ended = (P : Project) × Opens gives words P × ((t : Store) × AnswersAll r r' w w' (first_store P) t)
-ServesAt gives words r r' w w' (Served fault) = (P : Project) × Opens gives words P × ((t : Store) × AnswersPart r r' w w' (first_store P) t)
+ServesAt gives words r r' w w' Ended =
+    (P : Project) × Opens gives words P × ((n : ℕ) × IsNumberHeld (matches_of hotspot words) n × ServesAll n (first_store P) r r' w w')
+ServesAt gives words r r' w w' (Served fault) =
+    (P : Project) × Opens gives words P × ((n : ℕ) × IsNumberHeld (matches_of hotspot words) n × ServesPart n (first_store P) r r' w w')
 ServesAt gives words r r' w w' end = StopsAt gives words end × Keeps r r' × Keeps w w'
 
 abbrev pub ServesFor : Gives → List Text → Option (List ℕ) → Option (List ℕ) → Option (List ℕ) → Option (List ℕ) → Stop → Type 0

@@ -17,15 +17,13 @@ pub enum End<'a> {
     Ended,
     /// The command line was refused.
     Words,
-    /// Workers were asked for, which this version has none of.
-    Workers,
     /// FILE, by the name that was given, can't be read.
     NoFile(&'a str),
     /// The project was refused.
     Project(ProjectFault),
     /// The run met a fault.
     Served(RunFault),
-    /// There was no memory at the start.
+    /// There was no memory or no thread at the start.
     CannotStart,
 }
 
@@ -35,7 +33,7 @@ pub fn status(end: &End<'_>) -> u8
 {
     match end {
         End::Ended => 0,
-        End::Words | End::Workers => 2,
+        End::Words => 2,
         End::NoFile(_) => 3,
         End::Project(_) => 4,
         End::Served(_) => 5,
@@ -63,10 +61,6 @@ impl fmt::Display for End<'_> {
     fn fmt<W: fmt::Write>(&self, f: &mut fmt::Formatter<W>) -> fmt::Result {
         match self {
             End::Ended | End::Words => Ok(()),
-            End::Workers => write!(
-                f,
-                "hotspot: this version has no workers: --workers takes 0 alone"
-            ),
             End::NoFile(name) => write!(f, "hotspot: cannot read {name}"),
             End::Project(fault) => write!(f, "hotspot: project refused: {}", fault.number()),
             End::Served(fault) => write!(f, "hotspot: {fault}"),

@@ -1,17 +1,17 @@
 //! The program at a terminal.
 use crate::end::{End, status};
 use crate::folder::Disk;
-use crate::start::{Stop, serve};
+use crate::start::{Stop, serve_words};
+use bench_shell::Hall;
 use std::env;
 use std::io::{Eprint, ErrorKind, Print, Read, Write};
 use std::process::ExitCode;
 use std::rt::{Env, Files};
-use std::thread::Threads;
 
 /// What the program takes of its host: memory, arguments, files, threads, and both outputs.
-pub trait Host: AllocGlobal + Env + Files + Threads + Sync + Print + Eprint {}
+pub trait Host: AllocGlobal + Env + Files + Print + Eprint + Hall {}
 
-impl<R: AllocGlobal + Env + Files + Threads + Sync + Print + Eprint> Host for R {}
+impl<R: AllocGlobal + Env + Files + Print + Eprint + Hall> Host for R {}
 
 /// The program, from the host's arguments to its exit status. It answers what is read from the reader, and writes to
 /// standard error why it ended, where that is no end of the input.
@@ -37,7 +37,7 @@ pub fn program<H: Host, R: Read, W: Write>(rt: &H, reader: &mut R, writer: &mut 
     else {
         return ended(rt, &Stop::At(End::CannotStart));
     };
-    let stop = serve(
+    let stop = serve_words(
         rt,
         rt.alloc(),
         texts.as_slice(),

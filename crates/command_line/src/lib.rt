@@ -1,7 +1,7 @@
 //! The program but for its `main`: its command line, how it begins, and how it ends.
 //!
 //! [`arguments`] reads the program's words, `hotspot [FILE] [--workers N]`, with the crate `clap`. [`opening`] makes the
-//! bench that they ask for: it reads FILE from a [`Folder`]. [`serve`] then answers the lines of a reader to a writer. An
+//! project that they ask for: it reads FILE from a [`Folder`]. [`serve_words`] then answers the lines of a reader to a writer. An
 //! [`End`] is what becomes of the program: it has a [`status`] and a line for standard error. [`program`] does it all over
 //! the host's arguments, files and standard error.
 //!
@@ -25,5 +25,5 @@ pub use end::{End, refusal, status};
 pub use file::{MOST_BYTES, read_bytes, read_file};
 pub use folder::{Disk, Folder};
 pub use host::{Host, program};
-pub use start::{Stop, opening, serve};
+pub use start::{Beginning, Stop, opening, serve_words};
 pub use words::{CommandLine, arguments};

@@ -1,21 +1,21 @@
 //! From the program's words to its end.
-ghost use Rattle.std.specs.Prelude.{◌≡◌, [], IfOk, IfErr, option_map};
+ghost use Rattle.std.specs.Prelude.{◌≡◌, ◌≤◌, vec_len, IfOk, IfErr, option_map};
 ghost use Rattle.clap.specs.Walk.{texts};
-ghost use Rattle.bench_core.specs.Shown.{project_of};
+ghost use Rattle.clap.specs.Words.{matches_of};
+ghost use Rattle.command_line.specs.Arguments.{hotspot, IsNumberHeld};
 ghost use Rattle.command_line.specs.Ends.{end_at};
 ghost use Rattle.command_line.specs.Opening.{IsNamed, FileStops, Opens, StopsFor, ServesFor};
 
 use crate::end::{End, refusal};
 use crate::folder::Folder;
 use crate::words::arguments;
-use bench_core::Bench;
-use bench_shell::run;
+use bench_shell::{Hall, ServeFault, serve};
 use clap::Error;
 use project_book::Project;
 use project_file::{ProjectFault, fault_place, read_project};
-use std::alloc::Global;
+use std::alloc::{AllocError, Global};
 use std::io::{Read, Write};
-use std::thread::Threads;
+use wave_workers::Ungated;
 
 /// What the program ends with.
 #[derive(Drop)]
@@ -78,45 +78,57 @@ fn place_in(alloc: Global, bytes: &[u8]) -> Option<String> {
     }
 }
 
-/// The bench with which the program begins: a fresh one, with its clock at 0, on the project of FILE, or without FILE on
-/// the built-in one.
+/// With what the program begins.
+#[derive(Drop)]
+pub struct Beginning {
+    /// The project of FILE, or without FILE the built-in one.
+    pub project: Project,
+    /// How many workers run beside the shell, at most 16.
+    pub workers: u32,
+}
+
+/// With what the program begins.
 ///
 /// # Errors
 ///
-/// The first that applies: the words are no command line, or ask for help or the version; they ask for workers; FILE
-/// can't be read, for whatever cause; it is no project. Want of memory may stand in the place of each: it is `CannotStart`,
-/// `NoFile`, or the project's `Memory`.
+/// The first that applies: the words are no command line, or ask for help or the version; FILE can't be read, for whatever
+/// cause; it is no project. Want of memory may stand in the place of each: it is `CannotStart`, `NoFile`, or the project's
+/// `Memory`.
 #[tactic(auto, using(crate::proofs::Starting::stops_for))]
 pub fn opening<'a, F: Folder>(
     alloc: Global,
     words: &'a [&'a str],
     folder: &F,
-) -> Result<Bench, Stop<'a>>
-    ensures opens { IfOk result (λ b. Opens (F.gives folder.now) (texts words.entry.now) (project_of b)) }
-    ensures clock { IfOk result (λ b. b.table.clock ≡ 0) }
-    ensures journal { IfOk result (λ b. b.journal ≡ []) }
+) -> Result<Beginning, Stop<'a>>
+    ensures opens { IfOk result (λ b. Opens (F.gives folder.now) (texts words.entry.now) b.project) }
+    ensures workers { IfOk result (λ b. IsNumberHeld (matches_of hotspot (texts words.entry.now)) b.workers) }
+    ensures most { IfOk result (λ b. b.workers ≤ 16) }
     ensures stops { IfErr result (StopsFor (F.gives folder.now) (texts words.entry.now)) }
 {
     let told = match arguments(alloc, words) {
         Ok(told) => told,
         Err(error) => return Err(Stop::Words(error)),
     };
-    if told.workers != 0 {
-        return Err(Stop::At(End::Workers));
-    }
     match project(alloc, told.file, folder) {
-        Ok(project) => match Bench::new(alloc, project, 0) {
-            Ok(bench) => Ok(bench),
-            Err(_) => Err(Stop::At(End::CannotStart)),
-        },
+        Ok(project) => Ok(Beginning {
+            project,
+            workers: told.workers,
+        }),
         Err(stop) => Err(stop),
     }
 }
 
-/// The program but for its texts on standard error: it opens a bench as the words say, and answers what is read from the
-/// reader until the input ends. With help, the version or a refusal nothing is read.
-pub fn serve<'a, T: Threads + Sync, F: Folder, R: Read, W: Write>(
-    rt: &T,
+/// So many gates that hold nothing.
+fn ungated(alloc: Global, count: u32) -> Result<Vec<Ungated>, AllocError>
+    ensures { IfOk result (λ gates. vec_len gates ≡ count) }
+{
+    vec![in alloc; Ungated; count as usize]
+}
+
+/// The program but for its texts on standard error: it opens a bench as the words say, with as many workers beside it, and
+/// answers what is read from the reader until the input ends. With help, the version or a refusal nothing is read.
+pub fn serve_words<'a, H: Hall, F: Folder, R: Read, W: Write>(
+    rt: &H,
     alloc: Global,
     words: &'a [&'a str],
     folder: &F,
@@ -126,12 +138,17 @@ pub fn serve<'a, T: Threads + Sync, F: Folder, R: Read, W: Write>(
     ensures { ServesFor (F.gives folder.now) (texts words.entry.now) (R.remaining reader.old) (R.remaining reader.new)
         (W.contents writer.old) (W.contents writer.new) result }
 {
-    let mut bench = match opening(alloc, words, folder) {
-        Ok(bench) => bench,
+    let beginning = match opening(alloc, words, folder) {
+        Ok(beginning) => beginning,
         Err(stop) => return stop,
     };
-    match run(rt, alloc, reader, writer, &mut bench) {
+    let gates = match ungated(alloc, beginning.workers) {
+        Ok(gates) => gates,
+        Err(_) => return Stop::At(End::CannotStart),
+    };
+    match serve(rt, alloc, reader, writer, beginning.project, gates) {
         Ok(()) => Stop::At(End::Ended),
-        Err(fault) => Stop::At(End::Served(fault)),
+        Err(ServeFault::Run(fault)) => Stop::At(End::Served(fault)),
+        Err(ServeFault::Start) => Stop::At(End::CannotStart),
     }
 }

@@ -1,15 +1,14 @@
 //! Command lines that are taken and refused, and how the program begins and ends.
 use crate::{
     CommandLine, Disk, End, Folder, MOST_BYTES, Stop, arguments, opening, read_bytes, refusal,
-    serve, status,
+    serve_words, status,
 };
-use bench_shell::RunFault;
+use bench_shell::{Hall, RunFault};
 use project_file::ProjectFault;
 use std::alloc::Global;
 use std::io;
 use std::io::{Error, ErrorKind};
 use std::test::Fail;
-use std::thread::Threads;
 
 #[test]
 fn command_lines_are_taken(rt: HostRuntime) -> Result<(), Fail> {
@@ -79,7 +78,7 @@ Arguments:
 
 Options:
       --workers <N>
-          How many workers compute beside the shell, from 0 to 16; this version has none, and takes 0 alone
+          How many workers compute beside the shell, each in a thread of its own, from 0 to 16
           
           [default: 0]
 
@@ -150,7 +149,7 @@ Arguments:
   [FILE]  The project file; without it a machine of one processor and one module is opened
 
 Options:
-      --workers <N>  How many workers compute beside the shell, from 0 to 16; this version has none, and takes 0 alone [default: 0]
+      --workers <N>  How many workers compute beside the shell, each in a thread of its own, from 0 to 16 [default: 0]
   -h, --help         Print help (see more with '--help')
   -V, --version      Print version
 
@@ -174,11 +173,6 @@ fn ends_have_statuses_and_lines(rt: HostRuntime) -> Result<(), Fail> {
     let ends = [
         (End::Ended, 0, ""),
         (End::Words, 2, ""),
-        (
-            End::Workers,
-            2,
-            "hotspot: this version has no workers: --workers takes 0 alone",
-        ),
         (End::NoFile("a b.toml"), 3, "hotspot: cannot read a b.toml"),
         (
             End::Project(ProjectFault::Memory),
@@ -259,29 +253,27 @@ impl Folder for TwoFiles {
 }
 
 /// How the program ends on these words, and what it writes to one line.
-fn served<T: AllocGlobal + Threads + Sync>(rt: &T, words: &[&str]) -> Result<String, Fail> {
+fn served<T: AllocGlobal + Hall>(rt: &T, words: &[&str]) -> Result<String, Fail> {
     let mut reader = b"state p1 0\n".as_slice();
     let mut writer = Vec::new(rt.alloc());
     let files = TwoFiles { alloc: rt.alloc() };
-    let stop = serve(rt, rt.alloc(), words, &files, &mut reader, &mut writer);
+    let stop = serve_words(rt, rt.alloc(), words, &files, &mut reader, &mut writer);
     let end = stop.end();
     Ok(format!(in rt.alloc(); "{}{} {end}", String::from_utf8(writer)?, status(&end))?)
 }
 
+/// What the project of `one.toml` answers.
+const ONE: &str = "ok 0 proc index 0 spent 0 issued 0 pending 0 out - got - - sent 0\n0 ";
+
 #[test]
 fn the_program_ends_as_its_words_say(rt: HostRuntime) -> Result<(), Fail> {
-    let ends: [(&[&str], &str); 8] = [
+    let ends: [(&[&str], &str); 9] = [
         (&[], "bad 1\n0 "),
-        (
-            &["one.toml"],
-            "ok 0 proc index 0 spent 0 issued 0 pending 0 out - got - - sent 0\n0 ",
-        ),
+        (&["one.toml"], ONE),
         (&["--help"], "0 "),
         (&["one.toml", "two.toml"], "2 "),
-        (
-            &["two.toml", "--workers", "1"],
-            "2 hotspot: this version has no workers: --workers takes 0 alone",
-        ),
+        (&["one.toml", "--workers", "1"], ONE),
+        (&["one.toml", "--workers", "16"], ONE),
         (&["two.toml"], "3 hotspot: cannot read two.toml"),
         (&["one.toml "], "3 hotspot: cannot read one.toml "),
         (&[" empty.toml "], "4 hotspot: project refused: 3"),
@@ -291,7 +283,7 @@ fn the_program_ends_as_its_words_say(rt: HostRuntime) -> Result<(), Fail> {
     }
     let files = TwoFiles { alloc: rt.alloc() };
     let opened = opening(rt.alloc(), &["one.toml"], &files);
-    assert!(rt; matches!(&opened, Ok(bench) if bench.clock() == 0));
+    assert!(rt; matches!(&opened, Ok(beginning) if beginning.workers == 0));
     assert!(rt; !matches!(&opened, Err(Stop::Words(_))));
     match opening(rt.alloc(), &[" empty.toml "], &files) {
         Err(Stop::Refused(ProjectFault::Format, Some(place))) => {

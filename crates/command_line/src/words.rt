@@ -100,7 +100,7 @@ fn workers_argument<'a>(alloc: Global) -> Arg<'a>
         .default_value("0")
         .value_parser(value_parser!(u8).range(0..=16))
         .help(
-            "How many workers compute beside the shell, from 0 to 16; this version has none, and takes 0 alone",
+            "How many workers compute beside the shell, each in a thread of its own, from 0 to 16",
         )
 }
 

@@ -2,7 +2,7 @@
 use Rattle.std.specs.Prelude.{◌≡◌, ℕ, List}
 use Rattle.project_book.specs.Project.{Project}
 use Rattle.bench_shell.specs.Output.{output}
-use Rattle.command_line.specs.Opening.{first_store}
+use Rattle.bench_shell.specs.Store.{first_store}
 use Rattle.example_runs.specs.declared.verdict.Verdict.{Verdict}
 use Rattle.example_runs.specs.declared.verdict.Verdict.TheVariants.{AsExpected, Differs, NotRead, NotRun}
 

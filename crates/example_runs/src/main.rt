@@ -3,7 +3,7 @@
 
 ghost use Rattle.std.specs.Prelude.{◌≡◌, IfSome};
 ghost use Rattle.bench_shell.specs.Output.{output};
-ghost use Rattle.command_line.specs.Opening.{first_store};
+ghost use Rattle.bench_shell.specs.Store.{first_store};
 ghost use Rattle.example_runs.specs.Verdicts.{Judges};
 
 mod page;

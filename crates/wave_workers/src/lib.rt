@@ -19,7 +19,7 @@ mod threads;
 mod worked;
 mod worker;
 
-pub use gate::Gate;
+pub use gate::{Gate, Ungated};
 pub use threads::{attend, work};
 pub use worked::{WorkFault, Worked};
 

@@ -3,10 +3,10 @@
 mod benches;
 mod gates;
 
-use crate::{WorkFault, work};
+use crate::{Ungated, WorkFault, work};
 use bench_core::Asked;
 use benches::opened;
-use gates::{Board, Counting, Meeting};
+use gates::{Board, Meeting};
 use monitor_sums::Counter;
 use run_queries::{Body, Query};
 use std::sync::Arc;
@@ -24,7 +24,7 @@ const SERVED: Query = Query::Counter {
 #[test]
 fn example_27_no_seat(rt: HostRuntime) -> Result<(), Fail> {
     let alloc = rt.alloc();
-    let worked = work(&rt, opened(alloc, 1)?, vec![in alloc; Counting]?, 1);
+    let worked = work(&rt, opened(alloc, 1)?, vec![in alloc; Ungated]?, 1);
     assert_eq!(rt; worked.fault, Some(WorkFault::NoSeat));
     assert_eq!(rt; (worked.given, worked.stored), (0, 0));
     assert!(rt; worked.pass.close().is_ok());
@@ -52,7 +52,7 @@ fn example_27_all_cells(rt: HostRuntime) -> Result<(), Fail> {
     let alloc = rt.alloc();
     let mut pass = opened(alloc, 3)?;
     assert!(rt; matches!(pass.look(&rt, SERVED), Asked::Pending(66)));
-    let worked = work(&rt, pass, vec![in alloc; Counting, Counting]?, 66);
+    let worked = work(&rt, pass, vec![in alloc; Ungated, Ungated]?, 66);
     assert_eq!(rt; (worked.stored, worked.fault), (66, None));
     let mut pass = worked.pass;
     let asked = pass.look(&rt, SERVED);

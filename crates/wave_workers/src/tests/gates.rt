@@ -1,4 +1,4 @@
-//! Gates that hold nothing, and gates of two workers that meet.
+//! The gates of two workers that meet.
 use crate::Gate;
 use cell_table::Cell;
 use std::alloc::Global;
@@ -8,20 +8,6 @@ use std::thread;
 
 /// How often a gate looks for the other at most.
 const MOST_LOOKS: u64 = 100_000_000;
-
-/// Holds nothing.
-#[derive(Drop)]
-pub(super) struct Counting;
-
-impl Gate for Counting {
-    fn go_on(&mut self, _turn: u64) -> bool {
-        true
-    }
-
-    fn claimed(&mut self, _cell: Cell) {}
-
-    fn computed(&mut self, _cell: Cell) {}
-}
 
 /// What two gates report.
 #[derive(Drop)]
