@@ -3,7 +3,7 @@ use Rattle.std.specs.Prelude.{◌&&◌, nat_le, nat_lt}
 use Rattle.omega_net.specs.Numbers.{components}
 use Rattle.project_book.specs.Limits.{max_horizon}
 use Rattle.monitor_sums.specs.Kept.{kept_at, nothing}
-use Rattle.monitor_sums.proofs.sums.Sums.clear_cycles.Given as goal
+use Rattle.monitor_sums.proofs.sums.Sums.clear.Given as goal
 
 abbrev pub invariant-loop-cycle : goal.invariant-loop-cycle
 invariant-loop-cycle l = record {
