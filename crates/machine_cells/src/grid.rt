@@ -21,7 +21,7 @@ use std::alloc::Global;
 use std::sync::Arc;
 
 /// The RP3-like machine: 2^k processors and as many memory modules, joined by a low-latency network
-/// and a combining one, each an omega network of k stages of two-by-two switches, for k from 0 to 5.
+/// and a combining one, each an omega network of k stages of two-by-two switches, for k from 0 to 6.
 ///
 /// Its cells are its components by number: processors, modules, then the switches of the low and of
 /// the combining network. A cell reads the settings that the crate's documentation lists.

@@ -4,7 +4,7 @@ use Rattle.project_book.specs.Limits.{max_horizon}
 
 -- how many components the largest machine has
 abbrev pub max_components : ℕ
-max_components = 224
+max_components = 512
 
 -- how many lengths a queue can have: from 0 to the places that it has
 abbrev pub profile_lengths : ℕ

@@ -3,7 +3,7 @@ use Rattle.std.specs.Prelude.{ℕ}
 
 -- the last cycle that a horizon may name
 abbrev pub max_horizon : ℕ
-max_horizon = 1000
+max_horizon = 2000
 
 -- how many entries a script may have
 abbrev pub script_entries : ℕ

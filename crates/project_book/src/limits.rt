@@ -9,7 +9,7 @@ use page_map::MAX_K;
 pub const STAGES: usize = MAX_K as usize;
 
 /// The last cycle that a horizon may name.
-pub const MAX_HORIZON: u32 = 1_000;
+pub const MAX_HORIZON: u32 = 2_000;
 
 /// How many entries a script may have.
 pub const SCRIPT_ENTRIES: u32 = 256;

@@ -1,16 +1,17 @@
 -- The project that a file is, or its first fault.
-use Rattle.std.specs.Prelude.{ℕ, ◌^◌, nat_lt, Bool, false, if◌then◌else◌, List, [], ◌∷◌, length, replicate, Result, Ok, Err, codes, is_ok, ok_or}
+use Rattle.std.specs.Prelude.{ℕ, ◌^◌, nat_lt, false, if◌then◌else◌, List, [], ◌∷◌, length, replicate, Result, Ok, Err, codes, ok_or}
 use Rattle.std.specs.Str.{is_utf8}
 use Rattle.toml.specs.Data.{Members}
 use Rattle.toml.specs.Parse.{parse_document}
 use Rattle.page_map.specs.Limits.{max_k}
 use Rattle.page_map.specs.Pages.{whole_pages}
-use Rattle.project_book.specs.Limits.{max_horizon, max_window}
+use Rattle.project_book.specs.Limits.{max_window}
 use Rattle.project_book.specs.Project.{Project}
 use Rattle.project_file.specs.declared.fault.ProjectFault.{ProjectFault}
-use Rattle.project_file.specs.declared.fault.ProjectFault.TheVariants.{TooLong, Text, Format}
+use Rattle.project_file.specs.declared.fault.ProjectFault.TheVariants.{TooLong, Text}
 use Rattle.project_file.specs.Limits.{max_bytes}
-use Rattle.project_file.specs.Fields.{◌>>=◌, check, known, optional, number_in, number_at}
+use Rattle.project_file.specs.Fields.{◌>>=◌, known, optional, number_in, number_at}
+use Rattle.project_file.specs.Formats.{format_in, most_k, most_horizon}
 use Rattle.project_book.specs.Queues.{usual_depths, usual_wait}
 use Rattle.project_file.specs.Depths.{depths_in}
 use Rattle.project_file.specs.Stages.{combine_in}
@@ -35,10 +36,10 @@ sized_project k horizon ms = do
 -- the project of a document
 abbrev pub document_project : Members → Result Project ProjectFault
 document_project ms = do
-  _ ← check (is_ok (number_at (codes "format") 1 1 ms)) Format
+  format ← format_in ms
   _ ← known root_keys ms
-  k ← number_at (codes "k") 0 max_k ms
-  horizon ← number_at (codes "horizon") 0 max_horizon ms
+  k ← number_at (codes "k") 0 (most_k format) ms
+  horizon ← number_at (codes "horizon") 0 (most_horizon format) ms
   sized_project k horizon ms
 
 -- the document that a text is

@@ -1,7 +1,7 @@
 -- The key `script`: the processors' scripts, each given at most once.
 use Rattle.std.specs.Prelude.{ℕ, ◌-◌, ◌^◌, ◌&&◌, nat_le, not, Bool, true, false, List, [], ◌∷◌, ◌++◌, length, replicate, Result, Ok, codes, is_some, ok_or, slice_index_or, slice_set}
 use Rattle.std.specs.List.{list_all}
-use Rattle.toml.specs.Data.{Data, Items, Members, as_str}
+use Rattle.toml.specs.Data.{Data, Members, as_str}
 use Rattle.line_words.specs.Words.{words_of}
 use Rattle.omega_net.specs.declared.script.ScriptEntry.{ScriptEntry}
 use Rattle.page_map.specs.Limits.{max_k}

@@ -17,15 +17,15 @@ use project_book::{MAX_TIMES, SCRIPT_ENTRIES, ScriptEntry, Scripts, read_entry};
 use std::alloc::Global;
 use toml::{Table, Value};
 
-const KEYS: [&str; 2] = ["processor", "entries"];
+pub(crate) const KEYS: [&str; 2] = ["processor", "entries"];
 
 /// How many processors the largest machine has.
 const PROCESSORS: usize = 1 << MAX_K;
 
 /// Which processors were given, and the scripts so far.
 #[derive(Drop)]
-struct GivenScripts {
-    given: [bool; PROCESSORS],
+pub(crate) struct GivenScripts {
+    pub(crate) given: [bool; PROCESSORS],
     scripts: Scripts,
 }
 
@@ -53,7 +53,7 @@ fn scripts_in(alloc: Global, value: &Value, k: u32) -> Result<Scripts, ProjectFa
 
 impl GivenScripts {
     #[tactic(auto, unfolding(crate::specs::Scripts::no_scripts))]
-    fn new(alloc: Global, k: u32) -> Result<GivenScripts, NoMemory>
+    pub(crate) fn new(alloc: Global, k: u32) -> Result<GivenScripts, NoMemory>
         requires { k ≤ max_k }
         ensures none { IfOk result (λ s. s ≡ no_scripts k) }
         ensures count { IfOk result (λ s. length s.scripts ≡ 2 ^ k) }
@@ -78,7 +78,12 @@ impl GivenScripts {
         Ok(so_far)
     }
 
-    fn add_item(&mut self, alloc: Global, item: &Value, k: u32) -> Result<(), ProjectFault>
+    pub(crate) fn add_item(
+        &mut self,
+        alloc: Global,
+        item: &Value,
+        k: u32,
+    ) -> Result<(), ProjectFault>
         requires small { k ≤ max_k }
         requires count { length self.old.scripts ≡ 2 ^ k }
         ensures item { MatchResult result (λ _. with_script_item k self.old (view item.now) ≡ Ok self.new) (λ fault. fault ≢ Memory → with_script_item k self.old (view item.now) ≡ Err fault) }
@@ -160,7 +165,7 @@ fn are_entries(entries: &[ScriptEntry]) -> bool
     true
 }
 
-fn is_entry(entry: ScriptEntry) -> bool
+pub(crate) fn is_entry(entry: ScriptEntry) -> bool
     ensures { result ≡ is_entry entry }
 {
     match entry {
