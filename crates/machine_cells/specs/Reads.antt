@@ -5,7 +5,7 @@ use Rattle.omega_net.specs.declared.component.Net.TheVariants.{Low as LowNet, Co
 use Rattle.omega_net.specs.declared.component.Component.{Component}
 use Rattle.omega_net.specs.declared.component.Component.TheVariants.{Proc as ProcAt, Module as ModuleAt, Switch}
 use Rattle.omega_net.specs.declared.script.ScriptEntry.{ScriptEntry}
-use Rattle.omega_net.specs.declared.script.ScriptEntry.TheVariants.{Reference, Fence, Idle}
+use Rattle.omega_net.specs.declared.script.ScriptEntry.TheVariants.{Reference, Until, Fence, Idle}
 use Rattle.omega_net.specs.Numbers.{components, component_of}
 use Rattle.grid_law.specs.declared.reader.Reader.{Reader}
 use Rattle.grid_law.specs.Rules.{reader_at}
@@ -26,9 +26,10 @@ use Rattle.project_book.specs.declared.edit.Depths.TheVariants.{LowForward, LowR
 abbrev pub index_reads : ℕ → ℕ → List Slot
 index_reads p i = if nat_lt i script_entries then Entry p i ∷ [] else []
 
--- a reference reads the window and the page of its address
+-- a reference and an `until` read the window and the page of their address
 abbrev pub entry_reads : Option ScriptEntry → List Slot
 entry_reads (Some (Reference sync op address times)) = Window ∷ PageAt (address / page_words) ∷ []
+entry_reads (Some (Until sync op address value times)) = Window ∷ PageAt (address / page_words) ∷ []
 entry_reads (Some Fence) = []
 entry_reads (Some (Idle turns)) = []
 entry_reads None = []

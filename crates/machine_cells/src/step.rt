@@ -143,7 +143,9 @@ fn place_for(project: &Project, entry: Option<ScriptEntry>) -> Place
 {
     let nowhere = Place { module: 0, row: 0 };
     match entry {
-        Some(ScriptEntry::Reference { address, .. }) => project.place(address).unwrap_or(nowhere),
+        Some(ScriptEntry::Reference { address, .. } | ScriptEntry::Until { address, .. }) => {
+            project.place(address).unwrap_or(nowhere)
+        }
         _ => nowhere,
     }
 }

@@ -13,6 +13,10 @@ script_entries = 256
 abbrev pub max_times : ℕ
 max_times = 1000
 
+-- how often an entry that waits for a word is issued at most, where its text doesn't say
+abbrev pub usual_tries : ℕ
+usual_tries = 1000
+
 -- how many references of a processor may be unanswered at once, from 1 on
 abbrev pub max_window : ℕ
 max_window = 8

@@ -44,6 +44,20 @@ fn reference(sync: bool, kind: Kind, address: u32, operand: u32, times: u32) -> 
     }
 }
 
+/// `until sync load A 0 12 T`.
+fn until(address: u32, times: u32) -> ScriptEntry {
+    ScriptEntry::Until {
+        sync: true,
+        op: Op {
+            kind: Kind::Load,
+            operand: 0,
+        },
+        address,
+        value: 12,
+        times,
+    }
+}
+
 fn add(address: u32, times: u32) -> ScriptEntry {
     reference(true, Kind::Add, address, 1, times)
 }
@@ -135,6 +149,10 @@ fn limits(rt: HostRuntime) -> Result<(), Fail> {
         (entry(0, 0, add(16_383, 1)), None),
         (entry(0, 0, add(0, 0)), Some(11)),
         (entry(0, 0, add(0, 1_000)), None),
+        (entry(0, 0, until(16_384, 1)), Some(5)),
+        (entry(0, 0, until(16_383, 1_000)), None),
+        (entry(0, 0, until(0, 0)), Some(11)),
+        (entry(0, 0, until(0, 1_001)), Some(11)),
         (entry(0, 0, ScriptEntry::Idle(1)), None),
         (entry(0, 0, ScriptEntry::Idle(1_000)), None),
         (entry(0, 0, ScriptEntry::Idle(1_001)), Some(11)),
@@ -264,6 +282,8 @@ fn entry_texts(rt: HostRuntime) -> Result<(), Fail> {
             "plain max 16384 4294967295 0",
             reference(false, Kind::Max, 16_384, u32::MAX, 0),
         ),
+        ("until sync load 7 0 12", until(7, 1_000)),
+        ("until sync load 7 0 12 2", until(7, 2)),
         ("fence", ScriptEntry::Fence),
         ("idle 4294967295", ScriptEntry::Idle(u32::MAX)),
     ] {
@@ -284,6 +304,11 @@ fn entry_texts(rt: HostRuntime) -> Result<(), Fail> {
         "sync sub 0 1",
         "Sync add 0 1",
         "sync add 0 -1",
+        "until load 0 0 12",
+        "until sync load 0 0",
+        "until sync load 0 0 12 2 1",
+        "until fence 0 0 12",
+        "sync until load 0 0 12",
         "fence 1",
         "idle",
         "idle 1 2",

@@ -11,6 +11,7 @@ use Rattle.project_file.specs.declared.fault.ProjectFault.{ProjectFault}
 use Rattle.project_file.specs.declared.fault.ProjectFault.TheVariants.{TooLong, Text}
 use Rattle.project_file.specs.Limits.{max_bytes}
 use Rattle.project_file.specs.Fields.{◌>>=◌, known, optional, number_in, number_at}
+use Rattle.project_file.specs.declared.format.FileFormat.{FileFormat}
 use Rattle.project_file.specs.Formats.{format_in, most_k, most_horizon}
 use Rattle.project_book.specs.Queues.{usual_depths, usual_wait}
 use Rattle.project_file.specs.Depths.{depths_in}
@@ -23,14 +24,14 @@ abbrev pub root_keys : List (List ℕ)
 root_keys = codes "format" ∷ codes "k" ∷ codes "horizon" ∷ codes "window" ∷ codes "combine" ∷ codes "depths" ∷ codes "page" ∷ codes "word" ∷ codes "script" ∷ []
 
 -- the rest of a project of 2^k processors, in the order of the keys
-abbrev pub sized_project : ℕ → ℕ → Members → Result Project ProjectFault
-sized_project k horizon ms = do
+abbrev pub sized_project : FileFormat → ℕ → ℕ → Members → Result Project ProjectFault
+sized_project f k horizon ms = do
   window ← optional (codes "window") (number_in 1 max_window) 1 ms
   combine ← optional (codes "combine") (combine_in k) (replicate max_k false) ms
   depths ← optional (codes "depths") depths_in (usual_depths, usual_wait) ms
   pages ← optional (codes "page") (pages_in k) (whole_pages k) ms
   words ← optional (codes "word") words_in [] ms
-  scripts ← optional (codes "script") (scripts_in k) (replicate (2 ^ k) []) ms
+  scripts ← optional (codes "script") (scripts_in f k) (replicate (2 ^ k) []) ms
   Ok (record { k = k; horizon = horizon; window = window; depths = depths.0; wait = depths.1; combine = combine; pages = pages; words = words; scripts = scripts })
 
 -- the project of a document
@@ -40,7 +41,7 @@ document_project ms = do
   _ ← known root_keys ms
   k ← number_at (codes "k") 0 (most_k format) ms
   horizon ← number_at (codes "horizon") 0 (most_horizon format) ms
-  sized_project k horizon ms
+  sized_project format k horizon ms
 
 -- the document that a text is
 abbrev pub document_of : List ℕ → Result Members ProjectFault

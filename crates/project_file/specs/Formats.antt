@@ -1,6 +1,8 @@
 -- The key `format`: which of the two formats a file has, and what that allows it.
-use Rattle.std.specs.Prelude.{ℕ, ◌==◌, if◌then◌else◌, Result, Ok, Err, codes}
+use Rattle.std.specs.Prelude.{ℕ, ◌==◌, Bool, true, false, if◌then◌else◌, Result, Ok, Err, codes}
 use Rattle.toml.specs.Data.{Members}
+use Rattle.omega_net.specs.declared.script.ScriptEntry.{ScriptEntry}
+use Rattle.omega_net.specs.declared.script.ScriptEntry.TheVariants.{Until}
 use Rattle.page_map.specs.Limits.{max_k}
 use Rattle.project_book.specs.Limits.{max_horizon}
 use Rattle.project_file.specs.declared.fault.ProjectFault.{ProjectFault}
@@ -27,3 +29,8 @@ most_k Second = max_k
 abbrev pub most_horizon : FileFormat → ℕ
 most_horizon First = first_max_horizon
 most_horizon Second = max_horizon
+
+-- whether a format has an entry: the first has none that waits for a word
+abbrev pub has_entry : FileFormat → ScriptEntry → Bool
+has_entry First (Until sync op address value times) = false
+has_entry _ _ = true

@@ -3,12 +3,12 @@ ghost use Rattle.std.specs.Prelude.{◌≡◌, ◌≤◌};
 ghost use Rattle.toml.specs.View.{table_view};
 ghost use Rattle.page_map.specs.Limits.{max_k};
 ghost use Rattle.project_book.specs.Limits.{max_horizon};
-ghost use Rattle.project_file.specs.Formats.{format_in, most_k, most_horizon};
+ghost use Rattle.project_file.specs.Formats.{format_in, most_k, most_horizon, has_entry};
 
 use crate::fault::ProjectFault;
 use crate::fields::number_at;
 use page_map::MAX_K;
-use project_book::MAX_HORIZON;
+use project_book::{MAX_HORIZON, ScriptEntry};
 use toml::Table;
 
 /// The greatest k of a file of format 1.
@@ -20,7 +20,7 @@ pub(crate) const FIRST_MAX_HORIZON: u32 = 1_000;
 /// The formats of project files, by the number that stands at their key `format`.
 #[derive(Clone, Copy, PartialEq, Eq, Debug)]
 pub enum FileFormat {
-    /// 1: k up to 5, and horizons up to 1,000.
+    /// 1: k up to 5, horizons up to 1,000, and no entry that waits for a word.
     First,
     /// 2: whatever a project may be.
     Second,
@@ -46,6 +46,16 @@ impl FileFormat {
         match self {
             FileFormat::First => FIRST_MAX_HORIZON,
             FileFormat::Second => MAX_HORIZON,
+        }
+    }
+
+    /// Whether a file may have this entry.
+    pub(crate) fn has_entry(self, entry: ScriptEntry) -> bool
+        ensures { result ≡ has_entry self entry }
+    {
+        match (self, entry) {
+            (FileFormat::First, ScriptEntry::Until { .. }) => false,
+            _ => true,
         }
     }
 }

@@ -127,7 +127,7 @@ fn root_checked(alloc: Global, root: &Table) -> Result<(), Found> {
     depths_checked(alloc, root)?;
     pages_checked(alloc, root, k)?;
     words_checked(alloc, root)?;
-    scripts_checked(alloc, root, k)
+    scripts_checked(alloc, root, format, k)
 }
 
 fn keys_checked(alloc: Global, place: Place, table: &Table, keys: &[&str]) -> Result<(), Found> {
@@ -341,7 +341,7 @@ fn word_found(
     }
 }
 
-fn scripts_checked(alloc: Global, root: &Table, k: u32) -> Result<(), Found>
+fn scripts_checked(alloc: Global, root: &Table, format: FileFormat, k: u32) -> Result<(), Found>
     requires { k ≤ max_k }
 {
     let Some(value) = find(root, "script") else {
@@ -350,8 +350,15 @@ fn scripts_checked(alloc: Global, root: &Table, k: u32) -> Result<(), Found>
     let array = tables_checked(alloc, "script", value)?;
     let mut so_far = GivenScripts::new(alloc, k)?;
     'items: for (number, item) in array.iter().enumerate() {
-        if so_far.add_item(alloc, item, k).is_err() {
-            return script_found(alloc, Place::Item("script", number), item, k, &so_far);
+        if so_far.add_item(alloc, item, format, k).is_err() {
+            return script_found(
+                alloc,
+                Place::Item("script", number),
+                item,
+                format,
+                k,
+                &so_far,
+            );
         }
     }
     Ok(())
@@ -362,6 +369,7 @@ fn script_found(
     alloc: Global,
     place: Place,
     item: &Value,
+    format: FileFormat,
     k: u32,
     so_far: &GivenScripts,
 ) -> Result<(), Found>
@@ -376,16 +384,21 @@ fn script_found(
         return Err(line(format!(in alloc; "{place}processor: {proc} is given twice")));
     }
     match find(table, "entries") {
-        Some(value) => entries_found(alloc, place, value),
+        Some(value) => entries_found(alloc, place, value, format),
         None => Err(line(format!(in alloc; "{place}entries: missing"))),
     }
 }
 
 /// What is wrong with entries that are no script, or want of memory where nothing is.
-fn entries_found(alloc: Global, place: Place, value: &Value) -> Result<(), Found> {
+fn entries_found(
+    alloc: Global,
+    place: Place,
+    value: &Value,
+    format: FileFormat,
+) -> Result<(), Found> {
     let array = array_checked(alloc, place, "entries", value)?;
     texts_checked(alloc, place, array)?;
-    forms_checked(alloc, place, array)?;
+    forms_checked(alloc, place, array, format)?;
     let count = array.len();
     if count > SCRIPT_ENTRIES as usize {
         return Err(line(format!(in alloc;
@@ -408,14 +421,27 @@ fn texts_checked(alloc: Global, place: Place, array: &Array) -> Result<(), Found
     Ok(())
 }
 
-fn forms_checked(alloc: Global, place: Place, array: &Array) -> Result<(), Found> {
+fn forms_checked(
+    alloc: Global,
+    place: Place,
+    array: &Array,
+    format: FileFormat,
+) -> Result<(), Found> {
     for (number, item) in array.iter().enumerate() {
         let text = item.as_str().unwrap_or("");
-        if read_entry(text.as_bytes()).is_none() {
-            let text = Shown(text);
-            return Err(line(format!(in alloc;
-                "{place}entries {number}: no script entry: \"{text}\""
-            )));
+        let shown = Shown(text);
+        match read_entry(text.as_bytes()) {
+            Some(entry) if format.has_entry(entry) => {}
+            Some(_) => {
+                return Err(line(format!(in alloc;
+                    "{place}entries {number}: format 1 has no such entry: \"{shown}\""
+                )));
+            }
+            None => {
+                return Err(line(format!(in alloc;
+                    "{place}entries {number}: no script entry: \"{shown}\""
+                )));
+            }
         }
     }
     Ok(())

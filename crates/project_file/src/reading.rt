@@ -9,7 +9,7 @@ ghost use Rattle.project_file.specs.Filed.{filed, document_of, document_project,
 use crate::depths::read_depths;
 use crate::fault::ProjectFault;
 use crate::fields::{number_at, number_or, refuse_others};
-use crate::format::read_format;
+use crate::format::{FileFormat, read_format};
 use crate::pages::read_pages;
 use crate::scripts::read_scripts;
 use crate::stages::read_combine;
@@ -64,20 +64,26 @@ fn document_project(alloc: Global, root: &Table) -> Result<Project, ProjectFault
     refuse_others(root, &KEYS)?;
     let k = number_at(root, "k", 0, format.most_k())?;
     let horizon = number_at(root, "horizon", 0, format.most_horizon())?;
-    sized_project(alloc, root, k, horizon)
+    sized_project(alloc, root, format, k, horizon)
 }
 
-fn sized_project(alloc: Global, root: &Table, k: u32, horizon: u32) -> Result<Project, ProjectFault>
+fn sized_project(
+    alloc: Global,
+    root: &Table,
+    format: FileFormat,
+    k: u32,
+    horizon: u32,
+) -> Result<Project, ProjectFault>
     requires small { k ≤ max_k }
     requires short { horizon ≤ max_horizon }
-    ensures { Gives (λ p. p) result (sized_project k horizon (table_view root.now)) }
+    ensures { Gives (λ p. p) result (sized_project format k horizon (table_view root.now)) }
 {
     let window = number_or(root, "window", 1, MAX_WINDOW, 1)?;
     let combine = read_combine(root, k)?;
     let (depths, wait) = read_depths(root)?;
     let pages = read_pages(root, k)?;
     let words = read_words(alloc, root)?;
-    let scripts = read_scripts(alloc, root, k)?;
+    let scripts = read_scripts(alloc, root, format, k)?;
     let parts = Parts {
         k,
         horizon,

@@ -135,10 +135,40 @@ fn keys(rt: HostRuntime) -> Result<(), Fail> {
             9,
         ),
         ("[[script]]\nprocessor = 0\nentries = []", 0),
+        // Format 1 has no entry that waits for a word.
+        (
+            "[[script]]\nprocessor = 0\nentries = [\"until sync load 0 0 12\"]",
+            8,
+        ),
     ] {
         assert_eq!(rt; number_with(alloc, more)?, number);
     }
     Ok(())
+}
+
+/// Format 2 has the entry that waits for a word.
+#[test]
+fn waiting_entries(rt: HostRuntime) -> Result<(), Fail> {
+    let alloc = rt.alloc();
+    let text =
+        "format = 2\nk = 0\nhorizon = 0\n[[script]]\nprocessor = 0\nentries = [\"until sync load 0 0 12\"]";
+    let until = ScriptEntry::Until {
+        sync: true,
+        op: Op {
+            kind: Kind::Load,
+            operand: 0,
+        },
+        address: 0,
+        value: 12,
+        times: 1_000,
+    };
+    for _ in 0..2 {
+        if let Ok(project) = read_project(alloc, text.as_bytes()) {
+            assert_eq!(rt; project.entry(0, 0), Some(until));
+            return Ok(());
+        }
+    }
+    Err(Fail::from("within the limits"))
 }
 
 /// What a whole project says.
@@ -295,6 +325,10 @@ fn places(rt: HostRuntime) -> Result<(), Fail> {
         (
             "[[script]]\nprocessor = 0\nentries = [\"fence\", \"jump\\u0007 3\"]",
             "script 0, entries 1: no script entry: \"jump? 3\"",
+        ),
+        (
+            "[[script]]\nprocessor = 0\nentries = [\"until sync load 0 0 1\"]",
+            "script 0, entries 0: format 1 has no such entry: \"until sync load 0 0 1\"",
         ),
         (
             "[[script]]\nprocessor = 0\nentries = [\"idle 0\"]",

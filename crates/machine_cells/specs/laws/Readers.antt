@@ -13,7 +13,7 @@ use Rattle.omega_net.specs.declared.component.Net.TheVariants.{Low as LowNet, Co
 use Rattle.omega_net.specs.declared.component.Component.{Component}
 use Rattle.omega_net.specs.declared.component.Component.TheVariants.{Proc as ProcAt, Module as ModuleAt, Switch}
 use Rattle.omega_net.specs.declared.script.ScriptEntry.{ScriptEntry}
-use Rattle.omega_net.specs.declared.script.ScriptEntry.TheVariants.{Reference, Fence, Idle}
+use Rattle.omega_net.specs.declared.script.ScriptEntry.TheVariants.{Reference, Until, Fence, Idle}
 use Rattle.omega_net.specs.Numbers.{components, component_of}
 use Rattle.ref_proc.specs.declared.state.Outgoing.{Outgoing}
 use Rattle.grid_law.specs.declared.reader.Reader.{Reader}
@@ -61,6 +61,14 @@ entry_may k p (Some (Reference sync op address times)) (Word a) e = absurd (fals
 entry_may k p (Some (Reference sync op address times)) (Depth q) e = absurd (false≢true e)
 entry_may k p (Some (Reference sync op address times)) Wait e = absurd (false≢true e)
 entry_may k p (Some (Reference sync op address times)) (Combine s) e = absurd (false≢true e)
+entry_may k p (Some (Until sync op address value times)) (PageAt g) e = refl
+entry_may k p (Some (Until sync op address value times)) Window e = refl
+entry_may k p (Some (Until sync op address value times)) Shape e = absurd (false≢true e)
+entry_may k p (Some (Until sync op address value times)) (Entry q i) e = absurd (false≢true e)
+entry_may k p (Some (Until sync op address value times)) (Word a) e = absurd (false≢true e)
+entry_may k p (Some (Until sync op address value times)) (Depth q) e = absurd (false≢true e)
+entry_may k p (Some (Until sync op address value times)) Wait e = absurd (false≢true e)
+entry_may k p (Some (Until sync op address value times)) (Combine s) e = absurd (false≢true e)
 
 forward_may : (net : Net) (k : ℕ) (slot : Slot) → is_listed (Depth (forward_queue net) ∷ []) slot ≡ true → (p : ℕ) → proc_may_read (suc k) p slot ≡ true
 forward_may LowNet k (Depth LowForward) e p = refl
