@@ -4,3 +4,4 @@ pub mod Stands
 pub mod Edits
 pub mod Asks
 pub mod Answers
+pub mod Told

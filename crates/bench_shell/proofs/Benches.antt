@@ -8,9 +8,10 @@ use Rattle.project_book.specs.declared.fault.EditFault.TheVariants.{JournalFull,
 use Rattle.bench_core.specs.Shown.{Shown, project_of, version_of}
 use Rattle.bench_core.specs.Edits.{admits}
 pub use Rattle.bench_core.proofs.Answered.{bad_told, never_pending}
-use Rattle.bench_shell.specs.Store.{Store, version_in, store_of, edited_store, Refuses, EditGives}
+use Rattle.bench_core.specs.Told.{RefusesAt}
+use Rattle.bench_shell.specs.Store.{Store, version_in, store_of, edited_store, EditGives}
 
-refuses : (s : Store) (e : Edit) (f : EditFault) → accepts s.project (version_in s) e ≡ Err f → Refuses s e f
+refuses : (s : Store) (e : Edit) (f : EditFault) → accepts s.project (version_in s) e ≡ Err f → RefusesAt s.project (version_in s) e f
 refuses s e JournalFull h = h
 refuses s e BadProcessor h = h
 refuses s e BadEntry h = h

@@ -3,3 +3,4 @@ mod Lines
 mod Printing
 mod Steps
 mod Writes
+mod Seats

@@ -1,17 +1,18 @@
 -- Lemmas on what a run has done so far.
-use Rattle.std.proofs.Common.{◌≡◌, ℕ, ◌+◌, ◌<◌, ◌≤◌, Bool, true, false, List, [], ◌∷◌, ◌++◌, length, get_or, take, drop, refl, sym, ◌∙◌, ap, subst, append_assoc, append-nil, take-append-drop, arith}
+use Rattle.std.proofs.Common.{◌≡◌, ◌⊎◌, inl, inr, ℕ, ◌+◌, ◌<◌, ◌≤◌, Bool, true, false, List, [], ◌∷◌, ◌++◌, length, get_or, take, drop, refl, sym, ◌∙◌, ap, subst, append_assoc, append-nil, take-append-drop, arith}
 use Rattle.std.proofs.lemmas.List.{take_more, length-append}
-use Rattle.std.specs.Prelude.{◌==◌, Option, Some, None, Result, Ok, Err, IfOk, OnOk, IfSome}
+use Rattle.std.specs.Prelude.{◌==◌, if◌then◌else◌, Option, Some, None, Result, Ok, Err, IfOk, OnOk, IfSome}
 use Rattle.std.specs.Io.KnownBytes.{Appends, Consumes, Keeps, IsAtEnd}
 use Rattle.std.proofs.KnownBytes.{Appends-trans, Appends-nil, Consumes-nil, Consumes-trans, Consumes-kept}
 use Rattle.commands.specs.declared.command.Command.{Command}
 use Rattle.bench_shell.specs.Store.{Store}
 use Rattle.bench_shell.specs.Text.{line_text}
-use Rattle.bench_shell.specs.Output.{output, store_after, reply, after, command_in, StopsIn, AnswersAll, AnswersPart}
-use Rattle.bench_shell.specs.Steps.{has_lf, Holds, AnswersLine, Reaches, StopsWithin, Moves, Fails, MovesOn, FailsOn}
+use Rattle.bench_shell.specs.Lines.{lines_of}
+use Rattle.bench_shell.specs.Output.{output, store_after, reply, after, command_in, is_ok, none_ok, lines_text, StopsIn, AnswersAll, AnswersPart, AnswersOwn}
+use Rattle.bench_shell.specs.Steps.{has_lf, Holds, AnswersLine, Reaches, StopsWithin, Moves, Fails, Goes, GoesOn, FailsOn}
 use Rattle.bench_shell.specs.declared.answer.Answer.{Answer}
 use Rattle.bench_shell.specs.declared.answer.Answer.TheVariants.{BadLine, BadCut}
-use Rattle.bench_shell.proofs.Lines.{has_lf-snoc, output-long, store-long, output-whole, store-whole, output-cut, output-cut-long, store-cut, cut_is_one, whole_is_one, splits_none, splits_line, splits_both, output-split, store-split}
+use Rattle.bench_shell.proofs.Lines.{has_lf-snoc, lines_of-whole, lines_of-cut, output-long, store-long, output-whole, store-whole, output-cut, output-cut-long, store-cut, cut_is_one, whole_is_one, splits_none, splits_line, splits_both, output-split, store-split}
 
 -- nothing of a line has come
 pub holds_none : Holds false [] []
@@ -207,11 +208,160 @@ fails_more s t is_long h a b x p = λ line is.
 taken : (xs : List ℕ) (i x : ℕ) → i < length xs → x ≡ get_or xs i 0 → take i xs ++ x ∷ [] ≡ take (i + 1) xs
 taken xs i x lt is = ap (λ n. take i xs ++ n ∷ []) is ∙ sym (take_more xs i 0 lt)
 
-pub piece_step : (w0 w1 w2 : Option (List ℕ)) (s t u : Store) (l0 l1 l2 : Bool) (h0 h1 h2 xs : List ℕ) (i x : ℕ) → i < length xs → x ≡ get_or xs i 0
-    → MovesOn w0 w1 s l0 h0 (take i xs) t l1 h1 → MovesOn w1 w2 t l1 h1 (x ∷ []) u l2 h2 → MovesOn w0 w2 s l0 h0 (take (i + 1) xs) u l2 h2
-piece_step w0 w1 w2 s t u l0 l1 l2 h0 h1 h2 xs i x lt is p q =
-    let P : List ℕ → Type 0 = λ text. Moves s l0 h0 text (p.0 ++ q.0) u l2 h2 in
-    (p.0 ++ q.0, Appends-trans w0 w1 w2 p.0 q.0 p.1 q.1, subst P (taken xs i x lt is) (moves_trans s t u l0 l1 l2 h0 h1 h2 (take i xs) (x ∷ []) p.0 q.0 p.2 q.2))
+-- ---- whoever edits
+
+abbrev MovesOn : Option (List ℕ) → Option (List ℕ) → Store → Bool → List ℕ → List ℕ → Store → Bool → List ℕ → Type 0
+MovesOn w w' s l h more t l' h' = (written : List ℕ) × Appends w w' written × Moves s l h more written t l' h'
+
+-- where the desk is alone
+pub moves_on : (w w' : Option (List ℕ)) (A B : Type 0) (s t : Store) (l l' : Bool) (h h' more : List ℕ) → GoesOn w w' A B s l h more t l' h' → B → MovesOn w w' s l h more t l' h'
+moves_on w w' A B s t l l' h h' more p b = (p.0, p.1, p.3 b)
+
+pub goes_none : (A : Type 0) (w : Option (List ℕ)) (s : Store) (l : Bool) (h : List ℕ) → GoesOn w w A A s l h [] s l h
+goes_none A w s l h = (
+  [],
+  Appends-nil w,
+  (λ line p. record { before = []; rest = []; line = line; answers = []; is_text = append-nil line; splits = splits_none; rest_splits = splits_none; is_written = refl; no_ok = refl; one_each = refl; holds = p; begun = inl refl }),
+  λ b. moves_none s l h,
+)
+
+-- a byte that ends no line
+pub goes_held : (A : Type 0) (w : Option (List ℕ)) (s : Store) (l l' : Bool) (h h' : List ℕ) (b : ℕ)
+    → ((line : List ℕ) → Holds l h line → Holds l' h' (line ++ b ∷ [])) → GoesOn w w A A s l h (b ∷ []) s l' h'
+goes_held A w s l l' h h' b f = (
+  [],
+  Appends-nil w,
+  (λ line p. record {
+    before = [];
+    rest = [];
+    line = line ++ b ∷ [];
+    answers = [];
+    is_text = refl;
+    splits = splits_none;
+    rest_splits = splits_none;
+    is_written = refl;
+    no_ok = refl;
+    one_each = refl;
+    holds = f line p;
+    begun = inl refl;
+  }),
+  λ alone. moves_held s l l' h h' b f,
+)
+
+-- a line that ends: its answer is `ok ..` only where the desk is alone
+pub goes_line : (A B : Type 0) (w w' : Option (List ℕ)) (s t : Store) (l : Bool) (h : List ℕ) (a : Answer) → (B → A) → (is_ok a ≡ true → B)
+    → (B → (line : List ℕ) → Holds l h line → AnswersLine s line a t) → Appends w w' (line_text a) → GoesOn w w' A B s l h (10 ∷ []) t false []
+goes_line A B w w' s t l h a earlier own f q = (line_text a, q, by (is_ok a) refl, λ b. moves_line s t l h a (f b))
+  where
+    by : (ok : Bool) → is_ok a ≡ ok → (line : List ℕ) → Holds l h line → Goes A s (line ++ 10 ∷ []) (line_text a) false []
+    by true e line p =
+        let ended = f (own e) line p in record {
+          before = line ++ 10 ∷ [];
+          rest = [];
+          line = [];
+          answers = [];
+          is_text = sym (append-nil (line ++ 10 ∷ []));
+          splits = splits_line line p.no_lf;
+          rest_splits = splits_none;
+          is_written = sym ended.0 ∙ sym (append-nil (output s (line ++ 10 ∷ [])));
+          no_ok = refl;
+          one_each = refl;
+          holds = holds_none;
+          begun = inr (earlier (own e));
+        }
+    by false e line p = record {
+      before = [];
+      rest = line ++ 10 ∷ [];
+      line = [];
+      answers = a ∷ [];
+      is_text = sym (append-nil (line ++ 10 ∷ []));
+      splits = splits_none;
+      rest_splits = splits_line line p.no_lf;
+      is_written = sym (append-nil (line_text a));
+      no_ok = rw e refl;
+      one_each = sym (ap length (lines_of-whole line [] p.no_lf));
+      holds = holds_none;
+      begun = inl refl;
+    }
+
+none_ok_step : (ok x y : Bool) → (if ok then false else x) ≡ true → (x ≡ true → y ≡ true) → (if ok then false else y) ≡ true
+none_ok_step true x y p f = p
+none_ok_step false x y p f = f p
+
+none_ok-append : (xs ys : List Answer) → none_ok xs ≡ true → none_ok ys ≡ true → none_ok (xs ++ ys) ≡ true
+none_ok-append [] ys p q = q
+none_ok-append (a ∷ xs) ys p q = none_ok_step (is_ok a) (none_ok xs) (none_ok (xs ++ ys)) p (λ e. none_ok-append xs ys e q)
+
+lines_text-append : (xs ys : List Answer) → lines_text (xs ++ ys) ≡ lines_text xs ++ lines_text ys
+lines_text-append [] ys = refl
+lines_text-append (a ∷ xs) ys = ap (λ l. line_text a ++ l) (lines_text-append xs ys) ∙ sym (append_assoc (line_text a) (lines_text xs) (lines_text ys))
+
+module _ (A B : Type 0) (s t : Store) (l0 l1 l2 : Bool) (h0 h1 h2 a b x y : List ℕ) (earlier : B → A) (p : (line : List ℕ) → Holds l0 h0 line → Goes A s (line ++ a) x l1 h1) (moves : B → Moves s l0 h0 a x t l1 h1)
+    (q : (line : List ℕ) → Holds l1 h1 line → Goes B t (line ++ b) y l2 h2) (line : List ℕ) (is : Holds l0 h0 line) where
+  goes_on_firm : B → Goes A s (line ++ (a ++ b)) (x ++ y) l2 h2
+  goes_on_firm alone =
+      let r = moves alone line is in
+      let n = q r.line r.holds in
+      let s1 = store_after s r.before in
+      let lines = lines_text n.answers in record {
+        before = r.before ++ n.before;
+        rest = n.rest;
+        line = n.line;
+        answers = n.answers;
+        is_text = joined line a b r.before r.line (n.before ++ (n.rest ++ n.line)) r.is_text n.is_text ∙ sym (append_assoc r.before n.before (n.rest ++ n.line));
+        splits = splits_both r.before n.before r.splits n.splits;
+        rest_splits = n.rest_splits;
+        is_written = ap (λ l. l ++ y) r.is_written ∙ ap (λ l. output s r.before ++ l) (n.is_written ∙ ap (λ u. output u n.before ++ lines) r.is_store)
+            ∙ sym (append_assoc (output s r.before) (output s1 n.before) lines) ∙ sym (ap (λ l. l ++ lines) (output-split s r.before n.before r.splits));
+        no_ok = n.no_ok;
+        one_each = n.one_each;
+        holds = n.holds;
+        begun = inr (earlier alone);
+      }
+
+  goes_on_loose : (m : Goes A s (line ++ a) x l1 h1) (n : Goes B t (m.line ++ b) y l2 h2) → n.before ≡ [] → Goes A s (line ++ (a ++ b)) (x ++ y) l2 h2
+  goes_on_loose m n none =
+      let o = output s m.before in
+      let first = lines_text m.answers in
+      let second = lines_text n.answers in
+      let held : (m.rest ++ m.line) ++ b ≡ (m.rest ++ n.rest) ++ n.line = append_assoc m.rest m.line b
+      ∙ ap (λ l. m.rest ++ l) (n.is_text ∙ ap (λ l. l ++ (n.rest ++ n.line)) none) ∙ sym (append_assoc m.rest n.rest n.line) in record {
+        before = m.before;
+        rest = m.rest ++ n.rest;
+        line = n.line;
+        answers = m.answers ++ n.answers;
+        is_text = joined line a b m.before (m.rest ++ m.line) ((m.rest ++ n.rest) ++ n.line) m.is_text held;
+        splits = m.splits;
+        rest_splits = splits_both m.rest n.rest m.rest_splits n.rest_splits;
+        is_written = ap (λ l. l ++ y) m.is_written ∙ ap (λ l. (o ++ first) ++ l) (n.is_written ∙ ap (λ l. output t l ++ second) none)
+            ∙ append_assoc o first second ∙ ap (λ l. o ++ l) (sym (lines_text-append m.answers n.answers));
+        no_ok = none_ok-append m.answers n.answers m.no_ok n.no_ok;
+        one_each = length-append m.answers n.answers ∙ ap (λ k. k + length n.answers) m.one_each ∙ ap (λ k. length (lines_of m.rest) + k) n.one_each
+            ∙ sym (length-append (lines_of m.rest) (lines_of n.rest)) ∙ sym (ap length (m.rest_splits n.rest));
+        holds = n.holds;
+        begun = m.begun;
+      }
+
+  goes_on : Goes A s (line ++ (a ++ b)) (x ++ y) l2 h2
+  goes_on = let m = p line is in let n = q m.line m.holds in by m n n.begun
+    where
+      by : (m : Goes A s (line ++ a) x l1 h1) (n : Goes B t (m.line ++ b) y l2 h2) → (n.before ≡ []) ⊎ B → Goes A s (line ++ (a ++ b)) (x ++ y) l2 h2
+      by m n (inl none) = goes_on_loose m n none
+      by m n (inr alone) = goes_on_firm alone
+
+pub goes_trans : (A B C : Type 0) (w0 w1 w2 : Option (List ℕ)) (s t u : Store) (l0 l1 l2 : Bool) (h0 h1 h2 a b : List ℕ) → (B → A) → (C → B)
+    → GoesOn w0 w1 A B s l0 h0 a t l1 h1 → GoesOn w1 w2 B C t l1 h1 b u l2 h2 → GoesOn w0 w2 A C s l0 h0 (a ++ b) u l2 h2
+goes_trans A B C w0 w1 w2 s t u l0 l1 l2 h0 h1 h2 a b earlier later p q = (
+  p.0 ++ q.0,
+  Appends-trans w0 w1 w2 p.0 q.0 p.1 q.1,
+  (λ line is. goes_on A B s t l0 l1 l2 h0 h1 h2 a b p.0 q.0 earlier p.2 p.3 q.2 line is),
+  λ alone. moves_trans s t u l0 l1 l2 h0 h1 h2 a b p.0 q.0 (p.3 (later alone)) (q.3 alone),
+)
+
+pub piece_goes : (A B C : Type 0) (w0 w1 w2 : Option (List ℕ)) (s t u : Store) (l0 l1 l2 : Bool) (h0 h1 h2 xs : List ℕ) (i x : ℕ) → i < length xs → x ≡ get_or xs i 0 → (B → A) → (C → B)
+    → GoesOn w0 w1 A B s l0 h0 (take i xs) t l1 h1 → GoesOn w1 w2 B C t l1 h1 (x ∷ []) u l2 h2 → GoesOn w0 w2 A C s l0 h0 (take (i + 1) xs) u l2 h2
+piece_goes A B C w0 w1 w2 s t u l0 l1 l2 h0 h1 h2 xs i x lt is earlier later p q =
+    subst (λ text. GoesOn w0 w2 A C s l0 h0 text u l2 h2) (taken xs i x lt is) (goes_trans A B C w0 w1 w2 s t u l0 l1 l2 h0 h1 h2 (take i xs) (x ∷ []) earlier later p q)
 
 pub piece_fails : (w0 w1 w2 : Option (List ℕ)) (s t u : Store) (l0 l1 : Bool) (h0 h1 xs : List ℕ) (i x : ℕ) → i < length xs → x ≡ get_or xs i 0
     → MovesOn w0 w1 s l0 h0 (take i xs) t l1 h1 → FailsOn w1 w2 t l1 h1 (x ∷ []) u → FailsOn w0 w2 s l0 h0 xs u
@@ -224,22 +374,62 @@ piece_fails w0 w1 w2 s t u l0 l1 h0 h1 xs i x lt is p q =
       subst P all (fails_more s u l0 h0 (take i xs ++ x ∷ []) rest (p.0 ++ q.0) (moves_fails s t u l0 l1 h0 h1 (take i xs) (x ∷ []) p.0 q.0 p.2 q.2)),
     )
 
--- what was read and written so far, from the start of a run
+-- what was read and written so far by a desk that is alone, from the start of a run
 abbrev pub SoFar : Option (List ℕ) → Option (List ℕ) → Option (List ℕ) → Option (List ℕ) → Store → Store → Bool → List ℕ → Type 0
 SoFar r0 r w0 w s t is_long h = (read written : List ℕ) × Consumes r0 r read × Appends w0 w written × Moves s false [] read written t is_long h
 
-pub so_far_none : (r w : Option (List ℕ)) (s : Store) → SoFar r r w w s s false []
-so_far_none r w s = ([], [], Consumes-nil r, Appends-nil w, moves_none s false [])
+-- the same of any desk
+abbrev pub SoFarOn : Option (List ℕ) → Option (List ℕ) → Option (List ℕ) → Option (List ℕ) → Type 0 → Type 0 → Store → Store → Bool → List ℕ → Type 0
+SoFarOn r0 r w0 w A B s t is_long h = (read : List ℕ) × Consumes r0 r read × GoesOn w0 w A B s false [] read t is_long h
 
-pub so_far_step : (r0 r1 r2 w0 w1 w2 : Option (List ℕ)) (s t u : Store) (l1 l2 : Bool) (h1 h2 piece : List ℕ)
-    → SoFar r0 r1 w0 w1 s t l1 h1 → Consumes r1 r2 piece → MovesOn w1 w2 t l1 h1 piece u l2 h2 → SoFar r0 r2 w0 w2 s u l2 h2
-so_far_step r0 r1 r2 w0 w1 w2 s t u l1 l2 h1 h2 piece p c q = (
+pub so_far_alone : (r0 r w0 w : Option (List ℕ)) (A B : Type 0) (s t : Store) (is_long : Bool) (h : List ℕ) → SoFarOn r0 r w0 w A B s t is_long h → B → SoFar r0 r w0 w s t is_long h
+so_far_alone r0 r w0 w A B s t is_long h p alone = let g = p.2 in (p.0, g.0, p.1, g.1, g.3 alone)
+
+pub so_far_none : (r w : Option (List ℕ)) (A : Type 0) (s : Store) → SoFarOn r r w w A A s s false []
+so_far_none r w A s = ([], Consumes-nil r, goes_none A w s false [])
+
+pub so_far_step : (r0 r1 r2 w0 w1 w2 : Option (List ℕ)) (A B C : Type 0) (s t u : Store) (l1 l2 : Bool) (h1 h2 piece : List ℕ) → (B → A) → (C → B)
+    → SoFarOn r0 r1 w0 w1 A B s t l1 h1 → Consumes r1 r2 piece → GoesOn w1 w2 B C t l1 h1 piece u l2 h2 → SoFarOn r0 r2 w0 w2 A C s u l2 h2
+so_far_step r0 r1 r2 w0 w1 w2 A B C s t u l1 l2 h1 h2 piece earlier later p c q = (
   p.0 ++ piece,
-  p.1 ++ q.0,
-  Consumes-trans r0 r1 r2 p.0 piece p.2 c,
-  Appends-trans w0 w1 w2 p.1 q.0 p.3 q.1,
-  moves_trans s t u false l1 l2 [] h1 h2 p.0 piece p.1 q.0 p.4 q.2,
+  Consumes-trans r0 r1 r2 p.0 piece p.1 c,
+  goes_trans A B C w0 w1 w2 s t u false l1 l2 [] h1 h2 p.0 piece earlier later p.2 q,
 )
+
+-- what the line that is held where the input ends is answered with, which is no `ok ..`
+abbrev pub EndsLoose : Bool → List ℕ → List ℕ → Type 0
+EndsLoose is_long h written = (answers : List Answer) × (written ≡ lines_text answers) × (none_ok answers ≡ true) × ((line : List ℕ) → Holds is_long h line → length answers ≡ length (lines_of line))
+
+pub so_far_own : (r0 r1 r2 w0 w1 w2 : Option (List ℕ)) (A B : Type 0) (s t : Store) (is_long : Bool) (h written : List ℕ)
+    → SoFarOn r0 r1 w0 w1 A B s t is_long h → Consumes r1 r2 [] → IsAtEnd r2 → Appends w1 w2 written → EndsLoose is_long h written → AnswersOwn r0 r2 w0 w2 s
+so_far_own r0 r1 r2 w0 w1 w2 A B s t is_long h written p c e q ends =
+    let g = p.2 in
+    let m = g.2 [] holds_none in
+    let o = output s m.before in
+    let first = lines_text m.answers in (
+      p.0,
+      g.0 ++ written,
+      subst (λ read. Consumes r0 r2 read) (append-nil p.0) (Consumes-trans r0 r1 r2 p.0 [] p.1 c),
+      e,
+      Appends-trans w0 w1 w2 g.0 written g.1 q,
+      record {
+        before = m.before;
+        rest = m.rest ++ m.line;
+        answers = m.answers ++ ends.0;
+        is_read = m.is_text;
+        at_line = ap lines_of m.is_text ∙ m.splits (m.rest ++ m.line);
+        is_written = ap (λ l. l ++ written) m.is_written ∙ append_assoc o first written
+            ∙ ap (λ l. o ++ l) (ap (λ l. first ++ l) ends.1 ∙ sym (lines_text-append m.answers ends.0));
+        no_ok = none_ok-append m.answers ends.0 m.no_ok ends.2;
+        one_each = length-append m.answers ends.0 ∙ ap (λ k. k + length ends.0) m.one_each ∙ ap (λ k. length (lines_of m.rest) + k) (ends.3 m.line m.holds)
+            ∙ sym (length-append (lines_of m.rest) (lines_of m.line)) ∙ sym (ap length (m.rest_splits m.line));
+      },
+    )
+
+-- one line for a line that is cut
+pub cut_one_line : (line : List ℕ) → has_lf line ≡ false → 0 < length line → length (lines_of line) ≡ 1
+cut_one_line [] p some = absurd (omega (arith, some))
+cut_one_line (b ∷ h) p some = ap length (lines_of-cut b h p)
 
 -- a run that stopped at the end of a line has written a beginning of the output
 stops : (s t : Store) (read written : List ℕ) → StopsWithin s read written t → StopsIn s read written t

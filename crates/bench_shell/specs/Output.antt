@@ -1,5 +1,5 @@
 -- The output for an input: a line for each line.
-use Rattle.std.specs.Prelude.{◌≡◌, ℕ, ◌+◌, ◌≤◌, Bool, List, [], ◌∷◌, ◌++◌, length, Option, None, Some, Result, Ok, Err, nat_lt, if◌then◌else◌}
+use Rattle.std.specs.Prelude.{◌≡◌, ℕ, ◌+◌, ◌≤◌, Bool, true, false, List, [], ◌∷◌, ◌++◌, length, Option, None, Some, Result, Ok, Err, nat_lt, if◌then◌else◌}
 use Rattle.std.specs.Io.KnownBytes.{Appends, Consumes, IsAtEnd}
 use Rattle.project_book.specs.Edits.{accepts}
 use Rattle.project_book.specs.Faults.{number_of}
@@ -101,3 +101,36 @@ pub record StopsIn (s : Store) (read written : List ℕ) (t : Store) : Type 0 wh
 abbrev pub AnswersPart : Option (List ℕ) → Option (List ℕ) → Option (List ℕ) → Option (List ℕ) → Store → Store → Type 0
 AnswersPart reader reader' writer writer' s t =
     (read written : List ℕ) × Consumes reader reader' read × Appends writer writer' written × StopsIn s read written t
+
+-- an answer that rests on the edits so far: its line begins with `ok`
+abbrev pub is_ok : Answer → Bool
+is_ok (Accepted v) = true
+is_ok (Says v body) = true
+is_ok (Ordered v tags) = true
+is_ok _ = false
+
+abbrev pub none_ok : List Answer → Bool
+none_ok [] = true
+none_ok (a ∷ answers) = if is_ok a then false else none_ok answers
+
+-- the lines of these answers
+abbrev pub lines_text : List Answer → List ℕ
+lines_text [] = []
+lines_text (a ∷ answers) = line_text a ++ lines_text answers
+
+-- what was written for this input where others may have edited: the output for some of its first lines, and then one line
+-- for each of the others, none of which begins with `ok`. So all lines through the last `ok ..` are those of the output.
+pub record IsOwnToOk (s : Store) (read written : List ℕ) : Type 0 where
+  pub before : List ℕ
+  pub rest : List ℕ
+  pub answers : List Answer
+  pub is_read : read ≡ before ++ rest
+  pub at_line : lines_of read ≡ lines_of before ++ lines_of rest
+  pub is_written : written ≡ output s before ++ lines_text answers
+  pub no_ok : none_ok answers ≡ true
+  pub one_each : length answers ≡ length (lines_of rest)
+
+-- All was read to its end, and that was written.
+abbrev pub AnswersOwn : Option (List ℕ) → Option (List ℕ) → Option (List ℕ) → Option (List ℕ) → Store → Type 0
+AnswersOwn reader reader' writer writer' s =
+    (read written : List ℕ) × Consumes reader reader' read × IsAtEnd reader' × Appends writer writer' written × IsOwnToOk s read written

@@ -1,10 +1,10 @@
 -- What a run has done so far, for the contracts inside this crate. No public clause cites it, so nothing here needs believing.
-use Rattle.std.specs.Prelude.{◌≡◌, ℕ, ◌<◌, ◌≤◌, Bool, true, false, ◌||◌, List, [], ◌∷◌, ◌++◌, length, Option, ◌==◌}
+use Rattle.std.specs.Prelude.{◌≡◌, ◌⊎◌, ℕ, ◌<◌, ◌≤◌, Bool, true, false, ◌||◌, List, [], ◌∷◌, ◌++◌, length, Option, ◌==◌}
 use Rattle.std.specs.Io.KnownBytes.{Appends}
 use Rattle.bench_shell.specs.Lines.{lines_of}
 use Rattle.bench_shell.specs.Store.{Store}
 use Rattle.bench_shell.specs.Text.{line_text}
-use Rattle.bench_shell.specs.Output.{output, store_after}
+use Rattle.bench_shell.specs.Output.{output, store_after, none_ok, lines_text}
 use Rattle.bench_shell.specs.declared.answer.Answer.{Answer}
 
 -- some byte is LF
@@ -60,10 +60,29 @@ Moves s is_long bytes more written t is_long' bytes' =
 abbrev pub Fails : Store → Bool → List ℕ → List ℕ → List ℕ → Store → Type 0
 Fails s is_long bytes more written t = (line : List ℕ) → Holds is_long bytes line → StopsWithin s (line ++ more) written t
 
--- the writer gained what was written
-abbrev pub MovesOn : Option (List ℕ) → Option (List ℕ) → Store → Bool → List ℕ → List ℕ → Store → Bool → List ℕ → Type 0
-MovesOn writer writer' s is_long bytes more t is_long' bytes' =
-    (written : List ℕ) × Appends writer writer' written × Moves s is_long bytes more written t is_long' bytes'
+-- from a line that is held, by more bytes, where others may edit too: lines that were answered as by a desk alone (A: it was
+-- alone at the start), then lines whose answers are no `ok ..`, and one that has begun and is held
+pub record Goes (A : Type 0) (s : Store) (text written : List ℕ) (is_long : Bool) (bytes : List ℕ) : Type 0 where
+  pub before : List ℕ
+  pub rest : List ℕ
+  pub line : List ℕ
+  pub answers : List Answer
+  pub is_text : text ≡ before ++ (rest ++ line)
+  pub splits : Splits before
+  pub rest_splits : Splits rest
+  pub is_written : written ≡ output s before ++ lines_text answers
+  pub no_ok : none_ok answers ≡ true
+  pub one_each : length answers ≡ length (lines_of rest)
+  pub holds : Holds is_long bytes line
+  pub begun : (before ≡ []) ⊎ A
 
+-- the writer gained what was written, whoever edits (A and B: the desk is alone at the start and at the end)
+abbrev pub GoesOn : Option (List ℕ) → Option (List ℕ) → Type 0 → Type 0 → Store → Bool → List ℕ → List ℕ → Store → Bool → List ℕ → Type 0
+GoesOn writer writer' A B s is_long bytes more t is_long' bytes' =
+    (written : List ℕ) × Appends writer writer' written
+    × ((line : List ℕ) → Holds is_long bytes line → Goes A s (line ++ more) written is_long' bytes')
+    × (B → Moves s is_long bytes more written t is_long' bytes')
+
+-- the same, stopped within a line
 abbrev pub FailsOn : Option (List ℕ) → Option (List ℕ) → Store → Bool → List ℕ → List ℕ → Store → Type 0
 FailsOn writer writer' s is_long bytes more t = (written : List ℕ) × Appends writer writer' written × Fails s is_long bytes more written t

@@ -4,10 +4,9 @@ use Rattle.project_book.specs.Project.{Project}
 use Rattle.project_book.specs.Edits.{accepts, edited}
 use Rattle.project_book.specs.declared.edit.Edit.{Edit}
 use Rattle.project_book.specs.declared.fault.EditFault.{EditFault}
-use Rattle.project_book.specs.declared.fault.EditFault.TheVariants.{ClockSpent, Memory}
-use Rattle.run_queries.specs.Answers.{answer}
 use Rattle.run_queries.specs.declared.query.Query.{Query}
 use Rattle.bench_core.specs.Shown.{Shown, project_of}
+use Rattle.bench_core.specs.Told.{TellsAt, RefusesAt}
 use Rattle.bench_core.specs.declared.noted.Noted.{Noted}
 use Rattle.bench_core.specs.declared.told.Told.{Told}
 use Rattle.bench_core.specs.declared.told.Told.TheVariants as told
@@ -29,23 +28,14 @@ version_in s = length s.journal
 abbrev pub edited_store : Store → Edit → Store
 edited_store s e = record { project = edited s.project e; author = s.author; journal = s.journal ++ record { author = s.author; edit = e } ∷ [] }
 
--- a refusal is the first fault that applies; want of memory and a spent clock aside
-abbrev pub Refuses : Store → Edit → EditFault → Type 0
-Refuses s e ClockSpent = Unit {0}
-Refuses s e Memory = Unit {0}
-Refuses s e fault = accepts s.project (version_in s) e ≡ Err fault
-
 -- what an edit answers, and what the store is afterwards
 abbrev pub EditGives : Store → Edit → Result ℕ EditFault → Store → Type 0
 EditGives s e (Ok v) t = (accepts s.project (version_in s) e ≡ Ok tt) × (t ≡ edited_store s e) × (v ≡ version_in s + 1)
-EditGives s e (Err fault) t = Refuses s e fault × (t ≡ s)
+EditGives s e (Err fault) t = RefusesAt s.project (version_in s) e fault × (t ≡ s)
 
 -- what is told of a query
 abbrev pub Tells : Store → Query → Told → Type 0
-Tells s q (told.Answer v body) = (answer s.project q ≡ Ok body) × (v ≡ version_in s)
-Tells s q (told.BadQuery n) = answer s.project q ≡ Err n
-Tells s q told.ClockSpent = Unit {0}
-Tells s q told.Memory = Unit {0}
+Tells s q told = TellsAt s.project (version_in s) q told
 
 -- an answer at this version
 abbrev pub IsToldAt : ℕ → Told → Type 0

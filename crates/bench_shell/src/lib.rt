@@ -18,6 +18,7 @@ mod desk;
 mod ends;
 mod fault;
 mod held;
+mod seated;
 mod session;
 #[cfg(test)]
 mod tests;
@@ -26,4 +27,5 @@ pub use answer::Answer;
 pub use desk::Desk;
 pub use ends::{Reading, Sink, Source, Writing};
 pub use fault::RunFault;
+pub use seated::Seated;
 pub use session::{run, run_watched, run_within};

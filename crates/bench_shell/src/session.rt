@@ -1,11 +1,13 @@
 //! From a reader to a writer, line by line.
-ghost use Rattle.std.specs.Prelude.{◌≡◌, ℕ, List, [], ◌∷◌, ◌++◌, true, false, OnOk, OnErr, IfOk, IfSome, ◌≤◌};
+ghost use Rattle.std.specs.Prelude.{◌≡◌, ℕ, List, [], ◌∷◌, ◌++◌, true, false, OnOk, OnErr, IfOk, IfSome, ◌≤◌, length};
 ghost use Rattle.std.specs.Io.KnownBytes.{Appends, Keeps};
 ghost use Rattle.bench_shell.specs.Cause.{HasCause, CantRead};
 ghost use Rattle.bench_shell.specs.Store.{Store, version_in};
 ghost use Rattle.bench_shell.specs.Text.{line_text};
-ghost use Rattle.bench_shell.specs.Output.{reply, after, command_in, output, AnswersAll, AnswersPart};
-ghost use Rattle.bench_shell.specs.Steps.{Holds, AnswersLine, MovesOn, FailsOn};
+ghost use Rattle.bench_shell.specs.Output.{reply, after, command_in, output, is_ok, none_ok, lines_text, AnswersAll, AnswersPart, AnswersOwn};
+ghost use Rattle.bench_shell.specs.Lines.{lines_of};
+ghost use Rattle.bench_shell.specs.Steps.{Holds, AnswersLine, GoesOn, FailsOn};
+ghost use Rattle.bench_shell.specs.declared.answer.Answer.{Answer as AnyAnswer};
 
 use crate::answer::Answer;
 use crate::desk::Desk;
@@ -96,6 +98,7 @@ fn obey<T: Threads + Sync, D: Desk>(
     ensures answer { D.is_alone desk.new → IfOk result (λ a. a ≡ reply (D.store desk.old) command) }
     ensures store { D.is_alone desk.new → OnOk result (D.store desk.new ≡ after (D.store desk.old) command) }
     ensures kept { D.is_alone desk.new → OnErr result (D.store desk.new ≡ D.store desk.old) }
+    ensures own { IfOk result (λ a. is_ok a ≡ true → D.is_alone desk.new) }
 {
     match command {
         None => Ok(Answer::BadCommand),
@@ -123,11 +126,11 @@ fn obey<T: Threads + Sync, D: Desk>(
             Told::Memory => Err(RunFault::Memory),
         },
         Some(Command::Order(address)) => match desk.order(address) {
-            Ok((at, Ordered::Order(tags))) => {
-                if at != *version {
+            Ok((found, Ordered::Order(tags))) => {
+                if found != *version {
                     return Err(RunFault::OtherEditor);
                 }
-                Ok(Answer::Ordered(at, tags))
+                Ok(Answer::Ordered(found, tags))
             }
             Ok((_, Ordered::NoOrder)) => unreachable!(),
             Ok((_, Ordered::BadAddress)) => Ok(Answer::Bad(NO_ADDRESS)),
@@ -158,6 +161,7 @@ fn line_answer<T: Threads + Sync, D: Desk>(
     ensures answers { D.is_alone desk.new → IfOk result (λ a. (line : List ℕ) → Holds held.now.is_long held.now.bytes.items line
         → AnswersLine (D.store desk.old) line a (D.store desk.new)) }
     ensures kept { D.is_alone desk.new → OnErr result (D.store desk.new ≡ D.store desk.old) }
+    ensures own { IfOk result (λ a. is_ok a ≡ true → D.is_alone desk.new) }
 {
     if held.is_long {
         return Ok(Answer::BadLine);
@@ -182,7 +186,7 @@ fn take_byte<T: Threads + Sync, W: Sink, D: Desk>(
     ensures flushed { OnOk result (W.is_flushed writer.new ≡ true) }
     ensures earlier { D.is_alone desk.new → D.is_alone desk.old }
     ensures cause { HasCause result ⊥ (W.has_failed writer.new ≡ true) (¬ D.is_alone desk.new) (D.clock_is_spent desk.new) }
-    ensures moves { D.is_alone desk.new → OnOk result (MovesOn (W.contents writer.old) (W.contents writer.new)
+    ensures moves { OnOk result (GoesOn (W.contents writer.old) (W.contents writer.new) (D.is_alone desk.old) (D.is_alone desk.new)
         (D.store desk.old) held.old.is_long held.old.bytes.items (byte ∷ []) (D.store desk.new) held.new.is_long held.new.bytes.items) }
     ensures fails { D.is_alone desk.new → OnErr result (FailsOn (W.contents writer.old) (W.contents writer.new)
         (D.store desk.old) held.old.is_long held.old.bytes.items (byte ∷ []) (D.store desk.new)) }
@@ -217,7 +221,7 @@ fn take_piece<T: Threads + Sync, W: Sink, D: Desk>(
     ensures flushed { OnOk result (W.is_flushed writer.new ≡ true) }
     ensures earlier { D.is_alone desk.new → D.is_alone desk.old }
     ensures cause { HasCause result ⊥ (W.has_failed writer.new ≡ true) (¬ D.is_alone desk.new) (D.clock_is_spent desk.new) }
-    ensures moves { D.is_alone desk.new → OnOk result (MovesOn (W.contents writer.old) (W.contents writer.new)
+    ensures moves { OnOk result (GoesOn (W.contents writer.old) (W.contents writer.new) (D.is_alone desk.old) (D.is_alone desk.new)
         (D.store desk.old) held.old.is_long held.old.bytes.items piece.now (D.store desk.new) held.new.is_long held.new.bytes.items) }
     ensures fails { D.is_alone desk.new → OnErr result (FailsOn (W.contents writer.old) (W.contents writer.new)
         (D.store desk.old) held.old.is_long held.old.bytes.items piece.now (D.store desk.new)) }
@@ -238,7 +242,9 @@ fn finish<W: Sink>(alloc: Global, held: &Held, writer: &mut W) -> Result<(), Run
     ensures flushed { OnOk result (W.is_flushed writer.new ≡ true) }
     ensures cause { HasCause result ⊥ (W.has_failed writer.new ≡ true) ⊥ ⊥ }
     ensures ok { OnOk result ((written : List ℕ) × Appends (W.contents writer.old) (W.contents writer.new) written
-        × ((line : List ℕ) → Holds held.now.is_long held.now.bytes.items line → (s : Store) → output s line ≡ written)) }
+        × ((line : List ℕ) → Holds held.now.is_long held.now.bytes.items line → (s : Store) → output s line ≡ written)
+        × ((answers : List AnyAnswer) × (written ≡ lines_text answers) × (none_ok answers ≡ true)
+        × ((line : List ℕ) → Holds held.now.is_long held.now.bytes.items line → length answers ≡ length (lines_of line)))) }
     ensures err { OnErr result ((written : List ℕ) × Appends (W.contents writer.old) (W.contents writer.new) written
         × ((line : List ℕ) → Holds held.now.is_long held.now.bytes.items line → (s : Store) → (missing : List ℕ) × (output s line ≡ written ++ missing))) }
     ensures same_reference { W.lender writer.new ≡ W.lender writer.old }
@@ -276,6 +282,8 @@ pub fn run_watched<T: Threads + Sync, R: Source, W: Sink, D: Desk>(
         Appends (W.contents writer.old) (W.contents writer.new) (output (D.store desk.old) input))) }
     ensures all { D.is_alone desk.new → OnOk result (AnswersAll (R.remaining reader.old) (R.remaining reader.new)
         (W.contents writer.old) (W.contents writer.new) (D.store desk.old) (D.store desk.new)) }
+    ensures own { OnOk result (AnswersOwn (R.remaining reader.old) (R.remaining reader.new)
+        (W.contents writer.old) (W.contents writer.new) (D.store desk.old)) }
     ensures fault { D.is_alone desk.new → OnErr result (AnswersPart (R.remaining reader.old) (R.remaining reader.new)
         (W.contents writer.old) (W.contents writer.new) (D.store desk.old) (D.store desk.new)) }
     ensures cause { HasCause result (CantRead (R.has_failed reader.new) (R.left reader.new)) (W.has_failed writer.new ≡ true)
@@ -323,6 +331,8 @@ pub fn run_within<T: Threads + Sync, R: Read, W: Write, D: Desk>(
         Appends (W.contents writer.old) (W.contents writer.new) (output (D.store desk.old) input))) }
     ensures all { D.is_alone desk.new → OnOk result (AnswersAll (R.remaining reader.old) (R.remaining reader.new)
         (W.contents writer.old) (W.contents writer.new) (D.store desk.old) (D.store desk.new)) }
+    ensures own { OnOk result (AnswersOwn (R.remaining reader.old) (R.remaining reader.new)
+        (W.contents writer.old) (W.contents writer.new) (D.store desk.old)) }
     ensures fault { D.is_alone desk.new → OnErr result (AnswersPart (R.remaining reader.old) (R.remaining reader.new)
         (W.contents writer.old) (W.contents writer.new) (D.store desk.old) (D.store desk.new)) }
     ensures cause { HasCause result (Unit {0}) (Unit {0}) (¬ D.is_alone desk.new) (D.clock_is_spent desk.new) }
@@ -349,6 +359,8 @@ pub fn run<T: Threads + Sync, R: Read, W: Write, D: Desk>(
         Appends (W.contents writer.old) (W.contents writer.new) (output (D.store desk.old) input))) }
     ensures all { D.is_alone desk.new → OnOk result (AnswersAll (R.remaining reader.old) (R.remaining reader.new)
         (W.contents writer.old) (W.contents writer.new) (D.store desk.old) (D.store desk.new)) }
+    ensures own { OnOk result (AnswersOwn (R.remaining reader.old) (R.remaining reader.new)
+        (W.contents writer.old) (W.contents writer.new) (D.store desk.old)) }
     ensures fault { D.is_alone desk.new → OnErr result (AnswersPart (R.remaining reader.old) (R.remaining reader.new)
         (W.contents writer.old) (W.contents writer.new) (D.store desk.old) (D.store desk.new)) }
     ensures cause { HasCause result (Unit {0}) (Unit {0}) (¬ D.is_alone desk.new) (D.clock_is_spent desk.new) }

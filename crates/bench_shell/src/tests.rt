@@ -1,7 +1,8 @@
 //! Sessions at the built-in project: in one piece, byte by byte, and with faults.
-use crate::{RunFault, run, run_within};
+use crate::{RunFault, Seated, run, run_within};
 use bench_core::Bench;
-use project_book::Project;
+use project_book::{Edit, Project};
+use shared_bench::open;
 use std::alloc::Global;
 use std::cell::Cell;
 use std::io::{Error, ErrorKind, Read, Result, Write};
@@ -219,5 +220,26 @@ fn answers_are_flushed_before_the_next_read(rt: HostRuntime) -> std::result::Res
         let ended = run(&rt, rt.alloc(), &mut reader, &mut writer, &mut desk);
         assert_eq!(rt; ended, want);
     }
+    Ok(())
+}
+
+/// 9.2: another pass has set the word, so no answer is that of the desk's own edits.
+#[test]
+fn another_editor_is_told(rt: HostRuntime) -> std::result::Result<(), Fail> {
+    let mut pass = open(rt.alloc(), bench(rt.alloc(), 0)?, 2)
+        .ok()
+        .ok_or("no memory")?;
+    let mut other = pass.split().ok().ok_or("a seat")?;
+    let word = Edit::Word {
+        address: 0,
+        word: 20,
+    };
+    assert_eq!(rt; other.edit(&rt, word), Ok(1));
+    let mut desk = Seated::new(&rt, rt.alloc(), pass);
+    let mut reader = b"memory 0 0\n".as_slice();
+    let mut writer = Vec::new(rt.alloc());
+    let ended = run(&rt, rt.alloc(), &mut reader, &mut writer, &mut desk);
+    assert_eq!(rt; ended, Err(RunFault::OtherEditor));
+    assert!(rt; writer.is_empty());
     Ok(())
 }

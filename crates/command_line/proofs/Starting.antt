@@ -13,7 +13,9 @@ use Rattle.bench_shell.specs.Output.{AnswersAll}
 use Rattle.command_line.specs.Arguments.{file_in}
 use Rattle.command_line.specs.declared.end.End.{End}
 use Rattle.command_line.specs.declared.end.End.TheVariants.{Ended, Words, Workers, NoFile, Project as Refused, Served, CannotStart}
-use Rattle.command_line.specs.Opening.{Gives, IsTaken, IsNamed, IsRefused, FileEnds, StopsAt, first_store}
+use Rattle.command_line.specs.Opening.{Gives, IsTaken, IsNamed, IsRefused, FileEnds, FileStops, StopsAt, StopsFor, first_store}
+use Rattle.command_line.specs.declared.start.Stop.{Stop}
+use Rattle.command_line.specs.declared.start.Stop.TheVariants as stop
 
 -- what the bytes that were given are read as
 pub is_read : (gives : Gives) (name : Text) (bytes : List ℕ) (P : Project) → gives name (Some bytes) → filed bytes ≡ Ok P → IsNamed gives (Some name) P
@@ -32,6 +34,12 @@ stops gives words file (NoFile name) taken is why = (taken, subst (λ f. FileEnd
 stops gives words file (Refused fault) taken is why = (taken, subst (λ f. FileEnds gives f (Refused fault)) is why)
 stops gives words file (Served fault) taken is why = absurd why
 stops gives words file CannotStart taken is why = tt
+
+-- the same of what the program stops with
+pub stops_for : (gives : Gives) (words : List Text) (file : Option Text) (why : Stop) → IsTaken words → file ≡ file_in words → FileStops gives file why → StopsFor gives words why
+stops_for gives words file (stop.Words error) taken is h = absurd h
+stops_for gives words file (stop.Refused fault place) taken is h = stops gives words file (Refused fault) taken is h
+stops_for gives words file (stop.At end) taken is h = stops gives words file end taken is h
 
 pub some_workers : (n : ℕ) → (n ≡ 0 → ⊥) → 0 < n
 some_workers zero h = absurd (h refl)

@@ -39,4 +39,5 @@ end_text CannotStart = Some (codes "hotspot: cannot start")
 -- how the program ends, by what it ends with
 abbrev pub end_at : Stop → End
 end_at (stop.Words error) = end_of (kind_of error)
+end_at (stop.Refused fault place) = Project fault
 end_at (stop.At end) = end

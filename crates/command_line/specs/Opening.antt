@@ -10,7 +10,7 @@ use Rattle.bench_shell.specs.Store.{Store}
 use Rattle.bench_shell.specs.Output.{AnswersAll, AnswersPart}
 use Rattle.command_line.specs.Arguments.{hotspot, file_in, IsNumberHeld}
 use Rattle.command_line.specs.declared.end.End.{End}
-use Rattle.command_line.specs.declared.end.End.TheVariants.{Ended, Words, Workers, NoFile, Project as Refused, Served, CannotStart}
+use Rattle.command_line.specs.declared.end.End.TheVariants.{Ended, Workers, NoFile, Project as Refused, Served, CannotStart}
 use Rattle.command_line.specs.declared.start.Stop.{Stop}
 use Rattle.command_line.specs.declared.start.Stop.TheVariants as stop
 
@@ -45,6 +45,11 @@ FileEnds gives file (Refused fault) = IsRefused gives file fault
 FileEnds gives file CannotStart = Unit {0}
 FileEnds gives file _ = ⊥
 
+abbrev pub FileStops : Gives → Option Text → Stop → Type 0
+FileStops gives file (stop.Words error) = ⊥
+FileStops gives file (stop.Refused fault place) = IsRefused gives file fault
+FileStops gives file (stop.At end) = FileEnds gives file end
+
 -- why there is no bench: the words are looked at first, then the workers, then FILE, then the project
 abbrev pub StopsAt : Gives → List Text → End → Type 0
 StopsAt gives words Workers = (fault_of hotspot words ≡ []) × ((n : ℕ) × (0 < n) × IsNumberHeld (matches_of hotspot words) n)
@@ -55,6 +60,7 @@ StopsAt gives words _ = ⊥
 
 abbrev pub StopsFor : Gives → List Text → Stop → Type 0
 StopsFor gives words (stop.Words error) = HasKind (fault_of hotspot words) error
+StopsFor gives words (stop.Refused fault place) = StopsAt gives words (Refused fault)
 StopsFor gives words (stop.At end) = StopsAt gives words end
 
 -- a bench with this project at its opening
@@ -70,4 +76,5 @@ ServesAt gives words r r' w w' end = StopsAt gives words end × Keeps r r' × Ke
 
 abbrev pub ServesFor : Gives → List Text → Option (List ℕ) → Option (List ℕ) → Option (List ℕ) → Option (List ℕ) → Stop → Type 0
 ServesFor gives words r r' w w' (stop.Words error) = HasKind (fault_of hotspot words) error × Keeps r r' × Keeps w w'
+ServesFor gives words r r' w w' (stop.Refused fault place) = ServesAt gives words r r' w w' (Refused fault)
 ServesFor gives words r r' w w' (stop.At end) = ServesAt gives words r r' w w' end

@@ -54,7 +54,8 @@ fn ended<H: Host>(rt: &H, stop: &Stop<'_>) -> ExitCode {
     let _ = match stop {
         Stop::Words(error) => error.print(rt),
         Stop::At(End::Ended | End::Words) => Ok(()),
-        Stop::At(end) => eprintln!(rt; "{end}"),
+        Stop::Refused(_, Some(place)) => eprintln!(rt; "{end}\nhotspot: {place}"),
+        Stop::Refused(_, None) | Stop::At(_) => eprintln!(rt; "{end}"),
     };
     ExitCode::from(status(&end))
 }

@@ -3,7 +3,7 @@ ghost use Rattle.std.specs.Prelude.{◌≡◌, [], IfOk, IfErr, option_map};
 ghost use Rattle.clap.specs.Walk.{texts};
 ghost use Rattle.bench_core.specs.Shown.{project_of};
 ghost use Rattle.command_line.specs.Ends.{end_at};
-ghost use Rattle.command_line.specs.Opening.{IsNamed, FileEnds, Opens, StopsFor, ServesFor};
+ghost use Rattle.command_line.specs.Opening.{IsNamed, FileStops, Opens, StopsFor, ServesFor};
 
 use crate::end::{End, refusal};
 use crate::folder::Folder;
@@ -12,7 +12,7 @@ use bench_core::Bench;
 use bench_shell::run;
 use clap::Error;
 use project_book::Project;
-use project_file::read_project;
+use project_file::{ProjectFault, fault_place, read_project};
 use std::alloc::Global;
 use std::io::{Read, Write};
 use std::thread::Threads;
@@ -22,6 +22,8 @@ use std::thread::Threads;
 pub enum Stop<'a> {
     /// The words are no command line, or ask for help or the version: the text is the error's.
     Words(Error),
+    /// The project was refused: why, and where its file is wrong, where that can be told.
+    Refused(ProjectFault, Option<String>),
     /// Any other end.
     At(End<'a>),
 }
@@ -33,6 +35,7 @@ impl<'a> Stop<'a> {
     {
         match self {
             Stop::Words(error) => refusal(error),
+            Stop::Refused(fault, _) => End::Project(*fault),
             Stop::At(end) => *end,
         }
     }
@@ -44,26 +47,34 @@ fn project<'a, F: Folder>(
     alloc: Global,
     file: Option<&'a str>,
     folder: &F,
-) -> Result<Project, End<'a>>
+) -> Result<Project, Stop<'a>>
     ensures ok { IfOk result (IsNamed (F.gives folder.now) (option_map (λ name. name.now) file.entry)) }
-    ensures err { IfErr result (FileEnds (F.gives folder.now) (option_map (λ name. name.now) file.entry)) }
+    ensures err { IfErr result (FileStops (F.gives folder.now) (option_map (λ name. name.now) file.entry)) }
 {
     let name = match file {
         Some(name) => name,
         None => {
             return match Project::built_in(alloc) {
                 Ok(project) => Ok(project),
-                Err(_) => Err(End::CannotStart),
+                Err(_) => Err(Stop::At(End::CannotStart)),
             };
         }
     };
     let bytes = match folder.read(name) {
         Ok(bytes) => bytes,
-        Err(_) => return Err(End::NoFile(name)),
+        Err(_) => return Err(Stop::At(End::NoFile(name))),
     };
     match read_project(alloc, bytes.as_slice()) {
         Ok(project) => Ok(project),
-        Err(fault) => Err(End::Project(fault)),
+        Err(fault) => Err(Stop::Refused(fault, place_in(alloc, bytes.as_slice()))),
+    }
+}
+
+/// Where a file that was refused is wrong, as far as that can be told.
+fn place_in(alloc: Global, bytes: &[u8]) -> Option<String> {
+    match fault_place(alloc, bytes) {
+        Ok(place) => place,
+        Err(_) => None,
     }
 }
 
@@ -75,7 +86,7 @@ fn project<'a, F: Folder>(
 /// The first that applies: the words are no command line, or ask for help or the version; they ask for workers; FILE
 /// can't be read, for whatever cause; it is no project. Want of memory may stand in the place of each: it is `CannotStart`,
 /// `NoFile`, or the project's `Memory`.
-#[tactic(auto, using(crate::proofs::Starting::stops))]
+#[tactic(auto, using(crate::proofs::Starting::stops_for))]
 pub fn opening<'a, F: Folder>(
     alloc: Global,
     words: &'a [&'a str],
@@ -98,7 +109,7 @@ pub fn opening<'a, F: Folder>(
             Ok(bench) => Ok(bench),
             Err(_) => Err(Stop::At(End::CannotStart)),
         },
-        Err(end) => Err(Stop::At(end)),
+        Err(stop) => Err(stop),
     }
 }
 

@@ -74,11 +74,84 @@ A workbench for hot-spot experiments on a machine with interleaved memory and a 
 Usage: hotspot [OPTIONS] [FILE]
 
 Arguments:
+  [FILE]
+          The project file; without it a machine of one processor and one module is opened
+
+Options:
+      --workers <N>
+          How many workers compute beside the shell, from 0 to 16; this version has none, and takes 0 alone
+          
+          [default: 0]
+
+  -h, --help
+          Print help (see a summary with '-h')
+
+  -V, --version
+          Print version
+
+One command a line is read from standard input, and one line is written for each to standard output.
+
+Edits, answered `ok V` with the new version V, or `refused N`:
+  entry P I ENTRY           entry I of processor P's script; at the script's length it is appended
+  cut P L                   keep the first L entries of P's script
+  word A V                  the word of address A before cycle 0
+  page G AMOUNT BASE        spread page G over 2^AMOUNT modules from BASE on
+  depth Q D                 places of the queues Q: low-forward, low-reverse, comb-forward, comb-reverse, module
+  wait D                    places of the wait buffers of combining switches
+  combine S on|off          whether the switches of stage S combine
+  window W                  how many references of a processor may be unanswered
+  horizon H                 the last cycle that is simulated
+An ENTRY is `sync KIND A V [T]` or `plain KIND A V [T]` (a reference over the combining or the low network, T times),
+`fence` or `idle T`; KIND is load, add, and, or, min, max, store or store-if-zero.
+
+Queries, answered `ok V BODY` by the project as it then stands, or `bad N`:
+  reply P I                 when P received the reply to its reference I, and which word
+  state C T                 the state of a component (p0, m0, l1.0, c1.0) at cycle T
+  memory A T                the word of address A at cycle T
+  counter NAME WHO T0 T1    NAME issued, answered, served, combined or waiting; WHO a component or all
+  profile NET S             how often the queues of stage S of low or comb had each length
+  tree NET M                the first cycle of each level of saturation towards module M
+  level NET M T             that level at cycle T
+  bound A B P               the bound on the rate of each of P processors where A of B references are hot
+  place A                   the module and the row of address A
+  order A                   a serial order of the references to address A
+
+refused N                              bad N
+   1  65,535 edits were made              1  no such processor, module, component or stage
+   2  no such processor                   2  a cycle past the horizon
+   3  no such entry of the script         3  no such address
+   4  a script of 256 entries             4  no reference of that number was issued
+   5  no such address                     5  an empty window of cycles
+   6  no such page                        6  no such fraction
+   7  a page can't be spread so
+   8  no such stage                    A line that is no command is answered `bad command`, one over 4,096 bytes
+   9  a depth out of its limits        `bad line`, one that the end of the input cuts `bad cut`.
+  10  a window not within 1 to 8
+  11  times not within 1 to 1,000
+  12  a horizon above 2,000
+
+A project file that is refused ends the program with status 4, `hotspot: project refused: N`, and a line that says where:
+   1  longer than 4,194,304 bytes          6  a value of another type
+   2  not UTF-8, or not TOML               7  a number out of its range
+   3  `format` is missing, or not 1 or 2   8  a text that is no script entry
+   4  an unknown key                       9  a page, address or processor given twice
+   5  a missing key                       10  no memory
+
+Status: 0 the input ended; 2 the command line; 3 FILE can't be read; 4 the project; 5 a fault of reading, writing, memory
+or clock; 6 no memory at the start. docs/COMMANDS.md says more of commands, docs/PROJECT_FILE.md of project files.
+";
+
+const SHORT_HELP: &str = "\
+A workbench for hot-spot experiments on a machine with interleaved memory and a combining network
+
+Usage: hotspot [OPTIONS] [FILE]
+
+Arguments:
   [FILE]  The project file; without it a machine of one processor and one module is opened
 
 Options:
       --workers <N>  How many workers compute beside the shell, from 0 to 16; this version has none, and takes 0 alone [default: 0]
-  -h, --help         Print help
+  -h, --help         Print help (see more with '--help')
   -V, --version      Print version
 
 One command a line is read from standard input, and one line is written for each to standard output.
@@ -86,19 +159,13 @@ One command a line is read from standard input, and one line is written for each
 Edits:    entry, cut, word, page, depth, wait, combine, window, horizon
 Queries:  reply, state, memory, counter, profile, tree, level, bound, place, order
 
-docs/COMMANDS.md describes each command and its answers, docs/PROJECT_FILE.md the project file.
-
-A project file that is refused ends the program with status 4 and `hotspot: project refused: N`:
-   1  longer than 4,194,304 bytes          6  a value of another type
-   2  not UTF-8, or not TOML               7  a number out of its range
-   3  `format` is missing, or not 1        8  a text that is no script entry
-   4  an unknown key                       9  a page, address or processor given twice
-   5  a missing key                       10  no memory
+`--help` lists them with their arguments, and the numbers of refusals.
 ";
 
 #[test]
 fn the_help_is_told(rt: HostRuntime) -> Result<(), Fail> {
     assert_eq!(rt; text_of(rt.alloc(), &["--help"])?.as_str(), HELP);
+    assert_eq!(rt; text_of(rt.alloc(), &["-h"])?.as_str(), SHORT_HELP);
     Ok(())
 }
 
@@ -226,5 +293,11 @@ fn the_program_ends_as_its_words_say(rt: HostRuntime) -> Result<(), Fail> {
     let opened = opening(rt.alloc(), &["one.toml"], &files);
     assert!(rt; matches!(&opened, Ok(bench) if bench.clock() == 0));
     assert!(rt; !matches!(&opened, Err(Stop::Words(_))));
+    match opening(rt.alloc(), &[" empty.toml "], &files) {
+        Err(Stop::Refused(ProjectFault::Format, Some(place))) => {
+            assert_eq!(rt; place.as_str(), "format: missing");
+        }
+        _ => assert!(rt; false),
+    }
     Ok(())
 }

@@ -378,7 +378,7 @@ example_near : (near 0 0 ∷ near 0 1 ∷ near 1 0 ∷ near 1 2 ∷ near 1 4 ∷
     (0 ∷ 1 ∷ []) ∷ (1 ∷ 0 ∷ []) ∷ (0 ∷ 4 ∷ 5 ∷ []) ∷ (2 ∷ 4 ∷ 5 ∷ []) ∷ (4 ∷ 0 ∷ 1 ∷ 2 ∷ 3 ∷ []) ∷ (5 ∷ 0 ∷ 1 ∷ 2 ∷ 3 ∷ []) ∷ (9 ∷ 1 ∷ 3 ∷ 10 ∷ 11 ∷ []) ∷ (14 ∷ 12 ∷ 13 ∷ 4 ∷ 5 ∷ []) ∷ []
 example_near = refl
 
-example_components : (components 0 ∷ components 1 ∷ components 2 ∷ components 5 ∷ []) ≡ 2 ∷ 6 ∷ 16 ∷ 224 ∷ []
+example_components : (components 0 ∷ components 1 ∷ components 2 ∷ components 5 ∷ components 6 ∷ []) ≡ 2 ∷ 6 ∷ 16 ∷ 224 ∷ 512 ∷ []
 example_components = refl
 
 -- 7

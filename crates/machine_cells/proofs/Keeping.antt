@@ -1,6 +1,6 @@
 -- No message of a project's machine is lost.
 use Rattle.std.proofs.Common.{◌≡◌, ℕ, zero, suc, ◌+◌, ◌-◌, ◌/◌, ◌%◌, ◌^◌, ◌<◌, ◌≤◌, Bool, true, false, cond, List, ◌++◌, length, refl, ap, sym, ◌∙◌, subst, inl, inr, Option, None, Some, arith}
-use Rattle.std.specs.Prelude.{is_some, nat_le, ◌==◌, ◌&&◌, ◌⊎◌, IfSome, slice_get, slice_index, option_map}
+use Rattle.std.specs.Prelude.{is_some, nat_le, ◌==◌, ◌&&◌, ◌||◌, ◌⊎◌, IfSome, slice_get, slice_index, option_map}
 use Rattle.std.specs.List.{Contains}
 use Rattle.std.specs.Option.{option_to_list}
 use Rattle.std.proofs.Math.Nat.{mod-lt}
@@ -17,7 +17,7 @@ use Rattle.omega_net.specs.declared.message.Request.{Request}
 use Rattle.omega_net.specs.declared.message.Reply.{Reply}
 use Rattle.omega_net.specs.declared.message.Traffic.{Traffic}
 use Rattle.omega_net.specs.declared.script.ScriptEntry.{ScriptEntry}
-use Rattle.omega_net.specs.declared.script.ScriptEntry.TheVariants.{Reference, Fence, Idle}
+use Rattle.omega_net.specs.declared.script.ScriptEntry.TheVariants.{Reference, Until, Fence, Idle}
 use Rattle.omega_net.specs.declared.wire.Wire.{Wire}
 use Rattle.omega_net.specs.Limits.{queue_places}
 use Rattle.omega_net.specs.Numbers.{half, number_of, Exists}
@@ -31,7 +31,7 @@ use Rattle.omega_net.proofs.Keeping.{joined_in, shorter, nothing_is_lost}
 use Rattle.omega_net.proofs.Wiring.{wire_is}
 use Rattle.ref_proc.specs.declared.state.ProcState.{ProcState}
 use Rattle.ref_proc.specs.declared.step.ProcSettings.{ProcSettings}
-use Rattle.ref_proc.specs.RefProc.{acting, next_entry, spending, issuing, referring, taking}
+use Rattle.ref_proc.specs.RefProc.{acting, next_entry, spending, issuing, referring, tries, has_brought, taking}
 use Rattle.mem_module.specs.declared.state.ModuleState.{ModuleState}
 use Rattle.mem_module.specs.declared.step.ModuleTraffic.{ModuleTraffic}
 use Rattle.mem_module.specs.Memory.{word_at}
@@ -227,6 +227,10 @@ acting_got settings None s = refl
 acting_got settings (Some (Reference sync op address times)) s =
     same_got (nat_le times (referring settings sync op s).spent) (next_entry (referring settings sync op s)) (referring settings sync op s) refl
     ∙ same_got _ (issuing settings sync op s) s refl
+acting_got settings (Some (Until sync op address value times)) s =
+    same_got (tries value times s) (referring settings sync op s) (cond (has_brought value s || nat_le times s.spent) (next_entry s) s)
+    (same_got _ (issuing settings sync op s) s refl ∙ sym (same_got _ (next_entry s) s refl))
+    ∙ same_got _ (next_entry s) s refl
 acting_got settings (Some Fence) s = same_got _ (next_entry s) s refl
 acting_got settings (Some (Idle turns)) s = same_got (nat_le turns (spending s).spent) (next_entry (spending s)) (spending s) refl
 

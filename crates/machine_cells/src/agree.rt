@@ -93,7 +93,7 @@ fn agree_entry(a: &Project, b: &Project, entry: Option<ScriptEntry>) -> bool
     ensures { IsTrue result ↔ SameAtAll a.now b.now (entry_reads entry) }
 {
     match entry {
-        Some(ScriptEntry::Reference { address, .. }) => {
+        Some(ScriptEntry::Reference { address, .. } | ScriptEntry::Until { address, .. }) => {
             a.same_at(b, Slot::Window) && a.same_at(b, Slot::Page(address / PAGE_WORDS))
         }
         _ => true,

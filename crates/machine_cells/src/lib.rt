@@ -1,6 +1,6 @@
 //! The cells of an RP3-like machine: each component at each cycle, computed from the cells near it.
 //!
-//! The machine has 2^k processors and as many memory modules, for k from 0 to 5, joined by a
+//! The machine has 2^k processors and as many memory modules, for k from 0 to 6, joined by a
 //! low-latency network and by one that combines requests to one word (Pfister and others 1985;
 //! Gottlieb and others 1983), each an omega network of two-by-two switches (Lawrie 1975). The crate
 //! stands on the four components (`ref_proc`, `mem_module`, `low_switch`, `comb_switch`), on the
@@ -39,6 +39,7 @@ mod grid;
 mod laws;
 mod near;
 mod pull;
+mod readers;
 mod reads;
 mod rest;
 mod scratch;

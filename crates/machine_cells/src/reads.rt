@@ -108,13 +108,17 @@ fn index_reads(proc: u8, index: u16, slot: Slot) -> bool
     }
 }
 
-/// Where that is a reference, the window and the page of its address.
+/// Where that is a reference or an `until`, the window and the page of its address.
 fn entry_reads(entry: Option<ScriptEntry>, slot: Slot) -> bool
     ensures { result ≡ is_listed (entry_reads entry) slot }
 {
     match (entry, slot) {
         (Some(ScriptEntry::Reference { .. }), Slot::Window) => true,
+        (Some(ScriptEntry::Until { .. }), Slot::Window) => true,
         (Some(ScriptEntry::Reference { address, .. }), Slot::Page(page)) => {
+            page == address / PAGE_WORDS
+        }
+        (Some(ScriptEntry::Until { address, .. }), Slot::Page(page)) => {
             page == address / PAGE_WORDS
         }
         _ => false,

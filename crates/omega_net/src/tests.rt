@@ -33,8 +33,8 @@ fn numbers_the_components_by_kind_network_and_stage(rt: HostRuntime) {
         assert_eq!(rt; shape.number(component), Some(number), "at k {k}");
         assert_eq!(rt; shape.component(number), Some(component), "at k {k}");
     }
-    assert!(rt; Shape::new(5).is_some());
-    assert!(rt; Shape::new(6).is_none());
+    assert!(rt; Shape::new(6).is_some());
+    assert!(rt; Shape::new(7).is_none());
 }
 
 #[test]

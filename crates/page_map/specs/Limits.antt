@@ -3,7 +3,7 @@ use Rattle.std.specs.Prelude.{ℕ}
 
 -- the greatest k: a machine has 2^k modules
 abbrev pub max_k : ℕ
-max_k = 5
+max_k = 6
 
 -- how many pages there are, how many words a page has, and how many addresses there are
 abbrev pub page_count : ℕ

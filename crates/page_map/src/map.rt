@@ -13,7 +13,7 @@ pub const PAGES: u32 = 64;
 pub const ADDRESSES: u32 = 16_384;
 
 /// The greatest k: a machine has 2^k modules.
-pub const MAX_K: u32 = 5;
+pub const MAX_K: u32 = 6;
 
 const PAGES_HELD: usize = PAGES as usize;
 

@@ -4,7 +4,7 @@ ghost use Rattle.std.specs.Fmt.{decimal};
 
 use std::fmt;
 
-/// A module, below 32, and a row in it, below 16,384. It prints as `M:R`, both in decimal.
+/// A module, below 64, and a row in it, below 16,384. It prints as `M:R`, both in decimal.
 #[derive(Clone, Copy, PartialEq, Eq, Debug, Default)]
 pub struct Place {
     pub module: u8,

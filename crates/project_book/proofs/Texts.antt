@@ -17,8 +17,9 @@ use Rattle.word_ops.specs.declared.kind.Kind.TheVariants.{Load, Add, And, Or, Mi
 use Rattle.word_ops.specs.declared.op.Op.{Op}
 use Rattle.word_ops.specs.Names.{kind_name, kind_named}
 use Rattle.omega_net.specs.declared.script.ScriptEntry.{ScriptEntry}
-use Rattle.omega_net.specs.declared.script.ScriptEntry.TheVariants.{Reference, Fence, Idle}
-use Rattle.project_book.specs.EntryTexts.{times_text, entry_text, times_of, reference_of, entry_of, IsNumbered}
+use Rattle.omega_net.specs.declared.script.ScriptEntry.TheVariants.{Reference, Until, Fence, Idle}
+use Rattle.project_book.specs.Limits.{usual_tries}
+use Rattle.project_book.specs.EntryTexts.{network_name, times_text, entry_text, times_of, reference_of, network_named, until_of, entry_of, IsNumbered}
 
 -- bytes among which no separator is
 abbrev is_plain : List ℕ → Bool
@@ -103,39 +104,68 @@ word_decimal n h =
     record { some = decimal_nonempty n wide; plain = plain_digits (decimal n) (digits_decimal own n wide) }
 
 -- an operand and the times behind it
-record ReadsTimes (v times : ℕ) (words : List (List ℕ)) : Type 0 where
+record ReadsTimes (usual v times : ℕ) (words : List (List ℕ)) : Type 0 where
   more : List (List ℕ)
   are : words ≡ decimal v ∷ more
-  read : times_of more ≡ Some times
+  read : times_of usual more ≡ Some times
 
-reads_times : (v times : ℕ) → v < 2 ^ 32 → times < 2 ^ 32 → ReadsTimes v times (words_of (decimal v ++ times_text times))
-reads_times v times hv ht = by_once (times == 1) refl
+reads_times : (usual v times : ℕ) → v < 2 ^ 32 → times < 2 ^ 32 → ReadsTimes usual v times (words_of (decimal v ++ times_text usual times))
+reads_times usual v times hv ht = by_once (times == usual) refl
   where
-    by_once : (once : Bool) → (times == 1) ≡ once → ReadsTimes v times (words_of (decimal v ++ cond once [] (codes " " ++ decimal times)))
+    by_once : (once : Bool) → (times == usual) ≡ once → ReadsTimes usual v times (words_of (decimal v ++ cond once [] (codes " " ++ decimal times)))
     by_once true e =
-        record { more = []; are = ap words_of (append-nil (decimal v)) ∙ last_word (decimal v) (word_decimal v hv); read = ap (λ (k : ℕ). Some k) (sym (eqb-true times 1 e)) }
+        record { more = []; are = ap words_of (append-nil (decimal v)) ∙ last_word (decimal v) (word_decimal v hv); read = ap (λ (k : ℕ). Some k) (sym (eqb-true times usual e)) }
     by_once false e =
         record { more = decimal times ∷ []; are = first_word (decimal v) (decimal times) (word_decimal v hv) ∙ ap (λ ws. decimal v ∷ ws) (last_word (decimal times) (word_decimal times ht)); read = number_decimal times ht }
 
-reference_read : (sync : Bool) (kind : Kind) (a v times : ℕ) (name address operand : List ℕ) (more : List (List ℕ)) → kind_named name ≡ Some kind → number_of address ≡ Some a → number_of operand ≡ Some v → times_of more ≡ Some times → reference_of sync (name ∷ address ∷ operand ∷ more) ≡ Some (Reference sync (record { kind = kind; operand = v }) a times)
+reference_read : (sync : Bool) (kind : Kind) (a v times : ℕ) (name address operand : List ℕ) (more : List (List ℕ)) → kind_named name ≡ Some kind → number_of address ≡ Some a → number_of operand ≡ Some v → times_of 1 more ≡ Some times → reference_of sync (name ∷ address ∷ operand ∷ more) ≡ Some (Reference sync (record { kind = kind; operand = v }) a times)
 reference_read sync kind a v times name address operand more k m o t = rw (k, m, o, t) refl
 
 -- the words behind a reference's network
-behind_read : (sync : Bool) (op : Op) (a times : ℕ) → op.operand < 2 ^ 32 → a < 2 ^ 32 → times < 2 ^ 32 → reference_of sync (words_of (kind_name op.kind ++ 32 ∷ (decimal a ++ 32 ∷ (decimal op.operand ++ times_text times)))) ≡ Some (Reference sync op a times)
+behind_read : (sync : Bool) (op : Op) (a times : ℕ) → op.operand < 2 ^ 32 → a < 2 ^ 32 → times < 2 ^ 32 → reference_of sync (words_of (kind_name op.kind ++ 32 ∷ (decimal a ++ 32 ∷ (decimal op.operand ++ times_text 1 times)))) ≡ Some (Reference sync op a times)
 behind_read sync op a times hv ha ht =
-    let last = reads_times op.operand times hv ht in
-    let address = first_word (decimal a) (decimal op.operand ++ times_text times) (word_decimal a ha) in
-    let kind = first_word (kind_name op.kind) (decimal a ++ 32 ∷ (decimal op.operand ++ times_text times)) (word_kind op.kind) in
+    let last = reads_times 1 op.operand times hv ht in
+    let address = first_word (decimal a) (decimal op.operand ++ times_text 1 times) (word_decimal a ha) in
+    let kind = first_word (kind_name op.kind) (decimal a ++ 32 ∷ (decimal op.operand ++ times_text 1 times)) (word_kind op.kind) in
     rw (kind, address, last.are) (reference_read sync op.kind a op.operand times (kind_name op.kind) (decimal a) (decimal op.operand) last.more (name_read op.kind) (number_decimal a ha) (number_decimal op.operand hv) last.read)
+
+network_read : (sync : Bool) → network_named (network_name sync) ≡ Some sync
+network_read true = refl
+network_read false = refl
+
+word_network : (sync : Bool) → IsWord (network_name sync)
+word_network true = record { some = omega arith; plain = refl }
+word_network false = record { some = omega arith; plain = refl }
+
+until_reads : (sync : Bool) (kind : Kind) (a v w times : ℕ) (network name address operand value : List ℕ) (more : List (List ℕ)) → network_named network ≡ Some sync → kind_named name ≡ Some kind → number_of address ≡ Some a → number_of operand ≡ Some v → number_of value ≡ Some w → times_of usual_tries more ≡ Some times → until_of (network ∷ name ∷ address ∷ operand ∷ value ∷ more) ≡ Some (Until sync (record { kind = kind; operand = v }) a w times)
+until_reads sync kind a v w times network name address operand value more n k m o p t = rw (n, k, m, o, p, t) refl
+
+-- the words behind `until`
+until_read : (sync : Bool) (op : Op) (a w times : ℕ) → op.operand < 2 ^ 32 → a < 2 ^ 32 → w < 2 ^ 32 → times < 2 ^ 32
+    → until_of (words_of (network_name sync ++ 32 ∷ (kind_name op.kind ++ 32 ∷ (decimal a ++ 32 ∷ (decimal op.operand ++ 32 ∷ (decimal w ++ times_text usual_tries times)))))) ≡ Some (Until sync op a w times)
+until_read sync op a w times hv ha hw ht =
+    let last = reads_times usual_tries w times hw ht in
+    let operand = first_word (decimal op.operand) (decimal w ++ times_text usual_tries times) (word_decimal op.operand hv) in
+    let address = first_word (decimal a) (decimal op.operand ++ 32 ∷ (decimal w ++ times_text usual_tries times)) (word_decimal a ha) in
+    let kind = first_word (kind_name op.kind) (decimal a ++ 32 ∷ (decimal op.operand ++ 32 ∷ (decimal w ++ times_text usual_tries times))) (word_kind op.kind) in
+    let network = first_word (network_name sync) (kind_name op.kind ++ 32 ∷ (decimal a ++ 32 ∷ (decimal op.operand ++ 32 ∷ (decimal w ++ times_text usual_tries times)))) (word_network sync) in
+    rw (network, kind, address, operand, last.are) (until_reads sync op.kind a op.operand w times (network_name sync) (kind_name op.kind) (decimal a) (decimal op.operand) (decimal w) last.more (network_read sync) (name_read op.kind) (number_decimal a ha) (number_decimal op.operand hv) (number_decimal w hw) last.read)
+
+regroup_until : (u n k a v w t : List ℕ) → (((((((((u ++ 32 ∷ []) ++ n) ++ 32 ∷ []) ++ k) ++ 32 ∷ []) ++ a) ++ 32 ∷ []) ++ v) ++ 32 ∷ []) ++ w ++ t ≡ u ++ 32 ∷ (n ++ 32 ∷ (k ++ 32 ∷ (a ++ 32 ∷ (v ++ 32 ∷ (w ++ t)))))
+regroup_until u n k a v w t = simp append_assoc
 
 regroup : (n k a v t : List ℕ) → ((((((n ++ 32 ∷ []) ++ k) ++ 32 ∷ []) ++ a) ++ 32 ∷ []) ++ v) ++ t ≡ n ++ 32 ∷ (k ++ 32 ∷ (a ++ 32 ∷ (v ++ t)))
 regroup n k a v t = simp append_assoc
 
 pub entry_read : (entry : ScriptEntry) → IsNumbered entry → entry_of (words_of (entry_text entry)) ≡ Some entry
 entry_read (Reference true op a times) h =
-    ap (λ text. entry_of (words_of text)) (regroup (codes "sync") (kind_name op.kind) (decimal a) (decimal op.operand) (times_text times)) ∙ ap entry_of (first_word (codes "sync") (kind_name op.kind ++ 32 ∷ (decimal a ++ 32 ∷ (decimal op.operand ++ times_text times))) (record { some = omega arith; plain = refl })) ∙ behind_read true op a times h.0 h.1 h.2
+    ap (λ text. entry_of (words_of text)) (regroup (codes "sync") (kind_name op.kind) (decimal a) (decimal op.operand) (times_text 1 times)) ∙ ap entry_of (first_word (codes "sync") (kind_name op.kind ++ 32 ∷ (decimal a ++ 32 ∷ (decimal op.operand ++ times_text 1 times))) (record { some = omega arith; plain = refl })) ∙ behind_read true op a times h.0 h.1 h.2
 entry_read (Reference false op a times) h =
-    ap (λ text. entry_of (words_of text)) (regroup (codes "plain") (kind_name op.kind) (decimal a) (decimal op.operand) (times_text times)) ∙ ap entry_of (first_word (codes "plain") (kind_name op.kind ++ 32 ∷ (decimal a ++ 32 ∷ (decimal op.operand ++ times_text times))) (record { some = omega arith; plain = refl })) ∙ behind_read false op a times h.0 h.1 h.2
+    ap (λ text. entry_of (words_of text)) (regroup (codes "plain") (kind_name op.kind) (decimal a) (decimal op.operand) (times_text 1 times)) ∙ ap entry_of (first_word (codes "plain") (kind_name op.kind ++ 32 ∷ (decimal a ++ 32 ∷ (decimal op.operand ++ times_text 1 times))) (record { some = omega arith; plain = refl })) ∙ behind_read false op a times h.0 h.1 h.2
+entry_read (Until sync op a w times) h =
+    ap (λ text. entry_of (words_of text)) (regroup_until (codes "until") (network_name sync) (kind_name op.kind) (decimal a) (decimal op.operand) (decimal w) (times_text usual_tries times))
+    ∙ ap entry_of (first_word (codes "until") (network_name sync ++ 32 ∷ (kind_name op.kind ++ 32 ∷ (decimal a ++ 32 ∷ (decimal op.operand ++ 32 ∷ (decimal w ++ times_text usual_tries times))))) (record { some = omega arith; plain = refl }))
+    ∙ until_read sync op a w times h.0 h.1 h.2 h.3
 entry_read Fence h = refl
 entry_read (Idle turns) h =
     ap entry_of (first_word (codes "idle") (decimal turns) (record { some = omega arith; plain = refl }) ∙ ap (λ ws. codes "idle" ∷ ws) (last_word (decimal turns) (word_decimal turns h))) ∙ ap (λ o. option_map (λ t. Idle t) o) (number_decimal turns h)

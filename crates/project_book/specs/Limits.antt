@@ -3,7 +3,7 @@ use Rattle.std.specs.Prelude.{ℕ}
 
 -- the last cycle that a horizon may name
 abbrev pub max_horizon : ℕ
-max_horizon = 1000
+max_horizon = 2000
 
 -- how many entries a script may have
 abbrev pub script_entries : ℕ
@@ -12,6 +12,10 @@ script_entries = 256
 -- how often a reference may be issued, and how long an idle may last, each from 1 on
 abbrev pub max_times : ℕ
 max_times = 1000
+
+-- how often an entry that waits for a word is issued at most, where its text doesn't say
+abbrev pub usual_tries : ℕ
+usual_tries = 1000
 
 -- how many references of a processor may be unanswered at once, from 1 on
 abbrev pub max_window : ℕ

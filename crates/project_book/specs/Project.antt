@@ -6,7 +6,7 @@ use Rattle.page_map.specs.Places.{Page, place_on}
 use Rattle.page_map.specs.Pages.{Pages, page_of as page_among, whole_pages}
 use Rattle.omega_net.specs.declared.component.Net.{Net}
 use Rattle.omega_net.specs.declared.script.ScriptEntry.{ScriptEntry}
-use Rattle.omega_net.specs.declared.script.ScriptEntry.TheVariants.{Reference, Fence, Idle}
+use Rattle.omega_net.specs.declared.script.ScriptEntry.TheVariants.{Reference, Until, Fence, Idle}
 use Rattle.project_book.specs.declared.edit.Depths.{Depths}
 use Rattle.project_book.specs.declared.depths.QueueDepths.{QueueDepths}
 use Rattle.project_book.specs.declared.words.FirstWord.{FirstWord}
@@ -67,6 +67,7 @@ combines_at P stage = if nat_lt stage P.k then slice_index_or P.combine stage fa
 abbrev pub place_for : Project → Option ScriptEntry → Place
 place_for P None = record { «module» = 0; row = 0 }
 place_for P (Some (Reference sync op address times)) = place_in P address
+place_for P (Some (Until sync op address value times)) = place_in P address
 place_for P (Some Fence) = record { «module» = 0; row = 0 }
 place_for P (Some (Idle turns)) = record { «module» = 0; row = 0 }
 

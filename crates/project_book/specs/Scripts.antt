@@ -1,7 +1,7 @@
 -- The scripts, by processor.
 use Rattle.std.specs.Prelude.{◌≡◌, ℕ, ◌+◌, ◌≤◌, ◌&&◌, nat_le, nat_lt, Bool, true, List, [], ◌∷◌, ◌++◌, length, take, drop, slice_index_or, slice_set, All}
 use Rattle.omega_net.specs.declared.script.ScriptEntry.{ScriptEntry}
-use Rattle.omega_net.specs.declared.script.ScriptEntry.TheVariants.{Reference, Fence, Idle}
+use Rattle.omega_net.specs.declared.script.ScriptEntry.TheVariants.{Reference, Until, Fence, Idle}
 use Rattle.page_map.specs.Limits.{address_count}
 use Rattle.project_book.specs.Limits.{script_entries, max_times}
 
@@ -23,6 +23,7 @@ with_cut scripts p n = slice_set scripts p (take n (script_of scripts p))
 -- whether an entry's address is there, if it names one
 abbrev pub is_addressed : ScriptEntry → Bool
 is_addressed (Reference sync op address times) = nat_lt address address_count
+is_addressed (Until sync op address value times) = nat_lt address address_count
 is_addressed Fence = true
 is_addressed (Idle turns) = true
 
@@ -32,6 +33,7 @@ are_times n = nat_le 1 n && nat_le n max_times
 
 abbrev pub is_timed : ScriptEntry → Bool
 is_timed (Reference sync op address times) = are_times times
+is_timed (Until sync op address value times) = are_times times
 is_timed Fence = true
 is_timed (Idle turns) = are_times turns
 

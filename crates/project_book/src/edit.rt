@@ -130,7 +130,8 @@ pub fn is_addressed(entry: ScriptEntry) -> bool
     ensures { result ≡ is_addressed entry }
 {
     match entry {
-        ScriptEntry::Reference { address, .. } => address < ADDRESSES,
+        ScriptEntry::Reference { address, .. } | ScriptEntry::Until { address, .. } => address
+            < ADDRESSES,
         ScriptEntry::Fence | ScriptEntry::Idle(_) => true,
     }
 }
@@ -140,7 +141,7 @@ pub fn is_timed(entry: ScriptEntry) -> bool
     ensures { result ≡ is_timed entry }
 {
     match entry {
-        ScriptEntry::Reference { times, .. } => are_times(times),
+        ScriptEntry::Reference { times, .. } | ScriptEntry::Until { times, .. } => are_times(times),
         ScriptEntry::Idle(turns) => are_times(turns),
         ScriptEntry::Fence => true,
     }

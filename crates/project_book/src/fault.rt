@@ -34,7 +34,7 @@ pub enum EditFault {
     BadWindow,
     /// The times of a reference, or the turns of an idle, aren't within 1 to 1,000.
     BadTimes,
-    /// The horizon is above 1,000.
+    /// The horizon is above 2,000.
     BadHorizon,
     /// The clock is at its last value. Only a bench answers this.
     ClockSpent,

@@ -1,7 +1,7 @@
 //! The limits of a project, beside those of its page map.
 ghost use Rattle.std.specs.Prelude.{◌≡◌};
 ghost use Rattle.page_map.specs.Limits.{max_k};
-ghost use Rattle.project_book.specs.Limits.{max_horizon, script_entries, max_times, max_window, min_depth, min_comb_reverse, min_wait, max_depth, max_edits};
+ghost use Rattle.project_book.specs.Limits.{max_horizon, script_entries, max_times, usual_tries, max_window, min_depth, min_comb_reverse, min_wait, max_depth, max_edits};
 
 use page_map::MAX_K;
 
@@ -9,13 +9,16 @@ use page_map::MAX_K;
 pub const STAGES: usize = MAX_K as usize;
 
 /// The last cycle that a horizon may name.
-pub const MAX_HORIZON: u32 = 1_000;
+pub const MAX_HORIZON: u32 = 2_000;
 
 /// How many entries a script may have.
 pub const SCRIPT_ENTRIES: u32 = 256;
 
 /// How often a reference may be issued, and how long an idle may last, each from 1 on.
 pub const MAX_TIMES: u32 = 1_000;
+
+/// How often an entry that waits for a word is issued at most, where its text doesn't say.
+pub const USUAL_TRIES: u32 = 1_000;
 
 /// How many references of a processor may be unanswered at once, from 1 on.
 pub const MAX_WINDOW: u32 = 8;
@@ -42,6 +45,7 @@ pub fn constants_are_limits()
     ensures horizon { MAX_HORIZON ≡ max_horizon }
     ensures entries { SCRIPT_ENTRIES ≡ script_entries }
     ensures times { MAX_TIMES ≡ max_times }
+    ensures tries { USUAL_TRIES ≡ usual_tries }
     ensures window { MAX_WINDOW ≡ max_window }
     ensures shallowest { MIN_DEPTH ≡ min_depth }
     ensures splitting { MIN_COMB_REVERSE ≡ min_comb_reverse }

@@ -51,7 +51,7 @@ impl Project {
 
     /// The project of this size that says nothing else: window 1, no combining, every depth 4 but 8
     /// in the reverse queues of combining switches, every page spread over all modules, first words
-    /// of 0, and no script entries. None exactly where k is above 5 or the horizon above 1,000.
+    /// of 0, and no script entries. None exactly where k is above 6 or the horizon above 2,000.
     pub fn new(alloc: Global, k: u32, horizon: u32) -> Result<Option<Project>, NoMemory>
         ensures refused { (nat_le k max_k && nat_le horizon max_horizon) ≡ false → result ≡ Ok None }
         ensures made { IfOk result (λ o. o ≡ (if nat_le k max_k && nat_le horizon max_horizon then Some (blank k horizon) else None)) }
@@ -110,7 +110,7 @@ impl Project {
         })
     }
 
-    /// There are 2^k processors and as many modules; k is at most 5.
+    /// There are 2^k processors and as many modules; k is at most 6.
     pub fn k(&self) -> u32
         ensures k { result ≡ self.now.k }
         ensures small { result ≤ max_k }
@@ -125,14 +125,14 @@ impl Project {
         Shape::new(self.k).unwrap()
     }
 
-    /// How many processors there are, 1 to 32.
+    /// How many processors there are, 1 to 64.
     pub fn processors(&self) -> u32
         ensures { result ≡ 2 ^ self.now.k }
     {
         1 << self.k
     }
 
-    /// The last cycle, at most 1,000.
+    /// The last cycle, at most 2,000.
     pub fn horizon(&self) -> u32
         ensures horizon { result ≡ self.now.horizon }
         ensures short { result ≤ max_horizon }

@@ -44,6 +44,20 @@ fn reference(sync: bool, kind: Kind, address: u32, operand: u32, times: u32) -> 
     }
 }
 
+/// `until sync load A 0 12 T`.
+fn until(address: u32, times: u32) -> ScriptEntry {
+    ScriptEntry::Until {
+        sync: true,
+        op: Op {
+            kind: Kind::Load,
+            operand: 0,
+        },
+        address,
+        value: 12,
+        times,
+    }
+}
+
 fn add(address: u32, times: u32) -> ScriptEntry {
     reference(true, Kind::Add, address, 1, times)
 }
@@ -52,11 +66,11 @@ fn add(address: u32, times: u32) -> ScriptEntry {
 #[test]
 fn blank_projects(rt: HostRuntime) -> Result<(), Fail> {
     let alloc = rt.alloc();
-    let project = Project::new(alloc, 5, 1_000)?.ok_or("within the limits")?;
-    assert_eq!(rt; (project.k(), project.processors()), (5, 32));
+    let project = Project::new(alloc, 6, 2_000)?.ok_or("within the limits")?;
+    assert_eq!(rt; (project.k(), project.processors()), (6, 64));
     assert_eq!(rt;
         (project.horizon(), project.window(), project.wait()),
-        (1_000, 1, 4)
+        (2_000, 1, 4)
     );
     for net in [Net::Low, Net::Comb] {
         assert_eq!(rt; project.depth(Depths::forward(net)), 4);
@@ -64,17 +78,17 @@ fn blank_projects(rt: HostRuntime) -> Result<(), Fail> {
     assert_eq!(rt; project.depth(Depths::LowReverse), 4);
     assert_eq!(rt; project.depth(Depths::CombReverse), 8);
     assert_eq!(rt; project.depth(Depths::ModuleQueue), 4);
-    assert!(rt; (0..6).all(|stage| !project.combine(stage)));
-    // the 256 words of a page go round the 32 modules, 8 to each
-    let last = Place { module: 31, row: 7 };
+    assert!(rt; (0..7).all(|stage| !project.combine(stage)));
+    // the 256 words of a page go round the 64 modules, 4 to each
+    let last = Place { module: 63, row: 3 };
     assert_eq!(rt; project.place(255), Some(last));
     assert_eq!(rt; project.place(16_384), None);
-    assert_eq!(rt; project.pages().page(63), Some((5, 0)));
+    assert_eq!(rt; project.pages().page(63), Some((6, 0)));
     assert!(rt; project.words().is_empty());
-    assert_eq!(rt; (project.word(0), project.length(31)), (0, 0));
+    assert_eq!(rt; (project.word(0), project.length(63)), (0, 0));
     assert_eq!(rt; project.entry(0, 0), None);
-    assert!(rt; Project::new(alloc, 6, 0)?.is_none());
-    assert!(rt; Project::new(alloc, 0, 1_001)?.is_none());
+    assert!(rt; Project::new(alloc, 7, 0)?.is_none());
+    assert!(rt; Project::new(alloc, 0, 2_001)?.is_none());
     let built_in = Project::built_in(alloc)?;
     assert_eq!(rt; (built_in.k(), built_in.horizon()), (0, 8));
     Ok(())
@@ -101,7 +115,7 @@ fn refusals(rt: HostRuntime) -> Result<(), Fail> {
         (Edit::Window(9), 10),
         (entry(0, 0, ScriptEntry::Idle(0)), 11),
         (entry(0, 0, add(0, 1_001)), 11),
-        (Edit::Horizon(1_001), 12),
+        (Edit::Horizon(2_001), 12),
     ] {
         assert_eq!(rt; refused(&project, edit), Some(number), "{edit:?}");
     }
@@ -135,11 +149,15 @@ fn limits(rt: HostRuntime) -> Result<(), Fail> {
         (entry(0, 0, add(16_383, 1)), None),
         (entry(0, 0, add(0, 0)), Some(11)),
         (entry(0, 0, add(0, 1_000)), None),
+        (entry(0, 0, until(16_384, 1)), Some(5)),
+        (entry(0, 0, until(16_383, 1_000)), None),
+        (entry(0, 0, until(0, 0)), Some(11)),
+        (entry(0, 0, until(0, 1_001)), Some(11)),
         (entry(0, 0, ScriptEntry::Idle(1)), None),
         (entry(0, 0, ScriptEntry::Idle(1_000)), None),
         (entry(0, 0, ScriptEntry::Idle(1_001)), Some(11)),
         (Edit::Horizon(0), None),
-        (Edit::Horizon(1_000), None),
+        (Edit::Horizon(2_000), None),
     ] {
         assert_eq!(rt; refused(&project, edit), number, "{edit:?}");
     }
@@ -264,6 +282,8 @@ fn entry_texts(rt: HostRuntime) -> Result<(), Fail> {
             "plain max 16384 4294967295 0",
             reference(false, Kind::Max, 16_384, u32::MAX, 0),
         ),
+        ("until sync load 7 0 12", until(7, 1_000)),
+        ("until sync load 7 0 12 2", until(7, 2)),
         ("fence", ScriptEntry::Fence),
         ("idle 4294967295", ScriptEntry::Idle(u32::MAX)),
     ] {
@@ -284,6 +304,11 @@ fn entry_texts(rt: HostRuntime) -> Result<(), Fail> {
         "sync sub 0 1",
         "Sync add 0 1",
         "sync add 0 -1",
+        "until load 0 0 12",
+        "until sync load 0 0",
+        "until sync load 0 0 12 2 1",
+        "until fence 0 0 12",
+        "sync until load 0 0 12",
         "fence 1",
         "idle",
         "idle 1 2",

@@ -5,14 +5,15 @@ use Rattle.std.proofs.lemmas.List.{drop_more}
 use Rattle.std.proofs.Math.Pow.{pow_mono}
 use Rattle.toml.specs.declared.value.Value.{Value}
 use Rattle.toml.specs.View.{items_view}
+use Rattle.page_map.specs.Limits.{max_k}
 use Rattle.project_file.specs.Fields.{count}
 
 pub count_view : (vs : List Value) → count (items_view vs) ≡ length vs
 count_view [] = refl
 count_view (v ∷ vs) = ap suc (count_view vs)
 
-pub below_32 : (k p : ℕ) → k ≤ 5 → p ≤ 2 ^ k - 1 → p < 32
-below_32 k p small low = let most : 2 ^ k ≤ 2 ^ 5 = pow_mono small in omega arith
+pub below_most : (k p : ℕ) → k ≤ max_k → p ≤ 2 ^ k - 1 → p < 2 ^ max_k
+below_most k p small low = let most : 2 ^ k ≤ 2 ^ max_k = pow_mono small in omega arith
 
 pub any_drop : (test : List ℕ → Bool) (keys : List (Bor (List ℕ))) (i : ℕ) (d : Bor (List ℕ)) → i < length keys
     → list_any test (map (λ k. k.now) (drop i keys)) ≡ (test (get_or keys i d).now || list_any test (map (λ k. k.now) (drop (i + 1) keys)))

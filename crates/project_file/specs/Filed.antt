@@ -1,16 +1,18 @@
 -- The project that a file is, or its first fault.
-use Rattle.std.specs.Prelude.{ℕ, ◌^◌, nat_lt, Bool, false, if◌then◌else◌, List, [], ◌∷◌, length, replicate, Result, Ok, Err, codes, is_ok, ok_or}
+use Rattle.std.specs.Prelude.{ℕ, ◌^◌, nat_lt, false, if◌then◌else◌, List, [], ◌∷◌, length, replicate, Result, Ok, Err, codes, ok_or}
 use Rattle.std.specs.Str.{is_utf8}
 use Rattle.toml.specs.Data.{Members}
 use Rattle.toml.specs.Parse.{parse_document}
 use Rattle.page_map.specs.Limits.{max_k}
 use Rattle.page_map.specs.Pages.{whole_pages}
-use Rattle.project_book.specs.Limits.{max_horizon, max_window}
+use Rattle.project_book.specs.Limits.{max_window}
 use Rattle.project_book.specs.Project.{Project}
 use Rattle.project_file.specs.declared.fault.ProjectFault.{ProjectFault}
-use Rattle.project_file.specs.declared.fault.ProjectFault.TheVariants.{TooLong, Text, Format}
+use Rattle.project_file.specs.declared.fault.ProjectFault.TheVariants.{TooLong, Text}
 use Rattle.project_file.specs.Limits.{max_bytes}
-use Rattle.project_file.specs.Fields.{◌>>=◌, check, known, optional, number_in, number_at}
+use Rattle.project_file.specs.Fields.{◌>>=◌, known, optional, number_in, number_at}
+use Rattle.project_file.specs.declared.format.FileFormat.{FileFormat}
+use Rattle.project_file.specs.Formats.{format_in, most_k, most_horizon}
 use Rattle.project_book.specs.Queues.{usual_depths, usual_wait}
 use Rattle.project_file.specs.Depths.{depths_in}
 use Rattle.project_file.specs.Stages.{combine_in}
@@ -22,24 +24,24 @@ abbrev pub root_keys : List (List ℕ)
 root_keys = codes "format" ∷ codes "k" ∷ codes "horizon" ∷ codes "window" ∷ codes "combine" ∷ codes "depths" ∷ codes "page" ∷ codes "word" ∷ codes "script" ∷ []
 
 -- the rest of a project of 2^k processors, in the order of the keys
-abbrev pub sized_project : ℕ → ℕ → Members → Result Project ProjectFault
-sized_project k horizon ms = do
+abbrev pub sized_project : FileFormat → ℕ → ℕ → Members → Result Project ProjectFault
+sized_project f k horizon ms = do
   window ← optional (codes "window") (number_in 1 max_window) 1 ms
   combine ← optional (codes "combine") (combine_in k) (replicate max_k false) ms
   depths ← optional (codes "depths") depths_in (usual_depths, usual_wait) ms
   pages ← optional (codes "page") (pages_in k) (whole_pages k) ms
   words ← optional (codes "word") words_in [] ms
-  scripts ← optional (codes "script") (scripts_in k) (replicate (2 ^ k) []) ms
+  scripts ← optional (codes "script") (scripts_in f k) (replicate (2 ^ k) []) ms
   Ok (record { k = k; horizon = horizon; window = window; depths = depths.0; wait = depths.1; combine = combine; pages = pages; words = words; scripts = scripts })
 
 -- the project of a document
 abbrev pub document_project : Members → Result Project ProjectFault
 document_project ms = do
-  _ ← check (is_ok (number_at (codes "format") 1 1 ms)) Format
+  format ← format_in ms
   _ ← known root_keys ms
-  k ← number_at (codes "k") 0 max_k ms
-  horizon ← number_at (codes "horizon") 0 max_horizon ms
-  sized_project k horizon ms
+  k ← number_at (codes "k") 0 (most_k format) ms
+  horizon ← number_at (codes "horizon") 0 (most_horizon format) ms
+  sized_project format k horizon ms
 
 -- the document that a text is
 abbrev pub document_of : List ℕ → Result Members ProjectFault

@@ -1,6 +1,7 @@
 pub mod Limits
 pub mod Faults
 pub mod Fields
+pub mod Formats
 pub mod Depths
 pub mod Stages
 pub mod Pages

@@ -1,5 +1,5 @@
 -- The key `page`: how pages are spread, each given at most once.
-use Rattle.std.specs.Prelude.{ℕ, ◌-◌, not, Bool, true, false, List, [], ◌∷◌, replicate, Result, Ok, codes, is_none, slice_index_or, slice_set}
+use Rattle.std.specs.Prelude.{ℕ, ◌-◌, not, true, false, List, [], ◌∷◌, replicate, Result, Ok, codes, is_none, slice_index_or, slice_set}
 use Rattle.toml.specs.Data.{Data, Members}
 use Rattle.page_map.specs.Limits.{page_count}
 use Rattle.page_map.specs.Pages.{Pages, page_fault, with_page, whole_pages}

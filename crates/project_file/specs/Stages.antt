@@ -1,5 +1,5 @@
 -- The key `combine`: which stages of the combining network combine.
-use Rattle.std.specs.Prelude.{ℕ, ◌==◌, Bool, false, List, [], ◌∷◌, Option, None, Some, Result, Ok, is_some, option_and_then, unwrap_or}
+use Rattle.std.specs.Prelude.{ℕ, ◌==◌, Bool, false, List, [], ◌∷◌, Result, Ok, is_some, option_and_then, unwrap_or}
 use Rattle.toml.specs.Data.{Data, at, as_bool}
 use Rattle.project_file.specs.declared.fault.ProjectFault.{ProjectFault}
 use Rattle.project_file.specs.declared.fault.ProjectFault.TheVariants.{WrongType, Range}
@@ -18,4 +18,4 @@ combine_in k d = do
   ds ← array_in d
   _ ← check (all_items is_flag ds) WrongType
   _ ← check (count ds == k) Range
-  Ok (flag_at d 0 ∷ flag_at d 1 ∷ flag_at d 2 ∷ flag_at d 3 ∷ flag_at d 4 ∷ [])
+  Ok (flag_at d 0 ∷ flag_at d 1 ∷ flag_at d 2 ∷ flag_at d 3 ∷ flag_at d 4 ∷ flag_at d 5 ∷ [])

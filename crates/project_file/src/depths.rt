@@ -13,7 +13,7 @@ use crate::items::table_in;
 use project_book::{Depths, MAX_DEPTH, MIN_WAIT, QueueDepths, USUAL_WAIT};
 use toml::{Table, Value};
 
-const KEYS: [&str; 6] = [
+pub(crate) const KEYS: [&str; 6] = [
     "low_forward",
     "low_reverse",
     "comb_forward",

@@ -20,7 +20,7 @@ pub enum ProjectFault {
     TooLong,
     /// The bytes aren't UTF-8, or aren't a TOML document.
     Text,
-    /// The key `format` is absent, or isn't the integer 1.
+    /// The key `format` is absent, or isn't the integer 1 or 2.
     Format,
     /// A table has a key that means nothing there.
     UnknownKey,
@@ -28,7 +28,7 @@ pub enum ProjectFault {
     Missing,
     /// A value is of another type than its key takes.
     WrongType,
-    /// A number is outside its limits, a page has no such interleaving, `combine` has another count
+    /// A number is outside its limits, which in format 1 are narrower for k and the horizon, a page has no such interleaving, `combine` has another count
     /// than k, or a script has more than 256 entries.
     Range,
     /// A text in a script isn't an entry.
@@ -82,7 +82,7 @@ impl fmt::Display for ProjectFault {
         f.write_str(match self {
             ProjectFault::TooLong => "the file is longer than 4,194,304 bytes",
             ProjectFault::Text => "the file is not a TOML document",
-            ProjectFault::Format => "the key format is not 1",
+            ProjectFault::Format => "the key format is neither 1 nor 2",
             ProjectFault::UnknownKey => "a key is not known",
             ProjectFault::Missing => "a key is missing",
             ProjectFault::WrongType => "a value is of the wrong type",

@@ -28,7 +28,7 @@ pub(crate) fn require<'a>(table: &'a Table, key: &str) -> Result<&'a Value, Proj
 
 /// Whether a key is one of these.
 #[tactic(auto, using(crate::proofs::Counts::any_drop))]
-fn is_among(keys: &[&str], key: &str) -> bool
+pub(crate) fn is_among(keys: &[&str], key: &str) -> bool
     ensures { result ≡ list_any (bytes_eq key.now) (map (λ k. k.now) keys.now) }
 {
     'keys: for own in keys {

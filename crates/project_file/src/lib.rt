@@ -12,8 +12,10 @@
 mod depths;
 mod fault;
 mod fields;
+mod format;
 mod items;
 mod pages;
+mod place;
 mod reading;
 mod scripts;
 mod stages;
@@ -22,4 +24,5 @@ mod tests;
 mod words;
 
 pub use fault::ProjectFault;
+pub use place::fault_place;
 pub use reading::{MAX_BYTES, read_project};

@@ -12,12 +12,12 @@ use crate::items::{Array, table_in, tables_in};
 use page_map::{PAGES, PageMap};
 use toml::{Table, Value};
 
-const KEYS: [&str; 3] = ["number", "amount", "base"];
+pub(crate) const KEYS: [&str; 3] = ["number", "amount", "base"];
 
 /// Which pages were given, and the pages as they are spread so far.
 #[derive(Clone, Copy)]
-struct GivenPages {
-    given: [bool; PAGES as usize],
+pub(crate) struct GivenPages {
+    pub(crate) given: [bool; PAGES as usize],
     pages: PageMap,
 }
 
@@ -45,7 +45,7 @@ fn pages_in(value: &Value, k: u32) -> Result<PageMap, ProjectFault>
 
 impl GivenPages {
     #[tactic(auto, unfolding(crate::specs::Pages::no_pages))]
-    fn new(k: u32) -> GivenPages
+    pub(crate) fn new(k: u32) -> GivenPages
         requires { k ≤ max_k }
         ensures none { result ≡ no_pages k }
         ensures k { result.pages.k ≡ k }
@@ -67,7 +67,7 @@ impl GivenPages {
         Ok(so_far)
     }
 
-    fn add_item(&mut self, item: &Value) -> Result<(), ProjectFault>
+    pub(crate) fn add_item(&mut self, item: &Value) -> Result<(), ProjectFault>
         ensures item { MatchResult result (λ _. with_page_item self.old (view item.now) ≡ Ok self.new) (λ fault. with_page_item self.old (view item.now) ≡ Err fault) }
         ensures k { self.new.pages.k ≡ self.old.pages.k }
     {

@@ -3,28 +3,25 @@ ghost use Rattle.std.specs.Prelude.{◌≡◌, codes, ◌≤◌};
 ghost use Rattle.toml.specs.View.{table_view};
 ghost use Rattle.page_map.specs.Limits.{max_k};
 ghost use Rattle.project_book.specs.Limits.{max_horizon};
-ghost use Rattle.project_file.specs.Fields.{Gives, check};
+ghost use Rattle.project_file.specs.Fields.{Gives};
 ghost use Rattle.project_file.specs.Filed.{filed, document_of, document_project, sized_project};
-ghost use Rattle.project_file.specs.declared.fault.ProjectFault.TheVariants.{Format};
-ghost use Rattle.project_file.specs.Fields.{number_at};
-ghost use Rattle.std.specs.Prelude.{is_ok};
 
 use crate::depths::read_depths;
 use crate::fault::ProjectFault;
 use crate::fields::{number_at, number_or, refuse_others};
+use crate::format::{FileFormat, read_format};
 use crate::pages::read_pages;
 use crate::scripts::read_scripts;
 use crate::stages::read_combine;
 use crate::words::read_words;
-use page_map::MAX_K;
-use project_book::{MAX_HORIZON, MAX_WINDOW, Parts, Project};
+use project_book::{MAX_WINDOW, Parts, Project};
 use std::alloc::Global;
 use toml::{Table, table_from_str};
 
 /// How many bytes a project file may have.
 pub const MAX_BYTES: usize = 4_194_304;
 
-const KEYS: [&str; 9] = [
+pub(crate) const KEYS: [&str; 9] = [
     "format", "k", "horizon", "window", "combine", "depths", "page", "word", "script",
 ];
 
@@ -63,33 +60,30 @@ fn read_document(alloc: Global, bytes: &[u8]) -> Result<Table, ProjectFault>
 fn document_project(alloc: Global, root: &Table) -> Result<Project, ProjectFault>
     ensures { Gives (λ p. p) result (document_project (table_view root.now)) }
 {
-    check_format(root)?;
+    let format = read_format(root)?;
     refuse_others(root, &KEYS)?;
-    let k = number_at(root, "k", 0, MAX_K)?;
-    let horizon = number_at(root, "horizon", 0, MAX_HORIZON)?;
-    sized_project(alloc, root, k, horizon)
+    let k = number_at(root, "k", 0, format.most_k())?;
+    let horizon = number_at(root, "horizon", 0, format.most_horizon())?;
+    sized_project(alloc, root, format, k, horizon)
 }
 
-fn check_format(root: &Table) -> Result<(), ProjectFault>
-    ensures { result ≡ check (is_ok (number_at (codes "format") 1 1 (table_view root.now))) Format }
-{
-    match number_at(root, "format", 1, 1) {
-        Ok(_) => Ok(()),
-        Err(_) => Err(ProjectFault::Format),
-    }
-}
-
-fn sized_project(alloc: Global, root: &Table, k: u32, horizon: u32) -> Result<Project, ProjectFault>
+fn sized_project(
+    alloc: Global,
+    root: &Table,
+    format: FileFormat,
+    k: u32,
+    horizon: u32,
+) -> Result<Project, ProjectFault>
     requires small { k ≤ max_k }
     requires short { horizon ≤ max_horizon }
-    ensures { Gives (λ p. p) result (sized_project k horizon (table_view root.now)) }
+    ensures { Gives (λ p. p) result (sized_project format k horizon (table_view root.now)) }
 {
     let window = number_or(root, "window", 1, MAX_WINDOW, 1)?;
     let combine = read_combine(root, k)?;
     let (depths, wait) = read_depths(root)?;
     let pages = read_pages(root, k)?;
     let words = read_words(alloc, root)?;
-    let scripts = read_scripts(alloc, root, k)?;
+    let scripts = read_scripts(alloc, root, format, k)?;
     let parts = Parts {
         k,
         horizon,

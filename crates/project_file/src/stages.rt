@@ -34,6 +34,7 @@ fn combine_in(value: &Value, k: u32) -> Result<[bool; STAGES], ProjectFault>
         flag_at(value, 2),
         flag_at(value, 3),
         flag_at(value, 4),
+        flag_at(value, 5),
     ])
 }
 

@@ -65,10 +65,17 @@ fn roots(rt: HostRuntime) -> Result<(), Fail> {
     let alloc = rt.alloc();
     for (text, number) in [
         ("", 3),
-        ("format = 2", 3),
+        ("format = 3", 3),
+        ("format = 0", 3),
         ("format = true", 3),
         ("format = 1", 5),
+        ("format = 2", 5),
+        ("format = 2\nk = 7", 7),
+        ("format = 2\nk = 6\nhorizon = 2001", 7),
+        ("format = 2\nk = 6\nhorizon = 2000", 0),
         ("format = 1\nk = 6", 7),
+        ("format = 1\nk = 5\nhorizon = 1001", 7),
+        ("format = 1\nk = 5\nhorizon = 1000", 0),
         ("format = 1\nk = \"1\"", 6),
         ("format = 1\nk = true", 6),
         ("format = 1\nk = -1", 7),
@@ -128,10 +135,40 @@ fn keys(rt: HostRuntime) -> Result<(), Fail> {
             9,
         ),
         ("[[script]]\nprocessor = 0\nentries = []", 0),
+        // Format 1 has no entry that waits for a word.
+        (
+            "[[script]]\nprocessor = 0\nentries = [\"until sync load 0 0 12\"]",
+            8,
+        ),
     ] {
         assert_eq!(rt; number_with(alloc, more)?, number);
     }
     Ok(())
+}
+
+/// Format 2 has the entry that waits for a word.
+#[test]
+fn waiting_entries(rt: HostRuntime) -> Result<(), Fail> {
+    let alloc = rt.alloc();
+    let text =
+        "format = 2\nk = 0\nhorizon = 0\n[[script]]\nprocessor = 0\nentries = [\"until sync load 0 0 12\"]";
+    let until = ScriptEntry::Until {
+        sync: true,
+        op: Op {
+            kind: Kind::Load,
+            operand: 0,
+        },
+        address: 0,
+        value: 12,
+        times: 1_000,
+    };
+    for _ in 0..2 {
+        if let Ok(project) = read_project(alloc, text.as_bytes()) {
+            assert_eq!(rt; project.entry(0, 0), Some(until));
+            return Ok(());
+        }
+    }
+    Err(Fail::from("within the limits"))
 }
 
 /// What a whole project says.
@@ -238,6 +275,68 @@ fn texts(rt: HostRuntime) -> Result<(), Fail> {
         (ProjectFault::Memory, "no memory"),
     ] {
         assert_eq!(rt; format!(in alloc; "{fault}")?.as_str(), text);
+    }
+    Ok(())
+}
+
+/// The line that says where a file is wrong.
+fn place_of(alloc: Global, text: &[u8]) -> Result<String, Fail> {
+    match fault_place(alloc, text)? {
+        Some(line) => Ok(line),
+        None => Ok(String::new(alloc)),
+    }
+}
+
+/// Where files are wrong: by line and column, by key, or by item.
+#[test]
+fn places(rt: HostRuntime) -> Result<(), Fail> {
+    let alloc = rt.alloc();
+    assert_eq!(rt; place_of(alloc, &[b'k', 255])?.as_str(), "byte 1: no UTF-8");
+    assert_eq!(rt; place_of(alloc, FULL.as_bytes())?.as_str(), "");
+    for (more, place) in [
+        (
+            "k = 3",
+            "TOML parse error at line 4, column 1: duplicate key",
+        ),
+        ("colour = 1", "colour: no such key"),
+        ("window = 9", "window: 9 is not 1 to 8"),
+        ("combine = [true]", "combine: 1 stages where k is 0"),
+        (
+            "depths = 4",
+            "depths: of type integer where a table belongs",
+        ),
+        (
+            "[depths]\ncomb_reverse = 3",
+            "depths, comb_reverse: 3 is not 4 to 16",
+        ),
+        (
+            "page = [1]",
+            "page 0: of type integer where a table belongs",
+        ),
+        (
+            "[[page]]\nnumber = 1\namount = 0\nbase = 0\n[[page]]\nnumber = 1",
+            "page 1, number: page 1 is given twice",
+        ),
+        (
+            "[[page]]\nnumber = 0\namount = 2\nbase = 0",
+            "page 0, amount: 2 with base 0 is no interleaving of 1 modules",
+        ),
+        ("[[word]]\naddress = 0", "word 0, value: missing"),
+        (
+            "[[script]]\nprocessor = 0\nentries = [\"fence\", \"jump\\u0007 3\"]",
+            "script 0, entries 1: no script entry: \"jump? 3\"",
+        ),
+        (
+            "[[script]]\nprocessor = 0\nentries = [\"until sync load 0 0 1\"]",
+            "script 0, entries 0: format 1 has no such entry: \"until sync load 0 0 1\"",
+        ),
+        (
+            "[[script]]\nprocessor = 0\nentries = [\"idle 0\"]",
+            "script 0, entries 0: a number is outside its limits: \"idle 0\"",
+        ),
+    ] {
+        let text = format!(in alloc; "{SMALL}{more}")?;
+        assert_eq!(rt; place_of(alloc, text.as_str().as_bytes())?.as_str(), place);
     }
     Ok(())
 }

@@ -14,7 +14,7 @@ use project_book::{FirstWord, FirstWords};
 use std::alloc::Global;
 use toml::{Table, Value};
 
-const KEYS: [&str; 2] = ["address", "value"];
+pub(crate) const KEYS: [&str; 2] = ["address", "value"];
 
 /// The first words of a project's root. Takes a memory of 16,384 words beside them.
 pub(crate) fn read_words(alloc: Global, root: &Table) -> Result<FirstWords, ProjectFault>
@@ -35,7 +35,7 @@ fn words_in(alloc: Global, value: &Value) -> Result<FirstWords, ProjectFault>
 }
 
 #[tactic(auto, unfolding(crate::specs::Words::no_words))]
-fn no_words(alloc: Global, count: usize) -> Result<Vec<Option<u32>>, NoMemory>
+pub(crate) fn no_words(alloc: Global, count: usize) -> Result<Vec<Option<u32>>, NoMemory>
     ensures none { IfOk result (λ v. v.items ≡ no_words count) }
     ensures length { IfOk result (λ v. length v.items ≡ count) }
 {
@@ -56,7 +56,7 @@ fn with_items(memory: Vec<Option<u32>>, array: &Array) -> Result<Vec<Option<u32>
     Ok(memory)
 }
 
-fn add_item(memory: &mut Vec<Option<u32>>, item: &Value) -> Result<(), ProjectFault>
+pub(crate) fn add_item(memory: &mut Vec<Option<u32>>, item: &Value) -> Result<(), ProjectFault>
     requires { length memory.old.items ≡ address_count }
     ensures item { MatchResult result (λ _. with_word_item memory.old.items (view item.now) ≡ Ok memory.new.items) (λ fault. with_word_item memory.old.items (view item.now) ≡ Err fault) }
     ensures length { length memory.new.items ≡ address_count }

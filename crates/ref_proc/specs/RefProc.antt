@@ -1,12 +1,12 @@
 -- A processor: what it shows and takes, and its step (this project's machine: one entry of the script acts in a step).
-use Rattle.std.specs.Prelude.{ℕ, ◌+◌, ◌-◌, ◌^◌, ◌==◌, ◌&&◌, nat_lt, nat_le, min, Bool, true, false, if◌then◌else◌, [], ◌∷◌, Option, None, Some, is_none}
+use Rattle.std.specs.Prelude.{ℕ, ◌+◌, ◌-◌, ◌^◌, ◌==◌, ◌&&◌, ◌||◌, not, nat_lt, nat_le, min, Bool, true, false, if◌then◌else◌, [], ◌∷◌, Option, None, Some, is_none}
 use Rattle.word_ops.specs.declared.op.Op.{Op}
 use Rattle.omega_net.specs.declared.component.Net.{Net}
 use Rattle.omega_net.specs.declared.component.Net.TheVariants.{Low, Comb}
 use Rattle.omega_net.specs.declared.message.Request.{Request}
 use Rattle.omega_net.specs.declared.message.Reply.{Reply}
 use Rattle.omega_net.specs.declared.script.ScriptEntry.{ScriptEntry}
-use Rattle.omega_net.specs.declared.script.ScriptEntry.TheVariants.{Reference, Fence, Idle}
+use Rattle.omega_net.specs.declared.script.ScriptEntry.TheVariants.{Reference, Until, Fence, Idle}
 use Rattle.omega_net.specs.Wires.{net_number}
 use Rattle.omega_net.specs.Ports.{message_at}
 use Rattle.ref_proc.specs.declared.state.Outgoing.{Outgoing}
@@ -82,6 +82,32 @@ abbrev pub referring : ProcSettings → Bool → Op → ProcState → ProcState
 referring settings sync op s =
     if is_none s.out && nat_lt s.pending settings.window then issuing settings sync op s else s
 
+-- whether this is a reply to the reference issued last, and one with this word
+abbrev pub answers_last : ℕ → Option Reply → Bool
+answers_last issued None = false
+answers_last issued (Some r) = r.tag.issue + 1 == issued
+
+abbrev pub brings : ℕ → ℕ → Option Reply → Bool
+brings issued value None = false
+brings issued value (Some r) = (r.tag.issue + 1 == issued) && (r.word == value)
+
+-- whether such a reply was received in this step
+abbrev pub is_answered : ProcState → Bool
+is_answered s = answers_last s.issued (message_at s.got 0) || answers_last s.issued (message_at s.got 1)
+
+abbrev pub has_brought : ℕ → ProcState → Bool
+has_brought value s = brings s.issued value (message_at s.got 0) || brings s.issued value (message_at s.got 1)
+
+-- whether an entry that waits for a word tries: at first, and again once it was answered another word, up to its times
+abbrev pub tries : ℕ → ℕ → ProcState → Bool
+tries value times s = (s.spent == 0) || (nat_lt s.spent times && (is_answered s && not (has_brought value s)))
+
+-- an entry that waits for a word goes on where that came, or where it has tried its times
+abbrev pub trying : ProcSettings → Bool → Op → ℕ → ℕ → ProcState → ProcState
+trying settings sync op value times s =
+    if tries value times s then referring settings sync op s
+    else (if has_brought value s || nat_le times s.spent then next_entry s else s)
+
 -- a fence is passed where every reference was answered
 abbrev pub fencing : ProcState → ProcState
 fencing s = if (s.pending == 0) && is_none s.out then next_entry s else s
@@ -90,6 +116,7 @@ fencing s = if (s.pending == 0) && is_none s.out then next_entry s else s
 abbrev pub acting : ProcSettings → Option ScriptEntry → ProcState → ProcState
 acting settings None s = s
 acting settings (Some (Reference sync op address times)) s = on_after times (referring settings sync op s)
+acting settings (Some (Until sync op address value times)) s = trying settings sync op value times s
 acting settings (Some Fence) s = fencing s
 acting settings (Some (Idle turns)) s = on_after turns (spending s)
 

@@ -1,6 +1,6 @@
 //! One cycle of a processor.
 ghost use Rattle.std.specs.Prelude.{◌≡◌};
-ghost use Rattle.ref_proc.specs.RefProc.{proc_after, acting, taking, next_entry, on_after, spending, issuing, referring, fencing, count_in, net_for};
+ghost use Rattle.ref_proc.specs.RefProc.{proc_after, acting, taking, next_entry, on_after, spending, issuing, referring, trying, tries, is_answered, has_brought, answers_last, brings, fencing, count_in, net_for};
 
 use crate::{Outgoing, ProcState};
 use omega_net::{Net, Reply, Request, ScriptEntry, Tag};
@@ -64,6 +64,15 @@ impl ProcState {
                     ..
                 },
             ) => self.referring(settings, sync, op).on_after(times),
+            Some(
+                ScriptEntry::Until {
+                    sync,
+                    op,
+                    value,
+                    times,
+                    ..
+                },
+            ) => self.trying(settings, sync, op, value, times),
             Some(ScriptEntry::Fence) => self.fencing(),
             Some(ScriptEntry::Idle(turns)) => self.spending().on_after(turns),
         }
@@ -77,6 +86,43 @@ impl ProcState {
         } else {
             self
         }
+    }
+
+    fn trying(
+        self,
+        settings: &ProcSettings,
+        sync: bool,
+        op: Op,
+        value: u32,
+        times: u32,
+    ) -> ProcState
+        ensures { result ≡ trying settings.now sync op value times self }
+    {
+        if self.tries(value, times) {
+            self.referring(settings, sync, op)
+        } else if self.has_brought(value) || times <= self.spent {
+            self.next_entry()
+        } else {
+            self
+        }
+    }
+
+    fn tries(self, value: u32, times: u32) -> bool
+        ensures { result ≡ tries value times self }
+    {
+        self.spent == 0 || (self.spent < times && self.is_answered() && !self.has_brought(value))
+    }
+
+    fn is_answered(self) -> bool
+        ensures { result ≡ is_answered self }
+    {
+        answers_last(self.issued, self.got[0]) || answers_last(self.issued, self.got[1])
+    }
+
+    fn has_brought(self, value: u32) -> bool
+        ensures { result ≡ has_brought value self }
+    {
+        brings(self.issued, value, self.got[0]) || brings(self.issued, value, self.got[1])
     }
 
     fn fencing(self) -> ProcState
@@ -148,6 +194,26 @@ fn net_for(sync: bool) -> Net
     ensures { result ≡ net_for sync }
 {
     if sync { Net::Comb } else { Net::Low }
+}
+
+/// Whether it is a reply to the last of so many references.
+fn answers_last(issued: u32, reply: Option<Reply>) -> bool
+    ensures { result ≡ answers_last issued reply }
+{
+    match reply {
+        Some(reply) => reply.tag.issue < issued && reply.tag.issue + 1 == issued,
+        None => false,
+    }
+}
+
+/// Whether it is such a reply, with this word.
+fn brings(issued: u32, value: u32, reply: Option<Reply>) -> bool
+    ensures { result ≡ brings issued value reply }
+{
+    match reply {
+        Some(reply) => answers_last(issued, Some(reply)) && reply.word == value,
+        None => false,
+    }
 }
 
 fn count_in(reply: Option<Reply>) -> u32

@@ -3,6 +3,7 @@ ghost use Rattle.std.specs.Prelude.{◌≡◌, Some};
 ghost use Rattle.saturation.specs.Texts.{first_text, tree_text};
 
 use arrayvec::ArrayVec;
+use project_book::STAGES;
 use std::fmt;
 use std::marker::Model;
 
@@ -48,7 +49,7 @@ impl Levels {
 #[derive(Drop)]
 pub struct Tree {
     pub levels: Levels,
-    pub first: ArrayVec<Option<u32>, 6>,
+    pub first: ArrayVec<Option<u32>, STAGES>,
 }
 
 /// `first`, then each level's first cycle, or `-` where no cycle has it, after a space.

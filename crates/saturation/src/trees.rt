@@ -13,7 +13,7 @@ use arrayvec::ArrayVec;
 use grid_law::NoMemory;
 use machine_cells::MachineState;
 use omega_net::Net;
-use project_book::Project;
+use project_book::{Project, STAGES};
 use rayon::prelude::*;
 use std::alloc::{AllocError, Global};
 use std::thread::Threads;
@@ -22,7 +22,7 @@ use std::thread::Threads;
 /// from 1 to k. The rows are the states of the cycles from 0 to the horizon, each by component number.
 ///
 /// It takes memory for a byte a cycle, and looks at fewer than 2^k queues a cycle. The rows are mapped by `rayon`, which
-/// starts no thread for fewer than 2,048 of them, and a run has 1,001 at most. The conditions are that the module
+/// starts no thread for fewer than 2,048 of them, and a run has 2,001 at most. The conditions are that the module
 /// exists, and that there is a row for each cycle.
 pub fn tree(
     rt: &(impl Threads + Sync),
@@ -67,7 +67,7 @@ fn levels_of(
 }
 
 /// For each level from 1 to k, the first of these cycles that has it or a higher one.
-fn first_cycles(levels: &[u8], cycles: u32, k: u32) -> ArrayVec<Option<u32>, 6>
+fn first_cycles(levels: &[u8], cycles: u32, k: u32) -> ArrayVec<Option<u32>, STAGES>
     requires few { k ≤ max_k }
     requires there { cycles ≤ length levels.now }
     ensures { result.items ≡ map (λ j. find (λ t. nat_le (j + 1) (slice_index levels.now t)) (below cycles)) (below k) }

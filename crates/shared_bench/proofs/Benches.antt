@@ -20,7 +20,8 @@ use Rattle.bench_core.specs.Edits.{admits}
 use Rattle.bench_core.specs.Asks.{pending, AsksAs}
 use Rattle.bench_core.proofs.Answered.{answer_told, bad_told, never_pending}
 use Rattle.shared_bench.specs.Rule.{spent_of}
-use Rattle.shared_bench.specs.Answers.{RefusesAt, AnswersAt, ClaimsAs, TellsAt, NotPending, told_for}
+use Rattle.bench_core.specs.Told.{RefusesAt, AnswersAt, TellsAt}
+use Rattle.shared_bench.specs.Answers.{ClaimsAs, TellsAs, NotPending, told_for}
 
 pub spent_is : (d : Shown) → spent_of d ≡ true → d.table.clock ≡ 2 ^ 64 - 1
 spent_is d h = eqb-true d.table.clock (2 ^ 64 - 1) h
@@ -47,6 +48,12 @@ told_at b q (asked.Answer v body) h = let a = answer_told b q v body h in (a.1, 
 told_at b q (asked.BadQuery k) h = bad_told b q k h
 told_at b q (asked.Pending n) h = tt
 told_at b q asked.Memory h = tt
+
+pub tells_as : (b : Shown) (q : Query) (r : Asked) → AsksAs b q r → TellsAs b q (told_for r)
+tells_as b q (asked.Answer v body) h = h
+tells_as b q (asked.BadQuery k) h = h
+tells_as b q (asked.Pending n) h = tt
+tells_as b q asked.Memory h = tt
 
 -- ---- an edit
 

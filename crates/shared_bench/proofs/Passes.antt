@@ -15,8 +15,10 @@ use Rattle.project_book.specs.declared.fault.EditFault.{EditFault}
 use Rattle.bench_core.specs.declared.asked.Asked.{Asked}
 use Rattle.bench_core.specs.declared.told.Told.{Told}
 use Rattle.bench_core.specs.Asks.{AsksAs}
-use Rattle.bench_core.specs.Shown.{Shown, project_of}
-use Rattle.shared_bench.specs.Answers.{HasSeen, TellsAt, AnswersAt, RefusesAt, ClaimsAs}
+use Rattle.bench_core.specs.Shown.{Shown, project_of, version_of}
+use Rattle.bench_core.specs.Told.{TellsAt, AnswersAt, RefusesAt}
+use Rattle.shared_bench.specs.Answers.{HasSeen, ClaimsAs, EditsAs}
+use Rattle.project_book.specs.Edits.{accepts, edited as edited_by}
 use Rattle.shared_bench.proofs.Benches.{answers_at}
 use Rattle.project_book.specs.declared.edit.Edit.{Edit}
 use Rattle.shared_bench.specs.Legal.{noted, receipts_of, StartsWith, has}
@@ -114,6 +116,11 @@ edit_receipt m m1 m4 d d' a n version h is more long =
     let v_is : version ≡ length d.journal + 1 = long ∙ (ap length more ∙ length-append d.journal (noted a n ∷ [])) in
     (long ∙ (ap length more ∙ sym (ap length seen)), ap (λ (v : View). v.receipts) e ∙ ap (λ (q : ℕ). m.0.receipts ++ (q, n) ∷ []) (sym v_is))
 
+-- what an accepted edit says of the bench before and after it
+pub edits_ok : (d d' : Shown) (a : ℕ) (n : AnyEdit) (v : ℕ) → accepts (project_of d) (version_of d) n ≡ Ok tt → d'.journal ≡ d.journal ++ noted a n ∷ [] → project_of d' ≡ edited_by (project_of d) n → v ≡ length d'.journal
+    → EditsAs d a n (Ok v) d'
+edits_ok d d' a n v accepted more project long = (accepted, more, project, long ∙ (ap length more ∙ length-append d.journal (noted a n ∷ [])))
+
 -- the edited bench
 pub in_turn_edited : (z : TableId) (number : ℕ) (m m1 m4 : AtSeat) (d d' : Shown) (a : ℕ) (n : AnyEdit) → HasBench m.0 m1 d → MayCount m1 d' → m4 ≡ (left_with d' (counted_in a n m1.0), []) → d'.journal ≡ d.journal ++ noted a n ∷ [] → HasSeen (known_of z m4 number) d'
 in_turn_edited z number m m1 m4 d d' a n h may is more =
@@ -153,6 +160,7 @@ module _ (m u m2 m' : AtSeat) (r : ℕ) (first : m2 ≡ (joined m.0 u.0, m.1)) (
         few = p.few;
         base_is = p.base_is ∙ sym (ap (λ (v : View). length v.opened) e);
         k_is = p.k_is ∙ sym (ap (λ (v : View). v.project.k) e);
+        k_small = p.k_small;
         legal = look.7;
         ticket_is = subst (TicketFits ticket') (sym (ap (λ (v : View). v.stage) e)) fits;
       }

@@ -1,5 +1,5 @@
 -- What the calls of a pass answer. What the headline says stands first.
-use Rattle.std.specs.Prelude.{◌≡◌, ℕ, List, [], ◌∷◌, length, drop, Option, Result, Ok, Err, IfOk, IfNone, IfSome}
+use Rattle.std.specs.Prelude.{◌≡◌, ℕ, ◌+◌, List, [], ◌∷◌, ◌++◌, length, drop, Option, Result, Ok, Err, IfOk, IfNone, IfSome}
 use Rattle.grid_law.specs.declared.no_memory.NoMemory.{NoMemory}
 use Rattle.cell_table.specs.declared.cell.Cell.{Cell}
 use Rattle.cell_table.specs.declared.given.Given.{Given}
@@ -11,16 +11,17 @@ use Rattle.project_book.specs.Project.{Project}
 use Rattle.project_book.specs.Edits.{accepts, edited}
 use Rattle.project_book.specs.declared.edit.Edit.{Edit}
 use Rattle.project_book.specs.declared.fault.EditFault.{EditFault}
-use Rattle.project_book.specs.declared.fault.EditFault.TheVariants.{ClockSpent, Memory}
-use Rattle.run_queries.specs.Answers.{answer}
 use Rattle.run_queries.specs.declared.query.Query.{Query}
-use Rattle.bench_core.specs.Shown.{Shown, project_of}
+use Rattle.bench_core.specs.Shown.{Shown, project_of, version_of}
+use Rattle.bench_core.specs.Asks.{AsksAs}
 use Rattle.bench_core.specs.Stands.{HasHistory}
+use Rattle.bench_core.specs.Told.{RefusesAt}
 use Rattle.bench_core.specs.declared.told.Told.{Told}
 use Rattle.bench_core.specs.declared.told.Told.TheVariants as told
 use Rattle.bench_core.specs.declared.asked.Asked.{Asked}
 use Rattle.bench_core.specs.declared.asked.Asked.TheVariants as asked
 use Rattle.bench_core.specs.declared.noted.Noted.{Noted}
+use Rattle.shared_bench.specs.Legal.{noted, StartsWith}
 use Rattle.shared_bench.specs.Known.{Known}
 
 -- the project after these entries, the oldest first
@@ -36,26 +37,6 @@ project_at P opened journal = after_entries P (drop (length opened) journal)
 abbrev pub project_seen : Known → Project
 project_seen p = project_at p.project p.opened p.seen
 
--- what is told of a query at version v: an answer is that of the run of P, simulated from cycle 0, and a refusal is by P too
-abbrev pub TellsAt : Project → ℕ → Query → Told → Type 0
-TellsAt P v q (told.Answer version body) = (version ≡ v) × (answer P q ≡ Ok body)
-TellsAt P v q (told.BadQuery n) = answer P q ≡ Err n
-TellsAt P v q told.ClockSpent = Unit {0}
-TellsAt P v q told.Memory = Unit {0}
-
--- the same of what is answered at once
-abbrev pub AnswersAt : Project → ℕ → Query → Asked → Type 0
-AnswersAt P v q (asked.Answer version body) = (version ≡ v) × (answer P q ≡ Ok body)
-AnswersAt P v q (asked.BadQuery n) = answer P q ≡ Err n
-AnswersAt P v q (asked.Pending n) = Unit {0}
-AnswersAt P v q asked.Memory = Unit {0}
-
--- a refusal is the first fault that applies; want of memory and a spent clock aside
-abbrev pub RefusesAt : Project → ℕ → Edit → EditFault → Type 0
-RefusesAt P v e ClockSpent = Unit {0}
-RefusesAt P v e Memory = Unit {0}
-RefusesAt P v e fault = accepts P v e ≡ Err fault
-
 -- the bench in a turn of the pass has the journal and the project that the pass has then seen
 abbrev pub HasSeen : Known → Shown → Type 0
 HasSeen p d = (d.journal ≡ p.seen) × (project_of d ≡ project_seen p)
@@ -63,6 +44,23 @@ HasSeen p d = (d.journal ≡ p.seen) × (project_of d ≡ project_seen p)
 -- and some list of events is behind it, whose edits are that journal
 abbrev pub IsInTurn : Known → Shown → Type 0
 IsInTurn p d = HasSeen p d × HasHistory d
+
+-- a bench that the pass p finds in its turn: its journal goes on from what p had seen, its project is that journal's, and
+-- some list of events is behind it
+abbrev pub IsMet : Known → Shown → Type 0
+IsMet p d = StartsWith d.journal p.seen × (project_of d ≡ project_at p.project p.opened d.journal) × HasHistory d
+
+-- what an edit of this bench in an author's name is answered, and the bench after it
+abbrev pub EditsAs : Shown → ℕ → Edit → Result ℕ EditFault → Shown → Type 0
+EditsAs d author e (Ok v) next =
+    (accepts (project_of d) (version_of d) e ≡ Ok tt) × (next.journal ≡ d.journal ++ noted author e ∷ []) × (project_of next ≡ edited (project_of d) e) × (v ≡ version_of d + 1)
+EditsAs d author e (Err fault) next = RefusesAt (project_of d) (version_of d) e fault × (next ≡ d)
+
+-- what this bench, which is settled, is asked, unless the settling met a fault
+abbrev pub TellsAs : Shown → Query → Told → Type 0
+TellsAs d q (told.Answer version body) = AsksAs d q (asked.Answer version body)
+TellsAs d q (told.BadQuery n) = AsksAs d q (asked.BadQuery n)
+TellsAs d q _ = Unit {0}
 
 -- what a claim of this bench from a cell on is answered
 pub record ClaimsAs (d : Shown) (from : Cell) (result : Result (Option (Claimed MachineState Project)) NoMemory) : Type 0 where

@@ -8,7 +8,8 @@ ghost use Rattle.bench_core.specs.Asks.{AsksAs};
 ghost use Rattle.bench_core.specs.Stands.{HasHistory};
 ghost use Rattle.shared_bench.specs.Rule.{spent_of};
 ghost use Rattle.shared_bench.specs.Legal.{noted};
-ghost use Rattle.shared_bench.specs.Answers.{TellsAt, NotPending, told_for, RefusesAt, ClaimsAs, IsGivenSpent};
+ghost use Rattle.bench_core.specs.Told.{TellsAt, RefusesAt};
+ghost use Rattle.shared_bench.specs.Answers.{TellsAs, NotPending, told_for, ClaimsAs, IsGivenSpent};
 
 use bench_core::{Asked, Bench, Told};
 use cell_table::{Cell, Claim, Done, Given, SettleFault};
@@ -62,6 +63,7 @@ impl Carried {
         ensures kept { spent_of self.old ≡ true → spent_of self.new ≡ true }
         ensures told { TellsAt (project_of self.new) (version_of self.new) query result }
         ensures spent { result ≡ Told.ClockSpent → spent_of self.new ≡ true }
+        ensures asks { TellsAs self.new query result }
     {
         match self.bench.settle() {
             Ok(_) => {}

@@ -1,5 +1,6 @@
 //! A pass to a shared bench.
 ghost use Rattle.std.specs.Prelude.{◌≡◌, ◌-◌, ◌^◌, ◌<◌, ◌≤◌, true, [], ◌∷◌, length, IfOk, IfErr};
+ghost use Rattle.page_map.specs.declared.map.TheConstants.{MAX_K};
 ghost use Rattle.bench_core.specs.Shown.{project_of};
 ghost use Rattle.shared_bench.specs.Known.{SomeIsLegal, IsLater, IsSplit, IsJoined, IsLegalFor, HasAllNumbers, IsAllItsOwn};
 ghost use Rattle.shared_bench.specs.Answers.{project_at};
@@ -7,14 +8,14 @@ ghost use Rattle.shared_bench.specs.Answers.{project_at};
 mod turns;
 
 use crate::carried::Carried;
-use crate::plays::{Joins, Splits, TurnSeat, TurnTable};
+use crate::plays::{Joins, LENGTH, Splits, TurnSeat, TurnTable};
 use crate::steps::{draw_first, enter, fill, look, take_ticket};
 use crate::view::Opening;
 use bench_core::Bench;
 use std::alloc::Global;
 use std::marker::Model;
 use std::snapshot::Snapshot;
-use std::sync::Arc;
+use std::sync::{Arc, Wait};
 
 /// Why a pass wasn't split.
 #[derive(Clone, Copy, PartialEq, Eq, Debug, Drop)]
@@ -102,9 +103,21 @@ impl Pass {
     /// The k of the project, of which there are 2^k processors. No edit changes it.
     pub fn k(&self) -> u32
         ensures k { result ≡ self.now.project.k }
+        ensures small { result ≤ MAX_K }
         ensures legal { SomeIsLegal self.now }
     {
         self.k
+    }
+
+    /// Sleeps while the journal has this many entries, until an edit is made or `wake_all` is called. It may also return for
+    /// no reason.
+    pub fn park<R: Wait>(&self, rt: &R, length: u32) {
+        self.table.shared.park(rt, LENGTH, length);
+    }
+
+    /// Wakes those who are parked on a pass of this opening.
+    pub fn wake_all(&self) {
+        self.table.shared.wake_all(LENGTH);
     }
 
     /// The journal's length now, at least what this pass had seen. It doesn't wait.

@@ -111,7 +111,7 @@ pub fn fill(turns: &SharedTurns, seat: &mut TurnSeat, bench: Carried)
     leave(turns, seat, bench);
 }
 
-/// Puts back the bench, which has one entry more, counts the entry, and passes the turn.
+/// Puts back the bench, which has one entry more, counts the entry, passes the turn, and wakes those who wait for an edit.
 pub fn leave_edited(turns: &SharedTurns, seat: &mut TurnSeat, bench: Carried)
     requires own { (seat.old.table_id ≡ turns.now.table_id) × Fresh turns.now.table_id }
     requires may { MayCount seat.old.me bench }
@@ -123,6 +123,7 @@ pub fn leave_edited(turns: &SharedTurns, seat: &mut TurnSeat, bench: Carried)
     turns.fetch_add::<Counts>(seat, LENGTH, 1);
     let served = turns.fetch_add::<Leaves>(seat, SERVING, 1);
     wake(turns, served);
+    turns.wake_all(LENGTH);
 }
 
 /// The journal's length, with no turn.

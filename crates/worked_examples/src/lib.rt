@@ -12,6 +12,8 @@ mod edits;
 #[cfg(test)]
 mod lines;
 #[cfg(test)]
+mod plain;
+#[cfg(test)]
 mod projects;
 #[cfg(test)]
 mod stories;

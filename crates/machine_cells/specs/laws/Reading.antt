@@ -1,7 +1,7 @@
 -- Nothing in this file needs believing: it is proofs, which stand here since a definition of `specs/` cites them.
 -- Where two projects agree in what a cell reads after cycle 0, its step is the same.
 use Rattle.std.proofs.Common.{◌≡◌, ℕ, zero, suc, ◌+◌, ◌*◌, ◌-◌, ◌%◌, ◌^◌, Bool, true, false, cond, List, [], ◌∷◌, ◌++◌, refl, ap, sym, ◌∙◌, Option, None, Some, arith, subst}
-use Rattle.std.specs.Prelude.{slice_get, ◌==◌, is_none, ◌&&◌, nat_lt, if◌then◌else◌}
+use Rattle.std.specs.Prelude.{slice_get, ◌==◌, is_none, ◌&&◌, ◌||◌, nat_lt, nat_le, if◌then◌else◌}
 use Rattle.std.proofs.lemmas.Bool.{eqb-true}
 use Rattle.omega_net.specs.declared.component.Net.{Net}
 use Rattle.omega_net.specs.declared.component.Net.TheVariants.{Low as LowNet, Comb as CombNet}
@@ -20,11 +20,11 @@ use Rattle.word_ops.specs.declared.op.Op.{Op}
 use Rattle.page_map.specs.declared.place.Place.{Place}
 use Rattle.page_map.specs.Places.{place_on}
 use Rattle.omega_net.specs.declared.script.ScriptEntry.{ScriptEntry}
-use Rattle.omega_net.specs.declared.script.ScriptEntry.TheVariants.{Reference, Fence, Idle}
+use Rattle.omega_net.specs.declared.script.ScriptEntry.TheVariants.{Reference, Until, Fence, Idle}
 use Rattle.ref_proc.specs.declared.state.Outgoing.{Outgoing}
 use Rattle.ref_proc.specs.declared.state.ProcState.{ProcState}
 use Rattle.ref_proc.specs.declared.step.ProcSettings.{ProcSettings}
-use Rattle.ref_proc.specs.RefProc.{acting, taking, proc_after, on_after, issuing, out_on}
+use Rattle.ref_proc.specs.RefProc.{acting, taking, proc_after, on_after, issuing, tries, has_brought, next_entry, out_on}
 use Rattle.mem_module.specs.declared.state.ModuleState.{ModuleState}
 use Rattle.mem_module.specs.MemModule.{module_after}
 use Rattle.comb_switch.specs.declared.state.CombState.{CombState}
@@ -58,18 +58,19 @@ SameBack P Q (Switch net stage j) = reverse P net ≡ reverse Q net
 
 abbrev IsReference : Option ScriptEntry → Type 0
 IsReference (Some (Reference sync op address times)) = Unit {0}
+IsReference (Some (Until sync op address value times)) = Unit {0}
 IsReference _ = ⊥
 
 abbrev with_parts : ℕ → ℕ → Place → ProcSettings
 with_parts window proc place = record { proc = proc; entry = None; place = place; window = window }
 
-reference_same : (sync : Bool) (op : Op) (times : ℕ) (s : ProcState) (w w' p p' : ℕ) (c c' : Place) → w ≡ w' → p ≡ p' → c ≡ c'
-    → on_after times (if is_none s.out && nat_lt s.pending w then issuing (with_parts w p c) sync op s else s)
-    ≡ on_after times (if is_none s.out && nat_lt s.pending w' then issuing (with_parts w' p' c') sync op s else s)
-reference_same sync op times s w w' p p' c c' ew ep ec =
-    ap (λ n. on_after times (if is_none s.out && nat_lt s.pending n then issuing (with_parts n p c) sync op s else s)) ew
-    ∙ ap (λ n. on_after times (if is_none s.out && nat_lt s.pending w' then issuing (with_parts w' n c) sync op s else s)) ep
-    ∙ ap (λ x. on_after times (if is_none s.out && nat_lt s.pending w' then issuing (with_parts w' p' x) sync op s else s)) ec
+referring_same : (sync : Bool) (op : Op) (s : ProcState) (w w' p p' : ℕ) (c c' : Place) → w ≡ w' → p ≡ p' → c ≡ c'
+    → (if is_none s.out && nat_lt s.pending w then issuing (with_parts w p c) sync op s else s)
+    ≡ (if is_none s.out && nat_lt s.pending w' then issuing (with_parts w' p' c') sync op s else s)
+referring_same sync op s w w' p p' c c' ew ep ec =
+    ap (λ n. if is_none s.out && nat_lt s.pending n then issuing (with_parts n p c) sync op s else s) ew
+    ∙ ap (λ n. if is_none s.out && nat_lt s.pending w' then issuing (with_parts w' n c) sync op s else s) ep
+    ∙ ap (λ x. if is_none s.out && nat_lt s.pending w' then issuing (with_parts w' p' x) sync op s else s) ec
 
 -- a processor's wire meets a switch of the first stage, where there is one
 first_stage : (n p : ℕ) (net : Net) → lower_end (suc n) (wire_of_proc net p) ≡ Switch net 0 (p % half (suc n))
@@ -221,19 +222,24 @@ module _ (P Q : Project) (k : P.k ≡ Q.k) where
   acting_same a b (Some Fence) s p r = refl
   acting_same a b (Some (Idle turns)) s p r = refl
   acting_same a b (Some (Reference sync op address times)) s p r =
-      reference_same sync op times s a.window b.window a.proc b.proc a.place b.place (r tt).0 p (r tt).1
+      ap (on_after times) (referring_same sync op s a.window b.window a.proc b.proc a.place b.place (r tt).0 p (r tt).1)
+  acting_same a b (Some (Until sync op address value times)) s p r =
+      ap (λ x. if tries value times s then x else (if has_brought value s || nat_le times s.spent then next_entry s else s))
+      (referring_same sync op s a.window b.window a.proc b.proc a.place b.place (r tt).0 p (r tt).1)
 
   settings_same : (entry : Option ScriptEntry) (slots : List Slot) → SameAtAll P Q (entry_reads entry ++ slots) → IsReference entry → (P.window ≡ Q.window) × (place_for P entry ≡ place_for Q entry)
   settings_same None slots h r = absurd r
   settings_same (Some Fence) slots h r = absurd r
   settings_same (Some (Idle turns)) slots h r = absurd r
   settings_same (Some (Reference sync op address times)) slots h r = (h.0, ap (λ page. place_on page address) h.1.0)
+  settings_same (Some (Until sync op address value times)) slots h r = (h.0, ap (λ page. place_on page address) h.1.0)
 
   after_entry : (entry : Option ScriptEntry) (slots : List Slot) → SameAtAll P Q (entry_reads entry ++ slots) → SameAtAll P Q slots
   after_entry None slots h = h
   after_entry (Some Fence) slots h = h
   after_entry (Some (Idle turns)) slots h = h
   after_entry (Some (Reference sync op address times)) slots h = h.1.1
+  after_entry (Some (Until sync op address value times)) slots h = h.1.1
 
   -- a processor's request, on its own network or on the other
   shown_same : (N : List MachineState) (net : Net) (p l : ℕ) (o : Option Outgoing) (own : MachineState) → slice_get N 0 ≡ Some own → request_on (wire_of_proc net p) own ≡ out_on o net

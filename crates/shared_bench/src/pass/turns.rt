@@ -7,7 +7,8 @@ ghost use Rattle.machine_cells.specs.GridRules.{rp3_rules};
 ghost use Rattle.bench_core.specs.Shown.{Shown as AnyBench};
 ghost use Rattle.bench_core.specs.Asks.{AsksAs};
 ghost use Rattle.shared_bench.specs.Known.{IsLater};
-ghost use Rattle.shared_bench.specs.Answers.{project_seen, TellsAt, AnswersAt, RefusesAt, IsInTurn, ClaimsAs, IsGivenSpent};
+ghost use Rattle.bench_core.specs.Told.{TellsAt, AnswersAt, RefusesAt};
+ghost use Rattle.shared_bench.specs.Answers.{project_seen, IsMet, IsInTurn, EditsAs, ClaimsAs, TellsAs, IsGivenSpent};
 
 use super::Pass;
 use crate::steps::{leave, leave_edited, wait_turn};
@@ -28,12 +29,24 @@ impl Pass {
         ensures threads_ask { TellsAt (project_seen self.new) (length self.new.seen) query result }
         ensures later { IsLater self.old self.new }
         ensures own { (self.new.numbers ≡ self.old.numbers) × (self.new.receipts ≡ self.old.receipts) }
-        ensures in_turn { (d : AnyBench) × IsInTurn self.new d }
+        ensures in_turn { (d : AnyBench) × (next : AnyBench) × IsInTurn self.new d × IsInTurn self.new next × TellsAs next query result }
         ensures spent { result ≡ Told.ClockSpent → self.new.spent ≡ true }
     {
-        let mut bench = wait_turn(rt, &self.table.shared, &mut self.seat, self.ticket);
+        self.ask_with(rt, rt, query)
+    }
+
+    /// As `ask`, where one handle lets it wait and another start threads.
+    pub fn ask_with<W: Wait, T: Threads + Sync>(&mut self, host: &W, rt: &T, query: Query) -> Told
+        ensures threads_ask { TellsAt (project_seen self.new) (length self.new.seen) query result }
+        ensures later { IsLater self.old self.new }
+        ensures own { (self.new.numbers ≡ self.old.numbers) × (self.new.receipts ≡ self.old.receipts) }
+        ensures in_turn { (d : AnyBench) × (next : AnyBench) × IsInTurn self.new d × IsInTurn self.new next × TellsAs next query result }
+        ensures spent { result ≡ Told.ClockSpent → self.new.spent ≡ true }
+    {
+        let mut bench = wait_turn(host, &self.table.shared, &mut self.seat, self.ticket);
         self.ticket = None;
         let told = bench.ask(rt, query);
+        bench.history();
         leave(&self.table.shared, &mut self.seat, bench);
         told
     }
@@ -93,7 +106,7 @@ impl Pass {
         ensures refused { IfErr result (λ f. RefusesAt (project_seen self.new) (length self.new.seen) edit f) }
         ensures later { IsLater self.old self.new }
         ensures numbers { self.new.numbers ≡ self.old.numbers }
-        ensures in_turn { (d : AnyBench) × IsInTurn self.new d }
+        ensures in_turn { (d : AnyBench) × (next : AnyBench) × IsMet self.old d × IsInTurn self.new next × EditsAs d self.old.number edit result next }
         ensures spent { result ≡ Err EditFault.ClockSpent → self.new.spent ≡ true }
     {
         let mut bench = wait_turn(rt, &self.table.shared, &mut self.seat, self.ticket);

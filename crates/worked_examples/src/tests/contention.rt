@@ -2,8 +2,10 @@
 use crate::benches::{Host, same_cells};
 use crate::edits::depth;
 use crate::lines::text_on;
+use crate::plain::{answers, questions};
 use crate::projects::hot_spot;
 use crate::stories::{Came, Stage, Step};
+use machine_cells::from_scratch;
 use project_book::Depths;
 use std::alloc::Global;
 use std::test::Fail;
@@ -48,6 +50,14 @@ fn settled_backwards(alloc: Global) -> Result<Box<Stage>, Fail> {
     Ok(stage)
 }
 
+/// Whether the replies, counters and profiles are those of the plain simulation.
+fn is_answered_plainly(rt: &impl Host, stage: &mut Stage) -> Result<bool, Fail> {
+    let questions = questions(rt.alloc())?;
+    let told = text_on(rt, &mut stage.bench, questions.as_str().as_bytes())?;
+    let rows = from_scratch(rt.alloc(), stage.bench.project())?;
+    Ok(told == answers(rt.alloc(), &rows)?)
+}
+
 /// How many cells are those of the simulation, and what the tree towards module 0 is.
 fn cells_and_tree(rt: &impl Host, stage: &mut Stage) -> Result<(usize, String), Fail> {
     let same = same_cells(rt, &mut stage.bench)?;
@@ -55,12 +65,13 @@ fn cells_and_tree(rt: &impl Host, stage: &mut Stage) -> Result<(usize, String), 
 }
 
 /// 15, last sentence: the settling computes again what was computed from states that didn't stand, and
-/// every cell is that of the simulation: 16 components at the cycles 0 to 20. The tree is that of queues
-/// of 2.
+/// every answer is that of the simulation: each cell, 16 components at the cycles 0 to 20, and the replies,
+/// counters and profiles. The tree is that of queues of 2.
 #[test]
 fn example_15_backwards(rt: HostRuntime) -> Result<(), Fail> {
     let mut stage = settled_backwards(rt.alloc())?;
     let (same, tree) = cells_and_tree(&rt, &mut stage)?;
     assert_eq!(rt; (same, tree.as_str()), (336, "ok 1 first 3 4\n"));
+    assert!(rt; is_answered_plainly(&rt, &mut stage)?);
     Ok(())
 }

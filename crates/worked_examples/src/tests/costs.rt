@@ -1,5 +1,5 @@
 //! How many cells an edit makes the settling compute.
-use crate::edits::{entry, word};
+use crate::edits::{entry, sync_add, word};
 use crate::projects::{base, empty};
 use crate::stories::{Came, Step, surprise};
 use omega_net::ScriptEntry;
@@ -19,6 +19,15 @@ fn edit(edit: Edit, version: u32) -> (Step, Came) {
 fn example_1_cost(rt: HostRuntime) -> Result<(), Fail> {
     let project = empty(rt.alloc(), 0, 0)?;
     assert_eq!(rt; surprise(rt.alloc(), project, 0, &[settle(2)])?, None);
+    Ok(())
+}
+
+/// 15.2: 512 components at 17 cycles.
+#[test]
+fn example_15_2_cost(rt: HostRuntime) -> Result<(), Fail> {
+    let project = empty(rt.alloc(), 6, 16)?;
+    let story = [edit(entry(63, 0, sync_add(1)), 1), settle(8_704)];
+    assert_eq!(rt; surprise(rt.alloc(), project, 0, &story)?, None);
     Ok(())
 }
 

@@ -54,6 +54,22 @@ const WAITS: Session = &[
     ("reply 0 0", "ok 8 at 9 word 10"),
 ];
 
+/// 15.1: processor 0 loads a word again and again, each time after the reply to the load before, until that is 12,
+/// or for as many times as it may.
+const UNTIL_IT_IS_12: Session = &[
+    ("horizon 20", "ok 1"),
+    ("entry 0 0 until sync load 0 0 12", "ok 2"),
+    ("entry 1 0 idle 6", "ok 3"),
+    ("entry 1 1 sync store 0 12", "ok 4"),
+    ("reply 0 0", "ok 4 at 6 word 10"),
+    ("reply 0 1", "ok 4 at 11 word 10"),
+    ("reply 0 2", "ok 4 at 16 word 12"),
+    ("reply 0 3", "bad 4"),
+    ("reply 1 0", "ok 4 at 12 word 10"),
+    ("entry 0 0 until sync load 0 0 12 2", "ok 5"),
+    ("reply 0 2", "bad 4"),
+];
+
 /// 24: of two requests that come over both networks at once, a module serves the low one first.
 const BOTH_NETWORKS: Session = &[
     ("entry 0 0 plain add 0 1", "ok 1"),
@@ -61,6 +77,26 @@ const BOTH_NETWORKS: Session = &[
     ("reply 0 0", "ok 2 at 6 word 10"),
     ("reply 1 0", "ok 2 at 7 word 11"),
 ];
+
+#[test]
+fn example_15_1(rt: HostRuntime) -> Result<(), Fail> {
+    assert_eq!(rt; misanswered(&rt, base(rt.alloc())?, UNTIL_IT_IS_12)?, None);
+    Ok(())
+}
+
+/// 15.2: on the largest machine a reference is answered at cycle 4 + 2k.
+const SIXTY_FOUR_PROCESSORS: Session = &[
+    ("entry 63 0 sync add 0 1", "ok 1"),
+    ("reply 63 0", "ok 1 at 16 word 0"),
+    ("reply 64 0", "bad 1"),
+];
+
+#[test]
+fn example_15_2(rt: HostRuntime) -> Result<(), Fail> {
+    let project = empty(rt.alloc(), 6, 16)?;
+    assert_eq!(rt; misanswered(&rt, project, SIXTY_FOUR_PROCESSORS)?, None);
+    Ok(())
+}
 
 #[test]
 fn examples_2_5_23_24(rt: HostRuntime) -> Result<(), Fail> {

@@ -28,7 +28,7 @@ pub(crate) fn refusals() -> [(Step, Came); 16] {
         refused(Edit::Window(9), 10),
         refused(entry(0, 0, ScriptEntry::Idle(0)), 11),
         refused(entry(0, 0, sync_adds(0, 1_001)), 11),
-        refused(Edit::Horizon(1_001), 12),
+        refused(Edit::Horizon(2_001), 12),
     ]
 }
 

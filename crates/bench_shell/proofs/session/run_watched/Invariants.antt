@@ -1,6 +1,6 @@
 use Rattle.std.proofs.Common.{◌≡◌, ◌≤◌, true}
 use Rattle.bench_shell.specs.Store.{version_in}
-use Rattle.bench_shell.proofs.Steps.{SoFar}
+use Rattle.bench_shell.proofs.Steps.{SoFarOn}
 use Rattle.bench_shell.proofs.session.run_watched.Given as goal
 
 abbrev pub invariant-pieces : goal.invariant-pieces
@@ -11,8 +11,8 @@ invariant-pieces g l = record {
   same_reader : g.R.Source.lender l.reader ≡ g.R.Source.lender l.initial.reader;
   same_writer : g.W.Sink.lender l.writer ≡ g.W.Sink.lender l.initial.writer;
   earlier : g.D.Desk.is_alone l.desk → g.D.Desk.is_alone l.initial.desk;
-  so_far : g.D.Desk.is_alone l.desk → SoFar (g.R.Source.remaining l.initial.reader) (g.R.Source.remaining l.reader)
-      (g.W.Sink.contents l.initial.writer) (g.W.Sink.contents l.writer)
+  so_far : SoFarOn (g.R.Source.remaining l.initial.reader) (g.R.Source.remaining l.reader)
+      (g.W.Sink.contents l.initial.writer) (g.W.Sink.contents l.writer) (g.D.Desk.is_alone l.initial.desk) (g.D.Desk.is_alone l.desk)
       (g.D.Desk.store l.initial.desk) (g.D.Desk.store l.desk) l.held.is_long l.held.bytes.items;
 }
 

@@ -1,23 +1,23 @@
 use Rattle.std.proofs.Common.{[], ◌∷◌}
 use Rattle.std.proofs.KnownBytes.{Appends-nil}
 use Rattle.std.proofs.lemmas.Result.{on_ok_weaker, on_err_weaker}
-use Rattle.bench_shell.specs.Text.{line_text}
-use Rattle.bench_shell.proofs.Steps.{moves_held, moves_line, fails_line, fails_at_once}
+use Rattle.bench_shell.proofs.Steps.{goes_held, goes_line, fails_line, fails_at_once}
 use Rattle.bench_shell.proofs.session.take_byte.Goals as goal
 
 pub returns-then-byte-ne10-clause-moves : goal.returns-then-byte-ne10-clause-moves
-returns-then-byte-ne10-clause-moves g c = λ alone.
+returns-then-byte-ne10-clause-moves g c =
     let held = c.args.held.now in
     let next = c.hold.new.self in
-    ([], Appends-nil _, moves_held (g.D.Desk.store c.args.desk.now) held.is_long next.is_long held.bytes.items next.bytes.items c.args.byte c.hold.ensures)
+    goes_held (g.D.Desk.is_alone c.args.desk.now) _ (g.D.Desk.store c.args.desk.now) held.is_long next.is_long held.bytes.items next.bytes.items c.args.byte c.hold.ensures
 
 pub returns-in-Ok-clause-moves : goal.returns-in-Ok-clause-moves
-returns-in-Ok-clause-moves g c = λ alone.
+returns-in-Ok-clause-moves g c =
     let held = c.args.held.now in
     let answer = c.in-Ok.answer in
     rw (c.clear.ensures.is_long, c.clear.ensures.bytes, c.if-byte-ne10.false)
     (on_ok_weaker c.tell.result
-    (λ q. (line_text answer, q, moves_line (g.D.Desk.store c.args.desk.now) (g.D.Desk.store c.line_answer.new.desk) held.is_long held.bytes.items answer (c.in-Ok.ensures.answers alone)))
+    (λ q. goes_line (g.D.Desk.is_alone c.args.desk.now) (g.D.Desk.is_alone c.line_answer.new.desk) _ _ (g.D.Desk.store c.args.desk.now) (g.D.Desk.store c.line_answer.new.desk) held.is_long held.bytes.items answer
+    c.line_answer.ensures.earlier c.in-Ok.ensures.own c.in-Ok.ensures.answers q)
     c.tell.ensures.ok)
 
 pub returns-in-Ok-clause-fails : goal.returns-in-Ok-clause-fails

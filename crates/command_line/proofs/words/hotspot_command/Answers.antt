@@ -11,7 +11,7 @@ use Rattle.command_line.proofs.words.hotspot_command.Goals as goal
 pub returns : goal.returns
 unfolding hotspot
 returns c =
-    let start = c.after_help-described.result in
+    let start = c.after_long_help-described.result in
     let file = c.file_argument.result in
     let workers = c.workers_argument.result in
     let first = c.in_ok-with_file.ensures in

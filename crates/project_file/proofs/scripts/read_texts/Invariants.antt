@@ -5,4 +5,4 @@ use Rattle.project_file.specs.Scripts.{with_entry_item}
 use Rattle.project_file.proofs.scripts.read_texts.Given as goal
 
 abbrev pub invariant-items : goal.invariant-items
-invariant-items l = walk with_entry_item [] (items_view l.item-items) ≡ walk with_entry_item l.entries.items (items_view (drop l.item-index l.item-items))
+invariant-items l = walk (with_entry_item l.format) [] (items_view l.item-items) ≡ walk (with_entry_item l.format) l.entries.items (items_view (drop l.item-index l.item-items))

@@ -7,5 +7,5 @@ use Rattle.project_file.proofs.scripts.GivenScripts.with_items.Given as goal
 abbrev pub invariant-items : goal.invariant-items
 invariant-items l = record {
   count : length l.so_far.scripts ≡ 2 ^ l.k;
-  left : walk (with_script_item l.k) l.initial.so_far (items_view l.item-items) ≡ walk (with_script_item l.k) l.so_far (items_view (drop l.item-index l.item-items));
+  left : walk (with_script_item l.format l.k) l.initial.so_far (items_view l.item-items) ≡ walk (with_script_item l.format l.k) l.so_far (items_view (drop l.item-index l.item-items));
 }

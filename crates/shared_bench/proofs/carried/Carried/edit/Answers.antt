@@ -1,6 +1,6 @@
 use Rattle.std.proofs.Common.{◌∙◌, subst, IfErr}
 use Rattle.bench_core.specs.Shown.{Shown, project_of, version_of}
-use Rattle.shared_bench.specs.Answers.{RefusesAt}
+use Rattle.bench_core.specs.Told.{RefusesAt}
 use Rattle.shared_bench.proofs.Benches.{made_refused}
 use Rattle.shared_bench.proofs.carried.Carried.edit.Goals as goal
 

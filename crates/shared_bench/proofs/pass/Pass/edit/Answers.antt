@@ -1,11 +1,13 @@
-use Rattle.std.proofs.Common.{◌≡◌, ◌∙◌, sym, subst, true, length, [], ◌∷◌, ◌++◌}
+use Rattle.std.proofs.Common.{◌≡◌, ◌∙◌, sym, subst, refl, ap, ℕ, true, length, [], ◌∷◌, ◌++◌}
+use Rattle.shared_bench.specs.Legal.{noted}
+use Rattle.shared_bench.specs.Answers.{IsMet}
 use Rattle.shared_bench.specs.Rule.{spent_of}
 use Rattle.shared_bench.specs.Turn.{MayLeave}
 use Rattle.shared_bench.specs.Known.{Known, IsLater}
 use Rattle.shared_bench.specs.Inside.{known_of}
 use Rattle.shared_bench.proofs.Journals.{absurd_bool}
 use Rattle.shared_bench.proofs.Told.{may_leave, may_edit}
-use Rattle.shared_bench.proofs.Passes.{edit_later, edit_receipt, seen_in_turn, in_turn, in_turn_edited, refused_seen}
+use Rattle.shared_bench.proofs.Passes.{edit_later, edit_receipt, seen_in_turn, in_turn, in_turn_edited, refused_seen, edits_ok}
 use Rattle.shared_bench.proofs.pass.Pass.edit.Goals as goal
 
 pub leave-requires-clause-may : goal.leave-requires-clause-may
@@ -58,10 +60,23 @@ returns-in-Ok-clause-in_turn g c =
     let ok = c.in-Ok.ensures in
     let may = may_edit m.0 m1 d d' c.self.inside.number c.args.edit h c.self.invariant.here ok.journal ok.project ok.accepted ok.clock c.self.invariant.own_number ok.short in
     let left = c.leave_edited.ensures.left c.self.inside.number c.args.edit (ok.journal ∙ seen_in_turn m m1 d c.self.inside.number c.args.edit h) in
-    (d', (in_turn_edited c.leave_edited.new.seat.table_id c.self.inside.number m m1 c.leave_edited.new.seat.me d d' c.self.inside.number c.args.edit h may left ok.journal, ok.history))
+    let met : IsMet c.args.self.now d = subst (λ (k : Known). IsMet k d) c.self.view_is (h.1, h.4, c.wait_turn-bench.ensures.history) in
+    let by : c.self.inside.number ≡ c.args.self.now.number = ap (λ (k : Known). k.number) c.self.view_is in (
+      d,
+      d',
+      met,
+      (in_turn_edited c.leave_edited.new.seat.table_id c.self.inside.number m m1 c.leave_edited.new.seat.me d d' c.self.inside.number c.args.edit h may left ok.journal, ok.history),
+      edits_ok d d' c.args.self.now.number c.args.edit c.in-Ok.version ok.accepted (ok.journal ∙ ap (λ (a : ℕ). d.journal ++ noted a c.args.edit ∷ []) by) ok.project ok.version,
+    )
 
 pub returns-in-Err-clause-in_turn : goal.returns-in-Err-clause-in_turn
-returns-in-Err-clause-in_turn g c = (
-  c.wait_turn-bench.result,
-  (in_turn c.leave.new.seat.table_id c.self.inside.number c.self.inside.seat.me c.wait_turn-bench.new.seat.me c.leave.new.seat.me c.wait_turn-bench.result c.edit.new.self c.wait_turn-bench.ensures.bench c.leave.ensures.left, c.wait_turn-bench.ensures.history),
-)
+returns-in-Err-clause-in_turn g c =
+    let d = c.wait_turn-bench.result in
+    let h = c.wait_turn-bench.ensures.bench in
+    let met : IsMet c.args.self.now d = subst (λ (k : Known). IsMet k d) c.self.view_is (h.1, h.4, c.wait_turn-bench.ensures.history) in (
+      d,
+      d,
+      met,
+      (in_turn c.leave.new.seat.table_id c.self.inside.number c.self.inside.seat.me c.wait_turn-bench.new.seat.me c.leave.new.seat.me d c.edit.new.self h c.leave.ensures.left, c.wait_turn-bench.ensures.history),
+      (c.in-Err.ensures.refused, refl),
+    )

@@ -1,0 +1,52 @@
+-- A pass that goes on, and passes that are joined.
+use Rattle.std.proofs.Common.{◌≡◌, ℕ, ◌+◌, ◌≤◌, List, [], ◌∷◌, ◌++◌, length, Option, None, refl, sym, ap, ◌∙◌, arith, subst, length-append, append-nil, append_assoc}
+use Rattle.shared_bench.specs.Known.{Known, IsLater, IsSplit, IsJoined, SomeIsLegal}
+use Rattle.shared_bench.specs.Legal.{merge}
+use Rattle.shared_bench.proofs.Seats.{starts_trans}
+use Rattle.shared_bench.proofs.Passes.{later_same, later_joined}
+use Rattle.wave_workers.specs.Working.{IsKept, IsWorked}
+use Rattle.wave_workers.specs.declared.worked.WorkFault.{WorkFault}
+
+pub later_trans : (a b c : Known) → IsLater a b → IsLater b c → IsLater a c
+later_trans a b c l m = record {
+  opening = m.opening ∙ l.opening;
+  project = m.project ∙ l.project;
+  opened = m.opened ∙ l.opened;
+  seats = m.seats ∙ l.seats;
+  number = m.number ∙ l.number;
+  seen = starts_trans a.seen b.seen c.seen m.seen l.seen;
+  spent = λ e. m.spent (l.spent e);
+  legal = m.legal;
+}
+
+pub kept_trans : (a b c : Known) → IsKept a b → IsKept b c → IsKept a c
+kept_trans a b c l m = (later_trans a b c l.0 m.0, m.1 ∙ l.1, m.2 ∙ l.2)
+
+pub kept_same : (p : Known) → SomeIsLegal p → IsKept p p
+kept_same p legal = (later_same p legal, refl, refl)
+
+-- with no further worker
+pub worked_none : (p q : Known) (gates : ℕ) (fault : Option WorkFault) → SomeIsLegal p → q ≡ p → (fault ≡ None → gates ≡ 0) → IsWorked p q gates fault
+worked_none p q gates fault legal same none = subst (λ (x : Known). IsWorked p x gates fault) (sym same) (record {
+  later = later_same p legal;
+  receipts = refl;
+  more = [];
+  numbers = sym (append-nil p.numbers);
+  few = omega arith;
+  one_each = λ e. sym (none e);
+})
+
+-- a worker's pass is joined into the one with those of the others
+pub worked_one : (p own others done both : Known) (gates : ℕ) (fault : Option WorkFault) → IsSplit p own → IsKept own done → IsWorked p others gates fault → IsJoined others done both → IsWorked p both (gates + 1) fault
+worked_one p own others done both gates fault split kept worked join =
+    let one : done.numbers ≡ own.number ∷ [] = kept.1 ∙ split.numbers in
+    let none : done.receipts ≡ [] = kept.2 ∙ split.receipts in
+    let long : length (worked.more ++ own.number ∷ []) ≡ length worked.more + 1 = length-append worked.more (own.number ∷ []) in
+    record {
+      later = later_joined p others done both worked.later join;
+      receipts = join.receipts ∙ (ap (merge others.receipts) none ∙ worked.receipts);
+      more = worked.more ++ own.number ∷ [];
+      numbers = join.numbers ∙ (ap (λ (l : List ℕ). others.numbers ++ l) one ∙ (ap (λ (l : List ℕ). l ++ own.number ∷ []) worked.numbers ∙ append_assoc p.numbers worked.more (own.number ∷ [])));
+      few = let few = worked.few in omega arith;
+      one_each = λ e. let each = worked.one_each e in omega arith;
+    }

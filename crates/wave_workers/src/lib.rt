@@ -1,0 +1,27 @@
+//! Workers beside a shared bench: threads that claim due cells, compute them outside of every turn, and give the results
+//! back.
+//!
+//! `work` splits a pass for each [`Gate`] and starts a thread with it; a gate hears of each claim and each result, and
+//! says whether its worker goes on. `attend` does the same for as long as the gates go on, and its workers sleep while no
+//! cell is due. Both join all threads and all passes before they answer.
+//!
+//! Promise: the pass comes back as one of its opening, which has seen no less, with the same receipts, and, without a
+//! fault, with one number more for each gate; no more results were stored than given (`specs/Working.antt`). What the
+//! bench does with a result is the bench's promise. That workers run side by side is shown by tests, and nothing is
+//! promised of their progress.
+//!
+//! It stands on `shared_bench` for the passes.
+#![tactic(auto)]
+
+mod gate;
+mod tally;
+mod threads;
+mod worked;
+mod worker;
+
+pub use gate::Gate;
+pub use threads::{attend, work};
+pub use worked::{WorkFault, Worked};
+
+#[cfg(test)]
+mod tests;
