@@ -1,9 +1,9 @@
 -- What `give` answers to a claim's result, by the history.
-use Rattle.std.proofs.Common.{◌≡◌, ℕ, ◌<◌, ◌≤◌, ◌∙◌, sym, ap, subst, refl, arith, true, false, ◌⊎◌, inl, inr, Option, None, Some, Result, Ok, Err, IfOk, IfSome, OnOk, List, [], ◌∷◌, ◌++◌, length}
+use Rattle.std.proofs.Common.{◌≡◌, ℕ, ◌-◌, ◌^◌, ◌<◌, ◌≤◌, ◌∙◌, sym, ap, subst, refl, arith, true, false, ◌⊎◌, inl, inr, Option, None, Some, Result, Ok, Err, IfOk, IfSome, OnOk, List, [], ◌∷◌, ◌++◌, length}
 use Rattle.std.proofs.lemmas.Bool.{true≢false, cases_Bool, cases_lt, and_parts}
 use Rattle.grid_law.specs.Rules.{Rules, Laws, Agrees, Differ}
 use Rattle.cell_table.specs.declared.given.Given.{Given}
-use Rattle.cell_table.specs.declared.given.Given.TheVariants.{Gone, NotDue, Overtaken, Foreign, ClockSpent, Stored}
+use Rattle.cell_table.specs.declared.given.Given.TheVariants.{Gone, NotDue, Overtaken, Foreign, ClockSpent, Memory, Stored}
 use Rattle.cell_table.specs.Seen.{Seen, held_at}
 use Rattle.cell_table.specs.Cells.{IsThere}
 use Rattle.cell_table.specs.Claims.{Claimed, Computed, IsClaim, IsNextRound, is_claimable}
@@ -26,6 +26,7 @@ module _ {State Slots Slot : Type 0} (R : Rules State Slots Slot) (laws : Laws R
   stands_given Overtaken g = subst (λ v. Stands R o v h) (sym g.3) stands
   stands_given Foreign g = subst (λ v. Stands R o v h) (sym g.2) stands
   stands_given (ClockSpent back) g = subst (λ v. Stands R o v h) (sym g.5) stands
+  stands_given (Memory back) g = subst (λ v. Stands R o v h) (sym g.5) stands
   stands_given (Stored changed) g =
       stands_stored R laws o old new h stands done.claim.cell.cycle done.claim.cell.component done.state changed g.0.there g.2
 
@@ -127,6 +128,7 @@ module _ {State Slots Slot : Type 0} (R : Rules State Slots Slot) (laws : Laws R
   answers_made Overtaken g = (refused (λ k. g.2 k.version), within g.0, sym (cell g.0).is_due ∙ g.1)
   answers_made Foreign g = g.1 (when_kept R laws o old new done.claim h n stands made (kept g.0)).1
   answers_made (ClockSpent back) g = (kept g.1, sym stands.clock ∙ g.3, λ e. g.4 ((cell g.1.there).state ∙ e), g.0)
+  answers_made (Memory back) g = (kept g.1, subst (λ n. n < 2 ^ 64 - 1) stands.clock g.3, λ e. g.4 ((cell g.1.there).state ∙ e), g.0)
   answers_made (Stored changed) g = (
     kept g.0,
     (λ e. sym (cell g.0.there).state ∙ g.2.changes.0 e, λ e. g.2.changes.1 ((cell g.0.there).state ∙ e)),

@@ -1,9 +1,12 @@
+pub mod Keeping
 pub mod Counts
+pub mod Marking
 pub mod Tables
 pub mod States
 pub mod Stores
 pub mod Touched
-pub mod Marking
+pub mod Asking
+pub mod Shortcut
 pub mod Standing
 pub mod Overtaking
 pub mod Answering

@@ -1,88 +1,88 @@
--- The marks of an edit, a list of components for each cycle, and the rows that were marked by them.
-use Rattle.std.proofs.Common.{◌≡◌, ℕ, ◌+◌, ◌<◌, ◌≤◌, ◌∙◌, sym, ap, subst, arith, rules, Bool, cond, ◌⊎◌, inl, inr, List, [], ◌∷◌, ◌++◌, length, All}
-use Rattle.std.proofs.Math.ListN.{set, get_or-eq_default}
-use Rattle.std.proofs.Math.Seq.{get_or-append_seam}
-use Rattle.std.proofs.lemmas.Bool.{cases_eq, cases_lt}
-use Rattle.std.proofs.lemmas.List.{length-set, get_or-set_same, get_or-set_other, get_or_append_left, length-append}
-use Rattle.cell_table.specs.Seen.{Held, held_in, held_at, row_at, marked}
-use Rattle.cell_table.specs.Readers.{has, readers_at}
-use Rattle.cell_table.specs.Touches.{is_marked}
+-- Cells that are marked, one after another.
+use Rattle.std.proofs.Common.{◌≡◌, ℕ, ◌+◌, ◌<◌, ◌≤◌, ◌∙◌, sym, ap, refl, arith, Bool, true, false, cond, eqb, leb, ltb, eq-eqb, ◌&&◌, ◌||◌, ◌⊎◌, inl, inr, List, length, take, get_or}
+use Rattle.std.proofs.lemmas.Bool.{cases_eq, cases_lt, ne_eqb, lt-ltb, le-ltb, eqb-true}
+use Rattle.std.proofs.lemmas.Grind.{common_steps}
+use Rattle.std.proofs.lemmas.List.Folds.{list_any_more}
+use Rattle.cell_table.specs.Seen.{Held, held_at, marked}
+use Rattle.cell_table.specs.Readers.{has}
+use Rattle.cell_table.specs.Layout.{IsOtherCell}
+use Rattle.cell_table.specs.declared.marks.CellRange.{CellRange}
+use Rattle.cell_table.specs.Touches.{covers, is_marked}
 
--- one more cycle's list
-module _ (rows : List (List ℕ)) (x : List ℕ) where
-  at_before : (t : ℕ) → t < length rows → readers_at (rows ++ x ∷ []) t ≡ readers_at rows t
-  at_before t h = get_or_append_left rows (x ∷ []) [] t h
+eqb_swap : (a b : ℕ) → eqb a b ≡ eqb b a
+eqb_swap a b = by_test (cases_eq a b)
+  where
+    by_test : (a ≡ b) ⊎ (a ≡ b → ⊥) → eqb a b ≡ eqb b a
+    by_test (inl e) = eq-eqb a b e ∙ sym (eq-eqb b a (sym e))
+    by_test (inr n) = ne_eqb a b n ∙ sym (ne_eqb b a (λ e. n (sym e)))
 
-  at_last : readers_at (rows ++ x ∷ []) (length rows) ≡ x
-  at_last = get_or-append_seam rows x [] []
+and_or : (a b c : Bool) → ((a && b) || (a && c)) ≡ (a && (b || c))
+and_or true b c = refl
+and_or false b c = refl
 
-  at_past : (t : ℕ) → length rows < t → readers_at (rows ++ x ∷ []) t ≡ []
-  at_past t h = get_or-eq_default (rows ++ x ∷ []) [] (omega (arith, length-append rows (x ∷ [])))
+-- one list element more
+pub listed_more : (xs : List ℕ) (i t cycle c : ℕ) → i < length xs → (((eqb t cycle) && has (take i xs) c) || ((eqb t cycle) && eqb c (get_or xs i 0))) ≡ ((eqb t cycle) && has (take (i + 1) xs) c)
+listed_more xs i t cycle c h =
+    and_or (eqb t cycle) (has (take i xs) c) (eqb c (get_or xs i 0))
+    ∙ ap (λ b. (eqb t cycle) && (has (take i xs) c || b)) (eqb_swap c (get_or xs i 0))
+    ∙ ap (λ b. (eqb t cycle) && b) (sym (list_any_more (λ m. eqb m c) xs i 0 h))
 
-  pub all_pushed : (P : ℕ → Type 0) → ((t : ℕ) → All P (readers_at rows t)) → All P x → (t : ℕ) → All P (readers_at (rows ++ x ∷ []) t)
-  all_pushed P h k t = by_cycle (cases_lt t (length rows)) (cases_eq t (length rows))
+-- one cycle more
+within_more : (from to t : ℕ) → from ≤ to → ((leb from t && ltb t to) || eqb t to) ≡ (leb from t && ltb t (to + 1))
+within_more from to t h = by_place (cases_lt t to) (cases_eq t to)
+  where
+    or_false : (b : Bool) → (b || false) ≡ b
+    or_false true = refl
+    or_false false = refl
+
+    by_place : (t < to) ⊎ (to ≤ t) → (t ≡ to) ⊎ (t ≡ to → ⊥) → ((leb from t && ltb t to) || eqb t to) ≡ (leb from t && ltb t (to + 1))
+    by_place (inl k) e = rw (lt-ltb t to k, lt-ltb t (to + 1) (omega arith), ne_eqb t to (λ q. absurd (omega arith))) (or_false (leb from t && true))
+    by_place (inr k) (inl e) =
+        let low : leb from t ≡ true = grind (arith, common_steps) in
+        rw (low, le-ltb t to k, lt-ltb t (to + 1) (omega arith), eq-eqb t to e) refl
+    by_place (inr k) (inr n) = rw (le-ltb t to k, le-ltb t (to + 1) (omega (arith, k, n)), ne_eqb t to n) (or_false (leb from t && false))
+
+pub range_more : (component from to t c : ℕ) → from ≤ to → (((eqb c component) && (leb from t && ltb t to)) || ((eqb t to) && eqb c component)) ≡ ((eqb c component) && (leb from t && ltb t (to + 1)))
+range_more component from to t c h = by_component (eqb c component)
+  where
+    and_false : (b : Bool) → (b && false) ≡ false
+    and_false true = refl
+    and_false false = refl
+
+    and_true : (b : Bool) → (b && true) ≡ b
+    and_true true = refl
+    and_true false = refl
+
+    by_component : (v : Bool) → ((v && (leb from t && ltb t to)) || ((eqb t to) && v)) ≡ (v && (leb from t && ltb t (to + 1)))
+    by_component true = ap (λ b. (leb from t && ltb t to) || b) (and_true (eqb t to)) ∙ within_more from to t h
+    by_component false = and_false (eqb t to)
+
+module _ {State : Type 0} where
+  -- a cell that was marked, or is marked now
+  pub both : (f b : Bool) (r : Held State) (v : ℕ) → cond b (marked (cond f (marked r v) r) v) (cond f (marked r v) r) ≡ cond (f || b) (marked r v) r
+  both true true r v = refl
+  both true false r v = refl
+  both false true r v = refl
+  both false false r v = refl
+
+  -- one cell more
+  pub cell_more : (olds mids news : List (List (Held State))) (cycle k v : ℕ) (f : ℕ → ℕ → Bool) → ((t c : ℕ) → held_at mids t c ≡ cond (f t c) (marked (held_at olds t c) v) (held_at olds t c)) → IsOtherCell mids news cycle k (marked (held_at mids cycle k) v) → (t c : ℕ) → held_at news t c ≡ cond (f t c || ((eqb t cycle) && eqb c k)) (marked (held_at olds t c) v) (held_at olds t c)
+  cell_more olds mids news cycle k v f at other t c =
+      other.at t c ∙ here (eqb t cycle) (eqb c k) refl refl ∙ ap (λ r. cond ((eqb t cycle) && eqb c k) (marked r v) r) (at t c) ∙ both (f t c) ((eqb t cycle) && eqb c k) (held_at olds t c) v
     where
-      by_cycle : (t < length rows) ⊎ (length rows ≤ t) → (t ≡ length rows) ⊎ (t ≡ length rows → ⊥) → All P (readers_at (rows ++ x ∷ []) t)
-      by_cycle (inl l) e = subst (λ ms. All P ms) (sym (at_before t l)) (h t)
-      by_cycle (inr l) (inl e) = subst (λ n. All P (readers_at (rows ++ x ∷ []) n)) (sym e) (subst (λ ms. All P ms) (sym at_last) k)
-      by_cycle (inr l) (inr n) = subst (λ ms. All P ms) (sym (at_past t (omega (arith, l, n)))) (search rules)
+      here : (a b : Bool) → eqb t cycle ≡ a → eqb c k ≡ b → cond (a && b) (marked (held_at mids cycle k) v) (held_at mids t c) ≡ cond (a && b) (marked (held_at mids t c) v) (held_at mids t c)
+      here true true p q = ap (λ i. marked (held_at mids i k) v) (sym (eqb-true t cycle p)) ∙ ap (λ i. marked (held_at mids t i) v) (sym (eqb-true c k q))
+      here true false p q = refl
+      here false b p q = refl
 
-  pub marked_pushed : (n : ℕ) (f : ℕ → ℕ → Bool) → ((t c : ℕ) → t < length rows → c < n → is_marked rows t c ≡ f t c) → ((c : ℕ) → c < n → has x c ≡ f (length rows) c) → (t c : ℕ) → t < length rows + 1 → c < n → is_marked (rows ++ x ∷ []) t c ≡ f t c
-  marked_pushed n f h k t c l i = by_cycle (cases_eq t (length rows))
-    where
-      by_cycle : (t ≡ length rows) ⊎ (t ≡ length rows → ⊥) → is_marked (rows ++ x ∷ []) t c ≡ f t c
-      by_cycle (inl e) = ap (λ m. is_marked (rows ++ x ∷ []) m c) e ∙ ap (λ ms. has ms c) at_last ∙ k c i ∙ ap (λ m. f m c) (sym e)
-      by_cycle (inr e) = ap (λ ms. has ms c) (at_before t (omega (arith, l, e))) ∙ h t c (omega (arith, l, e)) i
+  pub listed_cell_more : (olds mids news : List (List (Held State))) (xs : List ℕ) (i cycle v : ℕ) → i < length xs → ((t c : ℕ) → held_at mids t c ≡ cond ((eqb t cycle) && has (take i xs) c) (marked (held_at olds t c) v) (held_at olds t c)) → IsOtherCell mids news cycle (get_or xs i 0) (marked (held_at mids cycle (get_or xs i 0)) v) → (t c : ℕ) → held_at news t c ≡ cond ((eqb t cycle) && has (take (i + 1) xs) c) (marked (held_at olds t c) v) (held_at olds t c)
+  listed_cell_more olds mids news xs i cycle v h at other t c =
+      cell_more olds mids news cycle (get_or xs i 0) v (λ t c. (eqb t cycle) && has (take i xs) c) at other t c ∙ ap (λ b. cond b (marked (held_at olds t c) v) (held_at olds t c)) (listed_more xs i t cycle c h)
 
-module _ {State : Type 0} (olds : List (List (Held State))) (marks : List (List ℕ)) (version : ℕ) where
-  -- the rows before t are marked, and the others are as they were
-  pub record IsMarkedTo (rows : List (List (Held State))) (t : ℕ) : Type 0 where
-    pub len : length rows ≡ length olds
-    pub lens : (n : ℕ) → length (row_at rows n) ≡ length (row_at olds n)
-    pub done : (n c : ℕ) → n < t → c < length (row_at olds n) → held_at rows n c ≡ cond (is_marked marks n c) (marked (held_at olds n c) version) (held_at olds n c)
-    pub rest : (n : ℕ) → t ≤ n → row_at rows n ≡ row_at olds n
+  pub range_cell_more : (olds mids news : List (List (Held State))) (component from to v : ℕ) → from ≤ to → ((t c : ℕ) → held_at mids t c ≡ cond ((eqb c component) && (leb from t && ltb t to)) (marked (held_at olds t c) v) (held_at olds t c)) → IsOtherCell mids news to component (marked (held_at mids to component) v) → (t c : ℕ) → held_at news t c ≡ cond ((eqb c component) && (leb from t && ltb t (to + 1))) (marked (held_at olds t c) v) (held_at olds t c)
+  range_cell_more olds mids news component from to v h at other t c =
+      cell_more olds mids news to component v (λ t c. (eqb c component) && (leb from t && ltb t to)) at other t c ∙ ap (λ b. cond b (marked (held_at olds t c) v) (held_at olds t c)) (range_more component from to t c h)
 
-  module _ (rows : List (List (Held State))) (t : ℕ) (to : IsMarkedTo rows t) where
-    -- a row more, which was marked
-    pub mark_more : (row : List (Held State)) → t < length rows → length row ≡ length (row_at rows t)
-        → ((c : ℕ) → c < length (row_at rows t) → held_in row c ≡ cond (is_marked marks t c) (marked (held_at rows t c) version) (held_at rows t c))
-        → IsMarkedTo (set rows t row) (t + 1)
-    mark_more row h l at = record {
-      len = length-set rows t row ∙ to.len;
-      lens = λ n. lens n (cases_eq n t);
-      done = λ n c i k. done n c i k (cases_eq n t);
-      rest = λ n i. get_or-set_other rows t n row [] (λ e. omega (arith, i, e)) ∙ to.rest n (omega (arith, i));
-    }
-      where
-        same : row_at (set rows t row) t ≡ row
-        same = get_or-set_same rows t row [] h
-
-        lens : (n : ℕ) → (n ≡ t) ⊎ (n ≡ t → ⊥) → length (row_at (set rows t row) n) ≡ length (row_at olds n)
-        lens n (inl e) = ap (λ m. length (row_at (set rows t row) m)) e ∙ ap length same ∙ l ∙ to.lens t ∙ ap (λ m. length (row_at olds m)) (sym e)
-        lens n (inr e) = ap length (get_or-set_other rows t n row [] e) ∙ to.lens n
-
-        done : (n c : ℕ) → n < t + 1 → c < length (row_at olds n) → (n ≡ t) ⊎ (n ≡ t → ⊥) → held_at (set rows t row) n c ≡ cond (is_marked marks n c) (marked (held_at olds n c) version) (held_at olds n c)
-        done n c i k (inl e) =
-            ap (λ m. held_at (set rows t row) m c) e ∙ ap (λ r. held_in r c) same ∙ at c (omega (arith, k, ap (λ m. length (row_at olds m)) e, to.lens t))
-            ∙ ap (λ r. cond (is_marked marks t c) (marked (held_in r c) version) (held_in r c)) (to.rest t (omega arith))
-            ∙ ap (λ m. cond (is_marked marks m c) (marked (held_at olds m c) version) (held_at olds m c)) (sym e)
-        done n c i k (inr e) = ap (λ r. held_in r c) (get_or-set_other rows t n row [] e) ∙ to.done n c (omega (arith, i, e)) k
-
-    -- a row more, for which there is no list
-    pub keep_more : length marks ≤ t → IsMarkedTo rows (t + 1)
-    keep_more h = record {
-      len = to.len;
-      lens = to.lens;
-      done = λ n c i k. done n c i k (cases_eq n t);
-      rest = λ n i. to.rest n (omega (arith, i));
-    }
-      where
-        unmarked : (c : ℕ) → is_marked marks t c ≡ Bool.false
-        unmarked c = ap (λ ms. has ms c) (get_or-eq_default marks [] h)
-
-        done : (n c : ℕ) → n < t + 1 → c < length (row_at olds n) → (n ≡ t) ⊎ (n ≡ t → ⊥) → held_at rows n c ≡ cond (is_marked marks n c) (marked (held_at olds n c) version) (held_at olds n c)
-        done n c i k (inl e) =
-            ap (λ m. held_at rows m c) e ∙ ap (λ r. held_in r c) (to.rest t (omega arith))
-            ∙ ap (λ b. cond b (marked (held_at olds t c) version) (held_at olds t c)) (sym (unmarked c))
-            ∙ ap (λ m. cond (is_marked marks m c) (marked (held_at olds m c) version) (held_at olds m c)) (sym e)
-        done n c i k (inr e) = to.done n c (omega (arith, i, e)) k
+  pub ranges_more : (olds mids news : List (List (Held State))) (xs : List CellRange) (i v : ℕ) (d : CellRange) → i < length xs → ((t c : ℕ) → held_at mids t c ≡ cond (is_marked (take i xs) t c) (marked (held_at olds t c) v) (held_at olds t c)) → ((t c : ℕ) → held_at news t c ≡ cond (covers (get_or xs i d) t c) (marked (held_at mids t c) v) (held_at mids t c)) → (t c : ℕ) → held_at news t c ≡ cond (is_marked (take (i + 1) xs) t c) (marked (held_at olds t c) v) (held_at olds t c)
+  ranges_more olds mids news xs i v d h at next t c =
+      next t c ∙ ap (λ r. cond (covers (get_or xs i d) t c) (marked r v) r) (at t c) ∙ both (is_marked (take i xs) t c) (covers (get_or xs i d) t c) (held_at olds t c) v ∙ ap (λ b. cond b (marked (held_at olds t c) v) (held_at olds t c)) (sym (list_any_more (λ r. covers r t c) xs i d h))

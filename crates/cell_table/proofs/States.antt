@@ -1,5 +1,5 @@
 -- The states of some components in a row.
-use Rattle.std.proofs.Common.{◌≡◌, ℕ, suc, ◌∙◌, ap, refl, Bool, true, false, Option, None, Some, List, [], ◌∷◌, length, ◌||◌, eqb}
+use Rattle.std.proofs.Common.{◌≡◌, ℕ, zero, suc, ◌<◌, ◌∙◌, sym, ap, refl, arith, get_or, map, take, subst, ◌≤◌, Bool, true, false, Option, None, Some, List, [], ◌∷◌, length, ◌||◌, eqb}
 use Rattle.std.specs.List.{AllByRecursion}
 use Rattle.std.proofs.lemmas.Bool.{true≢false, eqb-false}
 use Rattle.cell_table.specs.Seen.{Held, held_in}
@@ -8,14 +8,14 @@ use Rattle.cell_table.specs.Readers.{has}
 
 module _ {State : Type 0} where
   -- what with_state was made of
-  record Parts (o : Option State) (r : Option (List State)) (xs : List State) : Type 0 where
-    first : State
-    others : List State
-    first_is : o ≡ Some first
-    others_are : r ≡ Some others
-    whole : xs ≡ first ∷ others
+  pub record Parts (o : Option State) (r : Option (List State)) (xs : List State) : Type 0 where
+    pub first : State
+    pub others : List State
+    pub first_is : o ≡ Some first
+    pub others_are : r ≡ Some others
+    pub whole : xs ≡ first ∷ others
 
-  parts_of : (o : Option State) (r : Option (List State)) (xs : List State) → with_state o r ≡ Some xs → Parts o r xs
+  pub parts_of : (o : Option State) (r : Option (List State)) (xs : List State) → with_state o r ≡ Some xs → Parts o r xs
   parts_of None r xs h = cc
   parts_of (Some x) None xs h = cc
   parts_of (Some x) (Some ys) xs h = record { first = x; others = ys; first_is = refl; others_are = refl; whole = cc }
@@ -27,10 +27,42 @@ module _ {State : Type 0} where
       let p = parts_of (held_in row m).state (states_of row ms) xs h in
       ap length p.whole ∙ ap suc (length_states_of row ms p.others p.others_are)
 
+  -- each is a component's
+  pub state_in_place : (row : List (Held State)) (ms : List ℕ) (xs : List State) → states_of row ms ≡ Some xs → (i m : ℕ) (d : State) → i < length ms → (held_in row (get_or ms i m)).state ≡ Some (get_or xs i d)
+  state_in_place row [] xs h i m d k = absurd (omega arith)
+  state_in_place row (c ∷ ms) xs h zero m d k =
+      let p = parts_of (held_in row c).state (states_of row ms) xs h in
+      p.first_is ∙ ap (λ ys. Some (get_or ys 0 d)) (sym p.whole)
+  state_in_place row (c ∷ ms) xs h (suc i) m d k =
+      let p = parts_of (held_in row c).state (states_of row ms) xs h in
+      state_in_place row ms p.others p.others_are i m d (omega arith) ∙ ap (λ ys. Some (get_or ys (suc i) d)) (sym p.whole)
+
+  pub one_state : (row : List (Held State)) (ms : List ℕ) (xs : List State) (i m : ℕ) (x d : State) → states_of row ms ≡ Some xs → i < length ms → Some x ≡ (held_in row (get_or ms i m)).state → x ≡ get_or xs i d
+  one_state row ms xs i m x d h k e = let f : Some x ≡ Some (get_or xs i d) = e ∙ state_in_place row ms xs h i m d k in cc
+
+  pub no_state : (row : List (Held State)) (ms : List ℕ) (xs : List State) (i m : ℕ) (d : State) → states_of row ms ≡ Some xs → i < length ms → None ≡ (held_in row (get_or ms i m)).state → d ≡ get_or xs i d
+  no_state row ms xs i m d h k e = let f : None ≡ Some (get_or xs i d) = e ∙ state_in_place row ms xs h i m d k in cc
+
+  -- the first five of at most five
+  pub first_five : (xs : List State) (n : ℕ) (d : State) → length xs ≡ n → n ≤ 5 → take n (get_or xs 0 d ∷ get_or xs 1 d ∷ get_or xs 2 d ∷ get_or xs 3 d ∷ get_or xs 4 d ∷ []) ≡ xs
+  first_five [] n d e h = subst (λ k. take k (d ∷ d ∷ d ∷ d ∷ d ∷ []) ≡ []) e refl
+  first_five (a ∷ []) n d e h = subst (λ k. take k (a ∷ d ∷ d ∷ d ∷ d ∷ []) ≡ a ∷ []) e refl
+  first_five (a ∷ b ∷ []) n d e h = subst (λ k. take k (a ∷ b ∷ d ∷ d ∷ d ∷ []) ≡ a ∷ b ∷ []) e refl
+  first_five (a ∷ b ∷ c ∷ []) n d e h = subst (λ k. take k (a ∷ b ∷ c ∷ d ∷ d ∷ []) ≡ a ∷ b ∷ c ∷ []) e refl
+  first_five (a ∷ b ∷ c ∷ f ∷ []) n d e h = subst (λ k. take k (a ∷ b ∷ c ∷ f ∷ d ∷ []) ≡ a ∷ b ∷ c ∷ f ∷ []) e refl
+  first_five (a ∷ b ∷ c ∷ f ∷ g ∷ []) n d e h = subst (λ k. take k (a ∷ b ∷ c ∷ f ∷ g ∷ []) ≡ a ∷ b ∷ c ∷ f ∷ g ∷ []) e refl
+  first_five (a ∷ b ∷ c ∷ f ∷ g ∷ x ∷ xs) n d e h = absurd (omega (arith, e))
+
   -- rows with the same states for these components
   pub states_same : (row other : List (Held State)) (ms : List ℕ) → AllByRecursion (λ m. (held_in row m).state ≡ (held_in other m).state) ms → states_of row ms ≡ states_of other ms
   states_same row other [] h = refl
   states_same row other (m ∷ ms) h = rw (h.0, states_same row other ms h.1) refl
+
+pub first_of : {A B : Type 0} (f : A → B) (n : ℕ) (xs : List A) → map f (take n xs) ≡ take n (map f xs)
+first_of f zero [] = refl
+first_of f zero (x ∷ xs) = refl
+first_of f (suc n) [] = refl
+first_of f (suc n) (x ∷ xs) = ap (λ ys. f x ∷ ys) (first_of f n xs)
 
 pub neither : (x y : Bool) → (x || y) ≡ false → (x ≡ false) × (y ≡ false)
 neither true y h = absurd (true≢false h)

@@ -101,7 +101,7 @@ module _ {State Slots Slot : Type 0} (R : Rules State Slots Slot) where
     computed = computed ∙ laws.same_result claim.slots v.slots claim.near claim.cell.component present.agrees;
   }
 
-  parts_there : (o : Option (List State)) → is_some o ≡ true → o ≡ Some (unwrap_or o [])
+  pub parts_there : (o : Option (List State)) → is_some o ≡ true → o ≡ Some (unwrap_or o [])
   parts_there None h = absurd (false≢true h)
   parts_there (Some xs) h = refl
 

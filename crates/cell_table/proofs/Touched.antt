@@ -1,16 +1,17 @@
 -- A table stays one as its slots and its horizon change.
-use Rattle.std.proofs.Common.{◌≡◌, ℕ, ◌+◌, ◌-◌, ◌<◌, ◌≤◌, ◌∙◌, sym, ap, refl, arith, Bool, true, false, cond, ltb, ◌⊎◌, inl, inr, ◌||◌, Option, None, Some, List, [], ◌∷◌, length}
+use Rattle.std.proofs.Common.{◌≡◌, ℕ, ◌+◌, ◌-◌, ◌<◌, ◌≤◌, ◌∙◌, sym, ap, refl, arith, Bool, true, false, cond, ltb, ◌⊎◌, inl, inr, Some, List, [], ◌∷◌, length}
 use Rattle.std.specs.List.{AllByRecursion, Contains, list_any}
-use Rattle.std.proofs.lemmas.Bool.{true≢false, false≢true, cases_eq, ltb-false, le-ltb, lt-ltb, cases_lt}
+use Rattle.std.proofs.lemmas.Bool.{true≢false, cases_eq, ltb-false, le-ltb, lt-ltb, cases_lt}
 use Rattle.std.proofs.lemmas.List.Elements.{recursion_from_All, All-from_recursion, All-contains}
-use Rattle.grid_law.specs.Rules.{Rules, Laws, Agrees, Differ, is_first}
+use Rattle.grid_law.specs.Rules.{Rules, Laws, Agrees, Differ}
 use Rattle.cell_table.specs.Seen.{Held, Seen, row_at, held_at, fresh, marked}
 use Rattle.cell_table.specs.Cells.{IsThere}
 use Rattle.cell_table.specs.Inputs.{states_of, inputs_of}
 use Rattle.cell_table.specs.Consistent.{IsTable, IsCurrent}
-use Rattle.cell_table.specs.Reads.{reads_any, may_read_any}
+use Rattle.cell_table.specs.Reads.{reads_any}
+use Rattle.cell_table.specs.declared.marks.CellRange.{CellRange}
 use Rattle.cell_table.specs.Touches.{cell_reads, held_touched, held_marked, is_marked}
-use Rattle.cell_table.proofs.States.{states_same, neither, length_states_of}
+use Rattle.cell_table.proofs.States.{states_same, neither}
 use Rattle.cell_table.proofs.Tables.{inputs_first, inputs_later}
 
 none_passes : {X : Type 0} (test : X → Bool) (xs : List X) → list_any test xs ≡ false → AllByRecursion (λ x. test x ≡ false) xs
@@ -81,7 +82,7 @@ module _ {State Slots Slot : Type 0} (R : Rules State Slots Slot) (laws : Laws R
             };
           }
 
-module _ {State Slots Slot : Type 0} (R : Rules State Slots Slot) (v : Seen State Slots) (listed : List Slot) (marks : List (List ℕ)) (to : ℕ) where
+module _ {State Slots Slot : Type 0} (R : Rules State Slots Slot) (v : Seen State Slots) (listed : List Slot) (marks : List CellRange) (to : ℕ) where
   -- the marks are those of the cells that read a slot listed
   pub touched_from_marks : length v.rows ≡ v.horizon + 1 → ((t c : ℕ) → t ≤ to → IsThere R v t c → is_marked marks t c ≡ cell_reads R v.slots v.rows listed t c) → (t c : ℕ) → t ≤ to → c < R.components v.slots → held_marked v.rows marks (v.clock + 1) t c ≡ held_touched R v listed t c
   touched_from_marks len at t c l k = by_cycle (cases_lt v.horizon t)
@@ -89,40 +90,3 @@ module _ {State Slots Slot : Type 0} (R : Rules State Slots Slot) (v : Seen Stat
       by_cycle : (v.horizon < t) ⊎ (t ≤ v.horizon) → held_marked v.rows marks (v.clock + 1) t c ≡ held_touched R v listed t c
       by_cycle (inl h) = rw (lt-ltb v.horizon t h, le-ltb t (length v.rows) (omega arith)) refl
       by_cycle (inr h) = rw (le-ltb v.horizon t h, lt-ltb t (length v.rows) (omega arith), at t c l (record { cycle = h; component = k })) refl
-
-or_true_right : (b c : Bool) → c ≡ true → (b || c) ≡ true
-or_true_right true c e = refl
-or_true_right false c e = e
-
--- what a cell reads, its component may read there
-any_implied : {X : Type 0} (p q : X → Bool) → ((x : X) → p x ≡ true → q x ≡ true) → (xs : List X) → list_any p xs ≡ true → list_any q xs ≡ true
-any_implied p q h [] e = e
-any_implied p q h (x ∷ xs) e = by_test (p x) refl e (any_implied p q h xs)
-  where
-    by_test : (b : Bool) → p x ≡ b → (b || list_any p xs) ≡ true → (list_any p xs ≡ true → list_any q xs ≡ true) → (q x || list_any q xs) ≡ true
-    by_test true f g k = ap (λ b. b || list_any q xs) (h x f)
-    by_test false f g k = or_true_right (q x) (list_any q xs) (k g)
-
-module _ {State Slots Slot : Type 0} (R : Rules State Slots Slot) (laws : Laws R) (s : Slots) (listed : List Slot) (c : ℕ) (h : c < R.components s) where
-  may_by : (o : Option (List State)) (first : Bool) → ((near : List State) → o ≡ Some near → is_first near ≡ first) → reads_any R s c listed o ≡ true → may_read_any R s c first listed ≡ true
-  may_by None first f e = absurd (false≢true e)
-  may_by (Some near) first f e =
-      any_implied (λ slot. R.reads s near c slot) (λ slot. R.may_read s c first slot) (λ slot r. ap (λ b. R.may_read s c b slot) (sym (f near refl)) ∙ laws.readers s near c slot h r) listed e
-
-  pub may_read_first : (rows : List (List (Held State))) → cell_reads R s rows listed 0 c ≡ true → may_read_any R s c true listed ≡ true
-  may_read_first rows e = may_by (Some []) true (λ near f. let g : near ≡ [] = cc in ap is_first g) e
-
-  pub may_read_later : (rows : List (List (Held State))) (t : ℕ) → (t ≡ 0 → ⊥) → cell_reads R s rows listed t c ≡ true → may_read_any R s c false listed ≡ true
-  may_read_later rows t n e = may_by (inputs_of R s rows t c) false later e
-    where
-      own : (rest : List ℕ) × (R.near s c ≡ c ∷ rest)
-      own = laws.near_first s c
-
-      later : (near : List State) → inputs_of R s rows t c ≡ Some near → is_first near ≡ false
-      later near f =
-          let g : states_of (row_at rows (t - 1)) (c ∷ own.0) ≡ Some near = ap (states_of (row_at rows (t - 1))) (sym own.1) ∙ sym (inputs_later R s rows t c n) ∙ f in
-          not_first near (length_states_of (row_at rows (t - 1)) (c ∷ own.0) near g)
-        where
-          not_first : (near : List State) → length near ≡ length (c ∷ own.0) → is_first near ≡ false
-          not_first [] l = absurd (omega (arith, l))
-          not_first (x ∷ xs) l = refl

@@ -2,7 +2,7 @@
 use Rattle.std.specs.Prelude.{◌≡◌, ◌≢◌, ◌↔◌, ℕ, ◌-◌, ◌^◌, ◌<◌, ◌≤◌, true, false, Some, List, ◌∷◌}
 use Rattle.grid_law.specs.Rules.{Rules}
 use Rattle.cell_table.specs.declared.given.Given.{Given}
-use Rattle.cell_table.specs.declared.given.Given.TheVariants.{Gone, NotDue, Overtaken, Foreign, ClockSpent, Stored}
+use Rattle.cell_table.specs.declared.given.Given.TheVariants.{Gone, NotDue, Overtaken, Foreign, ClockSpent, Memory, Stored}
 use Rattle.cell_table.specs.Claims.{Computed}
 use Rattle.cell_table.specs.Events.{Event, Stores, Start, horizon_of}
 use Rattle.cell_table.specs.Values.{val}
@@ -18,6 +18,7 @@ module _ {State Slots Slot : Type 0} where
   after_give Overtaken done h = h
   after_give Foreign done h = h
   after_give (ClockSpent back) done h = h
+  after_give (Memory back) done h = h
   after_give (Stored changed) done h = Stores done.claim.cell.cycle done.claim.cell.component done.state changed ∷ h
 
 module _ {State Slots Slot : Type 0} (R : Rules State Slots Slot) (o : Start Slots) where
@@ -38,6 +39,11 @@ module _ {State Slots Slot : Type 0} (R : Rules State Slots Slot) (o : Start Slo
   AnswersMade h n done (ClockSpent back) =
       (overtaken R o h n done.claim.cell.cycle done.claim.cell.component ≡ false)
       × (clock_of R o h ≡ 2 ^ 64 - 1)
+      × (val R o h done.claim.cell.cycle done.claim.cell.component ≢ Some done.state)
+      × (back ≡ done)
+  AnswersMade h n done (Memory back) =
+      (overtaken R o h n done.claim.cell.cycle done.claim.cell.component ≡ false)
+      × (clock_of R o h < 2 ^ 64 - 1)
       × (val R o h done.claim.cell.cycle done.claim.cell.component ≢ Some done.state)
       × (back ≡ done)
   AnswersMade h n done (Stored changed) =

@@ -18,3 +18,4 @@ pub mod Answers
 pub mod Cones
 pub mod Settling
 pub mod Cost
+pub mod Layout

@@ -6,6 +6,7 @@ use Rattle.cell_table.specs.declared.given.SettleFault.TheVariants.{ClockSpent, 
 use Rattle.grid_law.specs.Rules.{Rules}
 use Rattle.cell_table.specs.Seen.{Held, Seen, held_at, held_in}
 use Rattle.cell_table.specs.Cells.{IsThere, AtOrAfter, Before}
+use Rattle.cell_table.specs.Consistent.{current_of}
 use Rattle.cell_table.specs.Claims.{NoneDue}
 use Rattle.cell_table.specs.Gives.{IsAfterStore}
 use Rattle.cell_table.specs.Events.{Event, Edits, Claims, Stores}
@@ -25,6 +26,11 @@ module _ {State Slots Slot : Type 0} (R : Rules State Slots Slot) where
   -- each cell before that one holds the run
   abbrev pub HoldsRunBefore : Seen State Slots → ℕ → ℕ → Type 0
   HoldsRunBefore v t0 c0 = (t c : ℕ) → IsThere R v t c → Before t c t0 c0 → (held_at v.rows t c).state ≡ Some (run R v.slots t c)
+
+  -- what is computed for the cell is the state that the cell before it holds
+  pub record IsAsBefore (v : Seen State Slots) (t c : ℕ) : Type 0 where
+    pub later : 0 < t
+    pub holds : (held_at v.rows (t - 1) c).state ≡ Some (current_of R v.slots v.rows t c)
 
   -- no cell is due, and each holds the run
   pub record IsSettled (v : Seen State Slots) : Type 0 where

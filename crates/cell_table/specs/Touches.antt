@@ -1,18 +1,27 @@
 -- What an edit does to a table.
-use Rattle.std.specs.Prelude.{◌≡◌, ℕ, ◌+◌, if◌then◌else◌, nat_lt, Bool, List, length}
+use Rattle.std.specs.Prelude.{◌≡◌, ℕ, ◌+◌, ◌==◌, ◌&&◌, if◌then◌else◌, ◌<◌, ◌≤◌, nat_le, nat_lt, Bool, List, length}
+use Rattle.std.specs.List.{list_any}
 use Rattle.grid_law.specs.Rules.{Rules}
 use Rattle.cell_table.specs.Seen.{Held, Seen, fresh, marked, held_at}
 use Rattle.cell_table.specs.Inputs.{inputs_of}
-use Rattle.cell_table.specs.Reads.{reads_any}
-use Rattle.cell_table.specs.Readers.{has, readers_at}
+use Rattle.cell_table.specs.Reads.{reads_one, reads_any}
+use Rattle.cell_table.specs.declared.marks.CellRange.{CellRange}
 use Rattle.cell_table.specs.Cells.{IsThere}
 
--- whether these marks, a list of components for each cycle, have the cell
-abbrev pub is_marked : List (List ℕ) → ℕ → ℕ → Bool
-is_marked marks t c = has (readers_at marks t) c
+-- whether the cell is one of the range
+abbrev pub covers : CellRange → ℕ → ℕ → Bool
+covers range t c = (c == range.component) && (nat_le range.from t && nat_lt t range.to)
+
+-- whether it is one of some range
+abbrev pub is_marked : List CellRange → ℕ → ℕ → Bool
+is_marked ranges t c = list_any (λ range. covers range t c) ranges
+
+-- the range has cells of the first n cycles, of a component below that number
+abbrev pub IsWithin : ℕ → ℕ → CellRange → Type 0
+IsWithin n count range = (range.from ≤ range.to) × (range.to ≤ n) × (range.component < count)
 
 -- what is held for a cell after an edit with these marks
-abbrev pub held_marked : {State : Type 0} → List (List (Held State)) → List (List ℕ) → ℕ → ℕ → ℕ → Held State
+abbrev pub held_marked : {State : Type 0} → List (List (Held State)) → List CellRange → ℕ → ℕ → ℕ → Held State
 held_marked rows marks version t c =
     if nat_lt t (length rows) then (if is_marked marks t c then marked (held_at rows t c) version else held_at rows t c) else fresh version
 
@@ -20,6 +29,10 @@ module _ {State Slots Slot : Type 0} (R : Rules State Slots Slot) where
   -- whether the cell reads one of these slots
   abbrev pub cell_reads : Slots → List (List (Held State)) → List Slot → ℕ → ℕ → Bool
   cell_reads s rows listed t c = reads_any R s c listed (inputs_of R s rows t c)
+
+  -- whether the cell reads the slot
+  abbrev pub cell_reads_one : Slots → List (List (Held State)) → Slot → ℕ → ℕ → Bool
+  cell_reads_one s rows slot t c = reads_one R s c slot (inputs_of R s rows t c)
 
   -- what is held for a cell after an edit that changed these slots
   abbrev pub held_touched : Seen State Slots → List Slot → ℕ → ℕ → Held State

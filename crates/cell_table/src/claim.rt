@@ -150,11 +150,21 @@ impl<G: Grid> Done<G> {
         &self.state
     }
 
-    pub(crate) fn into_state(self) -> Arc<G::State>
-        ensures value { arc_value result ≡ self.state }
-        ensures computed { arc_value result ≡ result_for G.rules self.claim }
+    /// The claim, and the state that was computed from it.
+    pub(crate) fn into_parts(self) -> (Claim<G>, Arc<G::State>)
+        ensures claim { result.0 ≡ self.claim }
+        ensures state { arc_value result.1 ≡ self.state }
+        ensures computed { arc_value result.1 ≡ result_for G.rules self.claim }
     {
-        let Done { claim: _, state } = self;
-        state
+        let Done { claim, state } = self;
+        (claim, state)
+    }
+
+    /// A claim with the state that was computed from it.
+    pub(crate) fn of(claim: Claim<G>, state: Arc<G::State>) -> Done<G>
+        requires { arc_value state ≡ result_for G.rules claim }
+        ensures { result ≡ record { claim = claim; state = arc_value state } }
+    {
+        Done { claim, state }
     }
 }

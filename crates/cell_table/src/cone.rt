@@ -1,12 +1,12 @@
 //! The components of a cone, and their due cells, from cycle to cycle.
 ghost use Rattle.std.specs.Prelude.{◌≡◌, ℕ, ◌+◌, ◌<◌, ◌==◌, ◌||◌, ◌&&◌, ◌^◌, ◌↔◌, IsTrue, IfOk, true, false, length, vec_len, slice_index_or, count_by};
 ghost use Rattle.std.specs.List.{range_with_len};
-ghost use Rattle.cell_table.specs.Seen.{held_in, due_at};
+ghost use Rattle.cell_table.specs.Seen.{due_at};
 ghost use Rattle.cell_table.specs.Readers.{has};
 ghost use Rattle.cell_table.specs.Cones.{is_in, earlier, count_in};
 
 use crate::Cell;
-use crate::row::Row;
+use crate::cells::Cells;
 use grid_law::{Grid, NoMemory};
 use std::alloc::Global;
 use std::marker::Model;
@@ -17,20 +17,20 @@ use std::marker::Model;
 pub(crate) fn due_down<G: Grid>(
     alloc: Global,
     slots: &G::Slots,
-    rows: &[Row<G::State>],
+    cells: &Cells<G::State>,
     cell: Cell,
 ) -> Result<u64, NoMemory>
-    requires cycle { cell.cycle < length rows.now }
+    requires cycle { cell.cycle < length cells.now }
     requires component { cell.component < G.rules.components slots.now }
-    ensures { IfOk result (λ due. due ≡ count_in G.rules slots.now (due_at rows.now) (λ m. m == cell.component) cell.cycle) }
+    ensures { IfOk result (λ due. due ≡ count_in G.rules slots.now (due_at cells.now) (λ m. m == cell.component) cell.cycle) }
 {
     let mut members = Members::only(alloc, G::components(slots), cell.component)?;
     let mut due = 0u64;
     for cycle in (0..cell.cycle).rev() {
-        due += members.due_among(&rows[cycle as usize + 1]);
+        due += members.due_among(cells, cycle + 1);
         members = members.earlier::<G>(alloc, slots)?;
     }
-    Ok(due + members.due_among(&rows[0]))
+    Ok(due + members.due_among(cells, 0))
 }
 
 /// The components of a cone at one cycle.
@@ -83,19 +83,20 @@ impl Members {
         Ok(Members { marks, grows })
     }
 
-    /// How many of them are due in a row.
+    /// How many of them are due at a cycle.
     #[tactic(auto, using(crate::proofs::Cones::count_more))]
-    fn due_among<S: Drop>(&self, row: &Row<S>) -> u64
+    fn due_among<S: Drop>(&self, cells: &Cells<S>, cycle: u32) -> u64
         ensures value { result
-            ≡ count_by (λ c. is_in self.now c && (held_in row.now c).is_due) (range_with_len 0 (length self.now.marks)) }
+            ≡ count_by (λ c. is_in self.now c && due_at cells.now cycle c) (range_with_len 0 (length self.now.marks)) }
         ensures few { result < 2 ^ 32 }
     {
-        if row.due_count() == 0 {
+        if cells.due_count(cycle) == 0 {
             return 0;
         }
         let mut count = 0;
         for (c, is_marked) in self.marks.iter().enumerate() {
-            if *is_marked && row.is_due(c as u32) {
+            let component = c as u32;
+            if *is_marked && cells.is_due(Cell { cycle, component }) {
                 count += 1;
             }
         }

@@ -14,6 +14,9 @@ pub enum Given<D> {
     Foreign,
     /// The state is another one, and the clock is at its last value. The result comes back.
     ClockSpent(D),
+    /// The state is another one, and a growth was refused. The result comes back, and may be given
+    /// again.
+    Memory(D),
     /// The state was stored; `changed` where the cell held no state or another one.
     Stored { changed: bool },
 }

@@ -41,20 +41,31 @@
 //!   present.
 //! - `settle` stores exactly the cells that cost (`specs/Cost.antt`), each once and in order.
 //!
-//! The crate stands on `grid_law` for grids and their laws, and on `arrayvec` for lists of near
-//! components.
+//! # How it is kept
+//!
+//! Callers see a list of rows, one for each cycle. Inside, each component has a line of its states
+//! (`state_line`), in which equal states at consecutive cycles are one stretch, and the due cells are
+//! bits that are counted (`cell_marks`). So an edit asks the readers of a slot once for each stretch;
+//! a cell whose near cells all go on in their stretches gets the state of the cell before it without
+//! a step; and where nothing is due, one number tells it.
+//!
+//! The crate stands on `grid_law` for grids and their laws, on `state_line` and `cell_marks`, and on
+//! `arrayvec` for lists of near components.
 #![tactic(auto)]
 
 mod cell;
+mod cells;
 mod claim;
 mod components;
 mod cone;
 mod given;
+mod lines;
 mod marks;
+mod near;
 mod readers;
-mod row;
 mod rows;
 mod table;
+mod versions;
 mod watcher;
 
 pub use cell::Cell;

@@ -1,26 +1,43 @@
-//! The rows of a table: storing a state, and marking the cells that read it.
-ghost use Rattle.std.specs.Prelude.{◌≡◌, ℕ, ◌+◌, ◌<◌, ◌-◌, ◌^◌, ◌↔◌, IsTrue, Some, map, true, length, All, if◌then◌else◌};
+//! Storing a state, and marking the cells that read it.
+ghost use Rattle.std.specs.Prelude.{◌≡◌, ℕ, ◌+◌, ◌<◌, ◌-◌, ◌^◌, ◌↔◌, ◌&&◌, ◌==◌, Some, true, false, length, All, if◌then◌else◌, OnOk, OnErr, IfErr};
 ghost use Rattle.std.specs.Arc.{arc_value};
-ghost use Rattle.cell_table.specs.Seen.{held_in, held_at, row_at, marked, due_up_to};
-ghost use Rattle.cell_table.specs.Inputs.{states_of};
-ghost use Rattle.cell_table.specs.Readers.{has, IsIndex};
-ghost use Rattle.cell_table.specs.Gives.{held_after};
+ghost use Rattle.cell_table.specs.Seen.{held_at, row_at, marked};
+ghost use Rattle.cell_table.specs.Readers.{has, readers_at, IsIndex};
+ghost use Rattle.cell_table.specs.Gives.{Stores};
 
 use crate::Cell;
+use crate::cells::Cells;
 use crate::readers::Readers;
-use crate::row::Row;
-use grid_law::Grid;
+use grid_law::{Grid, NoMemory};
 use std::sync::Arc;
 
-/// Marks the cells of these components.
-pub(crate) fn mark_each<S: Drop>(row: &mut Row<S>, components: &[u32], version: u64)
-    requires { All (λ k. k < length row.old) components.now }
-    ensures len { length row.new ≡ length row.old }
-    ensures at { (k : ℕ) → k < length row.old → held_in row.new k
-        ≡ (if has components.now k then marked (held_in row.old k) version else held_in row.old k) }
+/// Marks the cells of these components at a cycle.
+pub(crate) fn mark_each<S: Drop>(cells: &mut Cells<S>, cycle: u32, components: &[u32], version: u64)
+    requires cycle { cycle < length cells.old }
+    requires within { All (λ k. k < length (row_at cells.old cycle)) components.now }
+    ensures len { length cells.new ≡ length cells.old }
+    ensures lens { (t : ℕ) → length (row_at cells.new t) ≡ length (row_at cells.old t) }
+    ensures at { (t c : ℕ) → held_at cells.new t c
+        ≡ (if (t == cycle) && has components.now c then marked (held_at cells.old t c) version else held_at cells.old t c) }
 {
-    for k in components {
-        row.mark(*k, version);
+    for component in components {
+        let component = *component;
+        cells.mark(Cell { cycle, component }, version);
+    }
+}
+
+/// Marks the cells that read a cell, one cycle later.
+fn mark_readers<S: Drop>(cells: &mut Cells<S>, readers: &Readers, cell: Cell, version: u64)
+    requires cycle { cell.cycle < length cells.old }
+    requires within { (t : ℕ) → t < length cells.old → All (λ k. k < length (row_at cells.old t)) (readers_at readers.now cell.component) }
+    ensures len { length cells.new ≡ length cells.old }
+    ensures lens { (t : ℕ) → length (row_at cells.new t) ≡ length (row_at cells.old t) }
+    ensures at { (t c : ℕ) → t < length cells.old → held_at cells.new t c
+        ≡ (if (t == cell.cycle + 1) && has (readers_at readers.now cell.component) c then marked (held_at cells.old t c) version else held_at cells.old t c) }
+{
+    let cycles = cells.cycles();
+    if cell.cycle + 1 < cycles {
+        mark_each(cells, cell.cycle + 1, readers.of(cell.component), version);
     }
 }
 
@@ -32,65 +49,65 @@ pub(crate) fn clock_after(clock: u64, changed: bool) -> u64
     if changed { clock + 1 } else { clock }
 }
 
-/// Stores a state; where it changed, marks the cells one cycle later that read it.
+/// Stores a state; where it changed, marks the cells one cycle later that read it. Where memory is
+/// wanting, nothing is changed, and the state comes back.
 pub(crate) fn store_in<G: Grid>(
-    rows: &mut Vec<Row<G::State>>,
+    cells: &mut Cells<G::State>,
     slots: &G::Slots,
     readers: &Readers,
     cell: Cell,
     state: Arc<G::State>,
     changed: bool,
     version: u64,
-)
-    requires cycle { cell.cycle < length rows.old.items }
+) -> Result<(), Arc<G::State>>
+    requires cycle { cell.cycle < length cells.old }
     requires component { cell.component < G.rules.components slots.now }
-    requires whole { (t : ℕ) → t < length rows.old.items → length (row_at rows.old.items t) ≡ G.rules.components slots.now }
+    requires whole { (t : ℕ) → t < length cells.old → length (row_at cells.old t) ≡ G.rules.components slots.now }
     requires index { IsIndex G.rules slots.now readers.now }
-    ensures len { length rows.new.items ≡ length rows.old.items }
-    ensures whole { (t : ℕ) → t < length rows.old.items → length (row_at rows.new.items t) ≡ G.rules.components slots.now }
-    ensures at { (t c : ℕ) → t < length rows.old.items → c < G.rules.components slots.now → held_at rows.new.items t c
-        ≡ held_after G.rules slots.now rows.old.items cell.cycle cell.component (arc_value state) changed version t c }
+    requires changes { (changed ≡ false) ↔ ((held_at cells.old cell.cycle cell.component).state ≡ Some (arc_value state)) }
+    ensures ok { OnOk result (Stores G.rules slots.now cells.old cells.new cell (arc_value state) changed version) }
+    ensures err { OnErr result (cells.new ≡ cells.old) }
+    ensures back { IfErr result (λ back. (arc_value back ≡ arc_value state) × (changed ≡ true)) }
 {
-    let row = &mut rows[cell.cycle as usize];
-    row.store(cell.component, state);
-    if changed && cell.cycle as usize + 1 < rows.len() {
-        let row = &mut rows[cell.cycle as usize + 1];
-        mark_each(row, readers.of(cell.component), version);
+    if !changed {
+        cells.keep(cell);
+        return Ok(());
     }
-}
-
-/// How many cells of the first rows are due, up to row t.
-pub(crate) fn due_in<S: Drop>(rows: &[Row<S>], t: u32) -> u64
-    ensures { result ≡ due_up_to rows.now (t + 1) }
-{
-    let mut count = 0;
-    let mut seen: u64 = 0;
-    for row in rows {
-        if seen > u64::from(t) {
-            return count;
+    match cells.put(cell, state) {
+        Ok(()) => {
+            mark_readers(cells, readers, cell, version);
+            Ok(())
         }
-        count += u64::from(row.due_count());
-        seen += 1;
+        Err(state) => Err(state),
     }
-    count
 }
 
-/// Whether the row holds these states for these components.
-pub(crate) fn are_held<G: Grid>(row: &Row<G::State>, near: &[u32], states: &[Arc<G::State>]) -> bool
-    ensures { IsTrue result ↔ (states_of row.now near.now ≡ Some (map arc_value states.now)) }
+/// Stores the state of the cell one cycle earlier; where it changed, marks the cells one cycle
+/// later that read it. Where memory is wanting, nothing is changed.
+pub(crate) fn repeat_in<G: Grid>(
+    cells: &mut Cells<G::State>,
+    slots: &G::Slots,
+    readers: &Readers,
+    cell: Cell,
+    changed: bool,
+    version: u64,
+) -> Result<(), NoMemory>
+    requires cycle { cell.cycle < length cells.old }
+    requires later { 0 < cell.cycle }
+    requires component { cell.component < G.rules.components slots.now }
+    requires whole { (t : ℕ) → t < length cells.old → length (row_at cells.old t) ≡ G.rules.components slots.now }
+    requires index { IsIndex G.rules slots.now readers.now }
+    ensures ok { OnOk result ((x : G.State) → (held_at cells.old (cell.cycle - 1) cell.component).state ≡ Some x
+        → Stores G.rules slots.now cells.old cells.new cell x changed version) }
+    ensures err { OnErr result (cells.new ≡ cells.old) }
 {
-    if near.len() != states.len() {
-        return false;
-    }
-    for i in 0..near.len() {
-        match row.state(near[i]) {
-            Some(state) => {
-                if !G::same(state, &states[i]) {
-                    return false;
-                }
+    match cells.repeat(cell) {
+        Ok(()) => {
+            if changed {
+                mark_readers(cells, readers, cell, version);
             }
-            None => return false,
+            Ok(())
         }
+        Err(_) => Err(NoMemory),
     }
-    true
 }

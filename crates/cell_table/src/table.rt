@@ -19,9 +19,8 @@ mod settling;
 mod touching;
 
 use crate::Cell;
+use crate::cells::Cells;
 use crate::readers::Readers;
-use crate::row::Row;
-use crate::rows::due_in;
 use grid_law::{Grid, NoMemory};
 use std::alloc::Global;
 use std::marker::Model;
@@ -34,7 +33,7 @@ pub struct Table<G: Grid> {
     slots: G::Slots,
     horizon: u32,
     clock: u64,
-    rows: Vec<Row<G::State>>,
+    cells: Cells<G::State>,
     readers: Readers,
 }
 
@@ -44,9 +43,9 @@ impl<G: Grid> Model for Table<G> {
 
     ghost Value = { Seen G.State G.Slots };
 
-    ghost view = { λ t. record { slots = t.slots; horizon = t.horizon; clock = t.clock; rows = t.rows.items } };
+    ghost view = { λ t. record { slots = t.slots; horizon = t.horizon; clock = t.clock; rows = t.cells } };
 
-    ghost invariant = { λ t. IsKept G.rules t.slots t.horizon t.rows.items t.readers };
+    ghost invariant = { λ t. IsKept G.rules t.slots t.horizon t.cells t.readers };
 }
 
 impl<G: Grid> Table<G> {
@@ -66,30 +65,27 @@ impl<G: Grid> Table<G> {
         ensures err { IfErr result (λ s. s ≡ slots) }
     {
         let count = G::components(&slots);
-        let mut rows = Vec::new(alloc);
-        for _t in 0..u64::from(horizon) + 1 {
-            match Row::new(alloc, count, clock) {
-                Ok(row) => match rows.push(row) {
-                    Ok(()) => {}
-                    Err(_) => return Err(slots),
-                },
-                Err(_) => return Err(slots),
-            }
+        if horizon == u32::MAX {
+            return Err(slots);
         }
-        match Readers::new::<G>(alloc, &slots) {
-            Ok(readers) => Ok(Table {
-                slots,
-                horizon,
-                clock,
-                rows,
-                readers,
-            }),
+        match Cells::new(alloc, count, horizon + 1, clock) {
+            Ok(cells) => match Readers::new::<G>(alloc, &slots) {
+                Ok(readers) => Ok(Table {
+                    slots,
+                    horizon,
+                    clock,
+                    cells,
+                    readers,
+                }),
+                Err(_) => Err(slots),
+            },
             Err(_) => Err(slots),
         }
     }
 
     /// A table whose cells are all new and due, with `clock` as their version. Where memory is
-    /// wanting, the slots come back. It takes all the memory that `give` will ever need.
+    /// wanting, the slots come back; so they do at the horizon 2^32 - 1, whose cycles are more than
+    /// are counted.
     pub fn new(
         alloc: Global,
         slots: G::Slots,
@@ -131,10 +127,7 @@ impl<G: Grid> Table<G> {
     pub fn state(&self, cell: Cell) -> Option<&G::State>
         ensures { option_copied result ≡ (held_at self.now.rows cell.cycle cell.component).state }
     {
-        match self.rows.get(cell.cycle as usize) {
-            Some(row) => row.state(cell.component),
-            None => None,
-        }
+        self.cells.state(cell)
     }
 
     /// One more owner of the state that the cell holds, up to date or not; none for a cell that
@@ -143,31 +136,26 @@ impl<G: Grid> Table<G> {
     pub fn shared(&self, cell: Cell) -> Result<Option<Arc<G::State>>, NoMemory>
         ensures { IfOk result (λ o. option_map arc_value o ≡ (held_at self.now.rows cell.cycle cell.component).state) }
     {
-        match self.rows.get(cell.cycle as usize) {
-            Some(row) => row.shared(cell.component),
-            None => Ok(None),
-        }
+        self.cells.shared(cell)
     }
 
     /// Whether the cell is due; one that isn't there isn't.
     pub fn due(&self, cell: Cell) -> bool
         ensures { result ≡ (held_at self.now.rows cell.cycle cell.component).is_due }
     {
-        match self.rows.get(cell.cycle as usize) {
-            Some(row) => row.is_due(cell.component),
-            None => false,
-        }
+        self.cells.is_due(cell)
     }
 
     /// How many cells are due at the cycles up to t. Where none is, these cells hold the run,
-    /// whatever is due later. Each of these cycles is looked at once, and no cell.
+    /// whatever is due later. Each of these cycles is looked at once, and no cell; one number tells
+    /// it of all cycles.
     pub fn due_to(&self, t: u32) -> u64
         ensures count { result ≡ count_to G.rules self.now.slots self.now.horizon (due_at self.now.rows) t }
         ensures headline_due { (o : Start G.Slots) (h : List (Event G.State G.Slots G.Slot)) → Stands G.rules o self.now h
             → result ≡ count_to G.rules (slots_of o h) (horizon_of o h) (due G.rules o h) t }
         ensures run { result ≡ 0 → (t1 c : ℕ) → t1 ≤ t → IsThere G.rules self.now t1 c → (held_at self.now.rows t1 c).state ≡ Some (run G.rules self.now.slots t1 c) }
     {
-        due_in(self.rows.as_slice(), t)
+        self.cells.due_to(t)
     }
 
     fn has(&self, cell: Cell) -> bool
@@ -179,10 +167,7 @@ impl<G: Grid> Table<G> {
     fn version(&self, cell: Cell) -> u64
         ensures { result ≡ (held_at self.now.rows cell.cycle cell.component).version }
     {
-        match self.rows.get(cell.cycle as usize) {
-            Some(row) => row.version(cell.component),
-            None => 0,
-        }
+        self.cells.version(cell)
     }
 
     /// Each cell that isn't due holds its first state, or the step of the present slots and the

@@ -154,6 +154,11 @@ impl Stage {
                 self.held.push(done)?;
                 Ok(Came::Spent)
             }
+            // Comes only where a growth is refused, and then the result can be given again.
+            Given::Memory(done) => match self.table.give(done) {
+                Given::Stored { changed: true } => Ok(Came::Stored),
+                _ => Err(Fail::from("a result that came back isn't stored")),
+            },
             Given::Stored { changed: true } => Ok(Came::Stored),
             Given::Stored { changed: false } => Ok(Came::StoredTheSame),
         }

@@ -1,10 +1,11 @@
 -- What the cells of a line read, and how they start and step.
-use Rattle.std.specs.Prelude.{◌≡◌, ℕ, ◌+◌, ◌-◌, ◌%◌, ◌^◌, ◌==◌, ◌&&◌, nat_lt, if◌then◌else◌, Bool, List, [], ◌∷◌, ◌++◌, length, slice_get, slice_index, sum, Option, None, Some, not, ◌||◌}
+use Rattle.std.specs.Prelude.{◌≡◌, ℕ, ◌+◌, ◌-◌, ◌%◌, ◌^◌, ◌==◌, ◌&&◌, nat_lt, if◌then◌else◌, Bool, true, false, List, [], ◌∷◌, ◌++◌, length, slice_get, slice_index, sum, Option, None, Some, not, ◌||◌}
 use Rattle.grid_law.specs.declared.numbers.Number.{Number}
 use Rattle.grid_law.specs.declared.numbers.LineSlot.{LineSlot}
 use Rattle.grid_law.specs.declared.numbers.LineSlot.TheVariants.{Seed, Add}
-use Rattle.grid_law.specs.Numbers.{number_at, slot_value}
-use Rattle.grid_law.specs.Rules.{Rules}
+use Rattle.grid_law.specs.Numbers.{number_at, place_of, slot_value}
+use Rattle.grid_law.specs.Rules.{Rules, reader_at}
+use Rattle.grid_law.specs.declared.reader.Reader.{Reader}
 
 -- the neighbours of c among n places, where there are any
 abbrev pub left_of : ℕ → List ℕ
@@ -25,11 +26,13 @@ line_reads None c (Seed k) = k == c
 line_reads (Some own) c (Add k) = (k == c) && is_odd own
 line_reads _ c slot = Bool.false
 
--- at cycle 0 it may read its seed, later its addend
-abbrev pub line_may_read : ℕ → Bool → LineSlot → Bool
-line_may_read c Bool.true (Seed k) = k == c
-line_may_read c Bool.false (Add k) = k == c
-line_may_read c first slot = Bool.false
+-- a seed may be read by its place at cycle 0, an addend by its place later
+abbrev pub reader_of : LineSlot → Reader
+reader_of (Seed k) = reader_at k true
+reader_of (Add k) = reader_at k false
+
+abbrev pub line_readers : ℕ → LineSlot → List Reader
+line_readers n slot = if nat_lt (place_of slot) n then reader_of slot ∷ [] else []
 
 -- an odd state takes its addend; an even one becomes the sum of the states nearby, its own among them
 abbrev pub line_step : List Number → List ℕ → ℕ → ℕ
@@ -46,7 +49,7 @@ line_rules = record {
   components = length;
   near = λ s c. line_near (length s) c;
   reads = λ s near c slot. line_reads (slice_get near 0) c slot;
-  may_read = λ s c first slot. line_may_read c first slot;
+  readers = λ s slot. line_readers (length s) slot;
   start = λ s c. (number_at s c).seed;
   step = line_step;
   SameShape = λ a b. length a ≡ length b;

@@ -1,14 +1,16 @@
 -- The laws of a grid, for a line.
-use Rattle.std.proofs.Common.{◌≡◌, ℕ, ◌+◌, ◌-◌, ◌%◌, ◌^◌, ◌<◌, ◌≤◌, ◌∙◌, ap, refl, arith, rules, Bool, true, false, cond, List, [], ◌∷◌, ◌++◌, length, All, None, Some, eqb, ltb, sum, slice_get, not, ◌||◌, lit≤, eq-eqb}
+use Rattle.std.proofs.Common.{◌≡◌, ℕ, ◌+◌, ◌-◌, ◌%◌, ◌^◌, ◌<◌, ◌≤◌, ◌∙◌, ap, refl, arith, rules, Bool, true, false, cond, List, [], ◌∷◌, ◌++◌, length, All, None, Some, eqb, ltb, sum, slice_get, not, ◌||◌, lit≤, lit<, eq-eqb}
+use Rattle.std.specs.List.{Contains}
 use Rattle.std.proofs.lemmas.Bool.Decides.{nat_tests}
-use Rattle.std.proofs.lemmas.Bool.{false≢true, eqb-true, and_parts, and_from}
+use Rattle.std.proofs.lemmas.Bool.{false≢true, eqb-true, ltb-true, lt-ltb, and_parts, and_from}
 use Rattle.std.proofs.lemmas.List.Elements.{All-cons, All-append, All-nil}
 use Rattle.grid_law.specs.declared.numbers.Number.{Number}
 use Rattle.grid_law.specs.declared.numbers.LineSlot.{LineSlot}
 use Rattle.grid_law.specs.declared.numbers.LineSlot.TheVariants.{Seed, Add}
-use Rattle.grid_law.specs.Rules.{Laws, Agrees, result_of, is_first}
-use Rattle.grid_law.specs.Line.{line_rules, line_near, left_of, right_of, line_reads, line_may_read, line_step, is_odd, same_read}
-use Rattle.grid_law.specs.Numbers.{number_at, slot_value}
+use Rattle.grid_law.specs.declared.reader.Reader.{Reader}
+use Rattle.grid_law.specs.Rules.{Laws, Agrees, IsBefore, IsAscending, reader_at, result_of, is_first}
+use Rattle.grid_law.specs.Line.{line_rules, line_near, left_of, right_of, line_reads, reader_of, line_readers, line_step, is_odd, same_read}
+use Rattle.grid_law.specs.Numbers.{number_at, place_of, slot_value}
 
 -- a neighbour is a place of the line
 left_within : (n c : ℕ) → c < n → All (λ m. m < n) (left_of c)
@@ -78,11 +80,30 @@ same_line_result : (a b : List Number) (near : List ℕ) (c : ℕ) → Agrees li
 same_line_result a b [] c h = same_start a b c h
 same_line_result a b (own ∷ others) c h = same_step a b own others c h
 
-line_readers : (near : List ℕ) (c : ℕ) (slot : LineSlot) → line_reads (slice_get near 0) c slot ≡ true → line_may_read c (is_first near) slot ≡ true
-line_readers [] c (Seed k) r = r
-line_readers [] c (Add k) r = absurd (false≢true r)
-line_readers (own ∷ others) c (Seed k) r = absurd (false≢true r)
-line_readers (own ∷ others) c (Add k) r = (and_parts (eqb k c) (is_odd own) r).0
+component_within : (n : ℕ) (slot : LineSlot) → place_of slot < n → (reader_of slot).component < n
+component_within n (Seed k) h = h
+component_within n (Add k) h = h
+
+-- the one reader of a slot, where the line has its place
+all_within : (n : ℕ) (slot : LineSlot) → All (λ r. r.component < n) (line_readers n slot)
+all_within n slot = by_test (ltb (place_of slot) n) refl
+  where
+    by_test : (v : Bool) → ltb (place_of slot) n ≡ v → All (λ r. r.component < n) (cond v (reader_of slot ∷ []) [])
+    by_test false e = All-nil (λ r. r.component < n)
+    by_test true e = All-cons (λ r. r.component < n) (reader_of slot) [] (component_within n slot (ltb-true _ _ e)) (All-nil (λ r. r.component < n))
+
+alone_ascends : (r : Reader) (v : Bool) → IsAscending (cond v (r ∷ []) [])
+alone_ascends r false = tt
+alone_ascends r true = (All-nil (λ q. IsBefore r q), tt)
+
+contains_it : (n : ℕ) (slot : LineSlot) (r : Reader) → place_of slot < n → reader_of slot ≡ r → Contains (line_readers n slot) r
+contains_it n slot r h e = rw (lt-ltb _ _ h) (0, lit< tt, e)
+
+line_reads_readers : (n : ℕ) (near : List ℕ) (c : ℕ) (slot : LineSlot) → c < n → line_reads (slice_get near 0) c slot ≡ true → Contains (line_readers n slot) (reader_at c (is_first near))
+line_reads_readers n [] c (Seed k) h r = let e = eqb-true k c r in contains_it n (Seed k) _ (rw e h) (ap (λ m. reader_at m true) e)
+line_reads_readers n [] c (Add k) h r = absurd (false≢true r)
+line_reads_readers n (own ∷ others) c (Seed k) h r = absurd (false≢true r)
+line_reads_readers n (own ∷ others) c (Add k) h r = let e = eqb-true k c (and_parts (eqb k c) (is_odd own) r).0 in contains_it n (Add k) _ (rw e h) (ap (λ m. reader_at m false) e)
 
 pub line_laws : Laws line_rules
 line_laws = record {
@@ -97,5 +118,7 @@ line_laws = record {
   near_few = λ s c. near_few (length s) c;
   same_reads = λ a b near c h slot. refl;
   same_result = same_line_result;
-  readers = λ s near c slot h r. line_readers near c slot r;
+  readers = λ s near c slot h r. line_reads_readers (length s) near c slot h r;
+  readers_exist = λ s slot. all_within (length s) slot;
+  readers_ascend = λ s slot. alone_ascends (reader_of slot) (ltb (place_of slot) (length s));
 }

@@ -1,9 +1,9 @@
 //! The trait of machines that are simulated cell by cell.
 ghost use Rattle.std.specs.Prelude.{◌≡◌, ◌<◌, ◌↔◌, IsTrue, IfOk, map};
 ghost use Rattle.std.specs.Arc.{arc_value};
-ghost use Rattle.grid_law.specs.Rules.{Rules, Laws, Agrees};
+ghost use Rattle.grid_law.specs.Rules.{Rules, Laws, Agrees, IsNext};
 
-use crate::NoMemory;
+use crate::{NoMemory, Reader};
 use arrayvec::ArrayVec;
 use std::alloc::Global;
 use std::sync::Arc;
@@ -17,7 +17,7 @@ use std::sync::Arc;
 /// read and while the table that they came from goes on.
 ///
 /// The calls are total: they answer for every value of the types, also for states that no run of
-/// these slots would reach. Only `start`, `step` and `share` take memory.
+/// these slots would reach. Only `readers`, `start`, `step`, `next` and `share` take memory.
 pub trait Grid {
     /// What a component is at one cycle.
     type State: Drop;
@@ -48,11 +48,11 @@ pub trait Grid {
         requires { c < rules.components s.now }
         ensures { result ≡ rules.reads s.now (map arc_value near.now) c slot.now };
 
-    /// Whether `c` may read `slot`: at cycle 0 where `first`, else at some later cycle. Where the
-    /// answer is no, `reads` says no for all near states of such a cycle.
-    fn may_read(s: &Self::Slots, c: u32, first: bool, slot: &Self::Slot) -> bool
-        requires { c < rules.components s.now }
-        ensures { result ≡ rules.may_read s.now c first slot.now };
+    /// The components that may read `slot`, at cycle 0 or at a later one: every one for which `reads`
+    /// says yes at some near states is listed with such a cycle. By component from the lowest on, cycle
+    /// 0 before the later ones, each once.
+    fn readers(alloc: Global, s: &Self::Slots, slot: &Self::Slot) -> Result<Vec<Reader>, NoMemory>
+        ensures { IfOk result (λ readers. readers.items ≡ rules.readers s.now slot.now) };
 
     /// The state of `c` at cycle 0.
     fn start(alloc: Global, s: &Self::Slots, c: u32) -> Result<Self::State, NoMemory>
@@ -68,6 +68,17 @@ pub trait Grid {
     ) -> Result<Self::State, NoMemory>
         requires { c < rules.components s.now }
         ensures { IfOk result (λ x. x ≡ rules.step s.now (map arc_value near.now) c) };
+
+    /// As `step`, from near states that are lent; nothing where the next state is the component's own
+    /// one, the first of them.
+    fn next(
+        alloc: Global,
+        s: &Self::Slots,
+        near: &[&Self::State],
+        c: u32,
+    ) -> Result<Option<Self::State>, NoMemory>
+        requires { c < rules.components s.now }
+        ensures { IfOk result (λ next. IsNext rules s.now (map (λ state. state.now) near.now) c next) };
 
     /// Whether two states are equal.
     fn same(a: &Self::State, b: &Self::State) -> bool

@@ -12,7 +12,9 @@
 //! - agreement: `agree(a, b, near, c)` is true exactly where `a` and `b` have one shape and the
 //!   same value in each slot that `c` reads there; then `c` reads the same slots under both, and
 //!   gets the same state;
-//! - readers: what a component reads, `may_read` says that it may, without a look at any state;
+//! - readers: a component that reads a slot at some state is one of its `readers`, which are found
+//!   without a look at any state;
+//! - `next` is `step` over states that are lent, and nothing where the state stays as it is;
 //! - locality: `reads` and `step` see the states of `near(c)`, in that order, and no others;
 //! - `same` is equality of states, and `share` gives an equal value;
 //! - the cells near a component begin with the component itself, are at most five, and exist.
@@ -27,6 +29,7 @@ mod grid;
 mod line;
 mod no_memory;
 mod numbers;
+mod reader;
 #[cfg(test)]
 mod tests;
 
@@ -35,3 +38,4 @@ pub use grid::Grid;
 pub use line::Line;
 pub use no_memory::NoMemory;
 pub use numbers::{LONGEST, LineSlot, Number, Numbers, SlotFault};
+pub use reader::Reader;

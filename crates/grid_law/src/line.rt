@@ -1,9 +1,9 @@
 //! A line of numbers, the smallest grid.
 ghost use Rattle.std.specs.Prelude.{◌≡◌, map, slice_get, sum, ◌%◌, ◌^◌};
 ghost use Rattle.std.specs.Arc.{arc_value};
-ghost use Rattle.grid_law.specs.Line.{same_read};
+ghost use Rattle.grid_law.specs.Line.{same_read, reader_of};
 
-use crate::{Grid, LineSlot, NoMemory, Number, Numbers};
+use crate::{Grid, LineSlot, NoMemory, Number, Numbers, Reader};
 use arrayvec::ArrayVec;
 use std::alloc::Global;
 use std::sync::Arc;
@@ -55,11 +55,12 @@ impl Grid for Line {
         }
     }
 
-    fn may_read(_s: &Numbers, c: u32, first: bool, slot: &LineSlot) -> bool {
-        match slot {
-            LineSlot::Seed(place) => first && *place == c,
-            LineSlot::Add(place) => !first && *place == c,
+    fn readers(alloc: Global, s: &Numbers, slot: &LineSlot) -> Result<Vec<Reader>, NoMemory> {
+        let mut readers = Vec::new(alloc);
+        if slot.place() < s.count() {
+            readers.push(reader_of(*slot))?;
         }
+        Ok(readers)
     }
 
     fn start(_alloc: Global, s: &Numbers, c: u32) -> Result<u32, NoMemory> {
@@ -70,6 +71,17 @@ impl Grid for Line {
         match own_state(near) {
             Some(own) if own % 2 == 1 => Ok(own.wrapping_add(s.at(c).add)),
             _ => Ok(wrapping_sum(near)),
+        }
+    }
+
+    fn next(_alloc: Global, s: &Numbers, near: &[&u32], c: u32) -> Result<Option<u32>, NoMemory> {
+        let next = match near.first() {
+            Some(own) if **own % 2 == 1 => own.wrapping_add(s.at(c).add),
+            _ => lent_sum(near),
+        };
+        match near.first() {
+            Some(own) if **own == next => Ok(None),
+            _ => Ok(Some(next)),
         }
     }
 
@@ -106,6 +118,33 @@ fn wrapping_sum(near: &[Arc<u32>]) -> u32
         total = total.wrapping_add(**state);
     }
     total
+}
+
+/// The same of states that are lent.
+fn lent_sum(near: &[&u32]) -> u32
+    ensures { result ≡ sum (map (λ state. state.now) near.now) % 2 ^ 32 }
+{
+    let mut sum = 0u32;
+    for number in near {
+        sum = sum.wrapping_add(**number);
+    }
+    sum
+}
+
+/// The place that may read a slot: its seed at cycle 0, its addend later.
+fn reader_of(slot: LineSlot) -> Reader
+    ensures { result ≡ reader_of slot }
+{
+    match slot {
+        LineSlot::Seed(component) => Reader {
+            component,
+            first: true,
+        },
+        LineSlot::Add(component) => Reader {
+            component,
+            first: false,
+        },
+    }
 }
 
 /// Whether what a place reads is the same in both.

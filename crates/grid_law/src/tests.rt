@@ -91,25 +91,29 @@ fn texts(rt: HostRuntime) -> Result<(), Fail> {
     Ok(())
 }
 
-// A place may read its own seed at cycle 0, and its own addend later.
+// A place may read its own seed at cycle 0, and its own addend later; past the line there is no place.
 #[test]
 fn readers_of_slots(rt: HostRuntime) -> Result<(), Fail> {
-    let line = three(rt.alloc())?;
-    for (slot, first, later) in [
-        (LineSlot::Seed(1), Some(1), None),
-        (LineSlot::Add(2), None, Some(2)),
-    ] {
-        for c in 0..Line::components(&line) {
-            let may = (
-                Line::may_read(&line, c, true, &slot),
-                Line::may_read(&line, c, false, &slot),
-            );
-            assert_eq!(rt;
-                may,
-                (first == Some(c), later == Some(c)),
-                "{slot:?} and place {c}"
-            );
-        }
+    let alloc = rt.alloc();
+    let line = three(alloc)?;
+    for (slot, first) in [(LineSlot::Seed(1), true), (LineSlot::Add(1), false)] {
+        let readers = Line::readers(alloc, &line, &slot)?;
+        let component = 1;
+        assert_eq!(rt;
+            readers.as_slice(),
+            [Reader { component, first }].as_slice()
+        );
     }
+    assert!(rt; Line::readers(alloc, &line, &LineSlot::Add(3))?.is_empty());
+    Ok(())
+}
+
+// An odd number without an addend stays; 2 between 3 and 5 becomes 10.
+#[test]
+fn next_states(rt: HostRuntime) -> Result<(), Fail> {
+    let alloc = rt.alloc();
+    let line = three(alloc)?;
+    assert_eq!(rt; Line::next(alloc, &line, &[&7, &3, &5], 1)?, None);
+    assert_eq!(rt; Line::next(alloc, &line, &[&2, &3, &5], 1)?, Some(10));
     Ok(())
 }

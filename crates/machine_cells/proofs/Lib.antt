@@ -10,3 +10,4 @@ pub mod Agreeing
 pub mod Rows
 pub mod Resting
 pub mod Keeping
+pub mod Listing

@@ -1,12 +1,14 @@
 -- What a cell reads of the project.
 use Rattle.std.specs.Prelude.{◌≡◌, ◌<◌, ℕ, zero, suc, ◌/◌, ◌==◌, ◌&&◌, nat_lt, Bool, true, false, if◌then◌else◌, List, [], ◌∷◌, ◌++◌, Option, None, Some}
-use Rattle.std.specs.List.{list_any}
+use Rattle.std.specs.List.{list_any, flat_map, range_with_len}
 use Rattle.omega_net.specs.declared.component.Net.TheVariants.{Low as LowNet, Comb as CombNet}
 use Rattle.omega_net.specs.declared.component.Component.{Component}
 use Rattle.omega_net.specs.declared.component.Component.TheVariants.{Proc as ProcAt, Module as ModuleAt, Switch}
 use Rattle.omega_net.specs.declared.script.ScriptEntry.{ScriptEntry}
 use Rattle.omega_net.specs.declared.script.ScriptEntry.TheVariants.{Reference, Until, Fence, Idle}
-use Rattle.omega_net.specs.Numbers.{component_of}
+use Rattle.omega_net.specs.Numbers.{components, component_of}
+use Rattle.grid_law.specs.declared.reader.Reader.{Reader}
+use Rattle.grid_law.specs.Rules.{reader_at}
 use Rattle.ref_proc.specs.declared.state.Outgoing.{Outgoing}
 use Rattle.project_book.specs.Limits.{script_entries}
 use Rattle.machine_cells.specs.declared.state.MachineState.{MachineState}
@@ -113,10 +115,21 @@ later_may_read k (Some (Switch LowNet stage j)) slot = is_listed (Depth LowForwa
 later_may_read k (Some (Switch CombNet stage j)) slot = is_listed (Depth CombForward ∷ Depth CombReverse ∷ Wait ∷ Combine stage ∷ last_reads k stage) slot
 later_may_read k None slot = false
 
--- `may_read`: whether a component may read a slot, at cycle 0 or at a later one
+-- whether a component may read a slot, at cycle 0 or at a later one
 abbrev pub may_read : Project → ℕ → Bool → Slot → Bool
 may_read P c true slot = or_shape slot (start_reads (component_of P.k c) slot)
 may_read P c false slot = or_shape slot (later_may_read P.k (component_of P.k c) slot)
+
+-- a component as the reader of a slot, at cycle 0 or at the later ones, where it may be one
+abbrev pub reader_if : Bool → ℕ → Bool → List Reader
+reader_if may c first = if may then reader_at c first ∷ [] else []
+
+abbrev pub reader_of : Project → Slot → ℕ → List Reader
+reader_of P slot c = reader_if (may_read P c true slot) c true ++ reader_if (may_read P c false slot) c false
+
+-- `readers`: those of all components, in their order
+abbrev pub readers : Project → Slot → List Reader
+readers P slot = flat_map (reader_of P slot) (range_with_len 0 (components P.k))
 
 -- each slot of a list has the same value in both
 abbrev pub SameAtAll : Project → Project → List Slot → Type 0

@@ -1,6 +1,7 @@
 //! The machine as a grid of cells.
 ghost use Rattle.std.specs.Prelude.{◌≡◌, ◌<◌, ◌↔◌, IsTrue, IfOk, Some, map};
 ghost use Rattle.omega_net.specs.Numbers.{components, component_of, number_of, Exists};
+ghost use Rattle.grid_law.specs.Rules.{IsNext};
 ghost use Rattle.machine_cells.specs.GridRules.{rp3_rules, next_state};
 ghost use Rattle.machine_cells.specs.Reads.{reads, SameStart};
 ghost use Rattle.machine_cells.specs.Cells.{pulled};
@@ -8,11 +9,12 @@ ghost use Rattle.machine_cells.specs.Cells.{pulled};
 use crate::MachineState;
 use crate::agree::{agree_later, same_memory};
 use crate::near::{NearState, state_at};
-use crate::reads::{later_may_read, later_reads, start_reads};
+use crate::readers::readers;
+use crate::reads::{later_reads, start_reads};
 use crate::start::start_of;
-use crate::step::pulled;
+use crate::step::{moved, pulled};
 use arrayvec::ArrayVec;
-use grid_law::{Grid, NoMemory};
+use grid_law::{Grid, NoMemory, Reader};
 use omega_net::{Component, Shape};
 use project_book::{Project, Slot};
 use std::alloc::Global;
@@ -53,6 +55,24 @@ pub(crate) fn next_state<S: NearState>(
     }
 }
 
+/// The same, and nothing where it is the component's own state.
+fn next_or_own<S: NearState>(
+    alloc: Global,
+    project: &Project,
+    near: &[S],
+    c: u32,
+) -> Result<Option<MachineState>, NoMemory>
+    requires { c < components project.now.k }
+    ensures { IfOk result (IsNext rp3_rules project.now (map S.state near.now) c) }
+{
+    let shape = project.shape();
+    let component = component_at(shape, c);
+    match near.first() {
+        Some(own) => moved(alloc, project, shape, near, component, own.state()),
+        None => Ok(Some(start_of(alloc, project, component)?)),
+    }
+}
+
 impl Grid for Rp3 {
     ghost use Rattle.machine_cells.specs.GridRules.{rp3_rules};
     ghost use Rattle.machine_cells.specs.GridLaws.{rp3_laws};
@@ -86,13 +106,8 @@ impl Grid for Rp3 {
         }
     }
 
-    fn may_read(s: &Project, c: u32, first: bool, slot: &Slot) -> bool {
-        let component = component_at(s.shape(), c);
-        match slot {
-            Slot::Shape => true,
-            _ if first => start_reads(component, *slot),
-            _ => later_may_read(s.k(), component, *slot),
-        }
+    fn readers(alloc: Global, s: &Project, slot: &Slot) -> Result<Vec<Reader>, NoMemory> {
+        readers(alloc, s, *slot)
     }
 
     fn start(alloc: Global, s: &Project, c: u32) -> Result<MachineState, NoMemory> {
@@ -106,6 +121,15 @@ impl Grid for Rp3 {
         c: u32,
     ) -> Result<MachineState, NoMemory> {
         next_state(alloc, s, near, c)
+    }
+
+    fn next(
+        alloc: Global,
+        s: &Project,
+        near: &[&MachineState],
+        c: u32,
+    ) -> Result<Option<MachineState>, NoMemory> {
+        next_or_own(alloc, s, near, c)
     }
 
     fn same(a: &MachineState, b: &MachineState) -> bool {

@@ -39,6 +39,7 @@ mod grid;
 mod laws;
 mod near;
 mod pull;
+mod readers;
 mod reads;
 mod rest;
 mod scratch;

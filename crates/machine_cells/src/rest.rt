@@ -1,10 +1,10 @@
-//! The next state of a switch or a module, which is the one before where nothing happens.
+//! The next state of a switch or a module; nothing where it stays as it is.
 ghost use Rattle.std.specs.Prelude.{◌≡◌, ℕ, IsTrue, IfOk, length};
 ghost use Rattle.low_switch.specs.LowSwitch.{low_after};
 ghost use Rattle.comb_switch.specs.declared.settings.CombSettings.{CombSettings as Settings};
 ghost use Rattle.comb_switch.specs.CombSwitch.{comb_after};
 ghost use Rattle.mem_module.specs.MemModule.{module_after};
-ghost use Rattle.machine_cells.specs.Quiet.{quiet, quiet_module};
+ghost use Rattle.machine_cells.specs.Quiet.{quiet, quiet_module, IsNextOf};
 
 use crate::Shared;
 use comb_switch::{CombSettings, CombState};
@@ -17,16 +17,16 @@ use std::alloc::Global;
 /// A low switch one cycle later. It takes memory only where something moves.
 pub(crate) fn low_next(
     alloc: Global,
-    own: &Shared<LowState>,
+    own: &LowState,
     bit: u32,
     traffic: &Traffic,
-) -> Result<Shared<LowState>, NoMemory>
-    ensures { IfOk result (λ s. s ≡ low_after bit traffic.now own.now) }
+) -> Result<Option<Shared<LowState>>, NoMemory>
+    ensures { IfOk result (IsNextOf own.now (low_after bit traffic.now own.now)) }
 {
     if low_rests(own, traffic) {
-        own.share()
+        Ok(None)
     } else {
-        Shared::new(alloc, own.step(bit, traffic))
+        Ok(Some(Shared::new(alloc, own.step(bit, traffic))?))
     }
 }
 
@@ -34,16 +34,16 @@ pub(crate) fn low_next(
 /// the cycle before.
 pub(crate) fn comb_next(
     alloc: Global,
-    own: &Shared<CombState>,
+    own: &CombState,
     settings: &CombSettings,
     traffic: &Traffic,
-) -> Result<Shared<CombState>, NoMemory>
-    ensures { IfOk result (λ s. s ≡ comb_after settings.now traffic.now own.now) }
+) -> Result<Option<Shared<CombState>>, NoMemory>
+    ensures { IfOk result (IsNextOf own.now (comb_after settings.now traffic.now own.now)) }
 {
     if comb_rests(own, traffic) {
-        own.share()
+        Ok(None)
     } else {
-        Shared::new(alloc, own.step(settings, traffic))
+        Ok(Some(Shared::new(alloc, own.step(settings, traffic))?))
     }
 }
 
@@ -51,16 +51,16 @@ pub(crate) fn comb_next(
 /// served in the cycle before.
 pub(crate) fn module_next(
     alloc: Global,
-    own: &Shared<ModuleState>,
+    own: &ModuleState,
     depth: u32,
     traffic: &ModuleTraffic,
-) -> Result<Shared<ModuleState>, NoMemory>
-    ensures { IfOk result (λ s. s ≡ module_after depth traffic.now own.now) }
+) -> Result<Option<Shared<ModuleState>>, NoMemory>
+    ensures { IfOk result (IsNextOf own.now (module_after depth traffic.now own.now)) }
 {
     if module_rests(own, traffic) {
-        own.share()
+        Ok(None)
     } else {
-        Shared::new(alloc, own.step(alloc, depth, traffic)?)
+        Ok(Some(Shared::new(alloc, own.step(alloc, depth, traffic)?)?))
     }
 }
 

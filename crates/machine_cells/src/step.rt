@@ -5,6 +5,11 @@ ghost use Rattle.project_book.specs.Project.{place_for};
 ghost use Rattle.project_book.specs.Scripts.{IsEntry};
 ghost use Rattle.low_switch.specs.LowSwitch.{low_after};
 ghost use Rattle.comb_switch.specs.CombSwitch.{comb_after};
+ghost use Rattle.ref_proc.specs.RefProc.{proc_after};
+ghost use Rattle.mem_module.specs.MemModule.{module_after};
+ghost use Rattle.project_book.specs.Project.{depth_of};
+ghost use Rattle.project_book.specs.declared.edit.Depths.TheVariants.{ModuleQueue};
+ghost use Rattle.machine_cells.specs.Quiet.{IsNextOf};
 ghost use Rattle.machine_cells.specs.Cycle.{proc_settings, comb_settings};
 ghost use Rattle.machine_cells.specs.Cells.{beside_on, proc_pulls, module_pulls, switch_pulls, pulled};
 
@@ -164,11 +169,11 @@ fn low_step<S: NearState>(
     near: &[S],
     stage: u8,
     index: u8,
-    own: &Shared<LowState>,
-) -> Result<Shared<LowState>, NoMemory>
+    own: &LowState,
+) -> Result<Option<Shared<LowState>>, NoMemory>
     requires shape { shape ≡ project.now.k }
     requires there { Exists shape (Component.Switch Net.Low stage index) }
-    ensures { IfOk result (λ s. s ≡ low_after (project.now.k - 1 - stage) (switch_pulls project.now (map S.state near.now) Net.Low stage index) own.now) }
+    ensures { IfOk result (IsNextOf own.now (low_after (project.now.k - 1 - stage) (switch_pulls project.now (map S.state near.now) Net.Low stage index) own.now)) }
 {
     let traffic = switch_pulls(project, shape, near, Net::Low, stage, index);
     low_next(alloc, own, shape.deciding_bit(stage), &traffic)
@@ -181,18 +186,97 @@ fn comb_step<S: NearState>(
     near: &[S],
     stage: u8,
     index: u8,
-    own: &Shared<CombState>,
-) -> Result<Shared<CombState>, NoMemory>
+    own: &CombState,
+) -> Result<Option<Shared<CombState>>, NoMemory>
     requires shape { shape ≡ project.now.k }
     requires there { Exists shape (Component.Switch Net.Comb stage index) }
-    ensures { IfOk result (λ s. s ≡ comb_after (comb_settings project.now stage) (switch_pulls project.now (map S.state near.now) Net.Comb stage index) own.now) }
+    ensures { IfOk result (IsNextOf own.now (comb_after (comb_settings project.now stage) (switch_pulls project.now (map S.state near.now) Net.Comb stage index) own.now)) }
 {
     let traffic = switch_pulls(project, shape, near, Net::Comb, stage, index);
     comb_next(alloc, own, &comb_settings(project, shape, stage), &traffic)
 }
 
-/// A component's state one cycle later, from its own state and the near states, its own first. A
-/// module or a switch takes memory only where something happens in it.
+fn proc_step<S: NearState>(
+    project: &Project,
+    shape: Shape,
+    near: &[S],
+    proc: u8,
+    own: &ProcState,
+) -> Option<ProcState>
+    requires shape { shape ≡ project.now.k }
+    requires there { Exists shape (Component.Proc proc) }
+    ensures { IsNextOf own.now (proc_after (proc_settings project.now proc own.now.index) (proc_pulls project.now (map S.state near.now) proc) own.now) result }
+{
+    let settings = proc_settings(project, proc, own.index);
+    let next = own.step(&settings, &proc_pulls(project, shape, near, proc));
+    if next.same(own) { None } else { Some(next) }
+}
+
+fn module_step<S: NearState>(
+    alloc: Global,
+    project: &Project,
+    shape: Shape,
+    near: &[S],
+    number: u8,
+    own: &ModuleState,
+) -> Result<Option<Shared<ModuleState>>, NoMemory>
+    requires shape { shape ≡ project.now.k }
+    requires there { Exists shape (Component.Module number) }
+    ensures { IfOk result (IsNextOf own.now (module_after (depth_of project.now ModuleQueue) (module_pulls project.now (map S.state near.now) number) own.now)) }
+{
+    let traffic = module_pulls(project, shape, near, number);
+    module_next(alloc, own, project.depth(Depths::ModuleQueue), &traffic)
+}
+
+/// A component's state one cycle later, from its own state and the near states, its own first; nothing
+/// where it stays as it is. A module or a switch takes memory only where something happens in it.
+pub(crate) fn moved<S: NearState>(
+    alloc: Global,
+    project: &Project,
+    shape: Shape,
+    near: &[S],
+    component: Component,
+    own: &MachineState,
+) -> Result<Option<MachineState>, NoMemory>
+    requires shape { shape ≡ project.now.k }
+    requires there { Exists shape component }
+    ensures { IfOk result (IsNextOf own.now (pulled project.now (map S.state near.now) (Some component) own.now)) }
+{
+    match (component, own) {
+        (Component::Proc(p), MachineState::Proc(s)) => {
+            Ok(proc_step(project, shape, near, p, s).map(|state| MachineState::Proc(state)))
+        }
+        (Component::Module(m), MachineState::Module(s)) => {
+            let next = module_step(alloc, project, shape, near, m, s)?;
+            Ok(next.map(|state| MachineState::Module(state)))
+        }
+        (
+            Component::Switch {
+                net: Net::Low,
+                stage,
+                index,
+            },
+            MachineState::Low(s),
+        ) => {
+            let next = low_step(alloc, project, shape, near, stage, index, s)?;
+            Ok(next.map(|state| MachineState::Low(state)))
+        }
+        (
+            Component::Switch {
+                net: Net::Comb,
+                stage,
+                index,
+            },
+            MachineState::Comb(s),
+        ) => {
+            let next = comb_step(alloc, project, shape, near, stage, index, s)?;
+            Ok(next.map(|state| MachineState::Comb(state)))
+        }
+        _ => Ok(Some(blank_of(alloc, component)?)),
+    }
+}
+
+/// The same, shared with the own state where that stays.
 pub(crate) fn pulled<S: NearState>(
     alloc: Global,
     project: &Project,
@@ -205,33 +289,8 @@ pub(crate) fn pulled<S: NearState>(
     requires there { Exists shape component }
     ensures { IfOk result (λ s. s ≡ pulled project.now (map S.state near.now) (Some component) own.now) }
 {
-    match (component, own) {
-        (Component::Proc(p), MachineState::Proc(s)) => {
-            let settings = proc_settings(project, p, s.index);
-            let next = s.step(&settings, &proc_pulls(project, shape, near, p));
-            Ok(MachineState::Proc(next))
-        }
-        (Component::Module(m), MachineState::Module(s)) => {
-            let traffic = module_pulls(project, shape, near, m);
-            let depth = project.depth(Depths::ModuleQueue);
-            Ok(MachineState::Module(module_next(alloc, s, depth, &traffic)?))
-        }
-        (
-            Component::Switch {
-                net: Net::Low,
-                stage,
-                index,
-            },
-            MachineState::Low(s),
-        ) => { Ok(MachineState::Low(low_step(alloc, project, shape, near, stage, index, s)?)) }
-        (
-            Component::Switch {
-                net: Net::Comb,
-                stage,
-                index,
-            },
-            MachineState::Comb(s),
-        ) => { Ok(MachineState::Comb(comb_step(alloc, project, shape, near, stage, index, s)?)) }
-        _ => blank_of(alloc, component),
+    match moved(alloc, project, shape, near, component, own)? {
+        Some(state) => Ok(state),
+        None => own.share(),
     }
 }

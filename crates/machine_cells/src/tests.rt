@@ -1,7 +1,7 @@
 //! A worked example, and each call that takes memory.
 
 use super::*;
-use grid_law::Grid;
+use grid_law::{Grid, Reader};
 use omega_net::ScriptEntry;
 use project_book::{Depths, Edit, Project, Slot};
 use std::alloc::Global;
@@ -55,6 +55,28 @@ fn near_states(
         }
     }
     Ok(near)
+}
+
+/// Whether `next` gives a state from the same near states, lent.
+fn lent_gives(
+    alloc: Global,
+    project: &Project,
+    near: &[Arc<MachineState>],
+    c: u32,
+    state: &MachineState,
+) -> Result<bool, Fail> {
+    let mut lent = Vec::new(alloc);
+    for shared in near {
+        lent.push(&**shared)?;
+    }
+    if c >= Rp3::components(project) {
+        return Ok(false);
+    }
+    Ok(match (Rp3::next(alloc, project, &lent, c)?, lent.first()) {
+        (Some(next), _) => Rp3::same(&next, state),
+        (None, Some(own)) => Rp3::same(*own, state),
+        (None, None) => false,
+    })
 }
 
 /// The text of a component's state at a cycle; empty where it isn't there.
@@ -114,41 +136,51 @@ fn cells_give_the_run(rt: HostRuntime) -> Result<(), Fail> {
         let mut next = Vec::new(alloc);
         for c in 0..Rp3::components(&project) {
             let near = near_states(alloc, &project, &row, c)?;
-            next.push(Arc::new(alloc, Rp3::step(alloc, &project, &near, c)?)?)?;
+            let state = Rp3::step(alloc, &project, &near, c)?;
+            assert!(rt; lent_gives(alloc, &project, &near, c, &state)?);
+            next.push(Arc::new(alloc, state)?)?;
         }
         row = next;
     }
     Ok(())
 }
 
-// One processor and module each side of one stage: processors 0 and 1, modules 2 and 3, the low switch
-// 4 and the combining switch 5. Words are read at the start alone, scripts by their processor alone.
+/// Readers by their numbers: at cycle 0, or later.
+fn at_first(component: u32) -> Reader {
+    Reader {
+        component,
+        first: true,
+    }
+}
+
+fn at_later(component: u32) -> Reader {
+    Reader {
+        component,
+        first: false,
+    }
+}
+
+// One stage: processors 0 and 1, modules 2 and 3, the low switch 4 and the combining switch 5. Words are
+// read at the start alone, scripts by their processor alone.
 #[test]
 fn readers_of_slots(rt: HostRuntime) -> Result<(), Fail> {
     let alloc = rt.alloc();
     let project = Project::new(alloc, 1, 10)?.ok_or("k 1 is there")?;
-    for (slot, first, later) in [
-        (Slot::Word(300), [2, 3].as_slice(), [].as_slice()),
-        (Slot::Entry(0, 0), [].as_slice(), [0].as_slice()),
-        (Slot::Page(1), [2, 3].as_slice(), [0, 1].as_slice()),
-        (
-            Slot::Depth(Depths::ModuleQueue),
-            [].as_slice(),
-            [2, 3, 4, 5].as_slice(),
-        ),
-        (Slot::Wait, [].as_slice(), [5].as_slice()),
+    let pages = [at_later(0), at_later(1), at_first(2), at_first(3)];
+    let queues = [at_later(2), at_later(3), at_later(4), at_later(5)];
+    for (slot, readers) in [
+        (Slot::Word(300), [at_first(2), at_first(3)].as_slice()),
+        (Slot::Entry(0, 0), [at_later(0)].as_slice()),
+        (Slot::Entry(2, 0), [].as_slice()),
+        (Slot::Page(1), pages.as_slice()),
+        (Slot::Depth(Depths::ModuleQueue), queues.as_slice()),
+        (Slot::Wait, [at_later(5)].as_slice()),
     ] {
-        for c in 0..Rp3::components(&project) {
-            let may = (
-                Rp3::may_read(&project, c, true, &slot),
-                Rp3::may_read(&project, c, false, &slot),
-            );
-            assert_eq!(rt;
-                may,
-                (first.contains(&c), later.contains(&c)),
-                "{slot:?} and component {c}"
-            );
-        }
+        assert_eq!(rt;
+            Rp3::readers(alloc, &project, &slot)?.as_slice(),
+            readers,
+            "{slot:?}"
+        );
     }
     Ok(())
 }

@@ -72,3 +72,22 @@ sum_below-cut f m (suc n) b none = by_place (cases_lt n m) (sum_below-cut f m n)
         let rest : sum_below f n ≡ sum_below f m = before h (λ i c d. none i c (omega arith)) in
         let last : f n ≡ 0 = none n h (omega arith) in
         omega arith
+
+-- the sum in two parts
+pub sum_below-split : (f : ℕ → ℕ) (m n : ℕ) → sum_below f (m + n) ≡ sum_below f m + sum_below (λ i. f (i + m)) n
+unfolding sum_below
+sum_below-split f m zero = let none : m + zero ≡ m = omega arith in rw none (omega arith)
+sum_below-split f m (suc n) =
+    let size : m + suc n ≡ suc (m + n) = omega arith in
+    let last : n + m ≡ m + n = omega arith in
+    let rest : sum_below f (m + n) ≡ sum_below f m + sum_below (λ i. f (i + m)) n = sum_below-split f m n in
+    let at_last : f (n + m) ≡ f (m + n) = ap f last in
+    rw size (omega arith)
+
+-- the sum of sums
+pub sum_below-plus : (f g : ℕ → ℕ) (n : ℕ) → sum_below (λ i. f i + g i) n ≡ sum_below f n + sum_below g n
+unfolding sum_below
+sum_below-plus f g zero = refl
+sum_below-plus f g (suc n) =
+    let rest : sum_below (λ i. f i + g i) n ≡ sum_below f n + sum_below g n = sum_below-plus f g n in
+    omega arith

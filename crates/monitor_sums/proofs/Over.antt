@@ -6,12 +6,13 @@ use Rattle.omega_net.specs.Numbers.{components}
 use Rattle.project_book.specs.Limits.{max_horizon}
 use Rattle.monitor_sums.specs.Adding.{sum_below}
 use Rattle.monitor_sums.specs.Sums.{sum_over}
-use Rattle.monitor_sums.proofs.Adding.{sum_none, sum_more, sum_below-same, sum_below-change, sum_below-le, sum_below-part, sum_below-cut}
+use Rattle.monitor_sums.specs.Whole.{sum_before}
+use Rattle.monitor_sums.proofs.Adding.{sum_none, sum_more, sum_below-same, sum_below-change, sum_below-le, sum_below-part, sum_below-cut, sum_below-split, sum_below-plus}
 use Rattle.monitor_sums.specs.Limits.{max_components}
 
--- a component's sum over the cycles `from` to `to`
+-- a component's sum over the cycles from `from` on and before `end`
 abbrev pub over_cycles : (ℕ → ℕ → ℕ) → ℕ → ℕ → ℕ → ℕ
-over_cycles f from to c = sum_below (λ i. f (i + from) c) (to + 1 - from)
+over_cycles f from end c = sum_below (λ i. f (i + from) c) (end - from)
 
 -- a machine of 2^k processors has at most max_components components
 pub components_few : (k : ℕ) → k ≤ max_k → components k ≤ max_components
@@ -24,14 +25,25 @@ components_few (suc (suc (suc (suc (suc zero))))) h = omega arith
 components_few (suc (suc (suc (suc (suc (suc zero)))))) h = omega arith
 components_few (suc (suc (suc (suc (suc (suc (suc k))))))) h = absurd (omega arith)
 
+-- the cycles to `to` are those before the next
+pub over_before : (k : ℕ) (f : ℕ → ℕ → ℕ) (who : Option ℕ) (from to : ℕ) → sum_over k f who from to ≡ sum_before k f who from (to + 1)
+over_before k f (Some c) from to = refl
+over_before k f None from to = refl
+
 -- sums of the same
+pub same_cycles : (f g : ℕ → ℕ → ℕ) (from end c : ℕ) → ((t : ℕ) → from ≤ t → t < end → f t c ≡ g t c) → over_cycles f from end c ≡ over_cycles g from end c
+same_cycles f g from end c same = sum_below-same (λ i. f (i + from) c) (λ i. g (i + from) c) (end - from) (λ i b. same (i + from) (omega arith) (omega (arith, b)))
+
+pub same_before : (k : ℕ) (f g : ℕ → ℕ → ℕ) (who : Option ℕ) (from end : ℕ) → ForSome who (λ c. c < components k)
+    → ((t c : ℕ) → from ≤ t → t < end → c < components k → f t c ≡ g t c) → sum_before k f who from end ≡ sum_before k g who from end
+same_before k f g (Some c) from end asked same = same_cycles f g from end c (λ t a b. same t c a b (asked c refl))
+same_before k f g None from end asked same =
+    sum_below-same (over_cycles f from end) (over_cycles g from end) (components k) (λ c there. same_cycles f g from end c (λ t a b. same t c a b there))
+
 pub same_over : (k : ℕ) (f g : ℕ → ℕ → ℕ) (who : Option ℕ) (from to : ℕ) → ForSome who (λ c. c < components k)
     → ((t c : ℕ) → t ≤ to → c < components k → f t c ≡ g t c) → sum_over k f who from to ≡ sum_over k g who from to
-same_over k f g (Some c) from to asked same =
-    sum_below-same (λ i. f (i + from) c) (λ i. g (i + from) c) (to + 1 - from) (λ i b. same (i + from) c (omega arith) (asked c refl))
-same_over k f g None from to asked same =
-    sum_below-same (over_cycles f from to) (over_cycles g from to) (components k)
-    (λ c there. sum_below-same (λ i. f (i + from) c) (λ i. g (i + from) c) (to + 1 - from) (λ i b. same (i + from) c (omega arith) there))
+same_over k f g (Some c) from to asked same = same_before k f g (Some c) from (to + 1) asked (λ t d a b there. same t d (omega (arith, b)) there)
+same_over k f g None from to asked same = same_before k f g None from (to + 1) asked (λ t d a b there. same t d (omega (arith, b)) there)
 
 -- where the cells past h have nothing, they can be left out
 pub cut_over : (k : ℕ) (f : ℕ → ℕ → ℕ) (who : Option ℕ) (h to : ℕ) → ForSome who (λ c. c < components k) → h ≤ to
@@ -39,77 +51,75 @@ pub cut_over : (k : ℕ) (f : ℕ → ℕ → ℕ) (who : Option ℕ) (h to : �
 cut_over k f (Some c) h to asked le none =
     sum_below-cut (λ i. f (i + 0) c) (h + 1 - 0) (to + 1 - 0) (omega arith) (λ i a b. none (i + 0) c (omega arith) (omega arith) (asked c refl))
 cut_over k f None h to asked le none =
-    sum_below-same (over_cycles f 0 to) (over_cycles f 0 h) (components k)
+    sum_below-same (over_cycles f 0 (to + 1)) (over_cycles f 0 (h + 1)) (components k)
     (λ c there. sum_below-cut (λ i. f (i + 0) c) (h + 1 - 0) (to + 1 - 0) (omega arith) (λ i a b. none (i + 0) c (omega arith) (omega arith) there))
 
 -- two functions that differ at one cell
-module _ (k : ℕ) (f g : ℕ → ℕ → ℕ) (t c to : ℕ) (in_time : t ≤ to) (there : c < components k)
-    (same : (u d : ℕ) → u ≤ to → (u ≡ t → d ≡ c → ⊥) → f u d ≡ g u d) where
+module _ (k : ℕ) (f g : ℕ → ℕ → ℕ) (t c from end : ℕ) (began : from ≤ t) (in_time : t < end) (there : c < components k)
+    (same : (u d : ℕ) → from ≤ u → u < end → (u ≡ t → d ≡ c → ⊥) → f u d ≡ g u d) where
   -- have sums of its component that differ as they do there
-  pub changed_own : sum_over k f (Some c) 0 to + g t c ≡ sum_over k g (Some c) 0 to + f t c
+  pub changed_own : sum_before k f (Some c) from end + g t c ≡ sum_before k g (Some c) from end + f t c
   changed_own =
-      let at : t + 0 ≡ t = omega arith in
-      let f_at : f (t + 0) c ≡ f t c = ap (λ n. f n c) at in
-      let g_at : g (t + 0) c ≡ g t c = ap (λ n. g n c) at in
-      let sums : sum_over k f (Some c) 0 to + g (t + 0) c ≡ sum_over k g (Some c) 0 to + f (t + 0) c =
-      sum_below-change (λ i. f (i + 0) c) (λ i. g (i + 0) c) t (to + 1 - 0) (omega arith)
-      (λ i b apart. same (i + 0) c (omega arith) (λ (e : i + 0 ≡ t) _. apart (omega (arith, e)))) in
+      let at : t - from + from ≡ t = omega (arith, began) in
+      let f_at : f (t - from + from) c ≡ f t c = ap (λ n. f n c) at in
+      let g_at : g (t - from + from) c ≡ g t c = ap (λ n. g n c) at in
+      let sums : sum_before k f (Some c) from end + g (t - from + from) c ≡ sum_before k g (Some c) from end + f (t - from + from) c =
+      sum_below-change (λ i. f (i + from) c) (λ i. g (i + from) c) (t - from) (end - from) (omega (arith, began, in_time))
+      (λ i b apart. same (i + from) c (omega arith) (omega (arith, b)) (λ (e : i + from ≡ t) _. apart (omega (arith, e)))) in
       omega arith
 
   -- the same sums of another one
-  pub changed_other : (d : ℕ) → (d ≡ c → ⊥) → sum_over k f (Some d) 0 to ≡ sum_over k g (Some d) 0 to
-  changed_other d apart =
-      sum_below-same (λ i. f (i + 0) d) (λ i. g (i + 0) d) (to + 1 - 0) (λ i b. same (i + 0) d (omega arith) (λ _ e. apart e))
+  pub changed_other : (d : ℕ) → (d ≡ c → ⊥) → sum_before k f (Some d) from end ≡ sum_before k g (Some d) from end
+  changed_other d apart = same_cycles f g from end d (λ u a b. same u d a b (λ _ e. apart e))
 
   -- and sums of all that differ as they do there
-  pub changed_all : sum_over k f None 0 to + g t c ≡ sum_over k g None 0 to + f t c
+  pub changed_all : sum_before k f None from end + g t c ≡ sum_before k g None from end + f t c
   changed_all =
-      let outer : sum_over k f None 0 to + over_cycles g 0 to c ≡ sum_over k g None 0 to + over_cycles f 0 to c =
-      sum_below-change (over_cycles f 0 to) (over_cycles g 0 to) c (components k) there (λ d b apart. changed_other d apart) in
-      let inner : over_cycles f 0 to c + g t c ≡ over_cycles g 0 to c + f t c = changed_own in
+      let outer : sum_before k f None from end + over_cycles g from end c ≡ sum_before k g None from end + over_cycles f from end c =
+      sum_below-change (over_cycles f from end) (over_cycles g from end) c (components k) there (λ d b apart. changed_other d apart) in
+      let inner : over_cycles f from end c + g t c ≡ over_cycles g from end c + f t c = changed_own in
       omega arith
 
 -- a cell's part is within its component's sum, and within that of all
-pub part_own : (k : ℕ) (f : ℕ → ℕ → ℕ) (t c to : ℕ) → t ≤ to → f t c ≤ sum_over k f (Some c) 0 to
-part_own k f t c to in_time =
-    let at : t + 0 ≡ t = omega arith in
-    let f_at : f (t + 0) c ≡ f t c = ap (λ n. f n c) at in
-    let le : f (t + 0) c ≤ over_cycles f 0 to c = sum_below-part (λ i. f (i + 0) c) t (to + 1 - 0) (omega arith) in
+pub part_own : (k : ℕ) (f : ℕ → ℕ → ℕ) (t c from end : ℕ) → from ≤ t → t < end → f t c ≤ sum_before k f (Some c) from end
+part_own k f t c from end began in_time =
+    let at : t - from + from ≡ t = omega (arith, began) in
+    let f_at : f (t - from + from) c ≡ f t c = ap (λ n. f n c) at in
+    let le : f (t - from + from) c ≤ over_cycles f from end c = sum_below-part (λ i. f (i + from) c) (t - from) (end - from) (omega (arith, began, in_time)) in
     omega arith
 
-pub part_all : (k : ℕ) (f : ℕ → ℕ → ℕ) (t c to : ℕ) → t ≤ to → c < components k → f t c ≤ sum_over k f None 0 to
-part_all k f t c to in_time there =
-    let own : f t c ≤ over_cycles f 0 to c = part_own k f t c to in_time in
-    let all : over_cycles f 0 to c ≤ sum_over k f None 0 to = sum_below-part (over_cycles f 0 to) c (components k) there in
+pub part_all : (k : ℕ) (f : ℕ → ℕ → ℕ) (t c from end : ℕ) → from ≤ t → t < end → c < components k → f t c ≤ sum_before k f None from end
+part_all k f t c from end began in_time there =
+    let own : f t c ≤ over_cycles f from end c = part_own k f t c from end began in_time in
+    let all : over_cycles f from end c ≤ sum_before k f None from end = sum_below-part (over_cycles f from end) c (components k) there in
     omega arith
 
 -- parts that fit a byte have small sums
-pub small_cycles : (f : ℕ → ℕ → ℕ) (from to c : ℕ) → ((t : ℕ) → f t c < 256) → over_cycles f from to c ≤ 256 * (to + 1 - from)
-small_cycles f from to c small = sum_below-le (λ i. f (i + from) c) 256 (to + 1 - from) (λ i b. let one : f (i + from) c < 256 = small (i + from) in omega arith)
+pub small_cycles : (f : ℕ → ℕ → ℕ) (from end c : ℕ) → ((t : ℕ) → f t c < 256) → over_cycles f from end c ≤ 256 * (end - from)
+small_cycles f from end c small = sum_below-le (λ i. f (i + from) c) 256 (end - from) (λ i b. let one : f (i + from) c < 256 = small (i + from) in omega arith)
 
-pub small_own : (k : ℕ) (f : ℕ → ℕ → ℕ) (c : ℕ) → ((t c : ℕ) → f t c < 256) → sum_over k f (Some c) 0 max_horizon < 2 ^ 32
-small_own k f c small =
-    let few : over_cycles f 0 max_horizon c ≤ 256 * (max_horizon + 1) = small_cycles f 0 max_horizon c (λ t. small t c) in
-    omega arith
-
-pub small_all : (k : ℕ) (f : ℕ → ℕ → ℕ) → k ≤ max_k → ((t c : ℕ) → f t c < 256) → sum_over k f None 0 max_horizon < 2 ^ 32
-small_all k f few small =
-    let most : sum_over k f None 0 max_horizon ≤ 256 * (max_horizon + 1) * components k =
-    sum_below-le (over_cycles f 0 max_horizon) (256 * (max_horizon + 1)) (components k) (λ c there. small_cycles f 0 max_horizon c (λ t. small t c)) in
+pub small_before : (k : ℕ) (f : ℕ → ℕ → ℕ) (who : Option ℕ) (from end : ℕ) → k ≤ max_k → end ≤ max_horizon + 1 → ((t c : ℕ) → f t c < 256) → sum_before k f who from end < 2 ^ 32
+small_before k f (Some c) from end few within small =
+    let most : over_cycles f from end c ≤ 256 * (end - from) = small_cycles f from end c (λ t. small t c) in
+    omega (arith, most, within)
+small_before k f None from end few within small =
+    let most : sum_before k f None from end ≤ (256 * (max_horizon + 1)) * components k =
+    sum_below-le (over_cycles f from end) (256 * (max_horizon + 1)) (components k)
+    (λ c there. let one : over_cycles f from end c ≤ 256 * (end - from) = small_cycles f from end c (λ t. small t c) in omega (arith, one, within)) in
     omega (arith, components_few k few)
 
 -- where every cell has nothing, so have the sums
-none_cycles : (f : ℕ → ℕ → ℕ) (to c : ℕ) → ((t c : ℕ) → f t c ≡ 0) → over_cycles f 0 to c ≡ 0
-none_cycles f to c none =
-    let least : over_cycles f 0 to c ≤ 0 * (to + 1 - 0) =
-    sum_below-le (λ i. f (i + 0) c) 0 (to + 1 - 0) (λ i b. let nil : f (i + 0) c ≡ 0 = none (i + 0) c in omega arith) in
+none_cycles : (f : ℕ → ℕ → ℕ) (from end c : ℕ) → ((t c : ℕ) → f t c ≡ 0) → over_cycles f from end c ≡ 0
+none_cycles f from end c none =
+    let least : over_cycles f from end c ≤ 0 * (end - from) =
+    sum_below-le (λ i. f (i + from) c) 0 (end - from) (λ i b. let nil : f (i + from) c ≡ 0 = none (i + from) c in omega arith) in
     omega arith
 
-pub none_over : (k : ℕ) (f : ℕ → ℕ → ℕ) (who : Option ℕ) (to : ℕ) → ((t c : ℕ) → f t c ≡ 0) → sum_over k f who 0 to ≡ 0
-none_over k f (Some c) to none = none_cycles f to c none
-none_over k f None to none =
-    let least : sum_over k f None 0 to ≤ 0 * components k =
-    sum_below-le (over_cycles f 0 to) 0 (components k) (λ c there. let nil : over_cycles f 0 to c ≡ 0 = none_cycles f to c none in omega arith) in
+pub none_before : (k : ℕ) (f : ℕ → ℕ → ℕ) (who : Option ℕ) (from end : ℕ) → ((t c : ℕ) → f t c ≡ 0) → sum_before k f who from end ≡ 0
+none_before k f (Some c) from end none = none_cycles f from end c none
+none_before k f None from end none =
+    let least : sum_before k f None from end ≤ 0 * components k =
+    sum_below-le (over_cycles f from end) 0 (components k) (λ c there. let nil : over_cycles f from end c ≡ 0 = none_cycles f from end c none in omega arith) in
     omega arith
 
 -- the sum over no cycle, and over one more
@@ -123,3 +133,28 @@ cycles_more f from t c le =
     let last : t - from + from ≡ t = omega arith in
     ap (sum_below (λ i. f (i + from) c)) count ∙ sum_more (λ i. f (i + from) c) (t - from)
     ∙ ap (λ n. sum_below (λ i. f (i + from) c) (t - from) + f n c) last
+
+-- the sum over no cycle of all, and over cycles in two parts
+pub before_none : (k : ℕ) (f : ℕ → ℕ → ℕ) (who : Option ℕ) (from : ℕ) → sum_before k f who from from ≡ 0
+before_none k f (Some c) from = cycles_none f from c
+before_none k f None from =
+    let least : sum_before k f None from from ≤ 0 * components k =
+    sum_below-le (over_cycles f from from) 0 (components k) (λ c there. let nil : over_cycles f from from c ≡ 0 = cycles_none f from c in omega arith) in
+    omega arith
+
+cycles_split : (f : ℕ → ℕ → ℕ) (from mid end c : ℕ) → from ≤ mid → mid ≤ end → over_cycles f from end c ≡ over_cycles f from mid c + over_cycles f mid end c
+cycles_split f from mid end c le before =
+    let size : end - from ≡ (mid - from) + (end - mid) = omega (arith, le, before) in
+    let parts : sum_below (λ i. f (i + from) c) ((mid - from) + (end - mid)) ≡ over_cycles f from mid c + sum_below (λ i. f (i + (mid - from) + from) c) (end - mid) =
+    sum_below-split (λ i. f (i + from) c) (mid - from) (end - mid) in
+    let later : sum_below (λ i. f (i + (mid - from) + from) c) (end - mid) ≡ over_cycles f mid end c =
+    sum_below-same (λ i. f (i + (mid - from) + from) c) (λ i. f (i + mid) c) (end - mid)
+    (λ i b. let at : i + (mid - from) + from ≡ i + mid = omega (arith, le) in ap (λ n. f n c) at) in
+    ap (sum_below (λ i. f (i + from) c)) size ∙ parts ∙ ap (λ n. over_cycles f from mid c + n) later
+
+pub before_split : (k : ℕ) (f : ℕ → ℕ → ℕ) (who : Option ℕ) (from mid end : ℕ) → from ≤ mid → mid ≤ end
+    → sum_before k f who from end ≡ sum_before k f who from mid + sum_before k f who mid end
+before_split k f (Some c) from mid end le before = cycles_split f from mid end c le before
+before_split k f None from mid end le before =
+    sum_below-same (over_cycles f from end) (λ c. over_cycles f from mid c + over_cycles f mid end c) (components k) (λ c there. cycles_split f from mid end c le before)
+    ∙ sum_below-plus (over_cycles f from mid) (over_cycles f mid end) (components k)

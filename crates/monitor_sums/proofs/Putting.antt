@@ -1,6 +1,7 @@
 -- What is kept adds up again where one cell's counts are replaced.
-use Rattle.std.proofs.Common.{◌≡◌, ℕ, zero, suc, ◌+◌, ◌*◌, ◌^◌, ◌<◌, ◌≤◌, Bool, true, false, List, [], length, Option, None, Some, refl, ap, sym, subst, ◌∙◌, arith}
-use Rattle.std.specs.Prelude.{◌==◌, slice_index, slice_index_or, slice_set}
+use Rattle.std.proofs.Common.{◌≡◌, ℕ, zero, suc, ◌+◌, ◌*◌, ◌/◌, ◌^◌, ◌<◌, ◌≤◌, Bool, true, false, List, [], length, Option, None, Some, refl, ap, sym, subst, ◌∙◌, arith}
+use Rattle.std.specs.Prelude.{◌==◌, min, slice_index, slice_index_or, slice_set}
+use Rattle.std.specs.Option.{ForSome}
 use Rattle.std.proofs.lemmas.Bool.{eqb-true, eq-eqb, false≢true}
 use Rattle.std.proofs.lemmas.List.{get_or-set_same, get_or-set_other, length-set}
 use Rattle.omega_net.specs.declared.component.Net.{Net}
@@ -12,10 +13,10 @@ use Rattle.monitor_sums.specs.declared.tally.Tally.{Tally}
 use Rattle.monitor_sums.specs.Sums.{in_profile}
 use Rattle.monitor_sums.specs.Parts.{part, tallied, AreShort, IsSmall}
 use Rattle.monitor_sums.specs.Kept.{nothing, place_of, kept_at}
-use Rattle.monitor_sums.specs.Whole.{counted_of, lengths_of, none, tally_at, profile_at, AddsUp}
+use Rattle.monitor_sums.specs.Whole.{counted_in, block_end, block_place, lengths_of, tally_at, profile_at, AddsUp}
 use Rattle.monitor_sums.proofs.Parts.{part_small, in_profile_small}
-use Rattle.monitor_sums.proofs.Over.{changed_own, changed_other, changed_all, part_own, part_all, small_own, small_all}
-use Rattle.monitor_sums.specs.Limits.{profile_lengths}
+use Rattle.monitor_sums.proofs.Over.{same_before, same_cycles, changed_own, changed_other, changed_all, part_own, part_all, small_before}
+use Rattle.monitor_sums.specs.Limits.{profile_lengths, blocks}
 
 -- where a cell is kept, its counts are replaced; all others stay
 pub place_within : (k t c size : ℕ) → size ≡ components k * (max_horizon + 1) → t ≤ max_horizon → c < components k → place_of c t < size
@@ -31,40 +32,57 @@ kept_elsewhere t c u d cells x in_time also apart =
     get_or-set_other cells (place_of c t) (place_of d u) x nothing
     (λ (e : place_of d u ≡ place_of c t). apart (omega (arith, e)) (omega (arith, e)))
 
--- what a cell counted is within the totals, and they are small
-module _ (k : ℕ) (cells : List Counted) (totals : List Tally) (all : Tally) (profiles : List (List ℕ)) (kept : AddsUp k cells totals all profiles) where
-  pub held_own : (t c : ℕ) (old : Counted) (tally : Tally) → old ≡ kept_at cells t c → tally ≡ tally_at totals c → t ≤ max_horizon → c < components k
-      → (counter : Counter) → part counter old ≤ tallied counter tally
-  held_own t c old tally old_is tally_is in_time there counter =
+-- the block of a cycle has it
+block_began : (t b : ℕ) → b ≡ t / 32 → 32 * b ≤ t
+block_began t b e = omega (arith, e)
+
+block_goes_on : (t b : ℕ) → t ≤ max_horizon → b ≡ t / 32 → t < block_end b
+block_goes_on t b h e = omega (arith, h, e)
+
+pub block_there : (t b : ℕ) → t ≤ max_horizon → b ≡ t / 32 → b < blocks
+block_there t b h e = omega (arith, h, e)
+
+-- no other block has it
+block_other : (t b d : ℕ) → t ≤ max_horizon → b ≡ t / 32 → 32 * d ≤ t → t < block_end d → d ≡ b
+block_other t b d h e began before = omega (arith, h, e, began, before)
+
+-- what a cell counted is within the totals of its block, and they are small
+module _ (k : ℕ) (cells : List Counted) (own all : List Tally) (profiles : List (List ℕ)) (kept : AddsUp k cells own all profiles) where
+  part_here : (counter : Counter) (t c : ℕ) → part counter (kept_at cells t c) < 256
+  part_here counter t c = part_small counter (kept_at cells t c) (kept.small (place_of c t))
+
+  pub small_in : (counter : Counter) (who : Option ℕ) (b : ℕ) → counted_in k counter cells who b < 2 ^ 32
+  small_in counter who b = small_before k (λ t c. part counter (kept_at cells t c)) who (32 * b) (block_end b) kept.few (omega arith) (part_here counter)
+
+  pub held_own : (t c b place : ℕ) (old : Counted) → b ≡ t / 32 → place ≡ block_place c b → old ≡ kept_at cells t c → t ≤ max_horizon → c < components k
+      → (counter : Counter) → part counter old ≤ tallied counter (tally_at own place)
+  held_own t c b place old b_is place_is old_is in_time there counter =
       let old_part : part counter old ≡ part counter (kept_at cells t c) = ap (part counter) old_is in
-      let tally_part : tallied counter tally ≡ tallied counter (tally_at totals c) = ap (tallied counter) tally_is in
-      let is : tallied counter (tally_at totals c) ≡ counted_of k counter cells (Some c) 0 max_horizon = kept.parts counter c there in
-      let le : part counter (kept_at cells t c) ≤ counted_of k counter cells (Some c) 0 max_horizon =
-      part_own k (λ t c. part counter (kept_at cells t c)) t c max_horizon in_time in
-      omega arith
+      let at : tallied counter (tally_at own place) ≡ tallied counter (tally_at own (block_place c b)) = ap (λ n. tallied counter (tally_at own n)) place_is in
+      let is : tallied counter (tally_at own (block_place c b)) ≡ counted_in k counter cells (Some c) b = kept.parts counter c b there (block_there t b in_time b_is) in
+      let le : part counter (kept_at cells t c) ≤ counted_in k counter cells (Some c) b =
+      part_own k (λ t c. part counter (kept_at cells t c)) t c (32 * b) (block_end b) (block_began t b b_is) (block_goes_on t b in_time b_is) in
+      omega (arith, old_part, at, is, le)
 
-  pub held_all : (t c : ℕ) (old : Counted) → old ≡ kept_at cells t c → t ≤ max_horizon → c < components k → (counter : Counter) → part counter old ≤ tallied counter all
-  held_all t c old old_is in_time there counter =
+  pub held_all : (t c b : ℕ) (old : Counted) → b ≡ t / 32 → old ≡ kept_at cells t c → t ≤ max_horizon → c < components k
+      → (counter : Counter) → part counter old ≤ tallied counter (tally_at all b)
+  held_all t c b old b_is old_is in_time there counter =
       let old_part : part counter old ≡ part counter (kept_at cells t c) = ap (part counter) old_is in
-      let is : tallied counter all ≡ counted_of k counter cells None 0 max_horizon = kept.whole counter in
-      let le : part counter (kept_at cells t c) ≤ counted_of k counter cells None 0 max_horizon =
-      part_all k (λ t c. part counter (kept_at cells t c)) t c max_horizon in_time there in
-      omega arith
+      let is : tallied counter (tally_at all b) ≡ counted_in k counter cells None b = kept.whole counter b (block_there t b in_time b_is) in
+      let le : part counter (kept_at cells t c) ≤ counted_in k counter cells None b =
+      part_all k (λ t c. part counter (kept_at cells t c)) t c (32 * b) (block_end b) (block_began t b b_is) (block_goes_on t b in_time b_is) there in
+      omega (arith, old_part, is, le)
 
-  pub room_own : (c : ℕ) (tally : Tally) → tally ≡ tally_at totals c → c < components k → (counter : Counter) → tallied counter tally < 2 ^ 32
-  room_own c tally tally_is there counter =
-      let tally_part : tallied counter tally ≡ tallied counter (tally_at totals c) = ap (tallied counter) tally_is in
-      let is : tallied counter (tally_at totals c) ≡ counted_of k counter cells (Some c) 0 max_horizon = kept.parts counter c there in
-      let lt : counted_of k counter cells (Some c) 0 max_horizon < 2 ^ 32 =
-      small_own k (λ t c. part counter (kept_at cells t c)) c (λ t c. part_small counter (kept_at cells t c) (kept.small (place_of c t))) in
-      omega arith
+  pub room_own : (c b place : ℕ) → b < blocks → place ≡ block_place c b → c < components k → (counter : Counter) → tallied counter (tally_at own place) < 2 ^ 32
+  room_own c b place h place_is there counter =
+      let at : tallied counter (tally_at own place) ≡ tallied counter (tally_at own (block_place c b)) = ap (λ n. tallied counter (tally_at own n)) place_is in
+      let is : tallied counter (tally_at own (block_place c b)) ≡ counted_in k counter cells (Some c) b = kept.parts counter c b there h in
+      omega (arith, at, is, small_in counter (Some c) b)
 
-  pub room_all : (counter : Counter) → tallied counter all < 2 ^ 32
-  room_all counter =
-      let is : tallied counter all ≡ counted_of k counter cells None 0 max_horizon = kept.whole counter in
-      let lt : counted_of k counter cells None 0 max_horizon < 2 ^ 32 =
-      small_all k (λ t c. part counter (kept_at cells t c)) kept.few (λ t c. part_small counter (kept_at cells t c) (kept.small (place_of c t))) in
-      omega arith
+  pub room_all : (b : ℕ) → b < blocks → (counter : Counter) → tallied counter (tally_at all b) < 2 ^ 32
+  room_all b h counter =
+      let is : tallied counter (tally_at all b) ≡ counted_in k counter cells None b = kept.whole counter b h in
+      omega (arith, is, small_in counter None b)
 
   pub held_profile : (t c : ℕ) (old : Counted) → old ≡ kept_at cells t c → t ≤ max_horizon → c < components k → (net : Net) (stage n : ℕ) → stage < k → n < profile_lengths
       → in_profile k net stage n c old.lengths ≤ slice_index (profile_at k profiles net stage) n
@@ -73,8 +91,8 @@ module _ (k : ℕ) (cells : List Counted) (totals : List Tally) (all : Tally) (p
       ap (λ (y : Counted). in_profile k net stage n c y.lengths) old_is in
       let is : slice_index (profile_at k profiles net stage) n ≡ lengths_of k cells net stage n = kept.lengths net stage n in_net short in
       let le : in_profile k net stage n c (kept_at cells t c).lengths ≤ lengths_of k cells net stage n =
-      part_all k (λ t c. in_profile k net stage n c (kept_at cells t c).lengths) t c max_horizon in_time there in
-      omega arith
+      part_all k (λ t c. in_profile k net stage n c (kept_at cells t c).lengths) t c 0 (max_horizon + 1) (omega arith) (omega (arith, in_time)) there in
+      omega (arith, old_part, is, le)
 
   pub short_old : (t c : ℕ) (old : Counted) → old ≡ kept_at cells t c → AreShort old.lengths
   short_old t c old old_is = subst (λ (y : Counted). AreShort y.lengths) (sym old_is) (kept.small (place_of c t)).lengths
@@ -83,11 +101,11 @@ module _ (k : ℕ) (cells : List Counted) (totals : List Tally) (all : Tally) (p
   room_profile net stage n in_net short =
       let is : slice_index (profile_at k profiles net stage) n ≡ lengths_of k cells net stage n = kept.lengths net stage n in_net short in
       let lt : lengths_of k cells net stage n < 2 ^ 32 =
-      small_all k (λ t c. in_profile k net stage n c (kept_at cells t c).lengths) kept.few
+      small_before k (λ t c. in_profile k net stage n c (kept_at cells t c).lengths) None 0 (max_horizon + 1) kept.few (omega arith)
       (λ t c. in_profile_small k net stage n c (kept_at cells t c).lengths) in
-      omega arith
+      omega (arith, is, lt)
 
-  module _ (t c : ℕ) (x : Counted) (in_time : t ≤ max_horizon) (there : c < components k) where
+  module _ (t c b : ℕ) (x : Counted) (in_time : t ≤ max_horizon) (there : c < components k) (b_is : b ≡ t / 32) where
     abbrev after : List Counted
     after = slice_set cells (place_of c t) x
 
@@ -97,31 +115,42 @@ module _ (k : ℕ) (cells : List Counted) (totals : List Tally) (all : Tally) (p
     elsewhere : (u d : ℕ) → u ≤ max_horizon → (u ≡ t → d ≡ c → ⊥) → kept_at after u d ≡ kept_at cells u d
     elsewhere u d also apart = kept_elsewhere t c u d cells x in_time also apart
 
-    own : (counter : Counter) → counted_of k counter after (Some c) 0 max_horizon + part counter (kept_at cells t c)
-        ≡ counted_of k counter cells (Some c) 0 max_horizon + part counter x
-    own counter =
-        changed_own k (λ u d. part counter (kept_at after u d)) (λ u d. part counter (kept_at cells u d)) t c max_horizon in_time there
-        (λ u d also apart. ap (part counter) (elsewhere u d also apart))
-        ∙ ap (λ y. counted_of k counter cells (Some c) 0 max_horizon + part counter y) here
+    part_elsewhere : (counter : Counter) (u d : ℕ) → u < max_horizon + 1 → (u ≡ t → d ≡ c → ⊥) → part counter (kept_at after u d) ≡ part counter (kept_at cells u d)
+    part_elsewhere counter u d also apart = ap (part counter) (elsewhere u d (omega (arith, also)) apart)
 
-    other : (counter : Counter) (d : ℕ) → (d ≡ c → ⊥) → counted_of k counter after (Some d) 0 max_horizon ≡ counted_of k counter cells (Some d) 0 max_horizon
-    other counter =
-        changed_other k (λ u d. part counter (kept_at after u d)) (λ u d. part counter (kept_at cells u d)) t c max_horizon in_time there
-        (λ u d also apart. ap (part counter) (elsewhere u d also apart))
+    -- in the cell's block its component's sum, and that of all, change as the cell does
+    own_here : (counter : Counter) → counted_in k counter after (Some c) b + part counter (kept_at cells t c) ≡ counted_in k counter cells (Some c) b + part counter x
+    own_here counter =
+        changed_own k (λ u d. part counter (kept_at after u d)) (λ u d. part counter (kept_at cells u d)) t c (32 * b) (block_end b) (block_began t b b_is) (block_goes_on t b in_time b_is) there
+        (λ u d low high apart. part_elsewhere counter u d (omega (arith, high)) apart)
+        ∙ ap (λ y. counted_in k counter cells (Some c) b + part counter y) here
 
-    whole : (counter : Counter) → counted_of k counter after None 0 max_horizon + part counter (kept_at cells t c)
-        ≡ counted_of k counter cells None 0 max_horizon + part counter x
-    whole counter =
-        changed_all k (λ u d. part counter (kept_at after u d)) (λ u d. part counter (kept_at cells u d)) t c max_horizon in_time there
-        (λ u d also apart. ap (part counter) (elsewhere u d also apart))
-        ∙ ap (λ y. counted_of k counter cells None 0 max_horizon + part counter y) here
+    all_here : (counter : Counter) → counted_in k counter after None b + part counter (kept_at cells t c) ≡ counted_in k counter cells None b + part counter x
+    all_here counter =
+        changed_all k (λ u d. part counter (kept_at after u d)) (λ u d. part counter (kept_at cells u d)) t c (32 * b) (block_end b) (block_began t b b_is) (block_goes_on t b in_time b_is) there
+        (λ u d low high apart. part_elsewhere counter u d (omega (arith, high)) apart)
+        ∙ ap (λ y. counted_in k counter cells None b + part counter y) here
+
+    -- elsewhere the sums stay
+    own_there : (counter : Counter) (d a : ℕ) → d < components k → (d ≡ c → a ≡ b → ⊥) → counted_in k counter after (Some d) a ≡ counted_in k counter cells (Some d) a
+    own_there counter d a lt apart =
+        same_cycles (λ u e. part counter (kept_at after u e)) (λ u e. part counter (kept_at cells u e)) (32 * a) (block_end a) d
+        (λ u low high. part_elsewhere counter u d (omega (arith, high)) (λ same_time same_component. apart same_component (block_other t b a in_time b_is (omega (arith, low, same_time)) (omega (arith, high, same_time)))))
+
+    all_there : (counter : Counter) (a : ℕ) → (a ≡ b → ⊥) → counted_in k counter after None a ≡ counted_in k counter cells None a
+    all_there counter a apart =
+        same_before k (λ u e. part counter (kept_at after u e)) (λ u e. part counter (kept_at cells u e)) None (32 * a) (block_end a) (λ e is. absurd (none_some is))
+        (λ u e low high e_there. part_elsewhere counter u e (omega (arith, high)) (λ same_time _. apart (block_other t b a in_time b_is (omega (arith, low, same_time)) (omega (arith, high, same_time)))))
+      where
+        none_some : {m : ℕ} → None ≡ Some m → ⊥
+        none_some e = cc
 
     in_stage : (net : Net) (stage n : ℕ) → lengths_of k after net stage n + in_profile k net stage n c (kept_at cells t c).lengths
         ≡ lengths_of k cells net stage n + in_profile k net stage n c x.lengths
     in_stage net stage n =
         changed_all k (λ u d. in_profile k net stage n d (kept_at after u d).lengths) (λ u d. in_profile k net stage n d (kept_at cells u d).lengths)
-        t c max_horizon in_time there
-        (λ u d also apart. ap (λ (y : Counted). in_profile k net stage n d y.lengths) (elsewhere u d also apart))
+        t c 0 (max_horizon + 1) (omega arith) (omega (arith, in_time)) there
+        (λ u d low high apart. ap (λ (y : Counted). in_profile k net stage n d y.lengths) (elsewhere u d (omega (arith, high)) apart))
         ∙ ap (λ (y : Counted). lengths_of k cells net stage n + in_profile k net stage n c y.lengths) here
 
     small_after : IsSmall x → (i : ℕ) → IsSmall (slice_index_or after i nothing)
@@ -134,53 +163,62 @@ module _ (k : ℕ) (cells : List Counted) (totals : List Tally) (all : Tally) (p
         by_test false e =
             subst IsSmall (sym (get_or-set_other cells (place_of c t) i x nothing (λ (p : i ≡ place_of c t). false≢true (sym e ∙ eq-eqb i (place_of c t) p)))) (kept.small i)
 
-    own_after : (tally : Tally)
-        → ((counter : Counter) → tallied counter tally + part counter (kept_at cells t c) ≡ tallied counter (tally_at totals c) + part counter x)
-        → (counter : Counter) (d : ℕ) → d < components k
-        → tallied counter (tally_at (slice_set totals c tally) d) ≡ counted_of k counter after (Some d) 0 max_horizon
-    own_after tally moved counter d b = by_test (d == c) refl
-      where
-        by_test : (v : Bool) → (d == c) ≡ v → tallied counter (tally_at (slice_set totals c tally) d) ≡ counted_of k counter after (Some d) 0 max_horizon
-        by_test true e =
-            let same : d ≡ c = eqb-true d c e in
-            let at : tallied counter (tally_at (slice_set totals c tally) c) ≡ tallied counter tally =
-            ap (tallied counter) (get_or-set_same totals c tally none (omega (arith, kept.each))) in
-            let was : tallied counter (tally_at totals c) ≡ counted_of k counter cells (Some c) 0 max_horizon = kept.parts counter c there in
-            let is : tallied counter tally + part counter (kept_at cells t c) ≡ tallied counter (tally_at totals c) + part counter x = moved counter in
-            let sum_is : counted_of k counter after (Some c) 0 max_horizon + part counter (kept_at cells t c)
-            ≡ counted_of k counter cells (Some c) 0 max_horizon + part counter x = own counter in
-            let result : tallied counter (tally_at (slice_set totals c tally) c) ≡ counted_of k counter after (Some c) 0 max_horizon = omega arith in
-            subst (λ n. tallied counter (tally_at (slice_set totals c tally) n) ≡ counted_of k counter after (Some n) 0 max_horizon) (sym same) result
-        by_test false e =
-            let apart : d ≡ c → ⊥ = λ p. false≢true (sym e ∙ eq-eqb d c p) in
-            ap (tallied counter) (get_or-set_other totals c d tally none apart) ∙ kept.parts counter d b ∙ sym (other counter d apart)
-
-    pub put_adds : (tally all' : Tally) (profiles' : List (List ℕ)) → IsSmall x
-        → ((counter : Counter) → tallied counter tally + part counter (kept_at cells t c) ≡ tallied counter (tally_at totals c) + part counter x)
-        → ((counter : Counter) → tallied counter all' + part counter (kept_at cells t c) ≡ tallied counter all + part counter x)
+    pub put_adds : (place : ℕ) (own' all' : List Tally) (profiles' : List (List ℕ)) → place ≡ block_place c b → IsSmall x
+        → length own' ≡ length own
+        → ((counter : Counter) → tallied counter (tally_at own' place) + part counter (kept_at cells t c) ≡ tallied counter (tally_at own place) + part counter x)
+        → ((i : ℕ) → (i ≡ place → ⊥) → tally_at own' i ≡ tally_at own i)
+        → length all' ≡ length all
+        → ((counter : Counter) → tallied counter (tally_at all' b) + part counter (kept_at cells t c) ≡ tallied counter (tally_at all b) + part counter x)
+        → ((i : ℕ) → (i ≡ b → ⊥) → tally_at all' i ≡ tally_at all i)
         → length profiles' ≡ length profiles
         → ((net : Net) (stage n : ℕ) → stage < k → n < profile_lengths
         → slice_index (profile_at k profiles' net stage) n + in_profile k net stage n c (kept_at cells t c).lengths
         ≡ slice_index (profile_at k profiles net stage) n + in_profile k net stage n c x.lengths)
-        → AddsUp k after (slice_set totals c tally) all' profiles'
-    put_adds tally all' profiles' small own_moved all_moved as_many lengths_moved = record {
+        → AddsUp k after own' all' profiles'
+    put_adds place own' all' profiles' place_is small own_size own_moved own_others all_size all_moved all_others as_many lengths_moved = record {
       few = kept.few;
       room = length-set cells (place_of c t) x ∙ kept.room;
-      each = length-set totals c tally ∙ kept.each;
+      each = own_size ∙ kept.each;
+      among = all_size ∙ kept.among;
       stages = as_many ∙ kept.stages;
       small = small_after small;
-      parts = own_after tally own_moved;
+      parts = own_after;
       whole = all_after;
       lengths = lengths_after;
     }
       where
-        all_after : (counter : Counter) → tallied counter all' ≡ counted_of k counter after None 0 max_horizon
-        all_after counter =
-            let was : tallied counter all ≡ counted_of k counter cells None 0 max_horizon = kept.whole counter in
-            let is : tallied counter all' + part counter (kept_at cells t c) ≡ tallied counter all + part counter x = all_moved counter in
-            let sum_is : counted_of k counter after None 0 max_horizon + part counter (kept_at cells t c)
-            ≡ counted_of k counter cells None 0 max_horizon + part counter x = whole counter in
-            omega arith
+        in_blocks : b < blocks
+        in_blocks = block_there t b in_time b_is
+
+        own_after : (counter : Counter) (d a : ℕ) → d < components k → a < blocks → tallied counter (tally_at own' (block_place d a)) ≡ counted_in k counter after (Some d) a
+        own_after counter d a lt low = by_test (block_place d a == place) refl
+          where
+            by_test : (v : Bool) → (block_place d a == place) ≡ v → tallied counter (tally_at own' (block_place d a)) ≡ counted_in k counter after (Some d) a
+            by_test true e =
+                let at_place : block_place d a ≡ place = eqb-true (block_place d a) place e in
+                let same_component : c ≡ d = omega (arith, at_place, place_is, low, in_blocks) in
+                let same_block : b ≡ a = omega (arith, at_place, place_is, low, in_blocks) in
+                let was : tallied counter (tally_at own (block_place c b)) ≡ counted_in k counter cells (Some c) b = kept.parts counter c b there in_blocks in
+                let was_at : tallied counter (tally_at own place) ≡ tallied counter (tally_at own (block_place c b)) = ap (λ n. tallied counter (tally_at own n)) place_is in
+                let result : tallied counter (tally_at own' place) ≡ counted_in k counter after (Some c) b = omega (arith, was, was_at, own_moved counter, own_here counter) in
+                ap (λ n. tallied counter (tally_at own' n)) at_place ∙ result ∙ ap (λ n. counted_in k counter after (Some n) b) same_component ∙ ap (λ n. counted_in k counter after (Some d) n) same_block
+            by_test false e =
+                let apart : block_place d a ≡ place → ⊥ = λ p. false≢true (sym e ∙ eq-eqb (block_place d a) place p) in
+                ap (tallied counter) (own_others (block_place d a) apart) ∙ kept.parts counter d a lt low
+                ∙ sym (own_there counter d a lt (λ (p : d ≡ c) (q : a ≡ b). apart (omega (arith, p, q, place_is))))
+
+        all_after : (counter : Counter) (a : ℕ) → a < blocks → tallied counter (tally_at all' a) ≡ counted_in k counter after None a
+        all_after counter a low = by_test (a == b) refl
+          where
+            by_test : (v : Bool) → (a == b) ≡ v → tallied counter (tally_at all' a) ≡ counted_in k counter after None a
+            by_test true e =
+                let same_block : b ≡ a = sym (eqb-true a b e) in
+                let was : tallied counter (tally_at all b) ≡ counted_in k counter cells None b = kept.whole counter b in_blocks in
+                let result : tallied counter (tally_at all' b) ≡ counted_in k counter after None b = omega (arith, was, all_moved counter, all_here counter) in
+                subst (λ n. tallied counter (tally_at all' n) ≡ counted_in k counter after None n) same_block result
+            by_test false e =
+                let apart : a ≡ b → ⊥ = λ p. false≢true (sym e ∙ eq-eqb a b p) in
+                ap (tallied counter) (all_others a apart) ∙ kept.whole counter a low ∙ sym (all_there counter a apart)
 
         lengths_after : (net : Net) (stage n : ℕ) → stage < k → n < profile_lengths → slice_index (profile_at k profiles' net stage) n ≡ lengths_of k after net stage n
         lengths_after net stage n in_net short =
@@ -189,35 +227,29 @@ module _ (k : ℕ) (cells : List Counted) (totals : List Tally) (all : Tally) (p
             ≡ slice_index (profile_at k profiles net stage) n + in_profile k net stage n c x.lengths = lengths_moved net stage n in_net short in
             let sum_is : lengths_of k after net stage n + in_profile k net stage n c (kept_at cells t c).lengths
             ≡ lengths_of k cells net stage n + in_profile k net stage n c x.lengths = in_stage net stage n in
-            omega arith
+            omega (arith, was, is, sum_is)
 
--- the same, where the old counts and totals were read
-module _ (k : ℕ) (cells : List Counted) (totals : List Tally) (all : Tally) (profiles : List (List ℕ)) (kept : AddsUp k cells totals all profiles) where
-  pub put_read : (t c place : ℕ) (x old : Counted) (was tally all' : Tally) (profiles' : List (List ℕ)) → t ≤ max_horizon → c < components k
-      → place ≡ place_of c t → old ≡ kept_at cells t c → was ≡ tally_at totals c → IsSmall x
-      → ((counter : Counter) → tallied counter tally + part counter old ≡ tallied counter was + part counter x)
-      → ((counter : Counter) → tallied counter all' + part counter old ≡ tallied counter all + part counter x)
+-- the same, where the old counts were read
+module _ (k : ℕ) (cells : List Counted) (own all : List Tally) (profiles : List (List ℕ)) (kept : AddsUp k cells own all profiles) where
+  pub put_read : (t c b place cell : ℕ) (x old : Counted) (own' all' : List Tally) (profiles' : List (List ℕ)) → t ≤ max_horizon → c < components k → b ≡ t / 32
+      → place ≡ block_place c b → cell ≡ place_of c t → old ≡ kept_at cells t c → IsSmall x
+      → length own' ≡ length own
+      → ((counter : Counter) → tallied counter (tally_at own' place) + part counter old ≡ tallied counter (tally_at own place) + part counter x)
+      → ((i : ℕ) → (i ≡ place → ⊥) → tally_at own' i ≡ tally_at own i)
+      → length all' ≡ length all
+      → ((counter : Counter) → tallied counter (tally_at all' b) + part counter old ≡ tallied counter (tally_at all b) + part counter x)
+      → ((i : ℕ) → (i ≡ b → ⊥) → tally_at all' i ≡ tally_at all i)
       → length profiles' ≡ length profiles
       → ((net : Net) (stage n : ℕ) → stage < k → n < profile_lengths
       → slice_index (profile_at k profiles' net stage) n + in_profile k net stage n c old.lengths
       ≡ slice_index (profile_at k profiles net stage) n + in_profile k net stage n c x.lengths)
-      → AddsUp k (slice_set cells place x) (slice_set totals c tally) all' profiles'
-  put_read t c place x old was tally all' profiles' in_time there place_is old_is was_is small own_moved all_moved as_many lengths_moved =
-      subst (λ n. AddsUp k (slice_set cells n x) (slice_set totals c tally) all' profiles') (sym place_is)
-      (put_adds k cells totals all profiles kept t c x in_time there tally all' profiles' small
-      (λ counter.
-      let old_part : part counter old ≡ part counter (kept_at cells t c) = ap (part counter) old_is in
-      let was_part : tallied counter was ≡ tallied counter (tally_at totals c) = ap (tallied counter) was_is in
-      let is : tallied counter tally + part counter old ≡ tallied counter was + part counter x = own_moved counter in
-      omega arith)
-      (λ counter.
-      let old_part : part counter old ≡ part counter (kept_at cells t c) = ap (part counter) old_is in
-      let is : tallied counter all' + part counter old ≡ tallied counter all + part counter x = all_moved counter in
-      omega arith)
-      as_many
+      → AddsUp k (slice_set cells cell x) own' all' profiles'
+  put_read t c b place cell x old own' all' profiles' in_time there b_is place_is cell_is old_is small own_size own_moved own_others all_size all_moved all_others as_many lengths_moved =
+      subst (λ n. AddsUp k (slice_set cells n x) own' all' profiles') (sym cell_is)
+      (put_adds k cells own all profiles kept t c b x in_time there b_is place own' all' profiles' place_is small own_size
+      (λ counter. subst (λ y. tallied counter (tally_at own' place) + part counter y ≡ tallied counter (tally_at own place) + part counter x) old_is (own_moved counter))
+      own_others all_size
+      (λ counter. subst (λ y. tallied counter (tally_at all' b) + part counter y ≡ tallied counter (tally_at all b) + part counter x) old_is (all_moved counter))
+      all_others as_many
       (λ net stage n in_net short.
-      let old_part : in_profile k net stage n c old.lengths ≡ in_profile k net stage n c (kept_at cells t c).lengths =
-      ap (λ (y : Counted). in_profile k net stage n c y.lengths) old_is in
-      let is : slice_index (profile_at k profiles' net stage) n + in_profile k net stage n c old.lengths
-      ≡ slice_index (profile_at k profiles net stage) n + in_profile k net stage n c x.lengths = lengths_moved net stage n in_net short in
-      omega arith))
+      subst (λ (y : Counted). slice_index (profile_at k profiles' net stage) n + in_profile k net stage n c y.lengths ≡ slice_index (profile_at k profiles net stage) n + in_profile k net stage n c x.lengths) old_is (lengths_moved net stage n in_net short)))

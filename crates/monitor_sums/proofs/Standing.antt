@@ -1,6 +1,6 @@
 -- What is kept, and the map that it stands for.
-use Rattle.std.proofs.Common.{◌≡◌, ℕ, zero, suc, ◌+◌, ◌*◌, ◌<◌, ◌≤◌, Bool, true, false, cond, List, length, map, get_or, Option, None, Some, refl, ap, sym, subst, ◌∙◌, arith}
-use Rattle.std.specs.Prelude.{◌==◌, ◌&&◌, slice_index, slice_set, slice_get, option_map}
+use Rattle.std.proofs.Common.{◌≡◌, ℕ, zero, suc, ◌+◌, ◌*◌, ◌<◌, ◌≤◌, Bool, true, false, cond, List, [], length, map, get_or, Option, None, Some, refl, ap, sym, subst, ◌∙◌, arith}
+use Rattle.std.specs.Prelude.{◌==◌, ◌&&◌, slice_index, slice_index_or, slice_set, slice_get, option_map}
 use Rattle.std.specs.Option.{ForSome}
 use Rattle.std.proofs.lemmas.Bool.{eqb-true, eq-eqb, false≢true}
 use Rattle.std.proofs.lemmas.List.{same_lists, length-map, get_or_default}
@@ -17,9 +17,10 @@ use Rattle.monitor_sums.specs.Counts.{count, output_lengths}
 use Rattle.monitor_sums.specs.Sums.{States, sum_of, in_profile, pairs_of, profile_of, changed, NonePast}
 use Rattle.monitor_sums.specs.Parts.{part}
 use Rattle.monitor_sums.specs.Kept.{Kept, StandsFor, counted, kept_at, place_of}
-use Rattle.monitor_sums.specs.Whole.{counted_of, lengths_of}
+use Rattle.monitor_sums.specs.Whole.{counted_before, lengths_of, profile_place, AddsUp}
+use Rattle.monitor_sums.specs.declared.tally.Tally.{Tally}
 use Rattle.monitor_sums.proofs.Parts.{part_counted, in_profile_nothing}
-use Rattle.monitor_sums.proofs.Over.{same_over, cut_over}
+use Rattle.monitor_sums.proofs.Over.{same_over, over_before, cut_over}
 use Rattle.monitor_sums.proofs.Putting.{kept_here, kept_elsewhere}
 use Rattle.monitor_sums.specs.Limits.{profile_lengths}
 
@@ -30,18 +31,27 @@ stands_as kept at other same stands t c b there = stands t c b there ∙ ap coun
 
 -- what was counted of the cells is what the map's states count
 pub stands_sum : (kept : Kept) (at : States) (counter : Counter) (who : Option ℕ) (from to : ℕ) → StandsFor kept at
-    → ForSome who (λ c. c < components kept.k) → to ≤ max_horizon → counted_of kept.k counter kept.cells who from to ≡ sum_of kept.k counter at who from to
+    → ForSome who (λ c. c < components kept.k) → to ≤ max_horizon → counted_before kept.k counter kept.cells who from (to + 1) ≡ sum_of kept.k counter at who from to
 stands_sum kept at counter who from to stands asked within =
-    same_over kept.k (λ t c. part counter (kept_at kept.cells t c)) (λ t c. count counter (at t c)) who from to asked
+    sym (over_before kept.k (λ t c. part counter (kept_at kept.cells t c)) who from to)
+    ∙ same_over kept.k (λ t c. part counter (kept_at kept.cells t c)) (λ t c. count counter (at t c)) who from to asked
     (λ t c b there. ap (part counter) (stands t c (omega arith) there) ∙ part_counted counter (at t c))
 
 -- where the cells past h hold no state, they can be left out
 pub stands_sum_to : (kept : Kept) (at : States) (counter : Counter) (who : Option ℕ) (h : ℕ) → StandsFor kept at
     → ForSome who (λ c. c < components kept.k) → NonePast kept.k at h → h ≤ max_horizon
-    → counted_of kept.k counter kept.cells who 0 max_horizon ≡ sum_of kept.k counter at who 0 h
+    → counted_before kept.k counter kept.cells who 0 (max_horizon + 1) ≡ sum_of kept.k counter at who 0 h
 stands_sum_to kept at counter who h stands asked none within =
     stands_sum kept at counter who 0 max_horizon stands asked (omega arith)
     ∙ cut_over kept.k (λ t c. count counter (at t c)) who h max_horizon asked within (λ t c a b there. ap (count counter) (none t c a b there))
+
+-- the profile that is kept of a stage
+pub profile_seen : (kept : Kept) (k : ℕ) (cells : List Counted) (own all : List Tally) (profiles : List (List ℕ)) (net : Net) (stage place : ℕ) (ns : List ℕ)
+    → record { k = k; cells = cells } ≡ kept → AddsUp k cells own all profiles → stage < kept.k → place ≡ profile_place k net stage → ns ≡ slice_index_or profiles place []
+    → (n : ℕ) → n < profile_lengths → slice_index ns n ≡ lengths_of kept.k kept.cells net stage n
+profile_seen kept k cells own all profiles net stage place ns view adds in_net place_is read n short =
+    let F : Kept → Type 0 = λ v. stage < v.k → slice_index ns n ≡ lengths_of v.k v.cells net stage n in
+    subst F view (λ lt. ap (λ ms. slice_index ms n) (read ∙ ap (λ i. slice_index_or profiles i []) place_is) ∙ adds.lengths net stage n lt short) in_net
 
 -- how often a queue was of a length, too
 pub stands_pairs : (kept : Kept) (at : States) (net : Net) (stage h n : ℕ) → StandsFor kept at → NonePast kept.k at h → h ≤ max_horizon

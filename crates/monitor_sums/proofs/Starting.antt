@@ -1,6 +1,6 @@
 -- What is kept before any cell holds a state.
 use Rattle.std.proofs.Common.{◌≡◌, ℕ, zero, suc, ◌+◌, ◌*◌, ◌<◌, ◌≤◌, ◌⊎◌, inl, inr, List, [], ◌∷◌, length, get_or, replicate, Option, None, Some, refl, ap, sym, subst, ◌∙◌, arith}
-use Rattle.std.specs.Prelude.{slice_index, slice_index_or}
+use Rattle.std.specs.Prelude.{min, slice_index, slice_index_or}
 use Rattle.std.proofs.lemmas.Bool.{cases_lt}
 use Rattle.std.proofs.lemmas.List.{get_or-replicate, get_or_past, length-replicate}
 use Rattle.page_map.specs.Limits.{max_k}
@@ -14,10 +14,10 @@ use Rattle.monitor_sums.specs.declared.tally.Tally.{Tally}
 use Rattle.monitor_sums.specs.Sums.{States, in_profile}
 use Rattle.monitor_sums.specs.Parts.{part, tallied, IsSmall}
 use Rattle.monitor_sums.specs.Kept.{Kept, StandsFor, nothing, place_of, kept_at, counted}
-use Rattle.monitor_sums.specs.Whole.{counted_of, lengths_of, none, tally_at, profile_place, profile_at, AddsUp}
+use Rattle.monitor_sums.specs.Whole.{counted_in, block_end, block_place, lengths_of, none, tally_at, profile_place, profile_at, AddsUp}
 use Rattle.monitor_sums.proofs.Parts.{part_nothing, in_profile_nothing}
-use Rattle.monitor_sums.proofs.Over.{none_over}
-use Rattle.monitor_sums.specs.Limits.{profile_lengths}
+use Rattle.monitor_sums.proofs.Over.{none_before}
+use Rattle.monitor_sums.specs.Limits.{profile_lengths, blocks}
 
 -- a copy among copies, or the default past them
 copy_or : {X : Type 0} (n i : ℕ) (x d : X) → (get_or (replicate n x) i d ≡ x) ⊎ (get_or (replicate n x) i d ≡ d)
@@ -48,14 +48,14 @@ module _ (k n m : ℕ) where
   nothing_kept : (t c : ℕ) → kept_at (replicate n nothing) t c ≡ nothing
   nothing_kept t c = copy_of n (place_of c t) nothing
 
-  nothing_counted : (counter : Counter) (who : Option ℕ) → counted_of k counter (replicate n nothing) who 0 max_horizon ≡ 0
-  nothing_counted counter who =
-      none_over k (λ t c. part counter (kept_at (replicate n nothing) t c)) who max_horizon
+  nothing_counted : (counter : Counter) (who : Option ℕ) (b : ℕ) → counted_in k counter (replicate n nothing) who b ≡ 0
+  nothing_counted counter who b =
+      none_before k (λ t c. part counter (kept_at (replicate n nothing) t c)) who (32 * b) (block_end b)
       (λ t c. ap (part counter) (nothing_kept t c) ∙ part_nothing counter)
 
   nothing_long : (net : Net) (stage n' : ℕ) → lengths_of k (replicate n nothing) net stage n' ≡ 0
   nothing_long net stage n' =
-      none_over k (λ t c. in_profile k net stage n' c (kept_at (replicate n nothing) t c).lengths) None max_horizon
+      none_before k (λ t c. in_profile k net stage n' c (kept_at (replicate n nothing) t c).lengths) None 0 (max_horizon + 1)
       (λ t c. ap (λ (x : Counted). in_profile k net stage n' c x.lengths) (nothing_kept t c) ∙ in_profile_nothing k net stage n' c)
 
   zero_at : (zeros : List ℕ) (net : Net) (stage i : ℕ) → ((j : ℕ) → slice_index zeros j ≡ 0) → slice_index (profile_at k (replicate m zeros) net stage) i ≡ 0
@@ -70,16 +70,17 @@ zeros_are : (n j : ℕ) → slice_index (replicate n 0) j ≡ 0
 zeros_are n j = copy_of n j 0
 
 -- where every cell holds no state, what is kept adds up
-pub blank_adds : (k n count m : ℕ) (zeros : List ℕ) → k ≤ max_k → n ≡ components k * (max_horizon + 1) → count ≡ components k → m ≡ k + k → zeros ≡ replicate profile_lengths 0
-    → AddsUp k (replicate n nothing) (replicate count none) none (replicate m zeros)
+pub blank_adds : (k n count m : ℕ) (zeros : List ℕ) → k ≤ max_k → n ≡ components k * (max_horizon + 1) → count ≡ blocks * components k → m ≡ k + k → zeros ≡ replicate profile_lengths 0
+    → AddsUp k (replicate n nothing) (replicate count none) (replicate blocks none) (replicate m zeros)
 blank_adds k n count m zeros few cells_are count_is stages_are zeros_is = record {
   few = few;
   room = length-replicate n nothing ∙ cells_are;
   each = length-replicate count none ∙ count_is;
+  among = length-replicate blocks none;
   stages = length-replicate m zeros ∙ stages_are;
   small = λ i. subst IsSmall (sym (copy_of n i nothing)) small_nothing;
-  parts = λ counter c there. ap (tallied counter) (copy_of count c none) ∙ tallied_none counter ∙ sym (nothing_counted k n m counter (Some c));
-  whole = λ counter. tallied_none counter ∙ sym (nothing_counted k n m counter None);
+  parts = λ counter c b there low. ap (tallied counter) (copy_of count (block_place c b) none) ∙ tallied_none counter ∙ sym (nothing_counted k n m counter (Some c) b);
+  whole = λ counter b low. ap (tallied counter) (copy_of blocks b none) ∙ tallied_none counter ∙ sym (nothing_counted k n m counter None b);
   lengths = λ net stage i in_net short. zero_at k n m zeros net stage i (λ j. ap (λ ns. slice_index ns j) zeros_is ∙ zeros_are profile_lengths j) ∙ sym (nothing_long k n m net stage i);
 }
 
@@ -88,15 +89,16 @@ pub blank_stands : (kept : Kept) (k n : ℕ) → kept ≡ record { k = k; cells 
 blank_stands kept k n is t c b there = ap (λ (v : Kept). kept_at v.cells t c) is ∙ copy_of n (place_of c t) nothing
 
 -- what is kept at first, from what was made
-pub blank_is : (k count stages : ℕ) (cells : List Counted) (totals : List Tally) (all : Tally) (profiles : List (List ℕ)) (x : Counted) (z : Tally) → k ≤ max_k
-    → count ≡ components k → stages ≡ k → cells ≡ replicate (count * (max_horizon + 1)) x → x ≡ nothing → totals ≡ replicate count z → z ≡ none → all ≡ none
-    → profiles ≡ replicate (2 * stages) (replicate profile_lengths 0) → AddsUp k cells totals all profiles
-blank_is k count stages cells totals all profiles x z few count_is stages_is cells_are x_is totals_are z_is all_is profiles_are =
+pub blank_is : (k count stages : ℕ) (cells : List Counted) (own all : List Tally) (profiles : List (List ℕ)) (x : Counted) (z y : Tally) → k ≤ max_k
+    → count ≡ components k → stages ≡ k → cells ≡ replicate (count * (max_horizon + 1)) x → x ≡ nothing → own ≡ replicate (count * blocks) z → z ≡ none → all ≡ replicate blocks y → y ≡ none
+    → profiles ≡ replicate (2 * stages) (replicate profile_lengths 0) → AddsUp k cells own all profiles
+blank_is k count stages cells own all profiles x z y few count_is stages_is cells_are x_is own_are z_is all_are y_is profiles_are =
     let cells_none : cells ≡ replicate (count * (max_horizon + 1)) nothing = cells_are ∙ ap (replicate (count * (max_horizon + 1))) x_is in
-    let totals_none : totals ≡ replicate count none = totals_are ∙ ap (replicate count) z_is in
-    let made : AddsUp k (replicate (count * (max_horizon + 1)) nothing) (replicate count none) none (replicate (2 * stages) (replicate profile_lengths 0)) =
-    blank_adds k (count * (max_horizon + 1)) count (2 * stages) (replicate profile_lengths 0) few (ap (λ n. n * (max_horizon + 1)) count_is) count_is (omega arith) refl in
-    subst (λ v. AddsUp k v totals all profiles) (sym cells_none)
-    (subst (λ v. AddsUp k (replicate (count * (max_horizon + 1)) nothing) v all profiles) (sym totals_none)
-    (subst (λ v. AddsUp k (replicate (count * (max_horizon + 1)) nothing) (replicate count none) v profiles) (sym all_is)
-    (subst (λ v. AddsUp k (replicate (count * (max_horizon + 1)) nothing) (replicate count none) none v) (sym profiles_are) made)))
+    let own_none : own ≡ replicate (count * blocks) none = own_are ∙ ap (replicate (count * blocks)) z_is in
+    let all_none : all ≡ replicate blocks none = all_are ∙ ap (replicate blocks) y_is in
+    let made : AddsUp k (replicate (count * (max_horizon + 1)) nothing) (replicate (count * blocks) none) (replicate blocks none) (replicate (2 * stages) (replicate profile_lengths 0)) =
+    blank_adds k (count * (max_horizon + 1)) (count * blocks) (2 * stages) (replicate profile_lengths 0) few (ap (λ n. n * (max_horizon + 1)) count_is) (omega (arith, count_is)) (omega arith) refl in
+    subst (λ v. AddsUp k v own all profiles) (sym cells_none)
+    (subst (λ v. AddsUp k (replicate (count * (max_horizon + 1)) nothing) v all profiles) (sym own_none)
+    (subst (λ v. AddsUp k (replicate (count * (max_horizon + 1)) nothing) (replicate (count * blocks) none) v profiles) (sym all_none)
+    (subst (λ v. AddsUp k (replicate (count * (max_horizon + 1)) nothing) (replicate (count * blocks) none) (replicate blocks none) v) (sym profiles_are) made)))

@@ -1,5 +1,6 @@
 -- The sizes of sums.
-use Rattle.std.specs.Prelude.{ℕ}
+use Rattle.std.specs.Prelude.{ℕ, ◌+◌, ◌/◌}
+use Rattle.project_book.specs.Limits.{max_horizon}
 
 -- how many components the largest machine has
 abbrev pub max_components : ℕ
@@ -8,3 +9,7 @@ max_components = 512
 -- how many lengths a queue can have: from 0 to the places that it has
 abbrev pub profile_lengths : ℕ
 profile_lengths = 17
+
+-- how many blocks of 32 cycles the cycles to the greatest horizon are; the last one may have fewer
+abbrev pub blocks : ℕ
+blocks = (max_horizon + 32) / 32

@@ -1,5 +1,5 @@
--- The totals and profiles that are kept beside the cells.
-use Rattle.std.specs.Prelude.{◌≡◌, ℕ, ◌+◌, ◌*◌, ◌<◌, ◌≤◌, List, [], length, Option, None, Some, slice_index, slice_index_or}
+-- The totals of blocks of cycles and the profiles that are kept beside the cells.
+use Rattle.std.specs.Prelude.{◌≡◌, ℕ, ◌+◌, ◌*◌, ◌-◌, min, ◌<◌, ◌≤◌, List, [], length, Option, None, Some, slice_index, slice_index_or}
 use Rattle.page_map.specs.Limits.{max_k}
 use Rattle.omega_net.specs.declared.component.Net.{Net}
 use Rattle.omega_net.specs.declared.component.Net.TheVariants.{Low, Comb}
@@ -8,14 +8,28 @@ use Rattle.project_book.specs.Limits.{max_horizon}
 use Rattle.monitor_sums.specs.declared.counter.Counter.{Counter}
 use Rattle.monitor_sums.specs.declared.counted.Counted.{Counted}
 use Rattle.monitor_sums.specs.declared.tally.Tally.{Tally}
+use Rattle.monitor_sums.specs.Adding.{sum_below}
 use Rattle.monitor_sums.specs.Sums.{sum_over, in_profile}
 use Rattle.monitor_sums.specs.Parts.{part, tallied, IsSmall}
 use Rattle.monitor_sums.specs.Kept.{nothing, place_of, kept_at}
-use Rattle.monitor_sums.specs.Limits.{profile_lengths}
+use Rattle.monitor_sums.specs.Limits.{profile_lengths, blocks}
 
--- what the components asked counted over the cycles `from` to `to`
-abbrev pub counted_of : ℕ → Counter → List Counted → Option ℕ → ℕ → ℕ → ℕ
-counted_of k counter cells who from to = sum_over k (λ t c. part counter (kept_at cells t c)) who from to
+-- the sum of f over the cells of the components asked, one or all, from the cycle `from` on and before the cycle `end`
+abbrev pub sum_before : ℕ → (ℕ → ℕ → ℕ) → Option ℕ → ℕ → ℕ → ℕ
+sum_before k f (Some c) from end = sum_below (λ i. f (i + from) c) (end - from)
+sum_before k f None from end = sum_below (λ c. sum_below (λ i. f (i + from) c) (end - from)) (components k)
+
+-- what those cells counted
+abbrev pub counted_before : ℕ → Counter → List Counted → Option ℕ → ℕ → ℕ → ℕ
+counted_before k counter cells who from end = sum_before k (λ t c. part counter (kept_at cells t c)) who from end
+
+-- the cycle before which a block ends
+abbrev pub block_end : ℕ → ℕ
+block_end b = min (32 * b + 32) (max_horizon + 1)
+
+-- what the components asked counted over the cycles of a block
+abbrev pub counted_in : ℕ → Counter → List Counted → Option ℕ → ℕ → ℕ
+counted_in k counter cells who b = counted_before k counter cells who (32 * b) (block_end b)
 
 -- how often an output queue of a stage was of length n
 abbrev pub lengths_of : ℕ → List Counted → Net → ℕ → ℕ → ℕ
@@ -25,9 +39,13 @@ lengths_of k cells net stage n = sum_over k (λ t c. in_profile k net stage n c 
 abbrev pub none : Tally
 none = record { issued = 0; answered = 0; served = 0; combined = 0; waiting = 0 }
 
--- the tally of a component
+-- the tally at a place
 abbrev pub tally_at : List Tally → ℕ → Tally
-tally_at totals c = slice_index_or totals c none
+tally_at tallies place = slice_index_or tallies place none
+
+-- where the tally of a component's block stands: those of component 0 by block, then those of component 1, and so on
+abbrev pub block_place : ℕ → ℕ → ℕ
+block_place c b = blocks * c + b
 
 -- where the profile of a stage stands: those of the low network first
 abbrev pub profile_place : ℕ → Net → ℕ → ℕ
@@ -38,15 +56,16 @@ profile_place k Comb stage = k + stage
 abbrev pub profile_at : ℕ → List (List ℕ) → Net → ℕ → List ℕ
 profile_at k profiles net stage = slice_index_or profiles (profile_place k net stage) []
 
--- what is kept adds up: the totals and the profiles are those of the cells
-pub record AddsUp (k : ℕ) (cells : List Counted) (totals : List Tally) (all : Tally) (profiles : List (List ℕ)) : Type 0 where
+-- what is kept adds up: the totals of each block and the profiles are those of the cells
+pub record AddsUp (k : ℕ) (cells : List Counted) (own all : List Tally) (profiles : List (List ℕ)) : Type 0 where
   pub few : k ≤ max_k
   pub room : length cells ≡ components k * (max_horizon + 1)
-  pub each : length totals ≡ components k
+  pub each : length own ≡ blocks * components k
+  pub among : length all ≡ blocks
   pub stages : length profiles ≡ k + k
   pub small : (i : ℕ) → IsSmall (slice_index_or cells i nothing)
-  pub parts : (counter : Counter) (c : ℕ) → c < components k
-      → tallied counter (tally_at totals c) ≡ counted_of k counter cells (Some c) 0 max_horizon
-  pub whole : (counter : Counter) → tallied counter all ≡ counted_of k counter cells None 0 max_horizon
+  pub parts : (counter : Counter) (c b : ℕ) → c < components k → b < blocks
+      → tallied counter (tally_at own (block_place c b)) ≡ counted_in k counter cells (Some c) b
+  pub whole : (counter : Counter) (b : ℕ) → b < blocks → tallied counter (tally_at all b) ≡ counted_in k counter cells None b
   pub lengths : (net : Net) (stage n : ℕ) → stage < k → n < profile_lengths
       → slice_index (profile_at k profiles net stage) n ≡ lengths_of k cells net stage n

@@ -1,14 +1,15 @@
 //! The counters of a run, kept up to date.
-ghost use Rattle.std.specs.Prelude.{◌≡◌, ℕ, ◌+◌, ◌-◌, ◌*◌, ◌<◌, ◌≤◌, IfOk, Some, None, length, slice_index, replicate, ◌==◌, ◌&&◌, nat_le, nat_lt, if◌then◌else◌};
+ghost use Rattle.std.specs.Prelude.{◌≡◌, ℕ, ◌+◌, ◌-◌, ◌*◌, ◌/◌, ◌^◌, ◌<◌, ◌≤◌, IfOk, Some, None, length, slice_index, replicate, ◌==◌, ◌&&◌, nat_le, nat_lt, if◌then◌else◌};
 ghost use Rattle.std.specs.Option.{ForSome, option_copied};
 ghost use Rattle.omega_net.specs.Numbers.{components};
 ghost use Rattle.monitor_sums.specs.Sums.{States, sum_of, total_of, profile_of, changed, cleared, NonePast};
 ghost use Rattle.monitor_sums.specs.Kept.{StandsFor, place_of, kept_at, nothing};
 ghost use Rattle.monitor_sums.specs.Adding.{sum_below};
-ghost use Rattle.monitor_sums.specs.Parts.{part, IsSmall};
-ghost use Rattle.monitor_sums.specs.Whole.{tally_at, counted_of, lengths_of};
+ghost use Rattle.monitor_sums.specs.declared.counter.Counter.{Counter as CounterIs};
+ghost use Rattle.monitor_sums.specs.Parts.{part, tallied, IsSmall};
+ghost use Rattle.monitor_sums.specs.Whole.{tally_at, block_place, block_end, counted_before, counted_in};
 ghost use Rattle.project_book.specs.Limits.{max_horizon};
-ghost use Rattle.monitor_sums.specs.Limits.{max_components, profile_lengths};
+ghost use Rattle.monitor_sums.specs.Limits.{max_components, profile_lengths, blocks};
 
 use crate::Counter;
 use crate::counted::Counted;
@@ -24,15 +25,21 @@ use std::marker::Model;
 /// The cycles from 0 to the greatest horizon.
 const CYCLES: usize = MAX_HORIZON as usize + 1;
 
+/// How many cycles a block has; the last block may have fewer.
+const BLOCK_CYCLES: u32 = 32;
+
+/// How many blocks those cycles are.
+const BLOCKS: usize = (CYCLES + 31) / 32;
+
 /// The counters over the cells of a run. It stands for a map from cells to states, where a cell may
-/// hold none, and keeps what each cell counts, the totals of each component and of all of them, and
-/// the profile of each stage.
+/// hold none, and keeps what each cell counts, the totals of each component and of all of them over
+/// each block of 32 cycles, and the profile of each stage.
 #[derive(Drop)]
 pub struct Sums {
     shape: Shape,
     cells: Vec<Counted>,
-    totals: Vec<Tally>,
-    all: Tally,
+    own: Vec<Tally>,
+    all: Vec<Tally>,
     profiles: Vec<Profile>,
 }
 
@@ -44,7 +51,7 @@ impl Model for Sums {
 
     ghost view = { λ s. record { k = s.shape; cells = s.cells.items } };
 
-    ghost invariant = { λ s. AddsUp s.shape s.cells.items s.totals.items s.all s.profiles.items };
+    ghost invariant = { λ s. AddsUp s.shape s.cells.items s.own.items s.all.items s.profiles.items };
 }
 
 impl Sums {
@@ -65,8 +72,8 @@ impl Sums {
         Ok(Sums {
             shape,
             cells: filled(alloc, Counted::nothing(), components * CYCLES)?,
-            totals: filled(alloc, Tally::zero(), components)?,
-            all: Tally::zero(),
+            own: filled(alloc, Tally::zero(), components * BLOCKS)?,
+            all: filled(alloc, Tally::zero(), BLOCKS)?,
             profiles: filled(alloc, [0; LENGTHS], 2 * shape.k() as usize)?,
         })
     }
@@ -96,17 +103,6 @@ impl Sums {
         ensures shape { self.new.k ≡ self.old.k }
         ensures stands { (at : States) → StandsFor self.old at → StandsFor self.new (cleared at from to) }
     {
-        self.clear_cycles(from, to);
-    }
-
-    /// `clear`, cell by cell: the loop keeps this, and one lemma makes it the clause over each map.
-    fn clear_cycles(&mut self, from: u32, to: u32)
-        requires window { from ≤ to }
-        requires within { to ≤ max_horizon }
-        ensures shape { self.new.k ≡ self.old.k }
-        ensures each { (t c : ℕ) → t ≤ max_horizon → c < components self.old.k
-            → kept_at self.new.cells t c ≡ (if nat_le from t && nat_lt t (to + 1) then nothing else kept_at self.old.cells t c) }
-    {
         for cycle in from..to + 1 {
             self.clear_cycle(cycle);
         }
@@ -123,47 +119,80 @@ impl Sums {
         }
     }
 
-    /// What the component asked, or all of them, counted over all cycles. It is one look-up.
+    /// What the component asked, or all of them, counted over all cycles. It looks at one number for
+    /// each block.
     pub fn total(&self, counter: Counter, who: Option<u32>) -> u64
         requires { ForSome who (λ c. c < components self.now.k) }
         ensures whole { (at : States) → StandsFor self.now at → result ≡ total_of self.now.k counter at who }
         ensures up_to { (at : States) (h : ℕ) → StandsFor self.now at → NonePast self.now.k at h → h ≤ max_horizon → result ≡ sum_of self.now.k counter at who 0 h }
     {
-        self.total_kept(counter, who)
-    }
-
-    /// `total`, over the cells kept: both its clauses follow from this one.
-    fn total_kept(&self, counter: Counter, who: Option<u32>) -> u64
-        requires { ForSome who (λ c. c < components self.now.k) }
-        ensures { result ≡ counted_of self.now.k counter self.now.cells who 0 max_horizon }
-    {
-        match who {
-            Some(component) => self.totals[component as usize].of(counter),
-            None => self.all.of(counter),
+        let mut total = 0;
+        for block in 0..BLOCKS {
+            total += self.block(counter, who, block);
         }
+        total
     }
 
     /// What the component asked, or all of them, counted over the cycles `from` to `to`. It looks at
-    /// each cell asked once.
+    /// one number for each block that lies within the window, and at the cells of the two that don't.
     pub fn sum(&self, counter: Counter, who: Option<u32>, from: u32, to: u32) -> u64
         requires who { ForSome who (λ c. c < components self.now.k) }
         requires window { from ≤ to }
         requires within { to ≤ max_horizon }
         ensures { (at : States) → StandsFor self.now at → result ≡ sum_of self.now.k counter at who from to }
     {
-        self.sum_kept(counter, who, from, to)
+        let mut total = 0;
+        let mut cycle = from;
+        while cycle <= to {
+            let end = part_end(cycle, to);
+            total += self.part(counter, who, cycle, end);
+            cycle = end;
+        }
+        total
     }
 
-    /// `sum`, over the cells kept: its two branches have this in common.
-    fn sum_kept(&self, counter: Counter, who: Option<u32>, from: u32, to: u32) -> u64
+    /// What they counted from a cycle on and before another one of its block, or the block's end: one
+    /// number, where that is the whole block.
+    fn part(&self, counter: Counter, who: Option<u32>, from: u32, end: u32) -> u64
         requires who { ForSome who (λ c. c < components self.now.k) }
-        requires window { from ≤ to }
-        requires within { to ≤ max_horizon }
-        ensures { result ≡ counted_of self.now.k counter self.now.cells who from to }
+        requires window { from < end }
+        requires within { end ≤ block_end (from / 32) }
+        requires there { from ≤ max_horizon }
+        ensures value { result ≡ counted_before self.now.k counter self.now.cells who from end }
+        ensures small { result < 2 ^ 32 }
+    {
+        let block = block_of(from);
+        if from % BLOCK_CYCLES == 0 && end == block_end(block) {
+            self.block(counter, who, block)
+        } else {
+            self.cells(counter, who, from, end)
+        }
+    }
+
+    /// What they counted over a block.
+    fn block(&self, counter: Counter, who: Option<u32>, block: usize) -> u64
+        requires who { ForSome who (λ c. c < components self.now.k) }
+        requires there { block < blocks }
+        ensures value { result ≡ counted_in self.now.k counter self.now.cells who block }
+        ensures small { result < 2 ^ 32 }
     {
         match who {
-            Some(component) => sum_at(&self.cells, counter, component, from, to),
-            None => sum_all(&self.cells, self.shape.components(), counter, from, to),
+            Some(component) => tally_at(&self.own, block_place(component, block)).of(counter),
+            None => tally_at(&self.all, block).of(counter),
+        }
+    }
+
+    /// What they counted from a cycle on and before another one, cell by cell.
+    fn cells(&self, counter: Counter, who: Option<u32>, from: u32, end: u32) -> u64
+        requires who { ForSome who (λ c. c < components self.now.k) }
+        requires window { from ≤ end }
+        requires within { end ≤ max_horizon + 1 }
+        ensures value { result ≡ counted_before self.now.k counter self.now.cells who from end }
+        ensures small { result < 2 ^ 32 }
+    {
+        match who {
+            Some(component) => sum_at(&self.cells, counter, component, from, end),
+            None => sum_all(&self.cells, self.shape.components(), counter, from, end),
         }
     }
 
@@ -173,15 +202,6 @@ impl Sums {
         requires { stage < self.now.k }
         ensures whole { (at : States) → StandsFor self.now at → result ≡ profile_of self.now.k at net stage max_horizon }
         ensures up_to { (at : States) (h : ℕ) → StandsFor self.now at → NonePast self.now.k at h → h ≤ max_horizon → result ≡ profile_of self.now.k at net stage h }
-    {
-        self.profile_kept(net, stage)
-    }
-
-    /// `profile`, over the cells kept: both its clauses follow from this.
-    fn profile_kept(&self, net: Net, stage: u32) -> Profile
-        requires { stage < self.now.k }
-        ensures size { length result ≡ profile_lengths }
-        ensures each { (n : ℕ) → n < profile_lengths → slice_index result n ≡ lengths_of self.now.k self.now.cells net stage n }
     {
         profile_at(&self.profiles, profile_place(self.shape, net, stage))
     }
@@ -196,9 +216,13 @@ impl Sums {
             → kept_at self.new.cells t c ≡ (if (t == cycle) && (c == component) then new else kept_at self.old.cells t c) }
     {
         let old = cell_at(&self.cells, component, cycle);
-        let was = tally_at(&self.totals, component);
-        let total = was.moved(&old, &new);
-        let all = self.all.moved(&old, &new);
+        if old == new {
+            return;
+        }
+        let block = block_of(cycle);
+        let own = block_place(component, block);
+        move_tally(&mut self.own, own, &old, &new);
+        move_tally(&mut self.all, block, &old, &new);
         move_lengths(
             self.shape,
             &mut self.profiles,
@@ -206,39 +230,85 @@ impl Sums {
             old.lengths,
             new.lengths,
         );
-        self.totals[component as usize] = total;
-        self.all = all;
         let place = place_of(component, cycle);
         self.cells[place] = new;
     }
 }
 
-/// What so many components counted over the cycles `from` to `to`.
+/// The block that a cycle is in.
+fn block_of(cycle: u32) -> usize
+    ensures { result ≡ cycle / 32 }
+{
+    (cycle / BLOCK_CYCLES) as usize
+}
+
+/// The cycle before which a block ends.
+fn block_end(block: usize) -> u32
+    requires { block < blocks }
+    ensures { result ≡ block_end block }
+{
+    (block as u32 * BLOCK_CYCLES + BLOCK_CYCLES).min(MAX_HORIZON + 1)
+}
+
+/// Where the block of a cycle ends, or a window that ends with the cycle `to` within it.
+fn part_end(cycle: u32, to: u32) -> u32
+    requires window { cycle ≤ to }
+    requires within { to ≤ max_horizon }
+    ensures on { cycle < result }
+    ensures within { result ≤ to + 1 }
+    ensures block { result ≤ block_end (cycle / 32) }
+{
+    block_end(block_of(cycle)).min(to + 1)
+}
+
+/// Where the tally of a component's block stands.
+fn block_place(component: u32, block: usize) -> usize
+    requires { block < blocks }
+    ensures { result ≡ block_place component block }
+{
+    component as usize * BLOCKS + block
+}
+
+/// One of the cells that a tally is over counts something else.
+fn move_tally(tallies: &mut Vec<Tally>, place: usize, old: &Counted, new: &Counted)
+    requires there { place < length tallies.old.items }
+    requires held { (counter : CounterIs) → part counter old.now ≤ tallied counter (tally_at tallies.old.items place) }
+    requires room { (counter : CounterIs) → tallied counter (tally_at tallies.old.items place) < 2 ^ 32 }
+    ensures size { length tallies.new.items ≡ length tallies.old.items }
+    ensures moved { (counter : CounterIs) → tallied counter (tally_at tallies.new.items place) + part counter old.now ≡ tallied counter (tally_at tallies.old.items place) + part counter new.now }
+    ensures others { (i : ℕ) → (i ≡ place → ⊥) → tally_at tallies.new.items i ≡ tally_at tallies.old.items i }
+{
+    let moved = tally_at(tallies, place).moved(old, new);
+    tallies[place] = moved;
+}
+
+/// What so many components counted from a cycle on and before another one.
 #[tactic(auto, using(crate::proofs::Adding::sum_none, crate::proofs::Adding::sum_more))]
-fn sum_all(cells: &Vec<Counted>, components: u32, counter: Counter, from: u32, to: u32) -> u64
+fn sum_all(cells: &Vec<Counted>, components: u32, counter: Counter, from: u32, end: u32) -> u64
     requires room { length cells.now.items ≡ components * (max_horizon + 1) }
     requires few { components ≤ max_components }
-    requires window { from ≤ to }
-    requires within { to ≤ max_horizon }
-    ensures { result ≡ sum_below (λ c. sum_below (λ i. part counter (kept_at cells.now.items (i + from) c)) (to + 1 - from)) components }
+    requires window { from ≤ end }
+    requires within { end ≤ max_horizon + 1 }
+    ensures value { result ≡ sum_below (λ c. sum_below (λ i. part counter (kept_at cells.now.items (i + from) c)) (end - from)) components }
+    ensures small { result < 2 ^ 32 }
 {
     let mut total = 0;
     for component in 0..components {
-        total += sum_at(cells, counter, component, from, to);
+        total += sum_at(cells, counter, component, from, end);
     }
     total
 }
 
-/// What a component counted over the cycles `from` to `to`.
-fn sum_at(cells: &Vec<Counted>, counter: Counter, component: u32, from: u32, to: u32) -> u64
+/// What a component counted from a cycle on and before another one.
+fn sum_at(cells: &Vec<Counted>, counter: Counter, component: u32, from: u32, end: u32) -> u64
     requires there { place_of component max_horizon < length cells.now.items }
-    requires window { from ≤ to }
-    requires within { to ≤ max_horizon }
-    ensures value { result ≡ sum_below (λ i. part counter (kept_at cells.now.items (i + from) component)) (to + 1 - from) }
-    ensures bound { result ≤ 256 * (to + 1 - from) }
+    requires window { from ≤ end }
+    requires within { end ≤ max_horizon + 1 }
+    ensures value { result ≡ sum_below (λ i. part counter (kept_at cells.now.items (i + from) component)) (end - from) }
+    ensures bound { result ≤ 256 * (end - from) }
 {
     let mut total = 0;
-    for cycle in from..to + 1 {
+    for cycle in from..end {
         total += u64::from(cell_at(cells, component, cycle).part(counter));
     }
     total
@@ -253,12 +323,12 @@ fn cell_at(cells: &Vec<Counted>, component: u32, cycle: u32) -> Counted
     cells[place_of(component, cycle)]
 }
 
-/// The totals of a component.
-fn tally_at(totals: &Vec<Tally>, component: u32) -> Tally
-    requires { component < length totals.now.items }
-    ensures { result ≡ tally_at totals.now.items component }
+/// The tally at a place.
+fn tally_at(tallies: &Vec<Tally>, place: usize) -> Tally
+    requires { place < length tallies.now.items }
+    ensures { result ≡ tally_at tallies.now.items place }
 {
-    totals[component as usize]
+    tallies[place]
 }
 
 /// Where a cell stands: those of component 0 by cycle, then those of component 1, and so on.

@@ -125,6 +125,44 @@ fn a_combined_request_is_served_once(rt: HostRuntime) -> Result<(), Fail> {
     Ok(())
 }
 
+// The same over more than two blocks of cycles: the first block and a part of the second, and whole blocks alone.
+#[test]
+fn windows_of_blocks(rt: HostRuntime) -> Result<(), Fail> {
+    let alloc = rt.alloc();
+    let idle = Edit::Entry {
+        proc: 0,
+        index: 0,
+        entry: ScriptEntry::Idle(40),
+    };
+    let later = Edit::Entry {
+        proc: 0,
+        index: 1,
+        entry: add(true, 1, 1),
+    };
+    let sums = counters(alloc, &edited(alloc, 1, 100, &[idle, later])?)?;
+    for (from, to, issued) in [
+        (0, 31, 0),
+        (0, 40, 0),
+        (0, 41, 1),
+        (32, 63, 1),
+        (41, 100, 1),
+        (42, 100, 0),
+    ] {
+        assert_eq!(rt;
+            sums.sum(Counter::Issued, None, from, to),
+            issued,
+            "{from} to {to}"
+        );
+        assert_eq!(rt;
+            sums.sum(Counter::Issued, Some(0), from, to),
+            issued,
+            "{from} to {to}"
+        );
+    }
+    assert_eq!(rt; sums.total(Counter::Issued, Some(0)), 1);
+    Ok(())
+}
+
 /// Four processors that all reach for word 0, two of them four cycles later.
 fn hot_spot(alloc: Global) -> Result<Project, Fail> {
     let entry = |proc, index, entry| Edit::Entry { proc, index, entry };

@@ -25,8 +25,7 @@ impl<G: Grid> Table<G> {
             return true;
         }
         let near = G::near(&self.slots, cell.component);
-        let row = &self.rows[cell.cycle as usize - 1];
-        row.has_states(near.as_slice())
+        self.cells.has_states(cell.cycle - 1, near.as_slice())
     }
 
     fn is_claimable(&self, cell: Cell) -> bool
@@ -42,7 +41,7 @@ impl<G: Grid> Table<G> {
         requires { cycle ≤ self.now.horizon }
         ensures { result ≡ false → (c : ℕ) → (held_at self.now.rows cycle c).is_due ≡ false }
     {
-        self.rows[cycle as usize].due_count() > 0
+        self.cells.due_count(cycle) > 0
     }
 
     /// The first cell of a cycle that can be claimed, from a component on.
@@ -114,8 +113,8 @@ impl<G: Grid> Table<G> {
             return Ok(true);
         }
         let components = G::near(&self.slots, cell.component);
-        let row = &self.rows[cell.cycle as usize - 1];
-        row.share_states(components.as_slice(), near)
+        self.cells
+            .share_states(cell.cycle - 1, components.as_slice(), near)
     }
 
     fn claim_plain(&self, from: Cell) -> Result<Option<Claim<G>>, NoMemory>
@@ -126,7 +125,7 @@ impl<G: Grid> Table<G> {
         match self.next_round(from) {
             None => Ok(None),
             Some(cell) => {
-                let alloc = *self.rows.allocator();
+                let alloc = self.cells.allocator();
                 let slots = G::share(alloc, &self.slots)?;
                 let mut near = Vec::new(alloc);
                 if self.inputs(cell, &mut near)? {

@@ -30,7 +30,7 @@ impl<G: Grid> Table<G> {
         if !self.has(cell) {
             return Ok(0);
         }
-        let alloc = *self.rows.allocator();
-        due_down::<G>(alloc, &self.slots, self.rows.as_slice(), cell)
+        let alloc = self.cells.allocator();
+        due_down::<G>(alloc, &self.slots, &self.cells, cell)
     }
 }

@@ -1,10 +1,10 @@
 //! Giving a result back.
-ghost use Rattle.std.specs.Prelude.{◌≡◌, ℕ, ◌<◌, ◌-◌, ◌^◌, ◌↔◌, IsTrue, true, false, Some, map, List};
+ghost use Rattle.std.specs.Prelude.{◌≡◌, ℕ, ◌<◌, ◌-◌, ◌^◌, ◌↔◌, IsTrue, true, false, Some, map, List, OnOk, OnErr, IfErr};
 ghost use Rattle.std.specs.Arc.{arc_value};
 ghost use Rattle.cell_table.specs.Seen.{held_at};
 ghost use Rattle.cell_table.specs.Inputs.{inputs_of};
 ghost use Rattle.cell_table.specs.Cells.{IsThere};
-ghost use Rattle.cell_table.specs.Consistent.{IsCurrentState};
+ghost use Rattle.cell_table.specs.Consistent.{IsCurrentState, current_of};
 ghost use Rattle.cell_table.specs.Gives.{IsPresent, GivesAs, IsAfterStore};
 ghost use Rattle.cell_table.specs.Events.{Event, Start};
 ghost use Rattle.cell_table.specs.Stands.{Stands};
@@ -12,9 +12,10 @@ ghost use Rattle.cell_table.specs.Made.{Made};
 ghost use Rattle.cell_table.specs.Answers.{AnswersMade, after_give};
 
 use super::Table;
-use crate::rows::{are_held, clock_after, store_in};
+use crate::cells::are_held;
+use crate::rows::{clock_after, repeat_in, store_in};
 use crate::{Cell, Claim, Done, Given};
-use grid_law::Grid;
+use grid_law::{Grid, NoMemory};
 use std::sync::Arc;
 
 impl<G: Grid> Table<G> {
@@ -28,8 +29,7 @@ impl<G: Grid> Table<G> {
             return near.is_empty();
         }
         let components = G::near(&self.slots, cell.component);
-        let row = &self.rows[cell.cycle as usize - 1];
-        are_held::<G>(row, components.as_slice(), near)
+        are_held::<G>(&self.cells, cell.cycle - 1, components.as_slice(), near)
     }
 
     /// Whether what the claim was computed from is what is there now.
@@ -50,25 +50,67 @@ impl<G: Grid> Table<G> {
         }
     }
 
-    /// Stores a state that was computed from what is there now.
-    pub(super) fn store(&mut self, cell: Cell, state: Arc<G::State>, changed: bool)
+    /// Stores a state that was computed from what is there now. Where memory is wanting, nothing is
+    /// changed, and the state comes back.
+    pub(super) fn store(
+        &mut self,
+        cell: Cell,
+        state: Arc<G::State>,
+        changed: bool,
+    ) -> Result<(), Arc<G::State>>
         requires there { IsThere G.rules self.old cell.cycle cell.component }
         requires room { changed ≡ true → self.old.clock < 2 ^ 64 - 1 }
         requires changes { (changed ≡ false) ↔ ((held_at self.old.rows cell.cycle cell.component).state ≡ Some (arc_value state)) }
         requires computed { IsCurrentState G.rules self.old.slots self.old.rows cell.cycle cell.component (arc_value state) }
-        ensures { IsAfterStore G.rules self.old self.new cell.cycle cell.component (arc_value state) changed }
+        ensures ok { OnOk result (IsAfterStore G.rules self.old self.new cell.cycle cell.component (arc_value state) changed) }
+        ensures err { OnErr result (self.new ≡ self.old) }
+        ensures back { IfErr result (λ back. (arc_value back ≡ arc_value state) × (changed ≡ true)) }
     {
         let clock = clock_after(self.clock, changed);
-        self.clock = clock;
-        store_in::<G>(
-            &mut self.rows,
+        match store_in::<G>(
+            &mut self.cells,
             &self.slots,
             &self.readers,
             cell,
             state,
             changed,
             clock,
-        );
+        ) {
+            Ok(()) => {
+                self.clock = clock;
+                Ok(())
+            }
+            Err(state) => Err(state),
+        }
+    }
+
+    /// Stores the state that the cell one cycle earlier holds, where it is what is computed from
+    /// what is there now. Where memory is wanting, nothing is changed.
+    pub(super) fn store_again(&mut self, cell: Cell, changed: bool) -> Result<(), NoMemory>
+        requires there { IsThere G.rules self.old cell.cycle cell.component }
+        requires later { 0 < cell.cycle }
+        requires room { changed ≡ true → self.old.clock < 2 ^ 64 - 1 }
+        requires repeats { (held_at self.old.rows (cell.cycle - 1) cell.component).state ≡ Some (current_of G.rules self.old.slots self.old.rows cell.cycle cell.component) }
+        requires changes { (changed ≡ false) ↔ ((held_at self.old.rows cell.cycle cell.component).state ≡ Some (current_of G.rules self.old.slots self.old.rows cell.cycle cell.component)) }
+        requires computed { IsCurrentState G.rules self.old.slots self.old.rows cell.cycle cell.component (current_of G.rules self.old.slots self.old.rows cell.cycle cell.component) }
+        ensures ok { OnOk result (IsAfterStore G.rules self.old self.new cell.cycle cell.component (current_of G.rules self.old.slots self.old.rows cell.cycle cell.component) changed) }
+        ensures err { OnErr result (self.new ≡ self.old) }
+    {
+        let clock = clock_after(self.clock, changed);
+        match repeat_in::<G>(
+            &mut self.cells,
+            &self.slots,
+            &self.readers,
+            cell,
+            changed,
+            clock,
+        ) {
+            Ok(()) => {
+                self.clock = clock;
+                Ok(())
+            }
+            Err(_) => Err(NoMemory),
+        }
     }
 
     fn give_plain(&mut self, done: Done<G>) -> Given<Done<G>>
@@ -91,15 +133,19 @@ impl<G: Grid> Table<G> {
         if changed && self.clock == u64::MAX {
             return Given::ClockSpent(done);
         }
-        self.store(cell, done.into_state(), changed);
-        Given::Stored { changed }
+        let (claim, state) = done.into_parts();
+        match self.store(cell, state, changed) {
+            Ok(()) => Given::Stored { changed },
+            Err(state) => Given::Memory(Done::of(claim, state)),
+        }
     }
 
     /// Stores the result of a claim where, since the claim, its cell stayed due and nothing that it
     /// read has changed. The answer is the first of `Given` that applies, in that order; all but
     /// `Stored` change nothing. Where the state is another one than the cell held, the clock rises
     /// by one, and the cells one cycle later that have this one among their near cells become due.
-    /// It takes no memory, and looks at this cell, those near it and those that read it.
+    /// It gets its memory before it changes anything, and needs none where the state is the one held.
+    /// It looks at this cell, those near it and those that read it.
     pub fn give(&mut self, done: Done<G>) -> Given<Done<G>>
         ensures headline_foreign { GivesAs G.rules self.old done result self.new }
         ensures headline_stands { (o : Start G.Slots) (h : List (Event G.State G.Slots G.Slot)) → Stands G.rules o self.old h

@@ -1,5 +1,5 @@
 //! Settling: computing the due cells, by cycle and then component, until none is left.
-ghost use Rattle.std.specs.Prelude.{◌≡◌, ◌≢◌, ℕ, ◌+◌, ◌-◌, ◌^◌, ◌<◌, ◌≤◌, IfOk, IfErr, OnOk, OnErr, IfNone, IfSome, MatchOption, is_some, true, false, Some, List};
+ghost use Rattle.std.specs.Prelude.{◌≡◌, ◌≢◌, ℕ, ◌+◌, ◌-◌, ◌^◌, ◌<◌, ◌≤◌, ◌↔◌, IsTrue, IfOk, IfErr, OnOk, OnErr, IfNone, IfSome, MatchOption, is_some, true, false, Some, List};
 ghost use Rattle.std.specs.Arc.{arc_value};
 ghost use Rattle.cell_table.specs.Seen.{held_at, row_at};
 ghost use Rattle.cell_table.specs.Cells.{IsThere};
@@ -8,10 +8,11 @@ ghost use Rattle.cell_table.specs.Consistent.{current_of};
 ghost use Rattle.cell_table.specs.Gives.{IsAfterStore};
 ghost use Rattle.cell_table.specs.Events.{Event, Start};
 ghost use Rattle.cell_table.specs.Stands.{Stands};
-ghost use Rattle.cell_table.specs.Settling.{IsNextDueInRow, NoneDueBefore, NoneDueFrom, IsNextDue, IsSettled, SettlesNext, IsSpent, computed_of, IsClockSpent};
+ghost use Rattle.cell_table.specs.Settling.{IsAsBefore, IsNextDueInRow, NoneDueBefore, NoneDueFrom, IsNextDue, IsSettled, SettlesNext, IsSpent, computed_of, IsClockSpent};
 ghost use Rattle.cell_table.specs.Cost.{Settles, SettlesFirst};
 
 use super::Table;
+use crate::near::{first, five_lent};
 use crate::watcher::{Nobody, Watcher};
 use crate::{Cell, SettleFault, Settled, StoreFault};
 use grid_law::{Grid, NoMemory};
@@ -28,16 +29,19 @@ impl<G: Grid> Table<G> {
         if !self.is_row_due(cycle) {
             return None;
         }
-        self.rows[cycle as usize].next_due(component)
+        self.cells.next_due(cycle, component)
     }
 
-    /// The first due cell at or after `from`, by cycle and then component. It takes no memory, and
-    /// a cycle with nothing due is passed in one step.
+    /// The first due cell at or after `from`, by cycle and then component. It takes no memory, a
+    /// cycle with nothing due is passed in one step, and where no cell is due one number tells it.
     pub fn next_due(&self, from: Cell) -> Option<Cell>
         ensures { MatchOption result
             (NoneDueFrom G.rules self.now from.cycle from.component)
             (IsNextDue G.rules self.now from.cycle from.component) }
     {
+        if self.cells.due_total() == 0 {
+            return None;
+        }
         for cycle in u64::from(from.cycle)..u64::from(self.horizon) + 1 {
             let cycle = cycle as u32;
             let start = if cycle == from.cycle {
@@ -52,27 +56,137 @@ impl<G: Grid> Table<G> {
         None
     }
 
-    /// The state that the present slots and near states give a cell.
-    fn computed(&self, cell: Cell) -> Result<Arc<G::State>, NoMemory>
+    /// Whether the cell's state is that of the cell before it, known without a look at any state:
+    /// the cell before isn't due, and the near cells held one cycle earlier what they held two
+    /// cycles earlier.
+    fn is_as_before(&self, cell: Cell) -> bool
+        requires { IsThere G.rules self.now cell.cycle cell.component }
+        ensures { result ≡ true → IsAsBefore G.rules self.now cell.cycle cell.component }
+    {
+        if cell.cycle < 2 {
+            return false;
+        }
+        let before = Cell {
+            cycle: cell.cycle - 1,
+            component: cell.component,
+        };
+        let near = G::near(&self.slots, cell.component);
+        !self.due(before) && self.cells.all_stay(before.cycle, near.as_slice())
+    }
+
+    /// The state that the present slots and near states give a cell, or none where it is that of
+    /// the cell before.
+    fn stepped(&self, cell: Cell) -> Result<Option<G::State>, NoMemory>
         requires there { IsThere G.rules self.now cell.cycle cell.component }
         requires ready { is_some (inputs_of G.rules self.now.slots self.now.rows cell.cycle cell.component) ≡ true }
-        ensures { IfOk result (λ x. arc_value x ≡ current_of G.rules self.now.slots self.now.rows cell.cycle cell.component) }
+        requires later { 0 < cell.cycle }
+        ensures { IfOk result (λ o. MatchOption o (IsAsBefore G.rules self.now cell.cycle cell.component)
+            (λ x. x ≡ current_of G.rules self.now.slots self.now.rows cell.cycle cell.component)) }
     {
-        let alloc = *self.rows.allocator();
-        let mut near = Vec::new(alloc);
-        if !self.inputs(cell, &mut near)? {
-            unreachable!()
-        }
-        let state = if near.is_empty() {
-            G::start(alloc, &self.slots, cell.component)?
-        } else {
-            G::step(alloc, &self.slots, &near, cell.component)?
+        let alloc = self.cells.allocator();
+        let near = G::near(&self.slots, cell.component);
+        let before = Cell {
+            cycle: cell.cycle - 1,
+            component: cell.component,
         };
-        Ok(Arc::new(alloc, state)?)
+        match self.cells.state(before) {
+            Some(own) => {
+                let five = five_lent(&self.cells, before.cycle, near.as_slice(), own);
+                let lent = first(&five, near.len());
+                G::next(alloc, &self.slots, lent, cell.component)
+            }
+            None => unreachable!(),
+        }
+    }
+
+    /// The state that the present slots and near states give a cell, or none where it is that of
+    /// the cell before.
+    fn computed(&self, cell: Cell) -> Result<Option<Arc<G::State>>, NoMemory>
+        requires there { IsThere G.rules self.now cell.cycle cell.component }
+        requires ready { is_some (inputs_of G.rules self.now.slots self.now.rows cell.cycle cell.component) ≡ true }
+        ensures { IfOk result (λ o. MatchOption o (IsAsBefore G.rules self.now cell.cycle cell.component)
+            (λ x. arc_value x ≡ current_of G.rules self.now.slots self.now.rows cell.cycle cell.component)) }
+    {
+        let alloc = self.cells.allocator();
+        if cell.cycle == 0 {
+            let start = G::start(alloc, &self.slots, cell.component)?;
+            return Ok(Some(Arc::new(alloc, start)?));
+        }
+        if self.is_as_before(cell) {
+            return Ok(None);
+        }
+        match self.stepped(cell)? {
+            Some(state) => Ok(Some(Arc::new(alloc, state)?)),
+            None => Ok(None),
+        }
+    }
+
+    /// Whether a cell holds the state of the cell before it.
+    fn holds_as_before(&self, cell: Cell) -> bool
+        requires { 0 < cell.cycle }
+        ensures { (x : G.State) → (held_at self.now.rows (cell.cycle - 1) cell.component).state ≡ Some x
+            → IsTrue result ↔ ((held_at self.now.rows cell.cycle cell.component).state ≡ Some x) }
+    {
+        if self.cells.stays(cell) {
+            return true;
+        }
+        let before = Cell {
+            cycle: cell.cycle - 1,
+            component: cell.component,
+        };
+        match self.state(before) {
+            Some(state) => self.holds(cell, state),
+            None => false,
+        }
+    }
+
+    /// Stores what was computed, as `settle_cell` does.
+    #[tactic(auto, using(crate::proofs::Stores::current_of_inputs))]
+    fn settle_to(&mut self, cell: Cell, state: Arc<G::State>) -> Result<bool, StoreFault>
+        requires there { IsThere G.rules self.old cell.cycle cell.component }
+        requires ready { is_some (inputs_of G.rules self.old.slots self.old.rows cell.cycle cell.component) ≡ true }
+        requires computed { arc_value state ≡ current_of G.rules self.old.slots self.old.rows cell.cycle cell.component }
+        ensures ok { IfOk result (λ changed. IsAfterStore G.rules self.old self.new cell.cycle cell.component
+            (current_of G.rules self.old.slots self.old.rows cell.cycle cell.component) changed) }
+        ensures room { IfOk result (λ changed. changed ≡ true → self.old.clock < 2 ^ 64 - 1) }
+        ensures err { OnErr result (self.new ≡ self.old) }
+        ensures spent { result ≡ Err StoreFault.ClockSpent → (self.old.clock ≡ 2 ^ 64 - 1)
+            × ((held_at self.old.rows cell.cycle cell.component).state ≢ Some (current_of G.rules self.old.slots self.old.rows cell.cycle cell.component)) }
+    {
+        let changed = !self.holds(cell, &state);
+        if changed && self.clock == u64::MAX {
+            return Err(StoreFault::ClockSpent);
+        }
+        match self.store(cell, state, changed) {
+            Ok(()) => Ok(changed),
+            Err(_) => Err(StoreFault::Memory),
+        }
+    }
+
+    /// Stores the state of the cell before, as `settle_cell` does.
+    #[tactic(auto, using(crate::proofs::Stores::current_of_inputs))]
+    fn settle_again(&mut self, cell: Cell) -> Result<bool, StoreFault>
+        requires there { IsThere G.rules self.old cell.cycle cell.component }
+        requires ready { is_some (inputs_of G.rules self.old.slots self.old.rows cell.cycle cell.component) ≡ true }
+        requires computed { IsAsBefore G.rules self.old cell.cycle cell.component }
+        ensures ok { IfOk result (λ changed. IsAfterStore G.rules self.old self.new cell.cycle cell.component
+            (current_of G.rules self.old.slots self.old.rows cell.cycle cell.component) changed) }
+        ensures room { IfOk result (λ changed. changed ≡ true → self.old.clock < 2 ^ 64 - 1) }
+        ensures err { OnErr result (self.new ≡ self.old) }
+        ensures spent { result ≡ Err StoreFault.ClockSpent → (self.old.clock ≡ 2 ^ 64 - 1)
+            × ((held_at self.old.rows cell.cycle cell.component).state ≢ Some (current_of G.rules self.old.slots self.old.rows cell.cycle cell.component)) }
+    {
+        let changed = !self.holds_as_before(cell);
+        if changed && self.clock == u64::MAX {
+            return Err(StoreFault::ClockSpent);
+        }
+        match self.store_again(cell, changed) {
+            Ok(()) => Ok(changed),
+            Err(_) => Err(StoreFault::Memory),
+        }
     }
 
     /// Computes the cell and stores its state; tells whether the cell held no state or another one.
-    #[tactic(auto, using(crate::proofs::Stores::current_of_inputs))]
     fn settle_cell(&mut self, cell: Cell) -> Result<bool, StoreFault>
         requires there { IsThere G.rules self.old cell.cycle cell.component }
         requires ready { is_some (inputs_of G.rules self.old.slots self.old.rows cell.cycle cell.component) ≡ true }
@@ -84,14 +198,8 @@ impl<G: Grid> Table<G> {
             × ((held_at self.old.rows cell.cycle cell.component).state ≢ Some (current_of G.rules self.old.slots self.old.rows cell.cycle cell.component)) }
     {
         match self.computed(cell) {
-            Ok(state) => {
-                let changed = !self.holds(cell, &state);
-                if changed && self.clock == u64::MAX {
-                    return Err(StoreFault::ClockSpent);
-                }
-                self.store(cell, state, changed);
-                Ok(changed)
-            }
+            Ok(Some(state)) => self.settle_to(cell, state),
+            Ok(None) => self.settle_again(cell),
             Err(_) => Err(StoreFault::Memory),
         }
     }

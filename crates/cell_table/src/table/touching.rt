@@ -1,113 +1,195 @@
 //! Following an edit.
-ghost use Rattle.std.specs.Prelude.{◌≡◌, ℕ, ◌+◌, ◌<◌, ◌≤◌, ◌-◌, ◌^◌, ◌↔◌, IfOk, OnOk, OnErr, unwrap_or, true, length, All, List, ◌∷◌};
-ghost use Rattle.grid_law.specs.Rules.{Differ};
+ghost use Rattle.std.specs.Prelude.{◌≡◌, ℕ, ◌+◌, ◌<◌, ◌≤◌, ◌-◌, ◌^◌, ◌↔◌, IfOk, OnOk, OnErr, unwrap_or, true, false, ◌||◌, ◌&&◌, All, List, ◌∷◌};
+ghost use Rattle.grid_law.specs.Rules.{Differ, reader_at};
 ghost use Rattle.cell_table.specs.Cells.{IsThere};
-ghost use Rattle.cell_table.specs.Readers.{has, readers_at};
-ghost use Rattle.cell_table.specs.Touches.{is_marked, cell_reads, IsAfterTouch};
+ghost use Rattle.cell_table.specs.Inputs.{inputs_of};
+ghost use Rattle.cell_table.specs.Reads.{reads_one, is_reader};
+ghost use Rattle.cell_table.specs.Touches.{is_marked, IsWithin, cell_reads, cell_reads_one, IsAfterTouch};
 ghost use Rattle.cell_table.specs.Events.{Event, Start, Edits};
 ghost use Rattle.cell_table.specs.Stands.{Stands};
 ghost use Rattle.cell_table.specs.Settling.{IsSettled};
 ghost use Rattle.cell_table.specs.Cost.{Costs, CostsAnEdit};
 
 use super::Table;
-use crate::components::Components;
-use crate::marks::{reads_some, retouch, those_that_may_read};
+use crate::marks::{CellRange, add_where, retouch};
 use crate::{Cell, TouchFault};
-use grid_law::{Changed, Grid, NoMemory};
+use grid_law::{Changed, Grid, NoMemory, Reader};
 use std::alloc::Global;
 use std::sync::Arc;
 
 impl<G: Grid> Table<G> {
-    /// Whether the cell reads one of these slots; `near` is room for its near states.
-    fn reads_listed(
+    /// Whether the cell reads the slot; `near` is room for its near states.
+    fn reads_slot(
         &self,
         cell: Cell,
-        listed: &[G::Slot],
+        slot: &G::Slot,
         near: &mut Vec<Arc<G::State>>,
     ) -> Result<bool, NoMemory>
         requires { IsThere G.rules self.now cell.cycle cell.component }
-        ensures { IfOk result (λ b. b
-            ≡ cell_reads G.rules self.now.slots self.now.rows listed.now cell.cycle cell.component) }
+        ensures { IfOk result (λ b. b ≡ reads_one G.rules self.now.slots cell.component slot.now
+            (inputs_of G.rules self.now.slots self.now.rows cell.cycle cell.component)) }
     {
         if self.inputs(cell, near)? {
-            Ok(reads_some::<G>(&self.slots, near.as_slice(), cell.component, listed))
+            Ok(G::reads(&self.slots, near.as_slice(), cell.component, slot))
         } else {
             Ok(false)
         }
     }
 
-    /// Which of these components read one of these slots at a cycle; no other may.
-    fn row_marks(
-        &self,
-        alloc: Global,
-        cycle: u32,
-        listed: &[G::Slot],
-        asked: &Components,
-        near: &mut Vec<Arc<G::State>>,
-    ) -> Result<Components, NoMemory>
-        requires cycle { cycle ≤ self.now.horizon }
-        requires within { All (λ c. c < G.rules.components self.now.slots) asked.now }
-        requires all { (c : ℕ) → c < G.rules.components self.now.slots → cell_reads G.rules self.now.slots self.now.rows listed.now cycle c ≡ true → has asked.now c ≡ true }
-        ensures at { IfOk result (λ m. (c : ℕ) → c < G.rules.components self.now.slots → has m c
-            ≡ cell_reads G.rules self.now.slots self.now.rows listed.now cycle c) }
-        ensures within { IfOk result (λ m. All (λ c. c < G.rules.components self.now.slots) m) }
+    /// The cycle up to which, from that one on, a component's cells have equal near states.
+    fn same_inputs_to(&self, cell: Cell, last: u32) -> u32
+        requires later { 0 < cell.cycle }
+        requires within { cell.cycle ≤ last }
+        requires there { last ≤ self.now.horizon }
+        requires component { cell.component < G.rules.components self.now.slots }
+        ensures after { cell.cycle < result }
+        ensures within { result ≤ last + 1 }
+        ensures same { (t : ℕ) → cell.cycle ≤ t → t < result → inputs_of G.rules self.now.slots self.now.rows t cell.component
+            ≡ inputs_of G.rules self.now.slots self.now.rows cell.cycle cell.component }
     {
-        let mut components = Components::new(alloc);
-        for component in asked.as_slice() {
-            let component = *component;
-            if self.reads_listed(Cell { cycle, component }, listed, near)? {
-                components.push(component)?;
-            }
+        // The cycles are at most this many, so the next cycle's number fits.
+        let _cycles = self.cells.cycles();
+        let near = G::near(&self.slots, cell.component);
+        let mut end = cell.cycle + 1;
+        while end <= last && self.cells.all_stay(end - 1, near.as_slice()) {
+            end += 1;
         }
-        Ok(components)
+        end
     }
 
-    /// Which cells up to that cycle read one of these slots. The components that may read one are
-    /// asked, and no others.
+    /// Adds the cells of later cycles, up to the last, at which a component reads the slot. It is
+    /// asked once for each stretch of equal near states.
+    fn add_later(
+        &self,
+        component: u32,
+        slot: &G::Slot,
+        last: u32,
+        near: &mut Vec<Arc<G::State>>,
+        ranges: &mut Vec<CellRange>,
+    ) -> Result<(), NoMemory>
+        requires there { last ≤ self.now.horizon }
+        requires component { component < G.rules.components self.now.slots }
+        requires within { All (IsWithin (last + 1) (G.rules.components self.now.slots)) ranges.old.items }
+        ensures within { OnOk result (All (IsWithin (last + 1) (G.rules.components self.now.slots)) ranges.new.items) }
+        ensures at { OnOk result ((t c : ℕ) → t ≤ last → is_marked ranges.new.items t c
+            ≡ (is_marked ranges.old.items t c || (is_reader (reader_at component false) t c && cell_reads_one G.rules self.now.slots self.now.rows slot.now t component))) }
+    {
+        // The cycles are at most this many, so the next cycle's number fits.
+        let _cycles = self.cells.cycles();
+        let mut cycle = 1;
+        while cycle <= last {
+            let cell = Cell { cycle, component };
+            let to = self.same_inputs_to(cell, last);
+            let reads = self.reads_slot(cell, slot, near)?;
+            let from = cycle;
+            let range = CellRange {
+                component,
+                from,
+                to,
+            };
+            add_where(ranges, range, reads)?;
+            cycle = to;
+        }
+        Ok(())
+    }
+
+    /// Adds the cells up to the last cycle at which a reader reads the slot.
+    fn add_reader(
+        &self,
+        reader: Reader,
+        slot: &G::Slot,
+        last: u32,
+        near: &mut Vec<Arc<G::State>>,
+        ranges: &mut Vec<CellRange>,
+    ) -> Result<(), NoMemory>
+        requires there { last ≤ self.now.horizon }
+        requires component { reader.component < G.rules.components self.now.slots }
+        requires within { All (IsWithin (last + 1) (G.rules.components self.now.slots)) ranges.old.items }
+        ensures within { OnOk result (All (IsWithin (last + 1) (G.rules.components self.now.slots)) ranges.new.items) }
+        ensures at { OnOk result ((t c : ℕ) → t ≤ last → is_marked ranges.new.items t c
+            ≡ (is_marked ranges.old.items t c || (is_reader reader t c && cell_reads_one G.rules self.now.slots self.now.rows slot.now t reader.component))) }
+    {
+        if !reader.first {
+            return self.add_later(reader.component, slot, last, near, ranges);
+        }
+        let cell = Cell {
+            cycle: 0,
+            component: reader.component,
+        };
+        let reads = self.reads_slot(cell, slot, near)?;
+        let range = CellRange {
+            component: reader.component,
+            from: 0,
+            to: 1,
+        };
+        add_where(ranges, range, reads)
+    }
+
+    /// Adds the cells up to the last cycle that read the slot. Its readers are asked, and no other
+    /// component.
+    fn add_slot(
+        &self,
+        alloc: Global,
+        slot: &G::Slot,
+        last: u32,
+        near: &mut Vec<Arc<G::State>>,
+        ranges: &mut Vec<CellRange>,
+    ) -> Result<(), NoMemory>
+        requires there { last ≤ self.now.horizon }
+        requires within { All (IsWithin (last + 1) (G.rules.components self.now.slots)) ranges.old.items }
+        ensures within { OnOk result (All (IsWithin (last + 1) (G.rules.components self.now.slots)) ranges.new.items) }
+        ensures at { OnOk result ((t c : ℕ) → t ≤ last → c < G.rules.components self.now.slots → is_marked ranges.new.items t c
+            ≡ (is_marked ranges.old.items t c || cell_reads_one G.rules self.now.slots self.now.rows slot.now t c)) }
+    {
+        let readers = G::readers(alloc, &self.slots, slot)?;
+        for reader in readers.as_slice() {
+            self.add_reader(*reader, slot, last, near, ranges)?;
+        }
+        Ok(())
+    }
+
+    /// Which cells up to that cycle read one of these slots.
     fn marks(
         &self,
         alloc: Global,
         listed: &[G::Slot],
         last: u32,
-    ) -> Result<Vec<Components>, NoMemory>
+    ) -> Result<Vec<CellRange>, NoMemory>
         requires { last ≤ self.now.horizon }
-        ensures len { IfOk result (λ m. length m.items ≤ last + 1) }
-        ensures within { IfOk result (λ m. (t : ℕ) → All (λ c. c < G.rules.components self.now.slots) (readers_at m.items t)) }
+        ensures within { IfOk result (λ m. All (IsWithin (last + 1) (G.rules.components self.now.slots)) m.items) }
         ensures at { IfOk result (λ m. (t c : ℕ) → t ≤ last → c < G.rules.components self.now.slots → is_marked m.items t c
             ≡ cell_reads G.rules self.now.slots self.now.rows listed.now t c) }
     {
-        let first = those_that_may_read::<G>(alloc, &self.slots, true, listed)?;
-        let later = those_that_may_read::<G>(alloc, &self.slots, false, listed)?;
-        let mut rows = Vec::new(alloc);
+        let mut ranges = Vec::new(alloc);
         let mut near = Vec::new(alloc);
-        rows.push(self.row_marks(alloc, 0, listed, &first, &mut near)?)?;
-        for cycle in 1..u64::from(last) + 1 {
-            rows.push(self.row_marks(alloc, cycle as u32, listed, &later, &mut near)?)?;
+        for slot in listed {
+            self.add_slot(alloc, slot, last, &mut near, &mut ranges)?;
         }
-        Ok(rows)
+        Ok(ranges)
     }
 
     /// Takes the new slots and the new horizon, with these marks.
     fn follow(
         &mut self,
-        alloc: Global,
         next: G::Slots,
         listed: &[G::Slot],
-        marks: &Vec<Components>,
+        marks: &[CellRange],
+        last: u32,
         horizon: u32,
     ) -> Result<(), NoMemory>
         requires differ { Differ G.rules self.old.slots next listed.now }
         requires room { self.old.clock < 2 ^ 64 - 1 }
-        requires len { length marks.now.items ≤ self.old.horizon + 1 }
-        requires within { (t : ℕ) → All (λ c. c < G.rules.components self.old.slots) (readers_at marks.now.items t) }
-        requires at { (t c : ℕ) → t ≤ horizon → IsThere G.rules self.old t c → is_marked marks.now.items t c
+        requires last { last ≤ self.old.horizon }
+        requires last_kept { last ≤ horizon }
+        requires within { All (IsWithin (last + 1) (G.rules.components self.old.slots)) marks.now }
+        requires at { (t c : ℕ) → t ≤ horizon → IsThere G.rules self.old t c → is_marked marks.now t c
             ≡ cell_reads G.rules self.old.slots self.old.rows listed.now t c }
         ensures ok { OnOk result (IsAfterTouch G.rules self.old self.new next listed.now horizon) }
         ensures err { OnErr result (self.new ≡ self.old) }
     {
         let version = self.clock + 1;
         let count = G::components(&self.slots);
-        match retouch(alloc, &mut self.rows, marks, horizon, count, version) {
+        match retouch(&mut self.cells, marks, last, horizon, count, version) {
             Ok(()) => {
                 self.slots = next;
                 self.horizon = horizon;
@@ -128,14 +210,17 @@ impl<G: Grid> Table<G> {
         if self.clock == u64::MAX {
             return Err(TouchFault::ClockSpent);
         }
-        let alloc = *self.rows.allocator();
+        let alloc = self.cells.allocator();
         let horizon = changed.horizon.unwrap_or(self.horizon);
         let last = self.horizon.min(horizon);
         match self.marks(alloc, changed.slots.as_slice(), last) {
-            Ok(marks) => match self.follow(alloc, next, changed.slots.as_slice(), &marks, horizon) {
-                Ok(()) => Ok(()),
-                Err(_) => Err(TouchFault::Memory),
-            },
+            Ok(marks) => {
+                let listed = changed.slots.as_slice();
+                match self.follow(next, listed, marks.as_slice(), last, horizon) {
+                    Ok(()) => Ok(()),
+                    Err(_) => Err(TouchFault::Memory),
+                }
+            }
             Err(_) => Err(TouchFault::Memory),
         }
     }
@@ -145,8 +230,8 @@ impl<G: Grid> Table<G> {
     /// by one. The cells of the new horizon that read a slot listed, or that are new, become due
     /// at that clock; where the table was settled, what settling it again costs are these cells and
     /// those with a near cell one cycle earlier that differs between the two runs. After a fault
-    /// nothing is changed. Each component is asked whether it may read a slot listed; of those that
-    /// may, each cell that stays is asked once at most for each slot listed.
+    /// nothing is changed. Of each slot listed its readers are asked, and no other component: at
+    /// cycle 0, or later once for each stretch of cycles with equal near states.
     pub fn touch(&mut self, next: G::Slots, changed: Changed<G::Slot>) -> Result<(), TouchFault>
         requires { Differ G.rules self.old.slots next changed.slots.items }
         ensures ok { OnOk result

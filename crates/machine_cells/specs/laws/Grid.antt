@@ -23,13 +23,13 @@ use Rattle.project_book.specs.declared.edit.Depths.TheVariants.{LowForward, LowR
 use Rattle.project_book.specs.Slots.{SameAt}
 use Rattle.machine_cells.specs.Run.{start_of}
 use Rattle.machine_cells.specs.Cells.{pulled}
-use Rattle.machine_cells.specs.Reads.{reads, or_shape, start_reads, later_reads, index_reads, entry_reads, out_reads, is_listed, same_slot, depth_number, SameAtAll, SameStart}
+use Rattle.machine_cells.specs.Reads.{reads, may_read, or_shape, start_reads, later_reads, index_reads, entry_reads, out_reads, is_listed, same_slot, depth_number, SameAtAll, SameStart}
 use Rattle.machine_cells.specs.GridRules.{rp3_rules, near_cells, beside_numbers}
 use Rattle.omega_net.proofs.Wiring.{or_left, or_right}
 use Rattle.machine_cells.specs.laws.Ends.{component_there}
 use Rattle.machine_cells.specs.laws.Reading.{steps_agree, entry_same}
 use Rattle.machine_cells.specs.laws.Starts.{same_words_in}
-use Rattle.machine_cells.specs.laws.Readers.{reads_may}
+use Rattle.machine_cells.specs.laws.Readers.{reads_readers, readers_exist, readers_ascend}
 
 -- the list of near cells is omega_net's, of a component that there is
 pub near_is : (k c : ℕ) → c < components k → near_cells k c ≡ near k c
@@ -228,5 +228,7 @@ the_laws = record {
   near_few = λ P c. few_beside P.k (component_of P.k c) c;
   same_reads = same_reads;
   same_result = same_result;
-  readers = λ P near c slot h e. reads_may P near c slot e;
+  readers = λ P near c slot h e. reads_readers P near c slot h e;
+  readers_exist = λ P slot. readers_exist (λ c first. may_read P c first slot) (components P.k) 0 (components P.k) (omega arith);
+  readers_ascend = λ P slot. readers_ascend (λ c first. may_read P c first slot) 0 (components P.k);
 }

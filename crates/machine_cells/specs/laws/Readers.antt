@@ -1,9 +1,12 @@
 -- Nothing in this file needs believing: it is proofs, which stand here since a definition of `specs/` cites them.
 -- What a component reads, it may read: the law of readers.
-use Rattle.std.proofs.Common.{◌≡◌, ℕ, zero, suc, Bool, true, false, List, [], ◌∷◌, ◌++◌, refl, sym, ◌∙◌, Option, None, Some, ◌||◌, ◌⊎◌, inl, inr}
-use Rattle.std.specs.Prelude.{◌==◌, nat_lt, if◌then◌else◌}
+use Rattle.std.proofs.Common.{◌≡◌, ℕ, zero, suc, Bool, true, false, List, [], ◌∷◌, ◌++◌, refl, ap, subst, sym, ◌∙◌, Option, None, Some, ◌||◌, ◌⊎◌, inl, inr}
+use Rattle.std.specs.Prelude.{◌<◌, ◌≤◌, ◌+◌, ◌==◌, nat_lt, if◌then◌else◌, All}
+use Rattle.std.specs.List.{Contains, flat_map, range_with_len}
+use Rattle.std.proofs.Common.{arith}
+use Rattle.std.proofs.lemmas.List.Elements.{All-cons, All-append, All-nil, All-weaker}
 use Rattle.std.proofs.Math.Bool.{or-false}
-use Rattle.std.proofs.lemmas.Bool.{false≢true, and_parts}
+use Rattle.std.proofs.lemmas.Bool.{false≢true, and_parts, ltb-true, ltb-false}
 use Rattle.std.proofs.lemmas.List.Folds.{list_any-append}
 use Rattle.omega_net.specs.declared.component.Net.{Net}
 use Rattle.omega_net.specs.declared.component.Net.TheVariants.{Low as LowNet, Comb as CombNet}
@@ -11,9 +14,10 @@ use Rattle.omega_net.specs.declared.component.Component.{Component}
 use Rattle.omega_net.specs.declared.component.Component.TheVariants.{Proc as ProcAt, Module as ModuleAt, Switch}
 use Rattle.omega_net.specs.declared.script.ScriptEntry.{ScriptEntry}
 use Rattle.omega_net.specs.declared.script.ScriptEntry.TheVariants.{Reference, Until, Fence, Idle}
-use Rattle.omega_net.specs.Numbers.{component_of}
+use Rattle.omega_net.specs.Numbers.{components, component_of}
 use Rattle.ref_proc.specs.declared.state.Outgoing.{Outgoing}
-use Rattle.grid_law.specs.Rules.{is_first}
+use Rattle.grid_law.specs.declared.reader.Reader.{Reader}
+use Rattle.grid_law.specs.Rules.{is_first, reader_at, IsBefore, IsAscending}
 use Rattle.machine_cells.specs.declared.state.MachineState.{MachineState}
 use Rattle.machine_cells.specs.declared.state.MachineState.TheVariants.{Proc, Module, Low, Comb}
 use Rattle.project_book.specs.Project.{Project, entry_at}
@@ -22,7 +26,7 @@ use Rattle.project_book.specs.Limits.{script_entries}
 use Rattle.project_book.specs.declared.slot.Slot.{Slot}
 use Rattle.project_book.specs.declared.slot.Slot.TheVariants.{Shape, Entry, Word, Page as PageAt, Depth, Wait, Combine, Window}
 use Rattle.project_book.specs.declared.edit.Depths.TheVariants.{LowForward, LowReverse, CombForward, CombReverse, ModuleQueue}
-use Rattle.machine_cells.specs.Reads.{reads, may_read, or_shape, later_reads, later_may_read, proc_may_read, index_reads, entry_reads, out_reads, is_listed, same_slot}
+use Rattle.machine_cells.specs.Reads.{reads, may_read, reader_if, readers, or_shape, later_reads, later_may_read, proc_may_read, index_reads, entry_reads, out_reads, is_listed, same_slot}
 
 either : (a b : Bool) → (a || b) ≡ true → (a ≡ true) ⊎ (b ≡ true)
 either true b e = inl refl
@@ -130,6 +134,86 @@ shape_or Wait a b f e = f e
 shape_or (Combine s) a b f e = f e
 shape_or Window a b f e = f e
 
-pub reads_may : (P : Project) (near : List MachineState) (c : ℕ) (slot : Slot) → reads P near c slot ≡ true → may_read P c (is_first near) slot ≡ true
+reads_may : (P : Project) (near : List MachineState) (c : ℕ) (slot : Slot) → reads P near c slot ≡ true → may_read P c (is_first near) slot ≡ true
 reads_may P [] c slot e = e
 reads_may P (own ∷ others) c slot e = shape_or slot _ _ (later_may P (component_of P.k c) own slot) e
+
+-- one place further on
+contains_later : {X : Type 0} (xs : List X) (y x : X) → Contains xs x → Contains (y ∷ xs) x
+contains_later xs y x (k, h, e) = (suc k, omega (arith, h), e)
+
+contains_it : {X : Type 0} (xs : List X) (x : X) → Contains (x ∷ xs) x
+contains_it xs x = (0, omega arith, refl)
+
+contains_after : {X : Type 0} (ys xs : List X) (x : X) → Contains xs x → Contains (ys ++ xs) x
+contains_after [] xs x h = h
+contains_after (y ∷ ys) xs x h = contains_later (ys ++ xs) y x (contains_after ys xs x h)
+
+-- the readers of a slot, where this says which components may read it
+module _ (may : ℕ → Bool → Bool) where
+  abbrev one : ℕ → List Reader
+  one c = reader_if (may c true) c true ++ reader_if (may c false) c false
+
+  abbrev all : ℕ → ℕ → List Reader
+  all c n = flat_map one (range_with_len c n)
+
+  by_both : (P : List Reader → Type 0) (c : ℕ) → P [] → P (reader_at c true ∷ []) → P (reader_at c false ∷ []) → P (reader_at c true ∷ reader_at c false ∷ []) → P (one c)
+  by_both P c none first later both = at (may c true) (may c false)
+    where
+      at : (a b : Bool) → P (reader_if a c true ++ reader_if b c false)
+      at false false = none
+      at true false = first
+      at false true = later
+      at true true = both
+
+  one_all : (P : Reader → Type 0) (c : ℕ) → P (reader_at c true) → P (reader_at c false) → All P (one c)
+  one_all P c f l =
+      by_both (All P) c (All-nil P) (All-cons P _ [] f (All-nil P)) (All-cons P _ [] l (All-nil P)) (All-cons P _ (reader_at c false ∷ []) f (All-cons P _ [] l (All-nil P)))
+
+  pub readers_exist : (m c n : ℕ) → c + n ≤ m → All (λ r. r.component < m) (all c n)
+  readers_exist m c zero h = All-nil (λ r. r.component < m)
+  readers_exist m c (suc n) h =
+      All-append (λ r. r.component < m) (one c) (all (c + 1) n) (one_all (λ r. r.component < m) c (omega arith) (omega arith)) (readers_exist m (c + 1) n (omega arith))
+
+  none_before : (d c n : ℕ) → d ≤ c → All (λ r. d ≤ r.component) (all c n)
+  none_before d c zero h = All-nil (λ r. d ≤ r.component)
+  none_before d c (suc n) h = All-append (λ r. d ≤ r.component) (one c) (all (c + 1) n) (one_all (λ r. d ≤ r.component) c h h) (none_before d (c + 1) n (omega arith))
+
+  after_all : (c : ℕ) (first : Bool) (rs : List Reader) → All (λ r. c + 1 ≤ r.component) rs → All (λ r. IsBefore (reader_at c first) r) rs
+  after_all c first rs h = All-weaker (λ r. c + 1 ≤ r.component) (λ r. IsBefore (reader_at c first) r) (λ r g. inl (omega (arith, g))) rs h
+
+  both_ascend : (c : ℕ) (rest : List Reader) → IsAscending rest → ((first : Bool) → All (λ r. IsBefore (reader_at c first) r) rest) → IsAscending (one c ++ rest)
+  both_ascend c rest h after =
+      by_both (λ rs. IsAscending (rs ++ rest)) c h (after true, h) (after false, h) (All-cons (λ r. IsBefore (reader_at c true) r) (reader_at c false) rest (inr (refl, refl, refl)) (after true), (after false, h))
+
+  pub readers_ascend : (c n : ℕ) → IsAscending (all c n)
+  readers_ascend c zero = tt
+  readers_ascend c (suc n) =
+      both_ascend c (all (c + 1) n) (readers_ascend (c + 1) n) (λ first. after_all c first (all (c + 1) n) (none_before (c + 1) (c + 1) n (omega arith)))
+
+  has_one : (c : ℕ) (first : Bool) (rest : List Reader) → may c first ≡ true → Contains (one c ++ rest) (reader_at c first)
+  has_one c true rest e = at (may c true) e
+    where
+      at : (a : Bool) → a ≡ true → Contains ((reader_if a c true ++ reader_if (may c false) c false) ++ rest) (reader_at c true)
+      at true e = contains_it (reader_if (may c false) c false ++ rest) (reader_at c true)
+      at false e = absurd (false≢true e)
+  has_one c false rest e = at (may c true) (may c false) e
+    where
+      at : (a b : Bool) → b ≡ true → Contains ((reader_if a c true ++ reader_if b c false) ++ rest) (reader_at c false)
+      at true true e = contains_later (reader_at c false ∷ rest) (reader_at c true) (reader_at c false) (contains_it rest (reader_at c false))
+      at false true e = contains_it rest (reader_at c false)
+      at a false e = absurd (false≢true e)
+
+  has : (c n d : ℕ) (first : Bool) → c ≤ d → d < c + n → may d first ≡ true → Contains (all c n) (reader_at d first)
+  has c zero d first h k e = absurd (omega (arith, h, k))
+  has c (suc n) d first h k e = by_order (nat_lt c d) refl (λ g. has (c + 1) n d first (omega (arith, g)) (omega (arith, k)) e)
+    where
+      by_order : (b : Bool) → nat_lt c d ≡ b → (c < d → Contains (all (c + 1) n) (reader_at d first)) → Contains (all c (suc n)) (reader_at d first)
+      by_order true g later = contains_after (one c) (all (c + 1) n) _ (later (ltb-true c d g))
+      by_order false g later =
+          let same : c ≡ d = omega (arith, h, ltb-false c d g) in
+          let C : ℕ → Type 0 = λ m. Contains (one c ++ all (c + 1) n) (reader_at m first) in
+          subst C same (has_one c first (all (c + 1) n) (ap (λ m. may m first) same ∙ e))
+
+pub reads_readers : (P : Project) (near : List MachineState) (c : ℕ) (slot : Slot) → c < components P.k → reads P near c slot ≡ true → Contains (readers P slot) (reader_at c (is_first near))
+reads_readers P near c slot h e = has (λ d first. may_read P d first slot) 0 (components P.k) c (is_first near) (omega arith) (omega (arith, h)) (reads_may P near c slot e)

@@ -1,5 +1,4 @@
-use Rattle.std.proofs.Common.{◌≡◌, ◌+◌, ◌-◌, ◌∙◌, arith}
-use Rattle.std.proofs.lemmas.Grind.{common_steps}
+use Rattle.std.proofs.Common.{◌+◌, ◌-◌, ◌∙◌, arith, refl}
 use Rattle.cell_table.specs.Seen.{row_at}
 use Rattle.cell_table.specs.Cones.{is_in}
 use Rattle.cell_table.proofs.Cones.{down}
@@ -7,10 +6,9 @@ use Rattle.cell_table.proofs.cone.due_down.Goals as goal
 
 pub loop-cycle-preserved : goal.loop-cycle-preserved
 loop-cycle-preserved g c =
-    let row : c.index-rows-cycle.result ≡ row_at c.args.rows.now (c.loop-cycle.cycle - 1 + 1) = grind (arith, common_steps) in
     record {
       len = c.in_ok-members-2.ensures.len;
       stay = c.in_ok-members-2.ensures.stay;
-      total = down g.G.Grid.rules c.args.slots.now c.args.rows.now (is_in c.loop-cycle.members) (is_in c.in_ok-members-2.members) c.index-rows-cycle.result c.loop-cycle.cycle _ c.loop-cycle.due c.due_among-due.result (omega arith) c.loop-cycle.invariant.len row c.due_among-due.ensures.value c.in_ok-members-2.ensures.at ∙ c.loop-cycle.invariant.total;
+      total = down g.G.Grid.rules c.args.slots.now c.args.cells.now (is_in c.loop-cycle.members) (is_in c.in_ok-members-2.members) (row_at c.args.cells.now (c.loop-cycle.cycle - 1 + 1)) c.loop-cycle.cycle _ c.loop-cycle.due c.due_among-due.result (omega arith) c.loop-cycle.invariant.len refl c.due_among-due.ensures.value c.in_ok-members-2.ensures.at ∙ c.loop-cycle.invariant.total;
       few = omega arith;
     }

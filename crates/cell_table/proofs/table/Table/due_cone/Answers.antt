@@ -13,5 +13,5 @@ returns-clause-headline_due g c = cone_stands g.G.Grid.rules c.args.self.now c.a
 pub returns-clause-run : goal.returns-clause-run
 returns-clause-run g c =
     let i = c.self.inside in
-    let v : Seen g.row.G-State.Denot g.row.G-Slots.Denot = record { slots = i.slots; horizon = i.horizon; clock = i.clock; rows = i.rows.items } in
-    rw (← c.self.view_is) (cone_settled g.G.Grid.rules v c.args.cell.cycle c.args.cell.component c.due_down.result g.G.Grid.laws c.self.invariant.table.consistent (rw c.as_slice.ensures.value at c.due_down.ensures))
+    let v : Seen g.row.G-State.Denot g.row.G-Slots.Denot = record { slots = i.slots; horizon = i.horizon; clock = i.clock; rows = i.cells } in
+    rw (← c.self.view_is) (cone_settled g.G.Grid.rules v c.args.cell.cycle c.args.cell.component c.due_down.result g.G.Grid.laws c.self.invariant.table.consistent c.due_down.ensures)

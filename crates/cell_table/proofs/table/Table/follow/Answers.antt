@@ -9,10 +9,10 @@ pub invariant_of-self : goal.invariant_of-self
 invariant_of-self g c =
     let R = g.G.Grid.rules in
     let i = c.self.inside in
-    let v : Seen g.row.G-State.Denot g.row.G-Slots.Denot = record { slots = i.slots; horizon = i.horizon; clock = i.clock; rows = i.rows.items } in
+    let v : Seen g.row.G-State.Denot g.row.G-Slots.Denot = record { slots = i.slots; horizon = i.horizon; clock = i.clock; rows = i.cells } in
     let count = c.components-count.ensures in
     let differ : Differ R v.slots c.args.next c.args.listed.now = rw (← c.self.view_is) at c.requires.differ in
     record {
-      table = is_table_touched R g.G.Grid.laws v c.self.invariant.table c.args.next c.args.listed.now differ c.args.horizon c.retouch.new.rows.items (λ t k h m. c.in-Ok.ensures.at t k h (rw count m) ∙ touched_from_marks R v c.args.listed.now c.args.marks.now.items c.args.horizon c.self.invariant.table.whole.cycles (rw (← c.self.view_is) at c.requires.at) t k h m) c.in-Ok.ensures.len (λ t h. c.in-Ok.ensures.whole t h ∙ count);
+      table = is_table_touched R g.G.Grid.laws v c.self.invariant.table c.args.next c.args.listed.now differ c.args.horizon c.retouch.new.cells (λ t k h m. c.in-Ok.ensures.at t k h (rw count m) ∙ touched_from_marks R v c.args.listed.now c.args.marks.now c.args.horizon c.self.invariant.table.whole.cycles (rw (← c.self.view_is) at c.requires.at) t k h m) c.in-Ok.ensures.len (λ t h. c.in-Ok.ensures.whole t h ∙ count);
       index = index_along R g.G.Grid.laws v.slots c.args.next i.readers differ.shape c.self.invariant.index;
     }

@@ -1,11 +1,10 @@
-use Rattle.std.proofs.Common.{◌≡◌, ℕ, ◌<◌, length, All}
-use Rattle.cell_table.specs.Readers.{readers_at}
-use Rattle.cell_table.specs.Touches.{is_marked, cell_reads}
+use Rattle.std.proofs.Common.{◌≡◌, ℕ, ◌+◌, ◌<◌, ◌≤◌, ◌||◌, All, drop}
+use Rattle.cell_table.specs.Touches.{is_marked, IsWithin, cell_reads}
 use Rattle.cell_table.proofs.table.Table.marks.Given as goal
 
-abbrev pub invariant-loop-cycle : goal.invariant-loop-cycle
-invariant-loop-cycle g l = record {
-  len : length l.rows.items ≡ l.cycle;
-  within : (t : ℕ) → All (λ c. c < g.G.Grid.rules.components l.self.slots) (readers_at l.rows.items t);
-  done : (t c : ℕ) → t < l.cycle → c < g.G.Grid.rules.components l.self.slots → is_marked l.rows.items t c ≡ cell_reads g.G.Grid.rules l.self.slots l.self.rows l.listed t c;
+abbrev pub invariant-loop-slot : goal.invariant-loop-slot
+invariant-loop-slot g l = record {
+  within : All (IsWithin (l.last + 1) (g.G.Grid.rules.components l.self.slots)) l.ranges.items;
+  at : (t c : ℕ) → t ≤ l.last → c < g.G.Grid.rules.components l.self.slots → (is_marked l.ranges.items t c || cell_reads g.G.Grid.rules l.self.slots l.self.rows (drop l.slot-index l.listed) t c)
+      ≡ cell_reads g.G.Grid.rules l.self.slots l.self.rows l.listed t c;
 }

@@ -1,0 +1,22 @@
+//! A mark for each cell of a run, as bits, and how many are set.
+//!
+//! `Marks` has a row for each cycle, and a row has a mark for each component. A mark is a bit; each
+//! row knows how many of its marks are set, and all the marks are counted by one number, so that
+//! "is any cell marked?" looks at no cell. The first marked component of a row is found a word of
+//! 64 marks at a time.
+//!
+//! Callers see the list of rows, each a list of booleans; nothing of words. Only `grow` takes
+//! memory.
+//!
+//! The crate stands on std alone.
+#![tactic(auto)]
+
+mod marks;
+mod row;
+#[cfg(test)]
+mod tests;
+mod word;
+mod words;
+
+pub use marks::Marks;
+pub use row::Row;

@@ -1,0 +1,128 @@
+//! One row of marks.
+ghost use Rattle.std.specs.Prelude.{◌≡◌, ℕ, ◌<◌, ◌≤◌, ◌+◌, ◌^◌, true, false, MatchOption, IfOk, length, replicate, slice_set, if◌then◌else◌};
+ghost use Rattle.cell_marks.specs.Marked.{is_set, count_in, IsFirstFrom};
+
+use crate::word::word_of;
+use crate::words::{clear_in, first_in, has_in, set_in};
+use std::alloc::{AllocError, Global};
+use std::marker::Model;
+
+/// A mark for each component, and how many are set.
+#[derive(Drop)]
+pub struct Row {
+    words: Vec<u64>,
+    len: u32,
+    count: u32,
+}
+
+impl Model for Row {
+    ghost use Rattle.std.specs.Prelude.{Bool, List, ◌≡◌, ◌≤◌, ◌*◌, ◌^◌, length};
+    ghost use Rattle.cell_marks.specs.Bits.{bits_of};
+    ghost use Rattle.cell_marks.specs.Marked.{count_in};
+
+    ghost Value = { List Bool };
+
+    ghost view = { λ r. bits_of r.words.items r.len };
+
+    ghost invariant = { λ r. (r.len ≤ 64 * length r.words.items) × (length r.words.items ≤ 2 ^ 32) × (r.count ≡ count_in (bits_of r.words.items r.len)) };
+}
+
+impl Row {
+    /// A row of n components, all of which are marked, or none.
+    #[tactic(auto, using(crate::proofs::Bits::bits_of_one, crate::proofs::Bits::count_one))]
+    pub fn new(alloc: Global, n: u32, is_marked: bool) -> Result<Row, AllocError>
+        ensures { IfOk result (λ r. r ≡ replicate n is_marked) }
+    {
+        let word = word_of(is_marked);
+        let words = vec![in alloc; word; n as usize / 64 + 1]?;
+        Ok(Row {
+            words,
+            len: n,
+            count: all_or_none(n, is_marked),
+        })
+    }
+
+    /// How many components there are.
+    pub fn len(&self) -> u32
+        ensures { result ≡ length self.now }
+    {
+        self.len
+    }
+
+    /// How many are marked; no mark is looked at.
+    pub fn count(&self) -> u32
+        ensures { result ≡ count_in self.now }
+    {
+        self.count
+    }
+
+    /// Whether a component is marked; one that isn't there isn't.
+    pub fn has(&self, c: u32) -> bool
+        ensures { result ≡ is_set self.now c }
+    {
+        if c >= self.len {
+            return false;
+        }
+        has_in(&self.words, c)
+    }
+
+    /// The first that is marked, from that one on.
+    pub fn first_from(&self, from: u32) -> Option<u32>
+        ensures { MatchOption result
+            ((k : ℕ) → from ≤ k → is_set self.now k ≡ false)
+            (λ c. IsFirstFrom self.now from c × (c < length self.now)) }
+    {
+        match first_in(&self.words, from) {
+            Some(place) => {
+                if place < self.len as usize {
+                    return Some(place as u32);
+                }
+                None
+            }
+            None => None,
+        }
+    }
+
+    /// Marks a component.
+    pub fn set(&mut self, c: u32)
+        requires { c < length self.old }
+        ensures { self.new ≡ slice_set self.old c true }
+    {
+        let was_set = self.has(c);
+        self.count = more(self.count, was_set);
+        set_in(&mut self.words, self.len, c);
+    }
+
+    /// Takes a component's mark away.
+    pub fn clear(&mut self, c: u32)
+        requires { c < length self.old }
+        ensures { self.new ≡ slice_set self.old c false }
+    {
+        let was_set = self.has(c);
+        self.count = fewer(self.count, was_set);
+        clear_in(&mut self.words, self.len, c);
+    }
+}
+
+/// How many of n are marked, where all are or none.
+fn all_or_none(n: u32, is_marked: bool) -> u32
+    ensures { result ≡ (if is_marked then n else 0) }
+{
+    if is_marked { n } else { 0 }
+}
+
+/// How many are set once one of them was set.
+fn more(count: u32, was_set: bool) -> u32
+    requires { was_set ≡ false → count + 1 < 2 ^ 32 }
+    ensures { result + (if was_set then 1 else 0) ≡ count + 1 }
+{
+    if was_set { count } else { count + 1 }
+}
+
+/// How many are set once one of them was cleared.
+fn fewer(count: u32, was_set: bool) -> u32
+    requires { was_set ≡ true → 0 < count }
+    ensures { result + (if was_set then 1 else 0) ≡ count + 0 }
+{
+    if was_set { count - 1 } else { count }
+}

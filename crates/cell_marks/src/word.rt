@@ -1,0 +1,50 @@
+//! The bits of one word.
+ghost use Rattle.std.specs.Prelude.{◌≡◌, ◌≢◌, ℕ, ◌+◌, ◌-◌, ◌*◌, ◌/◌, ◌%◌, ◌^◌, ◌<◌, ◌≤◌, ◌↔◌, IsTrue, MatchOption, nat_eq};
+ghost use Rattle.std.specs.Int.{bit_at};
+
+/// The word whose bits are all set, or all clear.
+pub(crate) fn word_of(is_set: bool) -> u64
+    ensures { (i : ℕ) → i < 64 → nat_eq (bit_at result i) 1 ≡ is_set }
+{
+    if is_set { u64::MAX } else { 0 }
+}
+
+/// The word with a bit set.
+pub(crate) fn with_bit(word: u64, k: u32) -> u64
+    requires { k < 64 }
+    ensures set { bit_at result k ≡ 1 }
+    ensures others { (i : ℕ) → (i ≡ k → ⊥) → bit_at result i ≡ bit_at word i }
+{
+    word | (1 << k)
+}
+
+/// The word with a bit cleared.
+pub(crate) fn without_bit(word: u64, k: u32) -> u64
+    requires { k < 64 }
+    ensures clear { bit_at result k ≡ 0 }
+    ensures others { (i : ℕ) → i < 64 → (i ≡ k → ⊥) → bit_at result i ≡ bit_at word i }
+{
+    word & !(1 << k)
+}
+
+pub(crate) fn has_bit(word: u64, k: u32) -> bool
+    requires { k < 64 }
+    ensures { result ≡ nat_eq (bit_at word k) 1 }
+{
+    (word >> k) & 1 == 1
+}
+
+/// The first bit set at or after that place.
+pub(crate) fn first_bit(word: u64, from: u32) -> Option<u32>
+    requires { from < 64 }
+    ensures { MatchOption result
+        ((i : ℕ) → from ≤ i → i < 64 → bit_at word i ≡ 0)
+        (λ k. (from ≤ k) × (k < 64) × (bit_at word k ≡ 1) × ((i : ℕ) → from ≤ i → i < k → bit_at word i ≡ 0)) }
+{
+    let rest = word & (u64::MAX << from);
+    if rest == 0 {
+        None
+    } else {
+        Some(rest.trailing_zeros())
+    }
+}

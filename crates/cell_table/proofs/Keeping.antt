@@ -1,0 +1,395 @@
+-- Lines, marks and versions as rows of cells.
+use Rattle.std.proofs.Common.{◌≡◌, ℕ, suc, ◌+◌, ◌-◌, ◌<◌, ◌≤◌, ◌^◌, ◌∙◌, sym, ap, subst, refl, arith, Bool, true, false, cond, eqb, ◌&&◌, eq-eqb, ◌⊎◌, inl, inr, Option, None, Some, List, [], ◌∷◌, ◌++◌, length, map, take, replicate, get_or, length-append, sum_by, min, MatchOption}
+use Rattle.std.specs.List.{range_with_len}
+use Rattle.std.proofs.Math.ListN.{set, length-set}
+use Rattle.std.proofs.lemmas.Bool.{cases_lt, cases_eq, ne_eqb, eqb-true}
+use Rattle.std.proofs.lemmas.List.{get_or-set_same, get_or-set_other, get_or_past, get_or-replicate, length-replicate, get_or-append_right, get_or_append_left, get_or-take, length-take, take_all}
+use Rattle.std.proofs.lemmas.List.FromFn.{length-map-range_with_len, get_or-map-range_with_len, fill_by_all}
+use Rattle.std.proofs.lemmas.List.Sums.{sum_by-cons}
+use Rattle.state_line.specs.Lined.{Lined}
+use Rattle.cell_marks.specs.Marked.{Marked, count_in, count_of, IsFirstFrom, row_at as marks_at, has as has_mark}
+use Rattle.cell_table.specs.Seen.{Held, nothing, fresh, marked, row_at, held_in, held_at, due_in_row, due_up_to}
+use Rattle.cell_table.specs.Settling.{IsNextDueInRow}
+use Rattle.cell_table.specs.Layout.{version_at, line_at, state_at, kept_at, rows_of, cleared, IsLayout, IsSameStates, IsOtherState, IsOtherCell}
+
+module _ {X : Type 0} where
+  -- a value is changed at one place of a list of rows
+  pub at_set : (rows : List (List X)) (t c : ℕ) (x d : X) → t < length rows → c < length (get_or rows t []) → (u e : ℕ) → get_or (get_or (set rows t (set (get_or rows t []) c x)) u []) e d ≡ cond ((eqb u t) && (eqb e c)) x (get_or (get_or rows u []) e d)
+  at_set rows t c x d h k u e = by_row (cases_eq u t)
+    where
+      here : get_or (set rows t (set (get_or rows t []) c x)) t [] ≡ set (get_or rows t []) c x
+      here = get_or-set_same rows t _ [] h
+
+      by_place : u ≡ t → (e ≡ c) ⊎ (e ≡ c → ⊥) → get_or (set (get_or rows t []) c x) e d ≡ cond ((eqb u t) && (eqb e c)) x (get_or (get_or rows u []) e d)
+      by_place p (inl q) = rw (eq-eqb u t p, eq-eqb e c q) (ap (λ i. get_or (set (get_or rows t []) c x) i d) q ∙ get_or-set_same (get_or rows t []) c x d k)
+      by_place p (inr q) = rw (eq-eqb u t p, ne_eqb e c q) (get_or-set_other (get_or rows t []) c e x d q ∙ ap (λ i. get_or (get_or rows i []) e d) (sym p))
+
+      by_row : (u ≡ t) ⊎ (u ≡ t → ⊥) → get_or (get_or (set rows t (set (get_or rows t []) c x)) u []) e d ≡ cond ((eqb u t) && (eqb e c)) x (get_or (get_or rows u []) e d)
+      by_row (inl p) = ap (λ i. get_or (get_or (set rows t (set (get_or rows t []) c x)) i []) e d) p ∙ ap (λ row. get_or row e d) here ∙ by_place p (cases_eq e c)
+      by_row (inr p) = rw (ne_eqb u t p) (ap (λ row. get_or row e d) (get_or-set_other rows t u _ [] p))
+
+  pub lens_set : (rows : List (List X)) (t c : ℕ) (x : X) (u : ℕ) → length (get_or (set rows t (set (get_or rows t []) c x)) u []) ≡ length (get_or rows u [])
+  lens_set rows t c x u = by_row (cases_eq u t) (cases_lt t (length rows))
+    where
+      by_row : (u ≡ t) ⊎ (u ≡ t → ⊥) → (t < length rows) ⊎ (length rows ≤ t) → length (get_or (set rows t (set (get_or rows t []) c x)) u []) ≡ length (get_or rows u [])
+      by_row (inl p) (inl h) = ap (λ i. length (get_or (set rows t (set (get_or rows t []) c x)) i [])) p ∙ ap length (get_or-set_same rows t _ [] h) ∙ length-set (get_or rows t []) c x ∙ ap (λ i. length (get_or rows i [])) (sym p)
+      by_row (inl p) (inr h) =
+          ap length (get_or_past (set rows t (set (get_or rows t []) c x)) u [] (omega (arith, length-set rows t (set (get_or rows t []) c x), p)))
+          ∙ sym (ap length (get_or_past rows u [] (omega (arith, p))))
+      by_row (inr p) h = ap length (get_or-set_other rows t u _ [] p)
+
+same_at : {X : Type 0} (f : ℕ → ℕ → X) (t c u d : ℕ) → f u d ≡ cond ((eqb u t) && (eqb d c)) (f t c) (f u d)
+same_at {X} f t c u d = by_test (eqb u t) (eqb d c) refl refl
+  where
+    by_test : (v w : Bool) → eqb u t ≡ v → eqb d c ≡ w → f u d ≡ cond (v && w) (f t c) (f u d)
+    by_test true true p q = ap (λ i. f i d) (eqb-true u t p) ∙ ap (f t) (eqb-true d c q)
+    by_test true false p q = refl
+    by_test false w p q = refl
+
+pub first_or_none : {P Q : Type 0} {F H : ℕ → Type 0} → (P → Q) → ((c : ℕ) → F c → H c) → (o : Option ℕ) → MatchOption o P F → MatchOption o Q H
+first_or_none f g None h = f h
+first_or_none f g (Some c) h = g c h
+
+sums_same : {A B : Type 0} (f : A → ℕ) (g : B → ℕ) (xs : List A) (ys : List B) (a : A) (b : B) → length xs ≡ length ys → ((k : ℕ) → k < length xs → f (get_or xs k a) ≡ g (get_or ys k b)) → sum_by f xs ≡ sum_by g ys
+sums_same f g [] [] a b l h = refl
+sums_same f g [] (y ∷ ys) a b l h = absurd (omega (arith, l))
+sums_same f g (x ∷ xs) [] a b l h = absurd (omega (arith, l))
+sums_same f g (x ∷ xs) (y ∷ ys) a b l h =
+    let rest = sums_same f g xs ys a b (omega (arith, l)) (λ k i. h (suc k) (omega (arith, i))) in
+    let here : f x ≡ g y = h 0 (omega arith) in
+    sum_by-cons f x xs ∙ ap (λ n. n + sum_by f xs) here ∙ ap (λ n. g y + n) rest ∙ sym (sum_by-cons g y ys)
+
+module _ {State : Type 0} where
+  -- a list of rows, cell by cell
+  pub rows_are : (rows : List (List (Held State))) (lines : List (Lined State)) (due : Marked) (versions : List (List ℕ)) → length rows ≡ length due.rows → ((t : ℕ) → t < length due.rows → length (row_at rows t) ≡ due.width) → ((t c : ℕ) → t < length due.rows → c < due.width → held_at rows t c ≡ kept_at lines due versions t c) → rows ≡ rows_of lines due versions
+  rows_are rows lines due versions len lens at =
+      fill_by_all (λ t. map (kept_at lines due versions t) (range_with_len 0 due.width)) rows (length due.rows) [] len (λ t h. fill_by_all (kept_at lines due versions t) (row_at rows t) due.width nothing (lens t h) (λ c k. at t c h k))
+
+  module _ (lines : List (Lined State)) (due : Marked) (versions : List (List ℕ)) where
+    pub length_rows : length (rows_of lines due versions) ≡ length due.rows
+    length_rows = length-map-range_with_len _ 0 (length due.rows)
+
+    row_there : (t : ℕ) → t < length due.rows → row_at (rows_of lines due versions) t ≡ map (kept_at lines due versions t) (range_with_len 0 due.width)
+    row_there t h = get_or-map-range_with_len (λ t. map (kept_at lines due versions t) (range_with_len 0 due.width)) 0 (length due.rows) t t [] h (omega arith)
+
+    row_past : (t : ℕ) → length due.rows ≤ t → row_at (rows_of lines due versions) t ≡ []
+    row_past t h = get_or_past (rows_of lines due versions) t [] (omega (arith, length_rows))
+
+    pub length_row : (t : ℕ) → t < length due.rows → length (row_at (rows_of lines due versions) t) ≡ due.width
+    length_row t h = ap length (row_there t h) ∙ length-map-range_with_len _ 0 due.width
+
+    module _ (layout : IsLayout lines due versions) where
+      past_cycles : (t c : ℕ) → length due.rows ≤ t → kept_at lines due versions t c ≡ nothing
+      past_cycles t c h = rw (no_state (cases_lt c due.width), no_mark, no_version) refl
+        where
+          no_state : (c < due.width) ⊎ (due.width ≤ c) → state_at lines t c ≡ None
+          no_state (inl k) = get_or_past (line_at lines c).states t None (omega (arith, layout.cycles c k))
+          no_state (inr k) = ap (λ (l : Lined State). get_or l.states t None) (get_or_past lines c _ (omega (arith, layout.components)))
+
+          no_mark : has_mark due.rows t c ≡ false
+          no_mark = ap (λ row. get_or row c false) (get_or_past due.rows t [] h)
+
+          no_version : version_at versions t c ≡ 0
+          no_version = ap (λ row. get_or row c 0) (get_or_past versions t [] (omega (arith, layout.rows)))
+
+      past_components : (t c : ℕ) → t < length due.rows → due.width ≤ c → kept_at lines due versions t c ≡ nothing
+      past_components t c h k = rw (no_state, no_mark, no_version) refl
+        where
+          no_state : state_at lines t c ≡ None
+          no_state = ap (λ (l : Lined State). get_or l.states t None) (get_or_past lines c _ (omega (arith, layout.components)))
+
+          no_mark : has_mark due.rows t c ≡ false
+          no_mark = get_or_past (get_or due.rows t []) c false (omega (arith, layout.marks t h))
+
+          no_version : version_at versions t c ≡ 0
+          no_version = get_or_past (get_or versions t []) c 0 (omega (arith, layout.numbers t h))
+
+      -- what a row shows of a component, also where there is none
+      pub held_kept : (t c : ℕ) → held_at (rows_of lines due versions) t c ≡ kept_at lines due versions t c
+      held_kept t c = by_place (cases_lt t (length due.rows)) (cases_lt c due.width)
+        where
+          by_place : (t < length due.rows) ⊎ (length due.rows ≤ t) → (c < due.width) ⊎ (due.width ≤ c) → held_at (rows_of lines due versions) t c ≡ kept_at lines due versions t c
+          by_place (inl h) (inl k) = ap (λ row. held_in row c) (row_there t h) ∙ get_or-map-range_with_len (kept_at lines due versions t) 0 due.width c c nothing k (omega arith)
+          by_place (inl h) (inr k) = get_or_past (row_at (rows_of lines due versions) t) c nothing (omega (arith, length_row t h)) ∙ sym (past_components t c h k)
+          by_place (inr h) k = ap (λ row. held_in row c) (row_past t h) ∙ sym (past_cycles t c h)
+
+    pub lens_past : (t : ℕ) → length due.rows ≤ t → length (row_at (rows_of lines due versions) t) ≡ 0
+    lens_past t h = ap length (row_past t h)
+
+  -- what is seen of them
+  module _ (lines : List (Lined State)) (due : Marked) (versions : List (List ℕ)) (rows : List (List (Held State))) (e : rows_of lines due versions ≡ rows) where
+    pub seen_cycles : length rows ≡ length due.rows
+    seen_cycles = ap length (sym e) ∙ length_rows lines due versions
+
+    pub seen_cycle : (t : ℕ) → t < length rows → t < length due.rows
+    seen_cycle t h = omega (arith, seen_cycles)
+
+    pub seen_length : (t : ℕ) → t < length due.rows → length (row_at rows t) ≡ due.width
+    seen_length t h = ap (λ r. length (row_at r t)) (sym e) ∙ length_row lines due versions t h
+
+    pub seen_component : (t c : ℕ) → t < length rows → c < length (row_at rows t) → c < due.width
+    seen_component t c h k = omega (arith, seen_length t (seen_cycle t h))
+
+    pub seen : IsLayout lines due versions → (t c : ℕ) → held_at rows t c ≡ kept_at lines due versions t c
+    seen layout t c = ap (λ r. held_at r t c) (sym e) ∙ held_kept lines due versions layout t c
+
+    pub seen_state : IsLayout lines due versions → (t c : ℕ) → (held_at rows t c).state ≡ state_at lines t c
+    seen_state layout t c = ap (λ (k : Held State). k.state) (seen layout t c)
+
+    pub seen_due : IsLayout lines due versions → (t c : ℕ) → (held_at rows t c).is_due ≡ has_mark due.rows t c
+    seen_due layout t c = ap (λ (k : Held State). k.is_due) (seen layout t c)
+
+    pub seen_version : IsLayout lines due versions → (t c : ℕ) → (held_at rows t c).version ≡ version_at versions t c
+    seen_version layout t c = ap (λ (k : Held State). k.version) (seen layout t c)
+
+    pub seen_first : IsLayout lines due versions → (t from c : ℕ) → IsFirstFrom (marks_at due.rows t) from c × (c < length (marks_at due.rows t)) → IsNextDueInRow (row_at rows t) from c × (c < length (row_at rows t))
+    seen_first layout t from c first = (
+      record {
+        due = seen_due layout t c ∙ first.0.1;
+        after = first.0.0;
+        none_between = λ k h l. seen_due layout t k ∙ first.0.2 k h l;
+      },
+      by_cycle (cases_lt t (length due.rows)),
+    )
+      where
+        by_cycle : (t < length due.rows) ⊎ (length due.rows ≤ t) → c < length (row_at rows t)
+        by_cycle (inl h) = omega (arith, first.1, seen_length t h, layout.marks t h)
+        by_cycle (inr h) = absurd (let none : length (marks_at due.rows t) ≡ 0 = ap length (get_or_past due.rows t [] h) in omega (arith, first.1))
+
+    -- one cell is held otherwise
+    pub other_cell : (lines1 : List (Lined State)) (due1 : Marked) (versions1 : List (List ℕ)) (t c : ℕ) (h : Held State) → IsLayout lines due versions → IsLayout lines1 due1 versions1 → due1.width ≡ due.width → length due1.rows ≡ length due.rows → ((u d : ℕ) → kept_at lines1 due1 versions1 u d ≡ cond ((eqb u t) && (eqb d c)) h (kept_at lines due versions u d)) → IsOtherCell rows (rows_of lines1 due1 versions1) t c h
+    other_cell lines1 due1 versions1 t c h layout layout1 width cycles at = record {
+      len = length_rows lines1 due1 versions1 ∙ cycles ∙ sym seen_cycles;
+      lens = λ u. by_cycle u (cases_lt u (length due.rows));
+      at = λ u d. held_kept lines1 due1 versions1 layout1 u d ∙ at u d ∙ ap (λ k. cond ((eqb u t) && (eqb d c)) h k) (sym (seen layout u d));
+    }
+      where
+        by_cycle : (u : ℕ) → (u < length due.rows) ⊎ (length due.rows ≤ u) → length (row_at (rows_of lines1 due1 versions1) u) ≡ length (row_at rows u)
+        by_cycle u (inl k) = length_row lines1 due1 versions1 u (omega (arith, k, cycles)) ∙ width ∙ sym (seen_length u k)
+        by_cycle u (inr k) = lens_past lines1 due1 versions1 u (omega (arith, k, cycles)) ∙ sym (ap (λ r. length (row_at r u)) (sym e) ∙ lens_past lines due versions u k)
+
+    -- the same is held for each cell
+    pub same_cells : (lines1 : List (Lined State)) (due1 : Marked) (versions1 : List (List ℕ)) → IsLayout lines due versions → due1.width ≡ due.width → length due1.rows ≡ length due.rows → ((u d : ℕ) → kept_at lines1 due1 versions1 u d ≡ kept_at lines due versions u d) → rows_of lines1 due1 versions1 ≡ rows
+    same_cells lines1 due1 versions1 layout width cycles at =
+        sym (rows_are rows lines1 due1 versions1 (seen_cycles ∙ sym cycles) (λ t h. seen_length t (omega (arith, h, cycles)) ∙ sym width) (λ t c h k. seen layout t c ∙ sym (at t c)))
+
+  three : (b : Bool) (s s1 : Option State) (d d1 : Bool) (v v1 : ℕ) → ◌≡◌ {A = Held State} (record { state = cond b s1 s; is_due = cond b d1 d; version = cond b v1 v }) (cond b (record { state = s1; is_due = d1; version = v1 }) (record { state = s; is_due = d; version = v }))
+  three true s s1 d d1 v v1 = refl
+  three false s s1 d d1 v v1 = refl
+
+  module _ (lines : List (Lined State)) (due : Marked) (versions : List (List ℕ)) (layout : IsLayout lines due versions) (rows : List (List (Held State))) (e : rows_of lines due versions ≡ rows) (t c : ℕ) (there : t < length due.rows) (inside : c < due.width) where
+    marks_after : (b : Bool) (u d : ℕ) → has_mark (set due.rows t (set (marks_at due.rows t) c b)) u d ≡ cond ((eqb u t) && (eqb d c)) b (has_mark due.rows u d)
+    marks_after b u d = at_set due.rows t c b false there (omega (arith, layout.marks t there)) u d
+
+    pub layout_stored : (lines1 : List (Lined State)) (due1 : Marked) (b : Bool) (o : Option State) → due1 ≡ record { width = due.width; rows = set due.rows t (set (marks_at due.rows t) c b) } → IsOtherState lines lines1 t c o → IsLayout lines1 due1 versions
+    layout_stored lines1 due1 b o de other = record {
+      components = other.len ∙ layout.components ∙ sym width;
+      cycles = λ d h. other.lens d ∙ layout.cycles d (omega (arith, h, width)) ∙ sym cycles;
+      marks = λ u h. ap (λ (m : Marked). length (marks_at m.rows u)) de ∙ lens_set due.rows t c b u ∙ layout.marks u (omega (arith, h, cycles)) ∙ sym width;
+      rows = layout.rows ∙ sym cycles;
+      numbers = λ u h. layout.numbers u (omega (arith, h, cycles)) ∙ sym width;
+      few = omega (arith, width, layout.few);
+      short = omega (arith, cycles, layout.short);
+    }
+      where
+        width : due1.width ≡ due.width
+        width = ap (λ (m : Marked). m.width) de
+
+        cycles : length due1.rows ≡ length due.rows
+        cycles = ap (λ (m : Marked). length m.rows) de ∙ length-set due.rows t _
+
+    pub same_state : IsOtherState lines lines t c (state_at lines t c)
+    same_state = record { len = refl; lens = λ d. refl; at = λ u d. same_at (state_at lines) t c u d }
+
+    -- a state is stored
+    pub stored_cell : (lines1 : List (Lined State)) (due1 : Marked) (o : Option State) → due1 ≡ record { width = due.width; rows = set due.rows t (set (marks_at due.rows t) c false) } → IsOtherState lines lines1 t c o → IsOtherCell rows (rows_of lines1 due1 versions) t c (cleared (held_at rows t c) o)
+    stored_cell lines1 due1 o de other =
+        other_cell lines due versions rows e lines1 due1 versions t c (cleared (held_at rows t c) o) layout (layout_stored lines1 due1 false o de other) (ap (λ (m : Marked). m.width) de) (ap (λ (m : Marked). length m.rows) de ∙ length-set due.rows t _) (λ u d. at u d)
+      where
+        at : (u d : ℕ) → kept_at lines1 due1 versions u d ≡ cond ((eqb u t) && (eqb d c)) (cleared (held_at rows t c) o) (kept_at lines due versions u d)
+        at u d =
+            ap (λ (s : Option State). record { state = s; is_due = has_mark due1.rows u d; version = version_at versions u d }) (other.at u d)
+            ∙ ap (λ (b : Bool). record { state = cond ((eqb u t) && (eqb d c)) o (state_at lines u d); is_due = b; version = version_at versions u d }) (ap (λ (m : Marked). has_mark m.rows u d) de ∙ marks_after false u d)
+            ∙ ap (λ (v : ℕ). record { state = cond ((eqb u t) && (eqb d c)) o (state_at lines u d); is_due = cond ((eqb u t) && (eqb d c)) false (has_mark due.rows u d); version = v }) (same_at (version_at versions) t c u d ∙ ap (λ v. cond ((eqb u t) && (eqb d c)) v (version_at versions u d)) (sym (seen_version lines due versions rows e layout t c)))
+            ∙ three ((eqb u t) && (eqb d c)) (state_at lines u d) o (has_mark due.rows u d) false (version_at versions u d) (held_at rows t c).version
+
+    -- the state of the cell is kept
+    pub kept_other : IsOtherState lines lines t c (held_at rows t c).state
+    kept_other = record {
+      len = refl;
+      lens = λ d. refl;
+      at = λ u d. same_at (state_at lines) t c u d ∙ ap (λ s. cond ((eqb u t) && (eqb d c)) s (state_at lines u d)) (sym (seen_state lines due versions rows e layout t c));
+    }
+
+    -- a cell is marked
+    pub marked_cell : (due1 : Marked) (versions1 : List (List ℕ)) (v : ℕ) → due1 ≡ record { width = due.width; rows = set due.rows t (set (marks_at due.rows t) c true) } → versions1 ≡ set versions t (set (get_or versions t []) c v) → IsOtherCell rows (rows_of lines due1 versions1) t c (marked (held_at rows t c) v)
+    marked_cell due1 versions1 v de ve =
+        other_cell lines due versions rows e lines due1 versions1 t c (marked (held_at rows t c) v) layout both (ap (λ (m : Marked). m.width) de) (ap (λ (m : Marked). length m.rows) de ∙ length-set due.rows t _) (λ u d. at u d)
+      where
+        once : IsLayout lines due1 versions
+        once = layout_stored lines due1 true (state_at lines t c) de same_state
+
+        both : IsLayout lines due1 versions1
+        both = record {
+          components = once.components;
+          cycles = once.cycles;
+          marks = once.marks;
+          rows = ap length ve ∙ length-set versions t _ ∙ once.rows;
+          numbers = λ u h. ap (λ vs. length (get_or vs u [])) ve ∙ lens_set versions t c v u ∙ once.numbers u h;
+          few = once.few;
+          short = once.short;
+        }
+
+        at : (u d : ℕ) → kept_at lines due1 versions1 u d ≡ cond ((eqb u t) && (eqb d c)) (marked (held_at rows t c) v) (kept_at lines due versions u d)
+        at u d =
+            ap (λ (b : Bool). record { state = state_at lines u d; is_due = b; version = version_at versions1 u d }) (ap (λ (m : Marked). has_mark m.rows u d) de ∙ marks_after true u d)
+            ∙ ap (λ (w : ℕ). record { state = state_at lines u d; is_due = cond ((eqb u t) && (eqb d c)) true (has_mark due.rows u d); version = w }) (ap (λ ws. version_at ws u d) ve ∙ at_set versions t c v 0 (omega (arith, layout.rows)) (omega (arith, layout.numbers t there)) u d)
+            ∙ ap (λ (s : Option State). record { state = s; is_due = cond ((eqb u t) && (eqb d c)) true (has_mark due.rows u d); version = cond ((eqb u t) && (eqb d c)) v (version_at versions u d) }) (same_at (state_at lines) t c u d ∙ ap (λ s. cond ((eqb u t) && (eqb d c)) s (state_at lines u d)) (sym (seen_state lines due versions rows e layout t c)))
+            ∙ three ((eqb u t) && (eqb d c)) (state_at lines u d) (held_at rows t c).state (has_mark due.rows u d) true (version_at versions u d) v
+
+  module _ (lines : List (Lined State)) (due : Marked) (versions : List (List ℕ)) (layout : IsLayout lines due versions) (rows : List (List (Held State))) (e : rows_of lines due versions ≡ rows) where
+    same_lengths : (t : ℕ) → length (row_at rows t) ≡ length (marks_at due.rows t)
+    same_lengths t = by_cycle (cases_lt t (length due.rows))
+      where
+        by_cycle : (t < length due.rows) ⊎ (length due.rows ≤ t) → length (row_at rows t) ≡ length (marks_at due.rows t)
+        by_cycle (inl h) = seen_length lines due versions rows e t h ∙ sym (layout.marks t h)
+        by_cycle (inr h) = ap (λ r. length (row_at r t)) (sym e) ∙ lens_past lines due versions t h ∙ sym (ap length (get_or_past due.rows t [] h))
+
+    -- the marks of a row are its due cells
+    pub count_row : (t : ℕ) → count_in (marks_at due.rows t) ≡ due_in_row (row_at rows t)
+    count_row t =
+        sym (sums_same (λ (k : Held State). cond k.is_due 1 0) (λ b. cond b 1 0) (row_at rows t) (marks_at due.rows t) nothing false (same_lengths t) (λ c h. ap (λ b. cond b 1 0) (seen_due lines due versions rows e layout t c)))
+
+    pub count_rows : (n : ℕ) → count_of (take n due.rows) ≡ due_up_to rows n
+    count_rows n =
+        sym (sums_same due_in_row count_in (take n rows) (take n due.rows) [] [] (length-take n rows ∙ ap (min n) (seen_cycles lines due versions rows e) ∙ sym (length-take n due.rows)) (λ t h. each t (omega (arith, h, length-take n rows))))
+      where
+        each : (t : ℕ) → t < n → due_in_row (get_or (take n rows) t []) ≡ count_in (get_or (take n due.rows) t [])
+        each t h = ap due_in_row (get_or-take n rows t [] h) ∙ sym (count_row t) ∙ ap count_in (sym (get_or-take n due.rows t [] h))
+
+    pub count_all : count_of due.rows ≡ due_up_to rows (length rows)
+    count_all = sym (ap count_of (take_all (length rows) due.rows (omega (arith, seen_cycles lines due versions rows e)))) ∙ count_rows (length rows)
+
+  -- lines that show the same states
+  pub same_lines : (lines lines1 : List (Lined State)) (due : Marked) (versions : List (List ℕ)) (rows : List (List (Held State))) → IsLayout lines due versions → rows_of lines due versions ≡ rows → IsSameStates lines lines1 → rows_of lines1 due versions ≡ rows
+  same_lines lines lines1 due versions rows layout e same =
+      same_cells lines due versions rows e lines1 due versions layout refl refl (λ u d. ap (λ (xs : List (Option State)). record { state = get_or xs u None; is_due = has_mark due.rows u d; version = version_at versions u d }) (same.same d))
+
+  -- new cells
+  pub rows_new : (lines : List (Lined State)) (due : Marked) (versions : List (List ℕ)) (w n v : ℕ) → due ≡ record { width = w; rows = replicate n (replicate w true) } → versions ≡ replicate n (replicate w v) → ((c : ℕ) → c < w → (line_at lines c).states ≡ replicate n None) → rows_of lines due versions ≡ replicate n (replicate w (fresh v))
+  rows_new lines due versions w n v de ve states =
+      sym (rows_are (replicate n (replicate w (fresh v))) lines due versions (length-replicate n _ ∙ sym cycles) (λ t h. lens t (omega (arith, h, cycles))) (λ t c h k. at t c (omega (arith, h, cycles)) (omega (arith, k, width))))
+    where
+      width : due.width ≡ w
+      width = ap (λ (m : Marked). m.width) de
+
+      cycles : length due.rows ≡ n
+      cycles = ap (λ (m : Marked). length m.rows) de ∙ length-replicate n _
+
+      row : {X : Type 0} (x : X) (t : ℕ) → t < n → get_or (replicate n (replicate w x)) t [] ≡ replicate w x
+      row x t h = get_or-replicate n t (replicate w x) [] h
+
+      lens : (t : ℕ) → t < n → length (row_at (replicate n (replicate w (fresh {State = State} v))) t) ≡ due.width
+      lens t h = ap length (row (fresh v) t h) ∙ length-replicate w _ ∙ sym width
+
+      at : (t c : ℕ) → t < n → c < w → held_at (replicate n (replicate w (fresh v))) t c ≡ kept_at lines due versions t c
+      at t c h k =
+          ap (λ r. held_in r c) (row (fresh v) t h) ∙ get_or-replicate w c (fresh v) nothing k
+          ∙ ap (λ (s : Option State). record { state = s; is_due = true; version = v }) (sym (ap (λ xs. get_or xs t None) (states c k) ∙ get_or-replicate n t None None h))
+          ∙ ap (λ (b : Bool). record { state = state_at lines t c; is_due = b; version = v }) (sym (ap (λ (m : Marked). has_mark m.rows t c) de ∙ ap (λ r. get_or r c false) (row true t h) ∙ get_or-replicate w c true false k))
+          ∙ ap (λ (x : ℕ). record { state = state_at lines t c; is_due = has_mark due.rows t c; version = x }) (sym (ap (λ vs. version_at vs t c) ve ∙ ap (λ r. get_or r c 0) (row v t h) ∙ get_or-replicate w c v 0 k))
+
+  -- fewer cycles
+  pub rows_cut : (lines lines1 : List (Lined State)) (due due1 : Marked) (versions versions1 : List (List ℕ)) (rows : List (List (Held State))) (n : ℕ) → IsLayout lines due versions → rows_of lines due versions ≡ rows → due1 ≡ record { width = due.width; rows = take n due.rows } → versions1 ≡ take n versions → ((c : ℕ) → (line_at lines1 c).states ≡ take n (line_at lines c).states) → rows_of lines1 due1 versions1 ≡ take n rows
+  rows_cut lines lines1 due due1 versions versions1 rows n layout e de ve states =
+      sym (rows_are (take n rows) lines1 due1 versions1 (length-take n rows ∙ ap (min n) (seen_cycles lines due versions rows e) ∙ sym cycles) (λ t h. lens t (before t h) (within t h)) (λ t c h k. at t c (before t h) (within t h)))
+    where
+      cycles : length due1.rows ≡ min n (length due.rows)
+      cycles = ap (λ (m : Marked). length m.rows) de ∙ length-take n due.rows
+
+      before : (t : ℕ) → t < length due1.rows → t < n
+      before t h = omega (arith, h, cycles)
+
+      within : (t : ℕ) → t < length due1.rows → t < length due.rows
+      within t h = omega (arith, h, cycles)
+
+      lens : (t : ℕ) → t < n → t < length due.rows → length (row_at (take n rows) t) ≡ due1.width
+      lens t h k = ap length (get_or-take n rows t [] h) ∙ seen_length lines due versions rows e t k ∙ sym (ap (λ (m : Marked). m.width) de)
+
+      at : (t c : ℕ) → t < n → t < length due.rows → held_at (take n rows) t c ≡ kept_at lines1 due1 versions1 t c
+      at t c h k =
+          ap (λ r. held_in r c) (get_or-take n rows t [] h) ∙ seen lines due versions rows e layout t c
+          ∙ ap (λ (s : Option State). record { state = s; is_due = has_mark due.rows t c; version = version_at versions t c }) (sym (ap (λ xs. get_or xs t None) (states c) ∙ get_or-take n (line_at lines c).states t None h))
+          ∙ ap (λ (b : Bool). record { state = state_at lines1 t c; is_due = b; version = version_at versions t c }) (sym (ap (λ (m : Marked). has_mark m.rows t c) de ∙ ap (λ r. get_or r c false) (get_or-take n due.rows t [] h)))
+          ∙ ap (λ (x : ℕ). record { state = state_at lines1 t c; is_due = has_mark due1.rows t c; version = x }) (sym (ap (λ vs. version_at vs t c) ve ∙ ap (λ r. get_or r c 0) (get_or-take n versions t [] h)))
+
+  -- more cycles
+  module _ (lines lines1 : List (Lined State)) (due due1 : Marked) (versions versions1 : List (List ℕ)) (rows : List (List (Held State))) (m v : ℕ) (layout : IsLayout lines due versions) (e : rows_of lines due versions ≡ rows) (de : due1 ≡ record { width = due.width; rows = due.rows ++ replicate m (replicate due.width true) }) (ve : versions1 ≡ versions ++ replicate m (replicate due.width v)) (len : length lines1 ≡ length lines) (states : (c : ℕ) → c < length lines → (line_at lines1 c).states ≡ (line_at lines c).states ++ replicate m None) where
+    width_more : due1.width ≡ due.width
+    width_more = ap (λ (k : Marked). k.width) de
+
+    cycles_more : length due1.rows ≡ length due.rows + m
+    cycles_more = ap (λ (k : Marked). length k.rows) de ∙ length-append due.rows _ ∙ ap (λ k. length due.rows + k) (length-replicate m _)
+
+    row_before : {X : Type 0} (xs : List (List X)) (x : X) (t : ℕ) → length xs ≡ length due.rows → t < length due.rows → get_or (xs ++ replicate m (replicate due.width x)) t [] ≡ get_or xs t []
+    row_before xs x t l h = get_or_append_left xs _ [] t (omega (arith, l, h))
+
+    row_behind : {X : Type 0} (xs : List (List X)) (x : X) (t : ℕ) → length xs ≡ length due.rows → length due.rows ≤ t → t < length due.rows + m → get_or (xs ++ replicate m (replicate due.width x)) t [] ≡ replicate due.width x
+    row_behind xs x t l h k = get_or-append_right xs _ (length due.rows) t [] l h ∙ get_or-replicate m (t - length due.rows) (replicate due.width x) [] (omega (arith, h, k))
+
+    state_before : (t c : ℕ) → t < length due.rows → c < due.width → state_at lines1 t c ≡ state_at lines t c
+    state_before t c h k = ap (λ xs. get_or xs t None) (states c (omega (arith, layout.components))) ∙ get_or_append_left (line_at lines c).states _ None t (omega (arith, layout.cycles c k))
+
+    state_behind : (t c : ℕ) → length due.rows ≤ t → t < length due.rows + m → c < due.width → state_at lines1 t c ≡ None
+    state_behind t c h k l = ap (λ xs. get_or xs t None) (states c (omega (arith, layout.components))) ∙ get_or-append_right (line_at lines c).states _ (length due.rows) t None (layout.cycles c l) h ∙ get_or-replicate m (t - length due.rows) None None (omega (arith, h, k))
+
+    marks_more : (t : ℕ) → marks_at due1.rows t ≡ marks_at (due.rows ++ replicate m (replicate due.width true)) t
+    marks_more t = ap (λ (k : Marked). marks_at k.rows t) de
+
+    versions_more : (t : ℕ) → get_or versions1 t [] ≡ get_or (versions ++ replicate m (replicate due.width v)) t []
+    versions_more t = ap (λ vs. get_or vs t []) ve
+
+    pub layout_more : length due.rows + m < 2 ^ 32 → IsLayout lines1 due1 versions1
+    layout_more fits = record {
+      components = len ∙ layout.components ∙ sym width_more;
+      cycles = λ c h. (let k : c < due.width = omega (arith, h, width_more) in ap length (states c (omega (arith, k, layout.components))) ∙ length-append (line_at lines c).states _ ∙ ap (λ x. length (line_at lines c).states + x) (length-replicate m _) ∙ omega (arith, layout.cycles c k, cycles_more));
+      marks = λ t h. ap length (marks_more t) ∙ by_cycle due.rows true t refl layout.marks (omega (arith, h, cycles_more)) ∙ sym width_more;
+      rows = ap length ve ∙ length-append versions _ ∙ omega (arith, layout.rows, length-replicate m (replicate due.width v), cycles_more);
+      numbers = λ t h. ap length (versions_more t) ∙ by_cycle versions v t layout.rows layout.numbers (omega (arith, h, cycles_more)) ∙ sym width_more;
+      few = omega (arith, layout.few, width_more);
+      short = omega (arith, fits, cycles_more);
+    }
+      where
+        by_cycle : {X : Type 0} (xs : List (List X)) (x : X) (t : ℕ) → length xs ≡ length due.rows → ((u : ℕ) → u < length due.rows → length (get_or xs u []) ≡ due.width) → t < length due.rows + m → length (get_or (xs ++ replicate m (replicate due.width x)) t []) ≡ due.width
+        by_cycle {X} xs x t l lens h = by_place (cases_lt t (length due.rows))
+          where
+            by_place : (t < length due.rows) ⊎ (length due.rows ≤ t) → length (get_or (xs ++ replicate m (replicate due.width x)) t []) ≡ due.width
+            by_place (inl k) = ap length (row_before xs x t l k) ∙ lens t k
+            by_place (inr k) = ap length (row_behind xs x t l k h) ∙ length-replicate due.width x
+
+    pub rows_more : 0 < length rows → rows_of lines1 due1 versions1 ≡ rows ++ replicate m (replicate (length (row_at rows 0)) (fresh v))
+    rows_more some =
+        subst (λ k. rows_of lines1 due1 versions1 ≡ rows ++ replicate m (replicate k (fresh v))) (sym (seen_length lines due versions rows e 0 (omega (arith, some, cycles)))) at_width
+      where
+        cycles : length rows ≡ length due.rows
+        cycles = seen_cycles lines due versions rows e
+
+        lens : (t : ℕ) → t < length due.rows + m → (t < length due.rows) ⊎ (length due.rows ≤ t) → length (row_at (rows ++ replicate m (replicate due.width (fresh v))) t) ≡ due1.width
+        lens t h (inl k) = ap length (row_before rows (fresh v) t cycles k) ∙ seen_length lines due versions rows e t k ∙ sym width_more
+        lens t h (inr k) = ap length (row_behind rows (fresh v) t cycles k h) ∙ length-replicate due.width _ ∙ sym width_more
+
+        at : (t c : ℕ) → t < length due.rows + m → c < due.width → (t < length due.rows) ⊎ (length due.rows ≤ t) → held_at (rows ++ replicate m (replicate due.width (fresh v))) t c ≡ kept_at lines1 due1 versions1 t c
+        at t c h i (inl k) =
+            ap (λ r. held_in r c) (row_before rows (fresh v) t cycles k) ∙ seen lines due versions rows e layout t c
+            ∙ ap (λ (s : Option State). record { state = s; is_due = has_mark due.rows t c; version = version_at versions t c }) (sym (state_before t c k i))
+            ∙ ap (λ (b : Bool). record { state = state_at lines1 t c; is_due = b; version = version_at versions t c }) (sym (ap (λ r. get_or r c false) (marks_more t ∙ row_before due.rows true t refl k)))
+            ∙ ap (λ (x : ℕ). record { state = state_at lines1 t c; is_due = has_mark due1.rows t c; version = x }) (sym (ap (λ r. get_or r c 0) (versions_more t ∙ row_before versions v t layout.rows k)))
+        at t c h i (inr k) =
+            ap (λ r. held_in r c) (row_behind rows (fresh v) t cycles k h) ∙ get_or-replicate due.width c (fresh v) nothing i
+            ∙ ap (λ (s : Option State). record { state = s; is_due = true; version = v }) (sym (state_behind t c k h i))
+            ∙ ap (λ (b : Bool). record { state = state_at lines1 t c; is_due = b; version = v }) (sym (ap (λ r. get_or r c false) (marks_more t ∙ row_behind due.rows true t refl k h) ∙ get_or-replicate due.width c true false i))
+            ∙ ap (λ (x : ℕ). record { state = state_at lines1 t c; is_due = has_mark due1.rows t c; version = x }) (sym (ap (λ r. get_or r c 0) (versions_more t ∙ row_behind versions v t layout.rows k h) ∙ get_or-replicate due.width c v 0 i))
+
+        at_width : rows_of lines1 due1 versions1 ≡ rows ++ replicate m (replicate due.width (fresh v))
+        at_width =
+            sym (rows_are (rows ++ replicate m (replicate due.width (fresh v))) lines1 due1 versions1 (length-append rows _ ∙ omega (arith, cycles, cycles_more, length-replicate m (replicate due.width (fresh {State = State} v)))) (λ t h. lens t (omega (arith, h, cycles_more)) (cases_lt t (length due.rows))) (λ t c h k. at t c (omega (arith, h, cycles_more)) (omega (arith, k, width_more)) (cases_lt t (length due.rows))))

@@ -1,0 +1,36 @@
+use Rattle.std.proofs.Common.{arith}
+use Rattle.cell_table.proofs.Keeping.{seen_cycle, seen_component, marked_cell}
+use Rattle.cell_table.proofs.cells.Cells.mark.Goals as goal
+
+pub set-requires-clause-row : goal.set-requires-clause-row
+set-requires-clause-row g c =
+    let i = c.self.inside in
+    seen_cycle i.lines.items i.due i.versions.items c.args.self.now c.self.view_is c.args.cell.cycle c.requires.cycle
+
+pub set-requires-clause-component : goal.set-requires-clause-component
+set-requires-clause-component g c =
+    let i = c.self.inside in
+    seen_component i.lines.items i.due i.versions.items c.args.self.now c.self.view_is c.args.cell.cycle c.args.cell.component c.requires.cycle c.requires.component
+
+pub set_version-requires-clause-cycle : goal.set_version-requires-clause-cycle
+set_version-requires-clause-cycle g c =
+    let i = c.self.inside in
+    omega (arith, c.self.invariant.rows, seen_cycle i.lines.items i.due i.versions.items c.args.self.now c.self.view_is c.args.cell.cycle c.requires.cycle)
+
+pub set_version-requires-clause-component : goal.set_version-requires-clause-component
+set_version-requires-clause-component g c =
+    let i = c.self.inside in
+    let t = c.args.cell.cycle in
+    let d = c.args.cell.component in
+    let there = seen_cycle i.lines.items i.due i.versions.items c.args.self.now c.self.view_is t c.requires.cycle in
+    let inside = seen_component i.lines.items i.due i.versions.items c.args.self.now c.self.view_is t d c.requires.cycle c.requires.component in
+    omega (arith, inside, c.self.invariant.numbers t there)
+
+pub returns : goal.returns
+returns g c =
+    let i = c.self.inside in
+    let t = c.args.cell.cycle in
+    let d = c.args.cell.component in
+    let there = seen_cycle i.lines.items i.due i.versions.items c.args.self.now c.self.view_is t c.requires.cycle in
+    let inside = seen_component i.lines.items i.due i.versions.items c.args.self.now c.self.view_is t d c.requires.cycle c.requires.component in
+    marked_cell i.lines.items i.due i.versions.items c.self.invariant c.args.self.now c.self.view_is t d there inside c.set.new.self c.set_version.new.rows.items _ c.set.ensures c.set_version.ensures

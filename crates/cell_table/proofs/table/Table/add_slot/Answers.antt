@@ -1,0 +1,25 @@
+use Rattle.std.proofs.Common.{◌≡◌, ◌∙◌, ◌&&◌, ◌||◌, List, drop, [], sym, ap}
+use Rattle.std.specs.List.{list_any}
+use Rattle.std.proofs.lemmas.List.{drop_all}
+use Rattle.grid_law.specs.declared.reader.Reader.{Reader}
+use Rattle.cell_table.specs.Reads.{is_reader}
+use Rattle.cell_table.specs.Touches.{is_marked, cell_reads_one}
+use Rattle.cell_table.proofs.Asking.{or_false, readers_all}
+use Rattle.cell_table.proofs.table.Table.add_slot.Goals as goal
+
+pub returns-clause-at : goal.returns-clause-at
+returns-clause-at g c = λ t d h k.
+    let R = g.G.Grid.rules in
+    let s = c.args.self.now.slots in
+    let rows = c.args.self.now.rows in
+    let slot = c.args.slot.now in
+    let items = c.as_slice-reader-items.result.now in
+    let m = is_marked c.loop-reader.ranges.items t d in
+    let old = is_marked c.args.ranges.now.items t d in
+    let one = cell_reads_one R s rows slot t d in
+    let left : drop c.loop-reader.reader-index items ≡ [] = drop_all c.loop-reader.reader-index items c.loop-reader-test.false in
+    let listed : items ≡ R.readers s slot = c.as_slice-reader-items.ensures.value ∙ (rw (← c.self.view_is) c.in_ok-readers.ensures) in
+    sym (ap (λ (rs : List Reader). m || (list_any (λ r. is_reader r t d) rs && one)) left ∙ or_false m)
+    ∙ c.loop-reader.invariant.at t d h
+    ∙ ap (λ (rs : List Reader). old || (list_any (λ r. is_reader r t d) rs && one)) listed
+    ∙ ap (λ b. old || b) (readers_all R g.G.Grid.laws s rows slot t d k)

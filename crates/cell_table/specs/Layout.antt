@@ -1,0 +1,58 @@
+-- How a table keeps its cells: for each component a line of states, and by cycle marks of the due cells and versions.
+use Rattle.std.specs.Prelude.{◌≡◌, ℕ, ◌<◌, ◌==◌, ◌&&◌, ◌^◌, if◌then◌else◌, Option, None, false, List, [], map, length, slice_index_or}
+use Rattle.std.specs.List.{range_with_len}
+use Rattle.state_line.specs.Lined.{Lined}
+use Rattle.cell_marks.specs.Marked.{Marked, has as has_mark}
+use Rattle.cell_table.specs.Seen.{Held, row_at, held_at}
+
+-- the version of a cell
+abbrev pub version_at : List (List ℕ) → ℕ → ℕ → ℕ
+version_at versions t c = slice_index_or (slice_index_or versions t []) c 0
+
+module _ {State : Type 0} where
+  -- the line of a component
+  abbrev pub line_at : List (Lined State) → ℕ → Lined State
+  line_at lines c = slice_index_or lines c (record { states = []; place = 0; room = 0 })
+
+  -- the state of a cell
+  abbrev pub state_at : List (Lined State) → ℕ → ℕ → Option State
+  state_at lines t c = slice_index_or (line_at lines c).states t None
+
+  -- what is held for a cell
+  abbrev pub kept_at : List (Lined State) → Marked → List (List ℕ) → ℕ → ℕ → Held State
+  kept_at lines due versions t c = record { state = state_at lines t c; is_due = has_mark due.rows t c; version = version_at versions t c }
+
+  -- what is held for a cell once it isn't due
+  abbrev pub cleared : Held State → Option State → Held State
+  cleared k state = record { state = state; is_due = false; version = k.version }
+
+  -- and for all, row by row
+  abbrev pub rows_of : List (Lined State) → Marked → List (List ℕ) → List (List (Held State))
+  rows_of lines due versions = map (λ t. map (kept_at lines due versions t) (range_with_len 0 due.width)) (range_with_len 0 (length due.rows))
+
+  -- lines, marks and versions are those of the same cells
+  pub record IsLayout (lines : List (Lined State)) (due : Marked) (versions : List (List ℕ)) : Type 0 where
+    pub components : length lines ≡ due.width
+    pub cycles : (c : ℕ) → c < due.width → length (line_at lines c).states ≡ length due.rows
+    pub marks : (t : ℕ) → t < length due.rows → length (slice_index_or due.rows t []) ≡ due.width
+    pub rows : length versions ≡ length due.rows
+    pub numbers : (t : ℕ) → t < length due.rows → length (slice_index_or versions t []) ≡ due.width
+    pub few : due.width < 2 ^ 32
+    pub short : length due.rows < 2 ^ 32
+
+  -- the lines show the same states
+  pub record IsSameStates (olds news : List (Lined State)) : Type 0 where
+    pub len : length news ≡ length olds
+    pub same : (c : ℕ) → (line_at news c).states ≡ (line_at olds c).states
+
+  -- the lines show another state for one cell
+  pub record IsOtherState (olds news : List (Lined State)) (t c : ℕ) (state : Option State) : Type 0 where
+    pub len : length news ≡ length olds
+    pub lens : (c1 : ℕ) → length (line_at news c1).states ≡ length (line_at olds c1).states
+    pub at : (t1 c1 : ℕ) → state_at news t1 c1 ≡ (if (t1 == t) && (c1 == c) then state else state_at olds t1 c1)
+
+  -- another thing is held for one cell
+  pub record IsOtherCell (olds news : List (List (Held State))) (t c : ℕ) (held : Held State) : Type 0 where
+    pub len : length news ≡ length olds
+    pub lens : (t1 : ℕ) → length (row_at news t1) ≡ length (row_at olds t1)
+    pub at : (t1 c1 : ℕ) → held_at news t1 c1 ≡ (if (t1 == t) && (c1 == c) then held else held_at olds t1 c1)

@@ -1,0 +1,309 @@
+//! What is held for the cells.
+ghost use Rattle.std.specs.Prelude.{◌≡◌, ℕ, ◌+◌, ◌-◌, ◌<◌, ◌≤◌, ◌++◌, ◌^◌, ◌↔◌, IsTrue, All, IfOk, OnOk, OnErr, IfErr, length, replicate, map, take, option_map, is_some, true, false, MatchOption, Some, None, if◌then◌else◌, nat_lt};
+ghost use Rattle.std.specs.Option.{option_copied};
+ghost use Rattle.std.specs.Arc.{arc_value};
+ghost use Rattle.cell_table.specs.Seen.{fresh, stored, marked, held_at, row_at, due_in_row, due_up_to};
+ghost use Rattle.cell_table.specs.Inputs.{states_of};
+ghost use Rattle.cell_table.specs.Settling.{IsNextDueInRow};
+ghost use Rattle.cell_table.specs.Layout.{cleared, IsOtherCell};
+
+use crate::Cell;
+use crate::lines::{
+    cut_ends, grow_ends, lines_of, put_state, repeat_state, reserve_ends, shared_in, state_in,
+    stays_in,
+};
+use crate::versions::{Versions, grow_rows, rows_of, set_version, version_in};
+use cell_marks::Marks;
+use grid_law::{Grid, NoMemory};
+use state_line::Line;
+use std::alloc::Global;
+use std::marker::Model;
+use std::sync::Arc;
+
+/// The cells of the first cycles: for each component a line of states, and by cycle which cells are
+/// due, and their versions.
+#[derive(Drop)]
+pub(crate) struct Cells<S> {
+    lines: Vec<Line<S>>,
+    due: Marks,
+    versions: Vec<Versions>,
+}
+
+impl<S> Model for Cells<S> {
+    ghost use Rattle.std.specs.Prelude.{List};
+    ghost use Rattle.cell_table.specs.Seen.{Held};
+    ghost use Rattle.cell_table.specs.Layout.{rows_of, IsLayout};
+
+    ghost Value = { List (List (Held S)) };
+
+    ghost view = { λ k. rows_of k.lines.items k.due k.versions.items };
+
+    ghost invariant = { λ k. IsLayout k.lines.items k.due k.versions.items };
+}
+
+impl<S: Drop> Cells<S> {
+    /// New cells of `cycles` cycles, all due.
+    pub(crate) fn new(
+        alloc: Global,
+        count: u32,
+        cycles: u32,
+        version: u64,
+    ) -> Result<Cells<S>, NoMemory>
+        ensures { IfOk result (λ k. k ≡ replicate cycles (replicate count (fresh version))) }
+    {
+        let lines = lines_of(alloc, count, cycles)?;
+        let versions = rows_of(alloc, cycles, count, version)?;
+        let mut due = Marks::new(alloc, count);
+        due.grow(alloc, cycles, true)?;
+        Ok(Cells {
+            lines,
+            due,
+            versions,
+        })
+    }
+
+    /// Where its memory comes from.
+    pub(crate) fn allocator(&self) -> Global {
+        *self.lines.allocator()
+    }
+
+    /// How many cycles there are.
+    pub(crate) fn cycles(&self) -> u32
+        ensures { result ≡ length self.now }
+    {
+        self.due.len()
+    }
+
+    /// The state that a cell holds.
+    pub(crate) fn state(&self, cell: Cell) -> Option<&S>
+        ensures { option_copied result ≡ (held_at self.now cell.cycle cell.component).state }
+    {
+        state_in(&self.lines, cell)
+    }
+
+    /// One more owner of the state that a cell holds.
+    pub(crate) fn shared(&self, cell: Cell) -> Result<Option<Arc<S>>, NoMemory>
+        ensures { IfOk result (λ o. option_map arc_value o ≡ (held_at self.now cell.cycle cell.component).state) }
+    {
+        shared_in(&self.lines, cell)
+    }
+
+    /// Whether a cell holds the state of the cell one cycle earlier, known without a look at
+    /// either; there may be such cells besides.
+    pub(crate) fn stays(&self, cell: Cell) -> bool
+        ensures { result ≡ true → (0 < cell.cycle) × ((held_at self.now (cell.cycle - 1) cell.component).state ≡ (held_at self.now cell.cycle cell.component).state) }
+    {
+        stays_in(&self.lines, cell)
+    }
+
+    pub(crate) fn is_due(&self, cell: Cell) -> bool
+        ensures { result ≡ (held_at self.now cell.cycle cell.component).is_due }
+    {
+        self.due.has(cell.cycle, cell.component)
+    }
+
+    pub(crate) fn version(&self, cell: Cell) -> u64
+        ensures { result ≡ (held_at self.now cell.cycle cell.component).version }
+    {
+        version_in(&self.versions, cell.cycle, cell.component)
+    }
+
+    /// How many cells of a cycle are due; no cell is looked at.
+    pub(crate) fn due_count(&self, cycle: u32) -> u32
+        ensures { result ≡ due_in_row (row_at self.now cycle) }
+    {
+        self.due.row_count(cycle)
+    }
+
+    /// How many cells are due; one number tells it.
+    pub(crate) fn due_total(&self) -> u64
+        ensures { result ≡ due_up_to self.now (length self.now) }
+    {
+        self.due.total()
+    }
+
+    /// How many cells are due at the cycles up to t.
+    pub(crate) fn due_to(&self, t: u32) -> u64
+        ensures { result ≡ due_up_to self.now (t + 1) }
+    {
+        self.due.count_to(t)
+    }
+
+    /// The first due cell of a cycle, at or after that component.
+    pub(crate) fn next_due(&self, cycle: u32, from: u32) -> Option<u32>
+        ensures { MatchOption result
+            ((k : ℕ) → from ≤ k → (held_at self.now cycle k).is_due ≡ false)
+            (λ c. IsNextDueInRow (row_at self.now cycle) from c × (c < length (row_at self.now cycle))) }
+    {
+        self.due.first_from(cycle, from)
+    }
+
+    /// Puts another state for a cell, which isn't due then. Where memory is wanting, nothing is
+    /// changed, and the state comes back.
+    pub(crate) fn put(&mut self, cell: Cell, state: Arc<S>) -> Result<(), Arc<S>>
+        requires cycle { cell.cycle < length self.old }
+        requires component { cell.component < length (row_at self.old cell.cycle) }
+        ensures ok { OnOk result (IsOtherCell self.old self.new cell.cycle cell.component (stored (held_at self.old cell.cycle cell.component) (arc_value state))) }
+        ensures err { OnErr result (self.new ≡ self.old) }
+        ensures back { IfErr result (λ back. arc_value back ≡ arc_value state) }
+    {
+        match put_state(&mut self.lines, cell, state) {
+            Ok(()) => {
+                self.due.clear(cell.cycle, cell.component);
+                Ok(())
+            }
+            Err(state) => Err(state),
+        }
+    }
+
+    /// Gives a cell the state of the cell one cycle earlier, and then it isn't due. Where memory is
+    /// wanting, nothing is changed.
+    pub(crate) fn repeat(&mut self, cell: Cell) -> Result<(), NoMemory>
+        requires cycle { cell.cycle < length self.old }
+        requires component { cell.component < length (row_at self.old cell.cycle) }
+        requires later { 0 < cell.cycle }
+        ensures ok { OnOk result (IsOtherCell self.old self.new cell.cycle cell.component
+            (cleared (held_at self.old cell.cycle cell.component) (held_at self.old (cell.cycle - 1) cell.component).state)) }
+        ensures err { OnErr result (self.new ≡ self.old) }
+    {
+        match repeat_state(&mut self.lines, cell) {
+            Ok(()) => {
+                self.due.clear(cell.cycle, cell.component);
+                Ok(())
+            }
+            Err(_) => Err(NoMemory),
+        }
+    }
+
+    /// Lets a cell keep its state, and then it isn't due.
+    pub(crate) fn keep(&mut self, cell: Cell)
+        requires cycle { cell.cycle < length self.old }
+        requires component { cell.component < length (row_at self.old cell.cycle) }
+        ensures { IsOtherCell self.old self.new cell.cycle cell.component
+            (cleared (held_at self.old cell.cycle cell.component) (held_at self.old cell.cycle cell.component).state) }
+    {
+        self.due.clear(cell.cycle, cell.component);
+    }
+
+    /// Makes a cell due, with that version.
+    pub(crate) fn mark(&mut self, cell: Cell, version: u64)
+        requires cycle { cell.cycle < length self.old }
+        requires component { cell.component < length (row_at self.old cell.cycle) }
+        ensures { IsOtherCell self.old self.new cell.cycle cell.component (marked (held_at self.old cell.cycle cell.component) version) }
+    {
+        self.due.set(cell.cycle, cell.component);
+        set_version(&mut self.versions, cell.cycle, cell.component, version);
+    }
+
+    /// Removes the cycles from n on.
+    pub(crate) fn truncate(&mut self, n: u32)
+        ensures { self.new ≡ take n self.old }
+    {
+        cut_ends(&mut self.lines, n);
+        self.due.truncate(n);
+        self.versions.truncate(n as usize);
+    }
+
+    /// Adds m cycles of new cells, which are due; where memory is wanting, nothing is changed.
+    pub(crate) fn grow(&mut self, m: u32, version: u64) -> Result<(), NoMemory>
+        requires some { 0 < length self.old }
+        requires fits { length self.old + m < 2 ^ 32 }
+        ensures ok { OnOk result (self.new ≡ self.old ++ replicate m (replicate (length (row_at self.old 0)) (fresh version))) }
+        ensures err { OnErr result (self.new ≡ self.old) }
+    {
+        let alloc = *self.lines.allocator();
+        let count = self.lines.len() as u32;
+        let n = self.due.len();
+        match reserve_ends(&mut self.lines, n) {
+            Ok(()) => {}
+            Err(_) => return Err(NoMemory),
+        }
+        match self.due.grow(alloc, m, true) {
+            Ok(()) => {}
+            Err(_) => return Err(NoMemory),
+        }
+        match grow_rows(&mut self.versions, alloc, m, count, version) {
+            Ok(()) => {}
+            Err(_) => {
+                self.due.truncate(n);
+                return Err(NoMemory);
+            }
+        }
+        grow_ends(&mut self.lines, n, m);
+        Ok(())
+    }
+
+    /// Whether all these components have a state at a cycle.
+    pub(crate) fn has_states(&self, cycle: u32, near: &[u32]) -> bool
+        ensures { result ≡ is_some (states_of (row_at self.now cycle) near.now) }
+    {
+        for component in near {
+            let component = *component;
+            if self.state(Cell { cycle, component }).is_none() {
+                return false;
+            }
+        }
+        true
+    }
+
+    /// Puts the states of these components at a cycle into `states`, where all of them have one.
+    pub(crate) fn share_states(
+        &self,
+        cycle: u32,
+        near: &[u32],
+        states: &mut Vec<Arc<S>>,
+    ) -> Result<bool, NoMemory>
+        ensures { IfOk result (λ all. (if all then Some (map arc_value states.new.items) else None) ≡ states_of (row_at self.now cycle) near.now) }
+    {
+        states.clear();
+        states.reserve(near.len())?;
+        for component in near {
+            let component = *component;
+            match self.shared(Cell { cycle, component })? {
+                Some(state) => states.push(state)?,
+                None => return Ok(false),
+            }
+        }
+        Ok(true)
+    }
+
+    /// Whether each of these components holds at a cycle the state of the cycle before, known
+    /// without a look at any state.
+    pub(crate) fn all_stay(&self, cycle: u32, near: &[u32]) -> bool
+        ensures { result ≡ true → All (λ c. (held_at self.now (cycle - 1) c).state ≡ (held_at self.now cycle c).state) near.now }
+    {
+        for component in near {
+            let component = *component;
+            if !self.stays(Cell { cycle, component }) {
+                return false;
+            }
+        }
+        true
+    }
+}
+
+/// Whether these components hold these states at a cycle.
+pub(crate) fn are_held<G: Grid>(
+    cells: &Cells<G::State>,
+    cycle: u32,
+    near: &[u32],
+    states: &[Arc<G::State>],
+) -> bool
+    ensures { IsTrue result ↔ (states_of (row_at cells.now cycle) near.now ≡ Some (map arc_value states.now)) }
+{
+    if near.len() != states.len() {
+        return false;
+    }
+    for i in 0..near.len() {
+        let component = near[i];
+        match cells.state(Cell { cycle, component }) {
+            Some(state) => {
+                if !G::same(state, &states[i]) {
+                    return false;
+                }
+            }
+            None => return false,
+        }
+    }
+    true
+}

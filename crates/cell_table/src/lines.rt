@@ -1,0 +1,140 @@
+//! The lines of all components.
+ghost use Rattle.std.specs.Prelude.{◌≡◌, ℕ, ◌+◌, ◌++◌, ◌<◌, ◌≤◌, ◌-◌, ◌^◌, IfOk, OnOk, OnErr, IfErr, Some, None, length, replicate, take, option_map, true};
+ghost use Rattle.std.specs.Option.{option_copied};
+ghost use Rattle.std.specs.Arc.{arc_value};
+ghost use Rattle.cell_table.specs.Layout.{line_at, state_at, IsSameStates, IsOtherState};
+
+use crate::Cell;
+use grid_law::NoMemory;
+use state_line::Line;
+use std::alloc::Global;
+use std::sync::Arc;
+
+/// For each component n cycles of nothing.
+pub(crate) fn lines_of<S: Drop>(alloc: Global, count: u32, n: u32) -> Result<Vec<Line<S>>, NoMemory>
+    ensures len { IfOk result (λ lines. length lines.items ≡ count) }
+    ensures states { IfOk result (λ lines. (c : ℕ) → c < count → (line_at lines.items c).states ≡ replicate n None) }
+{
+    let mut lines = Vec::with_capacity(alloc, count as usize)?;
+    for _c in 0..count {
+        match lines.push(Line::new(alloc, n)?) {
+            Ok(()) => {}
+            Err(_) => return Err(NoMemory),
+        }
+    }
+    Ok(lines)
+}
+
+/// The state of a cell.
+pub(crate) fn state_in<S: Drop>(lines: &Vec<Line<S>>, cell: Cell) -> Option<&S>
+    ensures { option_copied result ≡ state_at lines.now.items cell.cycle cell.component }
+{
+    match lines.get(cell.component as usize) {
+        Some(line) => line.state(cell.cycle),
+        None => None,
+    }
+}
+
+/// One more owner of the state of a cell.
+pub(crate) fn shared_in<S: Drop>(
+    lines: &Vec<Line<S>>,
+    cell: Cell,
+) -> Result<Option<Arc<S>>, NoMemory>
+    ensures { IfOk result (λ o. option_map arc_value o ≡ state_at lines.now.items cell.cycle cell.component) }
+{
+    match lines.get(cell.component as usize) {
+        Some(line) => Ok(line.shared(cell.cycle)?),
+        None => Ok(None),
+    }
+}
+
+/// Whether one stretch covers a cell and the one a cycle before.
+pub(crate) fn stays_in<S: Drop>(lines: &Vec<Line<S>>, cell: Cell) -> bool
+    ensures { result ≡ true → (0 < cell.cycle) × (state_at lines.now.items (cell.cycle - 1) cell.component ≡ state_at lines.now.items cell.cycle cell.component) }
+{
+    match lines.get(cell.component as usize) {
+        Some(line) => line.same_as_before(cell.cycle),
+        None => false,
+    }
+}
+
+/// Puts another state for a cell; where memory is wanting, it comes back, and no state changes.
+pub(crate) fn put_state<S: Drop>(
+    lines: &mut Vec<Line<S>>,
+    cell: Cell,
+    state: Arc<S>,
+) -> Result<(), Arc<S>>
+    requires component { cell.component < length lines.old.items }
+    requires cycle { cell.cycle < length (line_at lines.old.items cell.component).states }
+    ensures ok { OnOk result (IsOtherState lines.old.items lines.new.items cell.cycle cell.component (Some (arc_value state))) }
+    ensures err { OnErr result (IsSameStates lines.old.items lines.new.items) }
+    ensures back { IfErr result (λ back. arc_value back ≡ arc_value state) }
+{
+    let line = &mut lines[cell.component as usize];
+    match line.reserve(cell.cycle) {
+        Ok(()) => {
+            line.put(state);
+            Ok(())
+        }
+        Err(_) => Err(state),
+    }
+}
+
+/// Gives a cell the state that its component had a cycle before.
+pub(crate) fn repeat_state<S: Drop>(lines: &mut Vec<Line<S>>, cell: Cell) -> Result<(), NoMemory>
+    requires component { cell.component < length lines.old.items }
+    requires cycle { cell.cycle < length (line_at lines.old.items cell.component).states }
+    requires later { 0 < cell.cycle }
+    ensures ok { OnOk result (IsOtherState lines.old.items lines.new.items cell.cycle cell.component (state_at lines.old.items (cell.cycle - 1) cell.component)) }
+    ensures err { OnErr result (IsSameStates lines.old.items lines.new.items) }
+{
+    let line = &mut lines[cell.component as usize];
+    match line.reserve(cell.cycle) {
+        Ok(()) => {
+            line.extend();
+            Ok(())
+        }
+        Err(_) => Err(NoMemory),
+    }
+}
+
+/// Gets the memory for more cycles behind the n that there are.
+pub(crate) fn reserve_ends<S: Drop>(lines: &mut Vec<Line<S>>, n: u32) -> Result<(), NoMemory>
+    requires { (c : ℕ) → c < length lines.old.items → length (line_at lines.old.items c).states ≡ n }
+    ensures same { IsSameStates lines.old.items lines.new.items }
+    ensures ready { OnOk result ((c : ℕ) → c < length lines.old.items → ((line_at lines.new.items c).place ≡ n) × (0 < (line_at lines.new.items c).room)) }
+{
+    for c in 0..lines.len() {
+        let line = &mut lines[c];
+        match line.reserve(n) {
+            Ok(()) => {}
+            Err(_) => return Err(NoMemory),
+        }
+    }
+    Ok(())
+}
+
+/// Adds m cycles of nothing behind the n that there are.
+pub(crate) fn grow_ends<S: Drop>(lines: &mut Vec<Line<S>>, n: u32, m: u32)
+    requires lens { (c : ℕ) → c < length lines.old.items → length (line_at lines.old.items c).states ≡ n }
+    requires ready { (c : ℕ) → c < length lines.old.items → ((line_at lines.old.items c).place ≡ n) × (0 < (line_at lines.old.items c).room) }
+    requires fits { n + m < 2 ^ 32 }
+    ensures len { length lines.new.items ≡ length lines.old.items }
+    ensures states { (c : ℕ) → c < length lines.old.items → (line_at lines.new.items c).states ≡ (line_at lines.old.items c).states ++ replicate m None }
+{
+    for c in 0..lines.len() {
+        let line = &mut lines[c];
+        line.grow(m);
+    }
+}
+
+/// Removes the cycles from n on.
+pub(crate) fn cut_ends<S: Drop>(lines: &mut Vec<Line<S>>, n: u32)
+    ensures len { length lines.new.items ≡ length lines.old.items }
+    ensures states { (c : ℕ) → (line_at lines.new.items c).states ≡ take n (line_at lines.old.items c).states }
+{
+    for c in 0..lines.len() {
+        let line = &mut lines[c];
+        line.truncate(n);
+    }
+}

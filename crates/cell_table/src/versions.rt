@@ -1,0 +1,103 @@
+//! The versions of the cells.
+ghost use Rattle.std.specs.Prelude.{◌≡◌, ℕ, ◌<◌, ◌++◌, IfOk, OnOk, OnErr, replicate, slice_index_or, slice_set, length, []};
+ghost use Rattle.cell_table.specs.Layout.{version_at};
+
+use grid_law::NoMemory;
+use std::alloc::Global;
+use std::marker::Model;
+
+/// A version for each component, at one cycle.
+#[derive(Drop)]
+pub(crate) struct Versions {
+    numbers: Vec<u64>,
+}
+
+impl Model for Versions {
+    ghost use Rattle.std.specs.Prelude.{List, ℕ};
+
+    ghost Value = { List ℕ };
+
+    ghost view = { λ v. v.numbers.items };
+}
+
+impl Versions {
+    fn new(alloc: Global, count: u32, version: u64) -> Result<Versions, NoMemory>
+        ensures { IfOk result (λ v. v ≡ replicate count version) }
+    {
+        let numbers = vec![in alloc; version; count as usize]?;
+        Ok(Versions { numbers })
+    }
+
+    pub(crate) fn of(&self, c: u32) -> u64
+        ensures { result ≡ slice_index_or self.now c 0 }
+    {
+        match self.numbers.get(c as usize) {
+            Some(version) => *version,
+            None => 0,
+        }
+    }
+
+    pub(crate) fn set(&mut self, c: u32, version: u64)
+        requires { c < length self.old }
+        ensures { self.new ≡ slice_set self.old c version }
+    {
+        self.numbers[c as usize] = version;
+    }
+}
+
+/// Rows of that version.
+pub(crate) fn rows_of(
+    alloc: Global,
+    m: u32,
+    count: u32,
+    version: u64,
+) -> Result<Vec<Versions>, NoMemory>
+    ensures { IfOk result (λ rows. rows.items ≡ replicate m (replicate count version)) }
+{
+    let mut rows = Vec::with_capacity(alloc, m as usize)?;
+    for _t in 0..m {
+        match rows.push(Versions::new(alloc, count, version)?) {
+            Ok(()) => {}
+            Err(_) => return Err(NoMemory),
+        }
+    }
+    Ok(rows)
+}
+
+/// Adds m rows of that version; where memory is wanting, nothing is changed.
+pub(crate) fn grow_rows(
+    rows: &mut Vec<Versions>,
+    alloc: Global,
+    m: u32,
+    count: u32,
+    version: u64,
+) -> Result<(), NoMemory>
+    ensures ok { OnOk result (rows.new.items ≡ rows.old.items ++ replicate m (replicate count version)) }
+    ensures err { OnErr result (rows.new.items ≡ rows.old.items) }
+{
+    let mut more = rows_of(alloc, m, count, version)?;
+    match rows.append(&mut more) {
+        Ok(()) => Ok(()),
+        Err(_) => Err(NoMemory),
+    }
+}
+
+/// The version of a cell.
+pub(crate) fn version_in(rows: &Vec<Versions>, t: u32, c: u32) -> u64
+    ensures { result ≡ version_at rows.now.items t c }
+{
+    match rows.get(t as usize) {
+        Some(row) => row.of(c),
+        None => 0,
+    }
+}
+
+/// Sets the version of a cell.
+pub(crate) fn set_version(rows: &mut Vec<Versions>, t: u32, c: u32, version: u64)
+    requires cycle { t < length rows.old.items }
+    requires component { c < length (slice_index_or rows.old.items t []) }
+    ensures { rows.new.items ≡ slice_set rows.old.items t (slice_set (slice_index_or rows.old.items t []) c version) }
+{
+    let row = &mut rows[t as usize];
+    row.set(c, version);
+}
