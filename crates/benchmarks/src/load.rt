@@ -14,7 +14,7 @@ pub fn hot_spot(alloc: Global, k: u32, horizon: u32) -> Result<Project>
     ensures horizon { IfOk result (λ project. project.horizon ≡ horizon) }
 {
     let mut project = Project::new(alloc, k, horizon)?.context(
-        "k is at most 5, the horizon at most 1,000",
+        "k or the horizon is past its limit",
     )?;
     for proc in 0..project.processors() {
         let entry = ScriptEntry::Reference {

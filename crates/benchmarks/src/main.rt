@@ -22,6 +22,8 @@ mod turns;
 
 use anyhow::Result;
 use line_words::number;
+use page_map::MAX_K;
+use project_book::MAX_HORIZON;
 use std::env;
 use std::process::ExitCode;
 use std::sync::Wait;
@@ -48,7 +50,7 @@ fn main(rt: HostRuntime) -> ExitCode {
         Ok(Some(asked)) => asked,
         Ok(None) => {
             let _ = eprintln!(rt;
-                "usage: benchmarks [from-scratch K H | parts N | bench K H | words N | turns N], K from 0 to 5, H to 1000, N of words to 65535"
+                "usage: benchmarks [from-scratch K H | parts N | bench K H | words N | turns N], K from 0 to {MAX_K}, H to {MAX_HORIZON}, N of words to 65535"
             );
             return ExitCode::from(WRONG_WORDS);
         }
@@ -98,7 +100,7 @@ fn words(rt: &HostRuntime) -> Result<Option<Asked>> {
 fn sized(k: Option<String>, horizon: Option<String>) -> Option<(u32, u32)> {
     let k = number_in(k?)?;
     let horizon = number_in(horizon?)?;
-    if k <= 5 && horizon <= 1000 {
+    if k <= MAX_K && horizon <= MAX_HORIZON {
         Some((k, horizon))
     } else {
         None

@@ -1,5 +1,5 @@
 -- The key `word`: the first words, each given at most once.
-use Rattle.std.specs.Prelude.{ℕ, ◌+◌, List, [], ◌∷◌, ◌++◌, replicate, Option, None, Some, Result, Ok, codes, is_none, unwrap_or, slice_index_or, slice_set}
+use Rattle.std.specs.Prelude.{ℕ, ◌+◌, ◌-◌, List, [], ◌∷◌, ◌++◌, replicate, Option, None, Some, Result, Ok, codes, is_none, unwrap_or, slice_index_or, slice_set}
 use Rattle.toml.specs.Data.{Data, Members}
 use Rattle.page_map.specs.Limits.{address_count}
 use Rattle.project_book.specs.declared.words.FirstWord.{FirstWord}
@@ -18,7 +18,7 @@ word_keys = codes "address" ∷ codes "value" ∷ []
 -- the memory after one more item
 abbrev pub with_word_of : Memory → Members → Result Memory ProjectFault
 with_word_of memory ms = do
-  a ← number_at (codes "address") 0 16383 ms
+  a ← number_at (codes "address") 0 (address_count - 1) ms
   _ ← check (is_none (slice_index_or memory a None)) Twice
   value ← number_at (codes "value") 0 4294967295 ms
   Ok (slice_set memory a (Some value))

@@ -5,7 +5,9 @@
 //! project is within its limits whenever there is one. `toml` says which bytes are a document, and
 //! `project_book` what a project is, what limits it, and which texts are script entries.
 //!
-//! Promise: what is answered is `filed` of `specs/Filed.antt`, which is a function of the whole
+//! [`write_project`] writes a project as a file, and answers it only where that is read as the project.
+//!
+//! Promise: what is read is `filed` of `specs/Filed.antt`, which is a function of the whole
 //! file, want of memory aside.
 #![tactic(auto)]
 

@@ -95,7 +95,7 @@ impl Setup<'_> {
 
     fn scripted(&self, project: Project) -> Result<Project, Fail> {
         let mut project = project;
-        for (proc, script) in (0..32).zip(self.scripts) {
+        for (proc, script) in (0..64).zip(self.scripts) {
             project = with_script(project, proc, script)?;
         }
         Ok(project)

@@ -169,6 +169,43 @@ const WAITS: Examples = &[
     ),
 ];
 
+const UNTIL_12: Setup = Setup {
+    horizon: 20,
+    scripts: &[&["until sync load 0 0 12"], &["idle 6", "sync store 0 12"]],
+    ..BASE
+};
+
+/// 15.1: a word is loaded again and again, each time in the step that brings the reply to the load before, until it
+/// is 12, or for as many times as it may. The store is served at cycle 10, between the loads of cycles 9 and 14.
+const WAITING_FOR_A_WORD: Examples = &[
+    (
+        UNTIL_12,
+        "p0 6:10 11:10 16:12, p1 12:10, issued 4, served 4, combined 0, word 12",
+    ),
+    (
+        Setup {
+            scripts: &[
+                &["until sync load 0 0 12 2"],
+                &["idle 6", "sync store 0 12"],
+            ],
+            ..UNTIL_12
+        },
+        "p0 6:10 11:10, p1 12:10, issued 3, served 3, combined 0, word 12",
+    ),
+];
+
+/// 15.1, and the order of the references to the word.
+#[test]
+fn example_15_1(rt: HostRuntime) -> Result<(), Fail> {
+    let alloc = rt.alloc();
+    assert_eq!(rt; surprise(alloc, WAITING_FOR_A_WORD)?, None);
+    assert_eq!(rt;
+        ordered(alloc, &UNTIL_12, 0)?.as_str(),
+        "order 0.0 0.1 1.0 0.2"
+    );
+    Ok(())
+}
+
 /// 24: of two requests that come over both networks at once, a module serves the low one first.
 const BOTH_NETWORKS: Examples = &[(
     Setup {
