@@ -40,15 +40,14 @@ pub struct Panel<'a> {
     pub curves: Vec<Curve<'a>>,
 }
 
-/// A whole picture, 800 pixels wide: the panels side by side under a title, the legend of the first panel's curves in
-/// columns, and lines of text.
+/// A whole picture, 800 pixels wide: the panels side by side under a title, and the legend of the first panel's curves in
+/// columns.
 #[derive(Clone, Copy)]
 pub struct Curves<'a> {
     pub title: &'a str,
     pub panels: &'a [Panel<'a>],
     /// At least 1.
     pub legend_columns: u16,
-    pub notes: &'a [&'a str],
 }
 
 /// The width of a picture, in pixels.
@@ -336,15 +335,19 @@ pub(crate) fn few(count: usize) -> u32
     if count < 1000 { count as u32 } else { 999 }
 }
 
-/// The picture as an SVG document.
-pub fn draw_curves(alloc: Global, curves: &Curves<'_>) -> Result<String, AllocError> {
+/// The picture, with lines of text under it, as an SVG document.
+pub fn draw_curves(
+    alloc: Global,
+    curves: &Curves<'_>,
+    notes: &[&str],
+) -> Result<String, AllocError> {
     let labelled = match curves.panels.first() {
         Some(panel) => panel.curves.as_slice(),
         None => &[],
     };
     let columns = u32::from(curves.legend_columns).max(1);
     let rows = (few(labelled.len()) + columns - 1) / columns;
-    let height = 450 + 20 * few(rows as usize) + 17 * few(curves.notes.len());
+    let height = 450 + 20 * few(rows as usize) + 17 * few(notes.len());
     let mut picture = Picture::new(alloc, WIDTH, height as u16, curves.title)?;
     picture.words(Spot { x: 200, y: 250 }, TITLE, curves.title)?;
     for (place, panel) in curves.panels.iter().enumerate() {
@@ -352,6 +355,6 @@ pub fn draw_curves(alloc: Global, curves: &Curves<'_>) -> Result<String, AllocEr
         draw_panel(alloc, &mut picture, panel, area)?;
     }
     let below = draw_legend(&mut picture, labelled, columns, BOTTOM + 640)?;
-    draw_notes(&mut picture, curves.notes, 200, below.saturating_add(60))?;
+    draw_notes(&mut picture, notes, 200, below.saturating_add(60))?;
     picture.close()
 }

@@ -156,9 +156,8 @@ fn curves_are_drawn(rt: HostRuntime) -> Result<(), Fail> {
         title: "rates",
         panels: panels.as_slice(),
         legend_columns: 1,
-        notes: &["seed 1"],
     };
-    let text = draw_curves(rt.alloc(), &drawn)?;
+    let text = draw_curves(rt.alloc(), &drawn, &["seed 1"])?;
     for part in [
         "height=\"487\"",
         "<polyline points=\"46,386 413,311 780,86 \"",
