@@ -1,0 +1,23 @@
+use Rattle.std.proofs.Common.{◌∙◌, ◌+◌, ◌++◌, ℕ, List, Option, ap, sym, map, Vec, Global}
+use Rattle.std.specs.List.{flat_map}
+use Rattle.std.specs.Option.{option_copied}
+use Rattle.omega_net.specs.Wires.{below}
+use Rattle.machine_cells.specs.declared.state.MachineState.{MachineState}
+use Rattle.machine_cells.specs.Runs.{state_in}
+use Rattle.experiments.specs.Delays.{issue_cycles, waits_in}
+use Rattle.experiments.proofs.Waits.{flat-next}
+use Rattle.experiments.proofs.delays.waits_of.Goals as goal
+
+pub loop-i-preserved : goal.loop-i-preserved
+loop-i-preserved c =
+    let at = state_in (map (λ (r : Vec MachineState Global). r.items) c.args.rows.now) in
+    let p = c.args.proc in
+    let issued = issue_cycles at p c.args.window.to in
+    let each = λ (i : ℕ). waits_in c.args.project.now p issued (i + c.args.window.from) (at (i + c.args.window.from) p) in
+    let waits = λ (cycles : List ℕ) (state : Option MachineState). waits_in c.args.project.now p cycles (c.loop-i.i + c.args.window.from) state in
+    let found = option_copied c.state_at-state.result in
+    c.in_ok-add_waits.ensures
+    ∙ ap (λ (xs : List ℕ). xs ++ waits c.deref.result.now found) c.loop-i.invariant
+    ∙ ap (λ (cycles : List ℕ). flat_map each (below c.loop-i.i) ++ waits cycles found) (c.deref.ensures.value ∙ c.in_ok-issued.ensures)
+    ∙ ap (λ (state : Option MachineState). flat_map each (below c.loop-i.i) ++ waits issued state) c.state_at-state.ensures
+    ∙ sym (flat-next each c.loop-i.i)

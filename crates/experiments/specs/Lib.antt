@@ -1,0 +1,4 @@
+pub mod Delays
+pub mod Loads
+pub mod Maps
+pub mod Told

@@ -1,0 +1,34 @@
+//! Experiments on a machine: what a run of a project shows, as figures to be drawn or tabled.
+//!
+//! - [`saturation_map`]: the lengths of the queues towards a module, cycle by cycle, with the level of saturation and the
+//!   module's served requests.
+//! - [`Load`], [`project_of`]: scripts drawn from a seeded generator, in which a share of the references is hot (Pfister and
+//!   Norton 1985).
+//! - [`served`], [`served_each`]: how many references are served in a window of cycles, for many loads at once.
+//! - [`cold_waits`]: how long the references that aren't hot wait for their replies.
+//! - [`told`], [`sweep_row`]: what a bench is told after one edit more.
+//!
+//! The crate stands on `machine_cells` for runs, on `bench_core` and `run_queries` for questions and their answers, on
+//! `saturation` for levels, on `project_book` for projects, on `rand_pcg` for drawing, and on `rayon` for threads. It
+//! promises that each figure is that of the run of the project from cycle 0 (`specs/Maps.antt`, `specs/Delays.antt`, and
+//! `answer` of `run_queries`), so that anyone who asks the workbench the same is told the same.
+#![tactic(auto)]
+
+mod delays;
+mod fault;
+mod load;
+mod map;
+mod queues;
+mod rates;
+mod series;
+mod sweep;
+#[cfg(test)]
+mod tests;
+
+pub use delays::cold_waits;
+pub use fault::Fault;
+pub use load::{HOT_ADDRESS, Load, MOST_CYCLES, SPREAD_ADDRESS, drawn, project_of};
+pub use map::{SaturationMap, StageLengths, Window, saturation_map};
+pub use rates::{served, served_each};
+pub use series::{Matrix, Series};
+pub use sweep::{sweep_row, told};

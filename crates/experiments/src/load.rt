@@ -1,0 +1,126 @@
+//! Loads: scripts in which a share of the references is hot.
+ghost use Rattle.std.specs.Prelude.{◌≡◌, ◌<◌, ◌≤◌, ◌^◌, IfOk, All, length};
+ghost use Rattle.page_map.specs.Limits.{max_k};
+ghost use Rattle.project_book.specs.Limits.{max_horizon};
+ghost use Rattle.project_book.specs.Scripts.{IsEntry, IsScript};
+ghost use Rattle.experiments.specs.Loads.{drawn, IsDrawn, IsLoaded};
+
+use grid_law::NoMemory;
+use omega_net::ScriptEntry;
+use page_map::PageMap;
+use project_book::{
+    FirstWords, MAX_WINDOW, Parts, Project, QueueDepths, STAGES, Scripts, USUAL_WAIT,
+};
+use rand_pcg::Pcg32;
+use rand_pcg::rand_core::Rng;
+use std::alloc::{AllocError, Global};
+use word_ops::{Kind, Op};
+
+/// The hot word.
+pub const HOT_ADDRESS: u32 = 0;
+
+/// The first address of the page that the other references are spread over; every page is spread over all modules.
+pub const SPREAD_ADDRESS: u32 = 256;
+
+/// How many cycles a load may be run: a processor issues one reference a cycle at most, so that its script of 256 never
+/// ends before.
+pub const MOST_CYCLES: u32 = 256;
+
+/// What each processor refers to, and on what machine.
+#[derive(Clone, Copy, PartialEq, Eq, Debug)]
+pub struct Load {
+    /// There are 2^k processors.
+    pub k: u32,
+    /// How many of a hundred references are hot.
+    pub hot: u32,
+    pub seed: u64,
+    /// The horizon.
+    pub cycles: u32,
+    /// Whether the references go by the combining network.
+    pub sync: bool,
+    /// Whether its switches combine.
+    pub combine: bool,
+}
+
+/// The reference that two drawn numbers make: a fetch-and-add of 1 to the hot word, or a load of a word of the spread
+/// page. Of a hundred values of the first number `hot` make the hot one.
+pub fn drawn(sync: bool, hot: u32, first: u32, second: u32) -> ScriptEntry
+    ensures drawn { result ≡ drawn sync hot first second }
+    ensures entry { IsEntry result }
+{
+    if first % 100 < hot {
+        ScriptEntry::Reference {
+            sync,
+            op: Op {
+                kind: Kind::Add,
+                operand: 1,
+            },
+            address: HOT_ADDRESS,
+            times: 1,
+        }
+    } else {
+        ScriptEntry::Reference {
+            sync,
+            op: Op {
+                kind: Kind::Load,
+                operand: 0,
+            },
+            address: SPREAD_ADDRESS + second % 256,
+            times: 1,
+        }
+    }
+}
+
+/// A processor's script: 256 references, drawn from the load's seed by the stream of the processor's number. Each processor
+/// draws the same numbers whatever the share of the hot ones.
+fn script(alloc: Global, load: Load, proc: u32) -> Result<Vec<ScriptEntry>, AllocError>
+    ensures script { IfOk result (λ es. IsScript es.items) }
+    ensures drawn { IfOk result (λ es. All (IsDrawn load.sync load.hot) es.items) }
+{
+    let mut generator = Pcg32::new(load.seed, u64::from(proc));
+    let mut entries = Vec::new(alloc);
+    'drawn: for count in 0..256u32 {
+        let _nth = count;
+        let first = generator.next_u32();
+        let second = generator.next_u32();
+        entries.push(drawn(load.sync, load.hot, first, second))?;
+    }
+    Ok(entries)
+}
+
+/// The scripts of all processors.
+fn scripts(alloc: Global, load: Load) -> Result<Scripts, NoMemory>
+    requires { load.k ≤ max_k }
+    ensures count { IfOk result (λ all. length all ≡ 2 ^ load.k) }
+{
+    let count = 1 << load.k;
+    let mut all = Scripts::new(alloc, count)?;
+    for proc in 0..count {
+        all.set(alloc, proc, script(alloc, load, proc)?)?;
+    }
+    Ok(all)
+}
+
+/// The project of a load: its scripts, a window of 8 references, the usual depths, and combining at each stage or none.
+/// The conditions are that there is such a machine, and that the cycles are within the limit of a horizon.
+pub fn project_of(alloc: Global, load: Load) -> Result<Project, NoMemory>
+    requires k { load.k ≤ max_k }
+    requires cycles { load.cycles ≤ max_horizon }
+    ensures { IfOk result (IsLoaded load) }
+{
+    let scripts = scripts(alloc, load)?;
+    let pages = PageMap::new(load.k);
+    pages.is_page_map();
+    let parts = Parts {
+        k: load.k,
+        horizon: load.cycles,
+        window: MAX_WINDOW,
+        depths: QueueDepths::USUAL,
+        wait: USUAL_WAIT,
+        combine: [load.combine; STAGES],
+        pages,
+        words: FirstWords::new(alloc),
+        scripts,
+    };
+    Project::from_parts(alloc, parts)
+}

@@ -1,0 +1,207 @@
+//! An SVG document that grows.
+use crate::{Escaped, Tenths};
+use std::alloc::{AllocError, Global};
+use std::fmt;
+
+/// A place in tenths of a pixel, from the left and from the top.
+#[derive(Clone, Copy, PartialEq, Eq, Debug)]
+pub struct Spot {
+    pub x: u32,
+    pub y: u32,
+}
+
+/// How a line is drawn.
+#[derive(Clone, Copy, PartialEq, Eq, Debug)]
+pub struct Stroke {
+    pub colour: &'static str,
+    /// In tenths of a pixel.
+    pub width: u32,
+    pub dashed: bool,
+}
+
+/// A stroke prints as the attributes of an element.
+impl fmt::Display for Stroke {
+    fn fmt<W: fmt::Write>(&self, f: &mut fmt::Formatter<W>) -> fmt::Result {
+        let Stroke {
+            colour,
+            width,
+            dashed,
+        } = *self;
+        let width = Tenths(width);
+        write!(f, "stroke=\"{colour}\" stroke-width=\"{width}\"")?;
+        if dashed {
+            write!(f, " stroke-dasharray=\"5 4\"")?;
+        }
+        Ok(())
+    }
+}
+
+/// Which end of a text stands at its place.
+#[derive(Clone, Copy, PartialEq, Eq, Debug)]
+pub enum Anchor {
+    Start,
+    Middle,
+    End,
+}
+
+impl fmt::Display for Anchor {
+    fn fmt<W: fmt::Write>(&self, f: &mut fmt::Formatter<W>) -> fmt::Result {
+        match self {
+            Anchor::Start => write!(f, "start"),
+            Anchor::Middle => write!(f, "middle"),
+            Anchor::End => write!(f, "end"),
+        }
+    }
+}
+
+/// How a text is written: which end stands at its place, its size in pixels, and whether it is bold.
+#[derive(Clone, Copy, PartialEq, Eq, Debug)]
+pub struct Writing {
+    pub anchor: Anchor,
+    pub size: u8,
+    pub bold: bool,
+}
+
+/// A mark at a point of a curve. It prints as the path that draws it from its middle.
+#[derive(Clone, Copy, PartialEq, Eq, Debug)]
+pub enum Mark {
+    Circle,
+    Square,
+    Diamond,
+    Up,
+    Down,
+    Cross,
+    Plus,
+}
+
+impl Mark {
+    /// All marks, in the order in which curves take them.
+    pub const ALL: [Mark; 7] = [
+        Mark::Circle,
+        Mark::Square,
+        Mark::Up,
+        Mark::Diamond,
+        Mark::Down,
+        Mark::Cross,
+        Mark::Plus,
+    ];
+}
+
+impl fmt::Display for Mark {
+    fn fmt<W: fmt::Write>(&self, f: &mut fmt::Formatter<W>) -> fmt::Result {
+        match self {
+            Mark::Circle => write!(f, "m-3.5 0a3.5 3.5 0 1 0 7 0a3.5 3.5 0 1 0 -7 0z"),
+            Mark::Square => write!(f, "m-3 -3h6v6h-6z"),
+            Mark::Diamond => write!(f, "m0 -4.5l4 4.5l-4 4.5l-4 -4.5z"),
+            Mark::Up => write!(f, "m0 -4l4 7h-8z"),
+            Mark::Down => write!(f, "m0 4l4 -7h-8z"),
+            Mark::Cross => write!(f, "m-3.5 -3.5l7 7m0 -7l-7 7"),
+            Mark::Plus => write!(f, "m-4 0h8m-4 -4v8"),
+        }
+    }
+}
+
+/// An SVG document that grows. Each call adds one element, where memory isn't refused.
+#[derive(Drop)]
+pub struct Picture {
+    text: String,
+}
+
+impl Picture {
+    /// A white picture of so many pixels, with a title that readers of the screen are told.
+    pub fn new(alloc: Global, width: u16, height: u16, title: &str) -> Result<Picture, AllocError> {
+        let mut text = String::new(alloc);
+        writeln!(
+            text,
+            "<svg xmlns=\"http://www.w3.org/2000/svg\" width=\"{width}\" height=\"{height}\" viewBox=\"0 0 {width} {height}\" font-family=\"Helvetica, Arial, sans-serif\" fill=\"#1a1a1a\">"
+        )?;
+        let title = Escaped(title);
+        writeln!(text, "<title>{title}</title>")?;
+        writeln!(
+            text,
+            "<rect width=\"{width}\" height=\"{height}\" fill=\"#ffffff\"/>"
+        )?;
+        Ok(Picture { text })
+    }
+
+    /// A straight line.
+    pub fn line(&mut self, from: Spot, to: Spot, stroke: Stroke) -> Result<(), AllocError> {
+        let (x, y) = (Tenths(from.x), Tenths(from.y));
+        let (to_x, to_y) = (Tenths(to.x), Tenths(to.y));
+        writeln!(
+            self.text,
+            "<line x1=\"{x}\" y1=\"{y}\" x2=\"{to_x}\" y2=\"{to_y}\" {stroke}/>"
+        )
+    }
+
+    /// A filled rectangle, by its left upper corner and its size.
+    pub fn cell(
+        &mut self,
+        at: Spot,
+        width: u32,
+        height: u32,
+        fill: &'static str,
+    ) -> Result<(), AllocError> {
+        let (x, y) = (Tenths(at.x), Tenths(at.y));
+        let (width, height) = (Tenths(width), Tenths(height));
+        writeln!(
+            self.text,
+            "<rect x=\"{x}\" y=\"{y}\" width=\"{width}\" height=\"{height}\" fill=\"{fill}\"/>"
+        )
+    }
+
+    /// The outline of a rectangle, by its left upper and right lower corners.
+    pub fn frame(&mut self, from: Spot, to: Spot, stroke: Stroke) -> Result<(), AllocError> {
+        let (x, y) = (Tenths(from.x), Tenths(from.y));
+        let width = Tenths(to.x.saturating_sub(from.x));
+        let height = Tenths(to.y.saturating_sub(from.y));
+        writeln!(
+            self.text,
+            "<rect x=\"{x}\" y=\"{y}\" width=\"{width}\" height=\"{height}\" fill=\"none\" {stroke}/>"
+        )
+    }
+
+    /// A text, whose characters are replaced where they can't stand in a document.
+    pub fn words(&mut self, at: Spot, how: Writing, words: &str) -> Result<(), AllocError> {
+        let (x, y) = (Tenths(at.x), Tenths(at.y));
+        let Writing { anchor, size, bold } = how;
+        let weight = if bold { " font-weight=\"bold\"" } else { "" };
+        let words = Escaped(words);
+        writeln!(
+            self.text,
+            "<text x=\"{x}\" y=\"{y}\" font-size=\"{size}\" text-anchor=\"{anchor}\"{weight}>{words}</text>"
+        )
+    }
+
+    /// A line through these places, none where there are fewer than two.
+    pub fn path(&mut self, spots: &[Spot], stroke: Stroke) -> Result<(), AllocError> {
+        if spots.len() < 2 {
+            return Ok(());
+        }
+        write!(self.text, "<polyline points=\"")?;
+        for spot in spots {
+            let (x, y) = (Tenths(spot.x), Tenths(spot.y));
+            write!(self.text, "{x},{y} ")?;
+        }
+        writeln!(
+            self.text,
+            "\" fill=\"none\" stroke-linejoin=\"round\" {stroke}/>"
+        )
+    }
+
+    /// A mark with its middle at a place.
+    pub fn mark(&mut self, at: Spot, mark: Mark, colour: &'static str) -> Result<(), AllocError> {
+        let (x, y) = (Tenths(at.x), Tenths(at.y));
+        writeln!(
+            self.text,
+            "<path d=\"M{x} {y}{mark}\" fill=\"{colour}\" stroke=\"{colour}\" stroke-width=\"1.5\"/>"
+        )
+    }
+
+    /// The whole document.
+    pub fn close(self) -> Result<String, AllocError> {
+        let Picture { mut text } = self;
+        writeln!(text, "</svg>")?;
+        Ok(text)
+    }
+}

@@ -1,0 +1,118 @@
+//! Scales: where values are placed, and which of them are marked.
+ghost use Rattle.std.specs.Prelude.{◌≡◌, ◌+◌, ◌-◌, ◌*◌, ◌/◌, ◌^◌, ◌<◌, ◌≤◌};
+ghost use Rattle.svg_plots.specs.Places.{place_of, share_of};
+
+/// A linear scale: the values from `from` to `to` over the places from `start` to `end`, which may also lie before it.
+#[derive(Clone, Copy, PartialEq, Eq, Debug)]
+pub struct Scale {
+    pub from: u32,
+    pub to: u32,
+    pub start: u32,
+    pub end: u32,
+}
+
+/// A part of a length, rounded down.
+#[tactic(auto, using(crate::proofs::Shares::share_within))]
+fn share(length: u32, done: u32, span: u32) -> u32
+    requires some { 0 < span }
+    requires part { done ≤ span }
+    ensures share { result ≡ share_of length done span }
+    ensures within { result ≤ length }
+{
+    (u64::from(length) * u64::from(done) / u64::from(span)) as u32
+}
+
+impl Scale {
+    /// The place of a value. One below the scale's values stands at `start`, one above them at `end`; so does every value
+    /// at `start` where the scale has no values between its ends.
+    pub fn place(self, value: u32) -> u32
+        ensures { result ≡ place_of self.from self.to self.start self.end value }
+    {
+        if self.to <= self.from {
+            return self.start;
+        }
+        let span = self.to - self.from;
+        let done = value.saturating_sub(self.from).min(span);
+        if self.start <= self.end {
+            self.start + share(self.end - self.start, done, span)
+        } else {
+            self.start - share(self.start - self.end, done, span)
+        }
+    }
+}
+
+/// The steps between ticks.
+const STEPS: [u32; 28] = [
+    1,
+    2,
+    5,
+    10,
+    20,
+    50,
+    100,
+    200,
+    500,
+    1_000,
+    2_000,
+    5_000,
+    10_000,
+    20_000,
+    50_000,
+    100_000,
+    200_000,
+    500_000,
+    1_000_000,
+    2_000_000,
+    5_000_000,
+    10_000_000,
+    20_000_000,
+    50_000_000,
+    100_000_000,
+    200_000_000,
+    500_000_000,
+    1_000_000_000,
+];
+
+/// The step from tick to tick over so wide a span: the least of 1, 2 and 5 times a power of ten of which no more than
+/// `most` make up the span; the whole span where there is none.
+pub fn tick_step(span: u32, most: u32) -> u32
+    requires { 0 < most }
+    ensures { span ≤ result * most }
+{
+    for step in STEPS.iter() {
+        if span <= step.saturating_mul(most) {
+            return *step;
+        }
+    }
+    span
+}
+
+/// One as a number with 30 binary places.
+const ONE: u64 = 1 << 30;
+
+/// The binary logarithm of a fraction, in hundredths, rounded down; 0 of a fraction that is less than one, or that has no
+/// denominator. It is found bit by bit: squaring a number doubles its logarithm.
+pub fn log2_hundredths(numerator: u32, denominator: u32) -> u32
+    ensures { numerator < denominator → result ≡ 0 }
+{
+    if denominator == 0 || numerator < denominator {
+        return 0;
+    }
+    let mut rest = u64::from(numerator) * ONE / u64::from(denominator);
+    let mut bits: u32 = 0;
+    for _ in 0..32 {
+        if rest >= 2 * ONE {
+            rest /= 2;
+            bits = bits.saturating_add(1);
+        }
+    }
+    for _ in 0..10 {
+        rest = rest.saturating_mul(rest) / ONE;
+        bits = bits.saturating_mul(2);
+        if rest >= 2 * ONE {
+            rest /= 2;
+            bits = bits.saturating_add(1);
+        }
+    }
+    bits.saturating_mul(100) / 1024
+}

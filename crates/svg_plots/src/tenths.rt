@@ -1,0 +1,18 @@
+//! Lengths in a picture.
+use std::fmt;
+
+/// A length or a place in tenths of a pixel. It prints in pixels, as `12.5`.
+#[derive(Clone, Copy, PartialEq, Eq, Debug)]
+pub struct Tenths(pub u32);
+
+impl fmt::Display for Tenths {
+    fn fmt<W: fmt::Write>(&self, f: &mut fmt::Formatter<W>) -> fmt::Result {
+        let whole = self.0 / 10;
+        let part = self.0 % 10;
+        if part == 0 {
+            write!(f, "{whole}")
+        } else {
+            write!(f, "{whole}.{part}")
+        }
+    }
+}
