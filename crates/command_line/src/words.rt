@@ -40,6 +40,7 @@ Edits, answered `ok V` with the new version V, or `refused N`:
   window W                  how many references of a processor may be unanswered
   horizon H                 the last cycle that is simulated
 An ENTRY is `sync KIND A V [T]` or `plain KIND A V [T]` (a reference over the combining or the low network, T times),
+`until sync KIND A V W [T]` or `until plain KIND A V W [T]` (again until a reply has the word W, T times at most),
 `fence` or `idle T`; KIND is load, add, and, or, min, max, store or store-if-zero.
 
 Queries, answered `ok V BODY` by the project as it then stands, or `bad N`:

@@ -11,7 +11,8 @@ use std::alloc::Global;
 use toml::ser::Error;
 use toml::{Table, Value, table_to_string_pretty};
 
-/// The text of a file of format 2 that is this project. Keys at their usual values are left out.
+/// The text of a file of format 2 that is this project. What every project has without being told is left out: pages that are
+/// spread over all modules, words of 0, scripts without entries.
 ///
 /// The text is read back by [`read_project`], and answered only where that gives the project. It takes the memory of the
 /// document, of its text and of reading it.
