@@ -1,9 +1,9 @@
 -- What is kept adds up again where one cell's counts are replaced.
-use Rattle.std.proofs.Common.{◌≡◌, ℕ, zero, suc, ◌+◌, ◌*◌, ◌/◌, ◌^◌, ◌<◌, ◌≤◌, Bool, true, false, List, [], length, Option, None, Some, refl, ap, sym, subst, ◌∙◌, arith}
-use Rattle.std.specs.Prelude.{◌==◌, min, slice_index, slice_index_or, slice_set}
+use Rattle.std.proofs.Common.{◌≡◌, ℕ, zero, suc, ◌+◌, ◌*◌, ◌/◌, ◌^◌, ◌<◌, ◌≤◌, Bool, true, false, cond, List, [], length, Option, None, Some, refl, ap, sym, subst, ◌∙◌, arith}
+use Rattle.std.specs.Prelude.{◌==◌, ◌&&◌, min, slice_index, slice_index_or, slice_set}
 use Rattle.std.specs.Option.{ForSome}
 use Rattle.std.proofs.lemmas.Bool.{eqb-true, eq-eqb, false≢true}
-use Rattle.std.proofs.lemmas.List.{get_or-set_same, get_or-set_other, length-set}
+use Rattle.std.proofs.lemmas.List.{get_or-set_same, get_or-set_other, get_or_default, length-set}
 use Rattle.omega_net.specs.declared.component.Net.{Net}
 use Rattle.omega_net.specs.Numbers.{components}
 use Rattle.project_book.specs.Limits.{max_horizon}
@@ -12,25 +12,36 @@ use Rattle.monitor_sums.specs.declared.counted.Counted.{Counted}
 use Rattle.monitor_sums.specs.declared.tally.Tally.{Tally}
 use Rattle.monitor_sums.specs.Sums.{in_profile}
 use Rattle.monitor_sums.specs.Parts.{part, tallied, AreShort, IsSmall}
-use Rattle.monitor_sums.specs.Kept.{nothing, place_of, kept_at}
+use Rattle.monitor_sums.specs.Kept.{nothing, kept_at}
 use Rattle.monitor_sums.specs.Whole.{counted_in, block_end, block_place, lengths_of, tally_at, profile_at, AddsUp}
 use Rattle.monitor_sums.proofs.Parts.{part_small, in_profile_small}
 use Rattle.monitor_sums.proofs.Over.{same_before, same_cycles, changed_own, changed_other, changed_all, part_own, part_all, small_before}
 use Rattle.monitor_sums.specs.Limits.{profile_lengths, blocks}
 
--- where a cell is kept, its counts are replaced; all others stay
-pub place_within : (k t c size : ℕ) → size ≡ components k * (max_horizon + 1) → t ≤ max_horizon → c < components k → place_of c t < size
-place_within k t c size room in_time there = omega arith
+-- the counts of a component where one of its cells has others
+pub kept_put : (t c : ℕ) (cells : List (List Counted)) (row : List Counted) (x : Counted) → c < length cells
+    → ((u : ℕ) → slice_index_or row u nothing ≡ cond (u == t) x (slice_index_or (slice_index_or cells c []) u nothing))
+    → (u d : ℕ) → kept_at (slice_set cells c row) u d ≡ cond ((u == t) && (d == c)) x (kept_at cells u d)
+kept_put t c cells row x there each u d = by_place (d == c) refl
+  where
+    no_more : (a : Bool) (y : Counted) → y ≡ cond (a && false) x y
+    no_more true y = refl
+    no_more false y = refl
 
-pub kept_here : (k t c : ℕ) (cells : List Counted) (x : Counted) → length cells ≡ components k * (max_horizon + 1) → t ≤ max_horizon → c < components k
-    → kept_at (slice_set cells (place_of c t) x) t c ≡ x
-kept_here k t c cells x room in_time there = get_or-set_same cells (place_of c t) x nothing (place_within k t c (length cells) room in_time there)
+    the_same : (a : Bool) (y : Counted) → cond a x y ≡ cond (a && true) x y
+    the_same true y = refl
+    the_same false y = refl
 
-pub kept_elsewhere : (t c u d : ℕ) (cells : List Counted) (x : Counted) → t ≤ max_horizon → u ≤ max_horizon → (u ≡ t → d ≡ c → ⊥)
-    → kept_at (slice_set cells (place_of c t) x) u d ≡ kept_at cells u d
-kept_elsewhere t c u d cells x in_time also apart =
-    get_or-set_other cells (place_of c t) (place_of d u) x nothing
-    (λ (e : place_of d u ≡ place_of c t). apart (omega (arith, e)) (omega (arith, e)))
+    by_place : (v : Bool) → (d == c) ≡ v → kept_at (slice_set cells c row) u d ≡ cond ((u == t) && v) x (kept_at cells u d)
+    by_place true e =
+        let same : d ≡ c = eqb-true d c e in
+        ap (λ n. slice_index_or (slice_index_or (slice_set cells c row) n []) u nothing) same
+        ∙ ap (λ ys. slice_index_or ys u nothing) (get_or-set_same cells c row [] there)
+        ∙ each u
+        ∙ ap (λ n. cond (u == t) x (slice_index_or (slice_index_or cells n []) u nothing)) (sym same)
+        ∙ the_same (u == t) (kept_at cells u d)
+    by_place false e =
+        ap (λ ys. slice_index_or ys u nothing) (get_or-set_other cells c d row [] (λ (p : d ≡ c). false≢true (sym e ∙ eq-eqb d c p))) ∙ no_more (u == t) (kept_at cells u d)
 
 -- the block of a cycle has it
 block_began : (t b : ℕ) → b ≡ t / 32 → 32 * b ≤ t
@@ -47,9 +58,9 @@ block_other : (t b d : ℕ) → t ≤ max_horizon → b ≡ t / 32 → 32 * d �
 block_other t b d h e began before = omega (arith, h, e, began, before)
 
 -- what a cell counted is within the totals of its block, and they are small
-module _ (k : ℕ) (cells : List Counted) (own all : List Tally) (profiles : List (List ℕ)) (kept : AddsUp k cells own all profiles) where
+module _ (k : ℕ) (cells : List (List Counted)) (own all : List Tally) (profiles : List (List ℕ)) (kept : AddsUp k cells own all profiles) where
   part_here : (counter : Counter) (t c : ℕ) → part counter (kept_at cells t c) < 256
-  part_here counter t c = part_small counter (kept_at cells t c) (kept.small (place_of c t))
+  part_here counter t c = part_small counter (kept_at cells t c) (kept.small t c)
 
   pub small_in : (counter : Counter) (who : Option ℕ) (b : ℕ) → counted_in k counter cells who b < 2 ^ 32
   small_in counter who b = small_before k (λ t c. part counter (kept_at cells t c)) who (32 * b) (block_end b) kept.few (omega arith) (part_here counter)
@@ -95,7 +106,7 @@ module _ (k : ℕ) (cells : List Counted) (own all : List Tally) (profiles : Lis
       omega (arith, old_part, is, le)
 
   pub short_old : (t c : ℕ) (old : Counted) → old ≡ kept_at cells t c → AreShort old.lengths
-  short_old t c old old_is = subst (λ (y : Counted). AreShort y.lengths) (sym old_is) (kept.small (place_of c t)).lengths
+  short_old t c old old_is = subst (λ (y : Counted). AreShort y.lengths) (sym old_is) (kept.small t c).lengths
 
   pub room_profile : (net : Net) (stage n : ℕ) → stage < k → n < profile_lengths → slice_index (profile_at k profiles net stage) n < 2 ^ 32
   room_profile net stage n in_net short =
@@ -105,18 +116,21 @@ module _ (k : ℕ) (cells : List Counted) (own all : List Tally) (profiles : Lis
       (λ t c. in_profile_small k net stage n c (kept_at cells t c).lengths) in
       omega (arith, is, lt)
 
-  module _ (t c b : ℕ) (x : Counted) (in_time : t ≤ max_horizon) (there : c < components k) (b_is : b ≡ t / 32) where
-    abbrev after : List Counted
-    after = slice_set cells (place_of c t) x
-
+  module _ (t c b : ℕ) (x : Counted) (in_time : t ≤ max_horizon) (there : c < components k) (b_is : b ≡ t / 32)
+      (after : List (List Counted)) (each : (u d : ℕ) → kept_at after u d ≡ cond ((u == t) && (d == c)) x (kept_at cells u d)) where
     here : kept_at after t c ≡ x
-    here = kept_here k t c cells x kept.room in_time there
+    here = each t c ∙ ap (λ v. cond (v && (c == c)) x (kept_at cells t c)) (eq-eqb t t refl) ∙ ap (λ v. cond v x (kept_at cells t c)) (eq-eqb c c refl)
 
-    elsewhere : (u d : ℕ) → u ≤ max_horizon → (u ≡ t → d ≡ c → ⊥) → kept_at after u d ≡ kept_at cells u d
-    elsewhere u d also apart = kept_elsewhere t c u d cells x in_time also apart
+    elsewhere : (u d : ℕ) → (u ≡ t → d ≡ c → ⊥) → kept_at after u d ≡ kept_at cells u d
+    elsewhere u d apart = each u d ∙ by_tests (u == t) (d == c) refl refl
+      where
+        by_tests : (v w : Bool) → (u == t) ≡ v → (d == c) ≡ w → cond (v && w) x (kept_at cells u d) ≡ kept_at cells u d
+        by_tests true true e f = absurd (apart (eqb-true u t e) (eqb-true d c f))
+        by_tests true false e f = refl
+        by_tests false w e f = refl
 
     part_elsewhere : (counter : Counter) (u d : ℕ) → u < max_horizon + 1 → (u ≡ t → d ≡ c → ⊥) → part counter (kept_at after u d) ≡ part counter (kept_at cells u d)
-    part_elsewhere counter u d also apart = ap (part counter) (elsewhere u d (omega (arith, also)) apart)
+    part_elsewhere counter u d also apart = ap (part counter) (elsewhere u d apart)
 
     -- in the cell's block its component's sum, and that of all, change as the cell does
     own_here : (counter : Counter) → counted_in k counter after (Some c) b + part counter (kept_at cells t c) ≡ counted_in k counter cells (Some c) b + part counter x
@@ -150,20 +164,17 @@ module _ (k : ℕ) (cells : List Counted) (own all : List Tally) (profiles : Lis
     in_stage net stage n =
         changed_all k (λ u d. in_profile k net stage n d (kept_at after u d).lengths) (λ u d. in_profile k net stage n d (kept_at cells u d).lengths)
         t c 0 (max_horizon + 1) (omega arith) (omega (arith, in_time)) there
-        (λ u d low high apart. ap (λ (y : Counted). in_profile k net stage n d y.lengths) (elsewhere u d (omega (arith, high)) apart))
+        (λ u d low high apart. ap (λ (y : Counted). in_profile k net stage n d y.lengths) (elsewhere u d apart))
         ∙ ap (λ (y : Counted). lengths_of k cells net stage n + in_profile k net stage n c y.lengths) here
 
-    small_after : IsSmall x → (i : ℕ) → IsSmall (slice_index_or after i nothing)
-    small_after small i = by_test (i == place_of c t) refl
+    small_after : IsSmall x → (u d : ℕ) → IsSmall (kept_at after u d)
+    small_after small u d = subst IsSmall (sym (each u d)) (by_test ((u == t) && (d == c)))
       where
-        by_test : (b : Bool) → (i == place_of c t) ≡ b → IsSmall (slice_index_or after i nothing)
-        by_test true e =
-            let at_place : i ≡ place_of c t = eqb-true i (place_of c t) e in
-            subst (λ n. IsSmall (slice_index_or after n nothing)) (sym at_place) (subst IsSmall (sym here) small)
-        by_test false e =
-            subst IsSmall (sym (get_or-set_other cells (place_of c t) i x nothing (λ (p : i ≡ place_of c t). false≢true (sym e ∙ eq-eqb i (place_of c t) p)))) (kept.small i)
+        by_test : (v : Bool) → IsSmall (cond v x (kept_at cells u d))
+        by_test true = small
+        by_test false = kept.small u d
 
-    pub put_adds : (place : ℕ) (own' all' : List Tally) (profiles' : List (List ℕ)) → place ≡ block_place c b → IsSmall x
+    pub put_adds : (place : ℕ) (own' all' : List Tally) (profiles' : List (List ℕ)) → length after ≡ length cells → place ≡ block_place c b → IsSmall x
         → length own' ≡ length own
         → ((counter : Counter) → tallied counter (tally_at own' place) + part counter (kept_at cells t c) ≡ tallied counter (tally_at own place) + part counter x)
         → ((i : ℕ) → (i ≡ place → ⊥) → tally_at own' i ≡ tally_at own i)
@@ -175,9 +186,9 @@ module _ (k : ℕ) (cells : List Counted) (own all : List Tally) (profiles : Lis
         → slice_index (profile_at k profiles' net stage) n + in_profile k net stage n c (kept_at cells t c).lengths
         ≡ slice_index (profile_at k profiles net stage) n + in_profile k net stage n c x.lengths)
         → AddsUp k after own' all' profiles'
-    put_adds place own' all' profiles' place_is small own_size own_moved own_others all_size all_moved all_others as_many lengths_moved = record {
+    put_adds place own' all' profiles' as_long place_is small own_size own_moved own_others all_size all_moved all_others as_many lengths_moved = record {
       few = kept.few;
-      room = length-set cells (place_of c t) x ∙ kept.room;
+      room = as_long ∙ kept.room;
       each = own_size ∙ kept.each;
       among = all_size ∙ kept.among;
       stages = as_many ∙ kept.stages;
@@ -230,9 +241,11 @@ module _ (k : ℕ) (cells : List Counted) (own all : List Tally) (profiles : Lis
             omega (arith, was, is, sum_is)
 
 -- the same, where the old counts were read
-module _ (k : ℕ) (cells : List Counted) (own all : List Tally) (profiles : List (List ℕ)) (kept : AddsUp k cells own all profiles) where
-  pub put_read : (t c b place cell : ℕ) (x old : Counted) (own' all' : List Tally) (profiles' : List (List ℕ)) → t ≤ max_horizon → c < components k → b ≡ t / 32
-      → place ≡ block_place c b → cell ≡ place_of c t → old ≡ kept_at cells t c → IsSmall x
+module _ (k : ℕ) (cells : List (List Counted)) (own all : List Tally) (profiles : List (List ℕ)) (kept : AddsUp k cells own all profiles) where
+  pub put_read : (t c b place : ℕ) (x old : Counted) (before row : List Counted) (own' all' : List Tally) (profiles' : List (List ℕ)) → t ≤ max_horizon → c < components k → b ≡ t / 32
+      → place ≡ block_place c b → old ≡ kept_at cells t c → IsSmall x
+      → before ≡ slice_index_or cells c before
+      → ((u : ℕ) → slice_index_or row u nothing ≡ cond (u == t) x (slice_index_or before u nothing))
       → length own' ≡ length own
       → ((counter : Counter) → tallied counter (tally_at own' place) + part counter old ≡ tallied counter (tally_at own place) + part counter x)
       → ((i : ℕ) → (i ≡ place → ⊥) → tally_at own' i ≡ tally_at own i)
@@ -243,13 +256,14 @@ module _ (k : ℕ) (cells : List Counted) (own all : List Tally) (profiles : Lis
       → ((net : Net) (stage n : ℕ) → stage < k → n < profile_lengths
       → slice_index (profile_at k profiles' net stage) n + in_profile k net stage n c old.lengths
       ≡ slice_index (profile_at k profiles net stage) n + in_profile k net stage n c x.lengths)
-      → AddsUp k (slice_set cells cell x) own' all' profiles'
-  put_read t c b place cell x old own' all' profiles' in_time there b_is place_is cell_is old_is small own_size own_moved own_others all_size all_moved all_others as_many lengths_moved =
-      subst (λ n. AddsUp k (slice_set cells n x) own' all' profiles') (sym cell_is)
-      (put_adds k cells own all profiles kept t c b x in_time there b_is place own' all' profiles' place_is small own_size
+      → AddsUp k (slice_set cells c row) own' all' profiles'
+  put_read t c b place x old before row own' all' profiles' in_time there b_is place_is old_is small read each own_size own_moved own_others all_size all_moved all_others as_many lengths_moved =
+      let in_cells : c < length cells = omega (arith, there, kept.room) in
+      let at_place : before ≡ slice_index_or cells c [] = read ∙ get_or_default cells c before [] in_cells in
+      put_adds k cells own all profiles kept t c b x in_time there b_is (slice_set cells c row) (kept_put t c cells row x in_cells (λ u. each u ∙ ap (λ ys. cond (u == t) x (slice_index_or ys u nothing)) at_place)) place own' all' profiles' (length-set cells c row) place_is small own_size
       (λ counter. subst (λ y. tallied counter (tally_at own' place) + part counter y ≡ tallied counter (tally_at own place) + part counter x) old_is (own_moved counter))
       own_others all_size
       (λ counter. subst (λ y. tallied counter (tally_at all' b) + part counter y ≡ tallied counter (tally_at all b) + part counter x) old_is (all_moved counter))
       all_others as_many
       (λ net stage n in_net short.
-      subst (λ (y : Counted). slice_index (profile_at k profiles' net stage) n + in_profile k net stage n c y.lengths ≡ slice_index (profile_at k profiles net stage) n + in_profile k net stage n c x.lengths) old_is (lengths_moved net stage n in_net short)))
+      subst (λ (y : Counted). slice_index (profile_at k profiles' net stage) n + in_profile k net stage n c y.lengths ≡ slice_index (profile_at k profiles net stage) n + in_profile k net stage n c x.lengths) old_is (lengths_moved net stage n in_net short))

@@ -16,12 +16,11 @@ use Rattle.monitor_sums.specs.declared.counted.Counted.{Counted}
 use Rattle.monitor_sums.specs.Counts.{count, output_lengths}
 use Rattle.monitor_sums.specs.Sums.{States, sum_of, in_profile, pairs_of, profile_of, changed, NonePast}
 use Rattle.monitor_sums.specs.Parts.{part}
-use Rattle.monitor_sums.specs.Kept.{Kept, StandsFor, counted, kept_at, place_of}
+use Rattle.monitor_sums.specs.Kept.{Kept, StandsFor, counted, kept_at}
 use Rattle.monitor_sums.specs.Whole.{counted_before, lengths_of, profile_place, AddsUp}
 use Rattle.monitor_sums.specs.declared.tally.Tally.{Tally}
 use Rattle.monitor_sums.proofs.Parts.{part_counted, in_profile_nothing}
 use Rattle.monitor_sums.proofs.Over.{same_over, over_before, cut_over}
-use Rattle.monitor_sums.proofs.Putting.{kept_here, kept_elsewhere}
 use Rattle.monitor_sums.specs.Limits.{profile_lengths}
 
 -- two maps that are equal at each cell stand alike
@@ -46,7 +45,7 @@ stands_sum_to kept at counter who h stands asked none within =
     ∙ cut_over kept.k (λ t c. count counter (at t c)) who h max_horizon asked within (λ t c a b there. ap (count counter) (none t c a b there))
 
 -- the profile that is kept of a stage
-pub profile_seen : (kept : Kept) (k : ℕ) (cells : List Counted) (own all : List Tally) (profiles : List (List ℕ)) (net : Net) (stage place : ℕ) (ns : List ℕ)
+pub profile_seen : (kept : Kept) (k : ℕ) (cells : List (List Counted)) (own all : List Tally) (profiles : List (List ℕ)) (net : Net) (stage place : ℕ) (ns : List ℕ)
     → record { k = k; cells = cells } ≡ kept → AddsUp k cells own all profiles → stage < kept.k → place ≡ profile_place k net stage → ns ≡ slice_index_or profiles place []
     → (n : ℕ) → n < profile_lengths → slice_index ns n ≡ lengths_of kept.k kept.cells net stage n
 profile_seen kept k cells own all profiles net stage place ns view adds in_net place_is read n short =
@@ -93,21 +92,6 @@ stands_profile kept at net stage h ns stands none within long each =
 -- no cell is past the greatest horizon
 pub none_past : (k : ℕ) (at : States) → NonePast k at max_horizon
 none_past k at t c a b there = absurd (omega arith)
-
--- a cell's counts were replaced, and no other's
-pub put_each : (k t c : ℕ) (cells : List Counted) (x : Counted) → length cells ≡ components k * (max_horizon + 1) → t ≤ max_horizon → c < components k
-    → (u d : ℕ) → u ≤ max_horizon
-    → kept_at (slice_set cells (place_of c t) x) u d ≡ cond ((u == t) && (d == c)) x (kept_at cells u d)
-put_each k t c cells x room in_time there u d also = by_tests (u == t) (d == c) refl refl
-  where
-    by_tests : (v w : Bool) → (u == t) ≡ v → (d == c) ≡ w → kept_at (slice_set cells (place_of c t) x) u d ≡ cond (v && w) x (kept_at cells u d)
-    by_tests true true e f =
-        let same_time : t ≡ u = sym (eqb-true u t e) in
-        let same_place : c ≡ d = sym (eqb-true d c f) in
-        subst (λ n. kept_at (slice_set cells (place_of c t) x) n d ≡ x) same_time
-        (subst (λ n. kept_at (slice_set cells (place_of c t) x) t n ≡ x) same_place (kept_here k t c cells x room in_time there))
-    by_tests false w e f = kept_elsewhere t c u d cells x in_time also (λ p _. false≢true (sym e ∙ eq-eqb u t p))
-    by_tests true false e f = kept_elsewhere t c u d cells x in_time also (λ _ p. false≢true (sym f ∙ eq-eqb d c p))
 
 -- so what is kept stands for the map where that cell holds that state
 pub stands_changed : (old new : Kept) (t c : ℕ) (x : Counted) (s : Option MachineState) (at : States) → new.k ≡ old.k → x ≡ counted s

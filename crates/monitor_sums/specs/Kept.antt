@@ -1,5 +1,5 @@
 -- What is kept of a run: what each cell counts.
-use Rattle.std.specs.Prelude.{◌≡◌, ℕ, ◌+◌, ◌*◌, ◌<◌, ◌≤◌, List, Option, Some, None, slice_index_or}
+use Rattle.std.specs.Prelude.{◌≡◌, ℕ, ◌+◌, ◌*◌, ◌<◌, ◌≤◌, List, [], Option, Some, None, slice_index_or}
 use Rattle.omega_net.specs.Numbers.{components}
 use Rattle.project_book.specs.Limits.{max_horizon}
 use Rattle.monitor_sums.specs.declared.counter.Counter.TheVariants.{Issued, Answered, Served, Combined, Waiting}
@@ -23,18 +23,14 @@ counted s = record {
 abbrev pub nothing : Counted
 nothing = counted None
 
--- a machine of 2^k processors, and what is kept of its cells: those of component 0 by cycle, then those of component 1, ..
+-- a machine of 2^k processors, and what is kept of its cells: those of each component by cycle
 pub record Kept : Type 0 where
   pub k : ℕ
-  pub cells : List Counted
+  pub cells : List (List Counted)
 
--- where a cell stands among them
-abbrev pub place_of : ℕ → ℕ → ℕ
-place_of c t = c * (max_horizon + 1) + t
-
--- what is kept of a cell
-abbrev pub kept_at : List Counted → ℕ → ℕ → Counted
-kept_at cells t c = slice_index_or cells (place_of c t) nothing
+-- what is kept of a cell; where nothing is, it counts nothing
+abbrev pub kept_at : List (List Counted) → ℕ → ℕ → Counted
+kept_at cells t c = slice_index_or (slice_index_or cells c []) t nothing
 
 -- `stands`: what is kept of each cell is what the map's state counts
 abbrev pub StandsFor : Kept → States → Type 0

@@ -11,7 +11,7 @@ use Rattle.monitor_sums.specs.declared.tally.Tally.{Tally}
 use Rattle.monitor_sums.specs.Adding.{sum_below}
 use Rattle.monitor_sums.specs.Sums.{sum_over, in_profile}
 use Rattle.monitor_sums.specs.Parts.{part, tallied, IsSmall}
-use Rattle.monitor_sums.specs.Kept.{nothing, place_of, kept_at}
+use Rattle.monitor_sums.specs.Kept.{kept_at}
 use Rattle.monitor_sums.specs.Limits.{profile_lengths, blocks}
 
 -- the sum of f over the cells of the components asked, one or all, from the cycle `from` on and before the cycle `end`
@@ -20,7 +20,7 @@ sum_before k f (Some c) from end = sum_below (λ i. f (i + from) c) (end - from)
 sum_before k f None from end = sum_below (λ c. sum_below (λ i. f (i + from) c) (end - from)) (components k)
 
 -- what those cells counted
-abbrev pub counted_before : ℕ → Counter → List Counted → Option ℕ → ℕ → ℕ → ℕ
+abbrev pub counted_before : ℕ → Counter → List (List Counted) → Option ℕ → ℕ → ℕ → ℕ
 counted_before k counter cells who from end = sum_before k (λ t c. part counter (kept_at cells t c)) who from end
 
 -- the cycle before which a block ends
@@ -28,11 +28,11 @@ abbrev pub block_end : ℕ → ℕ
 block_end b = min (32 * b + 32) (max_horizon + 1)
 
 -- what the components asked counted over the cycles of a block
-abbrev pub counted_in : ℕ → Counter → List Counted → Option ℕ → ℕ → ℕ
+abbrev pub counted_in : ℕ → Counter → List (List Counted) → Option ℕ → ℕ → ℕ
 counted_in k counter cells who b = counted_before k counter cells who (32 * b) (block_end b)
 
 -- how often an output queue of a stage was of length n
-abbrev pub lengths_of : ℕ → List Counted → Net → ℕ → ℕ → ℕ
+abbrev pub lengths_of : ℕ → List (List Counted) → Net → ℕ → ℕ → ℕ
 lengths_of k cells net stage n = sum_over k (λ t c. in_profile k net stage n c (kept_at cells t c).lengths) None 0 max_horizon
 
 -- a tally of nothing
@@ -57,13 +57,13 @@ abbrev pub profile_at : ℕ → List (List ℕ) → Net → ℕ → List ℕ
 profile_at k profiles net stage = slice_index_or profiles (profile_place k net stage) []
 
 -- what is kept adds up: the totals of each block and the profiles are those of the cells
-pub record AddsUp (k : ℕ) (cells : List Counted) (own all : List Tally) (profiles : List (List ℕ)) : Type 0 where
+pub record AddsUp (k : ℕ) (cells : List (List Counted)) (own all : List Tally) (profiles : List (List ℕ)) : Type 0 where
   pub few : k ≤ max_k
-  pub room : length cells ≡ components k * (max_horizon + 1)
+  pub room : length cells ≡ components k
   pub each : length own ≡ blocks * components k
   pub among : length all ≡ blocks
   pub stages : length profiles ≡ k + k
-  pub small : (i : ℕ) → IsSmall (slice_index_or cells i nothing)
+  pub small : (t c : ℕ) → IsSmall (kept_at cells t c)
   pub parts : (counter : Counter) (c b : ℕ) → c < components k → b < blocks
       → tallied counter (tally_at own (block_place c b)) ≡ counted_in k counter cells (Some c) b
   pub whole : (counter : Counter) (b : ℕ) → b < blocks → tallied counter (tally_at all b) ≡ counted_in k counter cells None b

@@ -13,6 +13,7 @@
 
 mod counted;
 mod counter;
+mod counts;
 mod profile;
 mod sums;
 mod tally;

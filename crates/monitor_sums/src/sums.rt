@@ -1,9 +1,9 @@
 //! The counters of a run, kept up to date.
-ghost use Rattle.std.specs.Prelude.{◌≡◌, ℕ, ◌+◌, ◌-◌, ◌*◌, ◌/◌, ◌^◌, ◌<◌, ◌≤◌, IfOk, Some, None, length, slice_index, replicate, ◌==◌, ◌&&◌, nat_le, nat_lt, if◌then◌else◌};
+ghost use Rattle.std.specs.Prelude.{◌≡◌, ℕ, ◌+◌, ◌-◌, ◌*◌, ◌/◌, ◌^◌, ◌<◌, ◌≤◌, IfOk, Some, None, [], length, slice_index, replicate, ◌==◌, ◌&&◌, nat_le, nat_lt, if◌then◌else◌};
 ghost use Rattle.std.specs.Option.{ForSome, option_copied};
 ghost use Rattle.omega_net.specs.Numbers.{components};
 ghost use Rattle.monitor_sums.specs.Sums.{States, sum_of, total_of, profile_of, changed, cleared, NonePast};
-ghost use Rattle.monitor_sums.specs.Kept.{StandsFor, place_of, kept_at, nothing};
+ghost use Rattle.monitor_sums.specs.Kept.{StandsFor, kept_at, nothing};
 ghost use Rattle.monitor_sums.specs.Adding.{sum_below};
 ghost use Rattle.monitor_sums.specs.declared.counter.Counter.{Counter as CounterIs};
 ghost use Rattle.monitor_sums.specs.Parts.{part, tallied, IsSmall};
@@ -13,6 +13,7 @@ ghost use Rattle.monitor_sums.specs.Limits.{max_components, profile_lengths, blo
 
 use crate::Counter;
 use crate::counted::Counted;
+use crate::counts::Counts;
 use crate::profile::{LENGTHS, Profile, move_lengths, place_of as profile_place, profile_at};
 use crate::tally::Tally;
 use grid_law::NoMemory;
@@ -37,7 +38,7 @@ const BLOCKS: usize = (CYCLES + 31) / 32;
 #[derive(Drop)]
 pub struct Sums {
     shape: Shape,
-    cells: Vec<Counted>,
+    cells: Vec<Counts>,
     own: Vec<Tally>,
     all: Vec<Tally>,
     profiles: Vec<Profile>,
@@ -66,12 +67,12 @@ impl Sums {
     }
 
     fn blank(alloc: Global, shape: Shape) -> Result<Sums, NoMemory>
-        ensures { IfOk result (λ sums. sums ≡ record { k = shape; cells = replicate (components shape * (max_horizon + 1)) nothing }) }
+        ensures { IfOk result (λ sums. sums ≡ record { k = shape; cells = replicate (components shape) [] }) }
     {
         let components = shape.components() as usize;
         Ok(Sums {
             shape,
-            cells: filled(alloc, Counted::nothing(), components * CYCLES)?,
+            cells: no_counts(alloc, components)?,
             own: filled(alloc, Tally::zero(), components * BLOCKS)?,
             all: filled(alloc, Tally::zero(), BLOCKS)?,
             profiles: filled(alloc, [0; LENGTHS], 2 * shape.k() as usize)?,
@@ -85,7 +86,8 @@ impl Sums {
         self.shape
     }
 
-    /// A cell holds this state now, or none. It takes no memory, and a fixed time.
+    /// A cell holds this state now, or none. It takes no memory, and a fixed time, but where the cell is
+    /// its component's last one so far: then the cells before it are filled up.
     pub fn change(&mut self, component: u32, cycle: u32, new: Option<&MachineState>)
         requires component { component < components self.old.k }
         requires cycle { cycle ≤ max_horizon }
@@ -230,8 +232,7 @@ impl Sums {
             old.lengths,
             new.lengths,
         );
-        let place = place_of(component, cycle);
-        self.cells[place] = new;
+        self.cells[component as usize].put(cycle, new);
     }
 }
 
@@ -284,8 +285,8 @@ fn move_tally(tallies: &mut Vec<Tally>, place: usize, old: &Counted, new: &Count
 
 /// What so many components counted from a cycle on and before another one.
 #[tactic(auto, using(crate::proofs::Adding::sum_none, crate::proofs::Adding::sum_more))]
-fn sum_all(cells: &Vec<Counted>, components: u32, counter: Counter, from: u32, end: u32) -> u64
-    requires room { length cells.now.items ≡ components * (max_horizon + 1) }
+fn sum_all(cells: &Vec<Counts>, components: u32, counter: Counter, from: u32, end: u32) -> u64
+    requires room { length cells.now.items ≡ components }
     requires few { components ≤ max_components }
     requires window { from ≤ end }
     requires within { end ≤ max_horizon + 1 }
@@ -300,8 +301,8 @@ fn sum_all(cells: &Vec<Counted>, components: u32, counter: Counter, from: u32, e
 }
 
 /// What a component counted from a cycle on and before another one.
-fn sum_at(cells: &Vec<Counted>, counter: Counter, component: u32, from: u32, end: u32) -> u64
-    requires there { place_of component max_horizon < length cells.now.items }
+fn sum_at(cells: &Vec<Counts>, counter: Counter, component: u32, from: u32, end: u32) -> u64
+    requires there { component < length cells.now.items }
     requires window { from ≤ end }
     requires within { end ≤ max_horizon + 1 }
     ensures value { result ≡ sum_below (λ i. part counter (kept_at cells.now.items (i + from) component)) (end - from) }
@@ -315,12 +316,11 @@ fn sum_at(cells: &Vec<Counted>, counter: Counter, component: u32, from: u32, end
 }
 
 /// What was counted for a cell.
-fn cell_at(cells: &Vec<Counted>, component: u32, cycle: u32) -> Counted
-    requires cycle { cycle ≤ max_horizon }
-    requires there { place_of component cycle < length cells.now.items }
+fn cell_at(cells: &Vec<Counts>, component: u32, cycle: u32) -> Counted
+    requires { component < length cells.now.items }
     ensures { result ≡ kept_at cells.now.items cycle component }
 {
-    cells[place_of(component, cycle)]
+    cells[component as usize].at(cycle)
 }
 
 /// The tally at a place.
@@ -331,12 +331,15 @@ fn tally_at(tallies: &Vec<Tally>, place: usize) -> Tally
     tallies[place]
 }
 
-/// Where a cell stands: those of component 0 by cycle, then those of component 1, and so on.
-fn place_of(component: u32, cycle: u32) -> usize
-    requires { cycle ≤ max_horizon }
-    ensures { result ≡ place_of component cycle }
+/// So many components that count nothing.
+fn no_counts(alloc: Global, count: usize) -> Result<Vec<Counts>, NoMemory>
+    ensures { IfOk result (λ counts. counts.items ≡ replicate count []) }
 {
-    component as usize * CYCLES + cycle as usize
+    let mut counts = Vec::with_capacity(alloc, count)?;
+    for _component in 0..count {
+        counts.push(Counts::new(alloc)?)?;
+    }
+    Ok(counts)
 }
 
 /// So many copies of a value.

@@ -46,9 +46,9 @@ pub invariant_of-self : goal.invariant_of-self
 invariant_of-self c =
     let there : c.args.component < components c.self.inside.shape = subst (λ (v : Kept). c.args.component < components v.k) (sym c.self.view_is) c.requires.component in
     put_read c.self.inside.shape c.self.inside.cells.items c.self.inside.own.items c.self.inside.all.items c.self.inside.profiles.items c.self.invariant
-    c.args.cycle c.args.component c.block_of-block.result c.block_place-own.result c.place_of-place.result c.args.new c.cell_at-old.result
+    c.args.cycle c.args.component c.block_of-block.result c.block_place-own.result c.args.new c.cell_at-old.result c.index_mut.result.now c.put.new.self
     c.move_tally.new.tallies.items c.move_tally-2.new.tallies.items c.move_lengths.new.profiles.items
-    c.requires.cycle there c.block_of-block.ensures c.block_place-own.ensures c.place_of-place.ensures c.cell_at-old.ensures c.requires.small
+    c.requires.cycle there c.block_of-block.ensures c.block_place-own.ensures c.cell_at-old.ensures c.requires.small c.index_mut.ensures.value c.put.ensures
     c.move_tally.ensures.size c.move_tally.ensures.moved c.move_tally.ensures.others
     c.move_tally-2.ensures.size c.move_tally-2.ensures.moved c.move_tally-2.ensures.others
     c.move_lengths.ensures.stages c.move_lengths.ensures.moved

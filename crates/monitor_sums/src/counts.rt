@@ -1,0 +1,79 @@
+//! What one component counts, by cycle.
+ghost use Rattle.std.specs.Prelude.{◌≡◌, ℕ, ◌<◌, ◌≤◌, [], IfOk, length, vec_capacity, slice_index_or, ◌==◌, if◌then◌else◌};
+ghost use Rattle.project_book.specs.Limits.{max_horizon};
+ghost use Rattle.monitor_sums.specs.Kept.{nothing};
+
+use crate::counted::Counted;
+use grid_law::NoMemory;
+use project_book::MAX_HORIZON;
+use std::alloc::Global;
+use std::marker::Model;
+
+/// What each cell of a component counts. It has room for every cycle up to the greatest horizon, and uses
+/// as much of it as the last cycle to which something was put; later cells count nothing.
+#[derive(Drop)]
+pub struct Counts {
+    counts: Vec<Counted>,
+}
+
+impl Model for Counts {
+    ghost use Rattle.std.specs.Prelude.{List, ◌<◌, ◌≤◌, ◌+◌, length, vec_capacity};
+    ghost use Rattle.project_book.specs.Limits.{max_horizon};
+    ghost use Rattle.monitor_sums.specs.declared.counted.Counted.{Counted};
+
+    ghost Value = { List Counted };
+
+    ghost view = { λ c. c.counts.items };
+
+    ghost invariant = { λ c. max_horizon < vec_capacity c.counts };
+}
+
+impl Counts {
+    /// A component that counts nothing.
+    pub fn new(alloc: Global) -> Result<Counts, NoMemory>
+        ensures { IfOk result (λ counts. counts ≡ []) }
+    {
+        let counts = Vec::with_capacity(alloc, MAX_HORIZON as usize + 1)?;
+        Ok(Counts { counts })
+    }
+
+    /// What the cell of a cycle counts.
+    pub fn at(&self, cycle: u32) -> Counted
+        ensures { result ≡ slice_index_or self.now cycle nothing }
+    {
+        match self.counts.get(cycle as usize) {
+            Some(counted) => *counted,
+            None => Counted::nothing(),
+        }
+    }
+
+    /// The cell of a cycle counts this now. It takes no memory.
+    pub fn put(&mut self, cycle: u32, new: Counted)
+        requires { cycle ≤ max_horizon }
+        ensures { (t : ℕ) → slice_index_or self.new t nothing ≡ (if t == cycle then new else slice_index_or self.old t nothing) }
+    {
+        put(&mut self.counts, cycle, new);
+    }
+}
+
+fn put(counts: &mut Vec<Counted>, cycle: u32, new: Counted)
+    requires within { cycle ≤ max_horizon }
+    requires room { max_horizon < vec_capacity counts.old }
+    ensures capacity { vec_capacity counts.new ≡ vec_capacity counts.old }
+    ensures each { (t : ℕ) → slice_index_or counts.new.items t nothing ≡ (if t == cycle then new else slice_index_or counts.old.items t nothing) }
+{
+    fill(counts, cycle as usize + 1);
+    counts[cycle as usize] = new;
+}
+
+/// Adds cells that count nothing, up to so many.
+fn fill(counts: &mut Vec<Counted>, size: usize)
+    requires room { size ≤ vec_capacity counts.old }
+    ensures capacity { vec_capacity counts.new ≡ vec_capacity counts.old }
+    ensures size { size ≤ length counts.new.items }
+    ensures each { (t : ℕ) → slice_index_or counts.new.items t nothing ≡ slice_index_or counts.old.items t nothing }
+{
+    while counts.len() < size {
+        counts.push_reserved(Counted::nothing());
+    }
+}
