@@ -3,7 +3,7 @@ use Rattle.std.proofs.Common.{◌≡◌, ℕ, suc, ◌∙◌, sym, ap, subst, re
 use Rattle.std.specs.Prelude.{IfOk, IfErr, IfSome}
 use Rattle.std.proofs.lemmas.Bool.{and_parts}
 use Rattle.cell_table.specs.declared.given.Given.{Given}
-use Rattle.cell_table.specs.declared.given.Given.TheVariants.{Gone, NotDue, Overtaken, Foreign, ClockSpent, Stored as GivenStored}
+use Rattle.cell_table.specs.declared.given.Given.TheVariants.{Gone, NotDue, Overtaken, Foreign, ClockSpent, Memory, Stored as GivenStored}
 use Rattle.cell_table.specs.declared.given.Settled.{Settled}
 use Rattle.cell_table.specs.declared.given.SettleFault.{SettleFault}
 use Rattle.cell_table.specs.Settling.{computed_of}
@@ -50,6 +50,7 @@ give_stands old new done given gives same o h stands = by_answer given gives
     by_answer Overtaken gives = record { accepted = stands.accepted; journal = same ∙ stands.journal; table = stands_given rp3_rules rp3_laws (table_start o) old.table new.table done (on_table o h) stands.table Overtaken gives }
     by_answer Foreign gives = record { accepted = stands.accepted; journal = same ∙ stands.journal; table = stands_given rp3_rules rp3_laws (table_start o) old.table new.table done (on_table o h) stands.table Foreign gives }
     by_answer (ClockSpent back) gives = record { accepted = stands.accepted; journal = same ∙ stands.journal; table = stands_given rp3_rules rp3_laws (table_start o) old.table new.table done (on_table o h) stands.table (ClockSpent back) gives }
+    by_answer (Memory back) gives = record { accepted = stands.accepted; journal = same ∙ stands.journal; table = stands_given rp3_rules rp3_laws (table_start o) old.table new.table done (on_table o h) stands.table (Memory back) gives }
     by_answer (GivenStored changed) gives = record { accepted = stands.accepted; journal = same ∙ stands.journal; table = stands_given rp3_rules rp3_laws (table_start o) old.table new.table done (on_table o h) stands.table (GivenStored changed) gives }
 
 pub give_answers : (old new : Shown) (done : Computed MachineState Project) (given : Given (Computed MachineState Project)) → GivesAs rp3_rules old.table done given new.table
@@ -64,6 +65,7 @@ project_given old new done NotDue g = ap (λ (v : Seen MachineState Project). v.
 project_given old new done Overtaken g = ap (λ (v : Seen MachineState Project). v.slots) g.3
 project_given old new done Foreign g = ap (λ (v : Seen MachineState Project). v.slots) g.2
 project_given old new done (ClockSpent back) g = ap (λ (v : Seen MachineState Project). v.slots) g.5
+project_given old new done (Memory back) g = ap (λ (v : Seen MachineState Project). v.slots) g.5
 project_given old new done (GivenStored changed) g = g.2.slots
 
 pub clock_is_given : (old new : Shown) (done : Computed MachineState Project) (given : Given (Computed MachineState Project)) → GivesAs rp3_rules old.table done given new.table → new.table.clock ≡ clock_given given old.table.clock
@@ -72,6 +74,7 @@ clock_is_given old new done NotDue g = ap (λ (v : Seen MachineState Project). v
 clock_is_given old new done Overtaken g = ap (λ (v : Seen MachineState Project). v.clock) g.3
 clock_is_given old new done Foreign g = ap (λ (v : Seen MachineState Project). v.clock) g.2
 clock_is_given old new done (ClockSpent back) g = ap (λ (v : Seen MachineState Project). v.clock) g.5
+clock_is_given old new done (Memory back) g = ap (λ (v : Seen MachineState Project). v.clock) g.5
 clock_is_given old new done (GivenStored changed) g = g.2.clock
 
 -- stores in a row

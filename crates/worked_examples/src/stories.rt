@@ -152,6 +152,8 @@ pub(crate) fn given(bench: &mut Bench, claim: Claim<Rp3>) -> Came {
             let Cell { cycle, component } = done.cell();
             Came::ClockSpent { component, cycle }
         }
+        // A growth was refused.
+        Given::Memory(_) => Came::Nothing,
         Given::Stored { changed } => Came::Stored { changed },
     }
 }

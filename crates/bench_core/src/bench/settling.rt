@@ -38,7 +38,8 @@ impl Bench {
 
     /// Stores the result of a claim where, since the claim, its cell stayed due and nothing that it read has changed.
     /// The answer is the first of `Given` that applies, in that order; all but `Stored` change nothing. The clock rises
-    /// by one where the state is another one than the cell held. It takes no memory.
+    /// by one where the state is another one than the cell held. It gets its memory before it changes anything, and
+    /// needs none where the state is the one held.
     pub fn give(&mut self, done: Done<Rp3>) -> Given<Done<Rp3>>
         ensures headline_foreign { GivesAs rp3_rules self.old.table done result self.new.table }
         ensures journal { self.new.journal ≡ self.old.journal }
