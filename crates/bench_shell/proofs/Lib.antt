@@ -5,3 +5,4 @@ mod Steps
 mod Writes
 mod Seats
 mod Openings
+mod Starts
