@@ -1,5 +1,18 @@
+ghost use Rattle.std.specs.Prelude.{◌≡◌, ◌<◌, length};
+
 use super::*;
 use std::test::Fail;
+
+/// Sets a mark of the second row.
+fn set(marks: &mut Marks, c: u32)
+    requires { c < marks.old.width }
+    ensures width { marks.new.width ≡ marks.old.width }
+    ensures rows { length marks.new.rows ≡ length marks.old.rows }
+{
+    if marks.len() == 2 {
+        marks.set(1, c);
+    }
+}
 
 // Rows of 70 components, so that a row has two words: the marks at 3, 63, 64 and 69 of one row are
 // found in turn, and counted.
@@ -7,11 +20,11 @@ use std::test::Fail;
 fn marks_of_two_words(rt: HostRuntime) -> Result<(), Fail> {
     let mut marks = Marks::new(rt.alloc(), 70);
     marks.grow(rt.alloc(), 2, false)?;
-    for c in [63, 3, 69, 64, 3] {
-        if marks.len() == 2 {
-            marks.set(1, c);
-        }
-    }
+    set(&mut marks, 63);
+    set(&mut marks, 3);
+    set(&mut marks, 69);
+    set(&mut marks, 64);
+    set(&mut marks, 3);
     let mut from = 0;
     for want in [Some(3), Some(63), Some(64), Some(69), None] {
         let first = marks.first_from(1, from);

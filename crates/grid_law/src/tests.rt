@@ -113,6 +113,9 @@ fn readers_of_slots(rt: HostRuntime) -> Result<(), Fail> {
 fn next_states(rt: HostRuntime) -> Result<(), Fail> {
     let alloc = rt.alloc();
     let line = three(alloc)?;
+    if Line::components(&line) < 2 {
+        return Err(Fail::from("no such place"));
+    }
     assert_eq!(rt; Line::next(alloc, &line, &[&7, &3, &5], 1)?, None);
     assert_eq!(rt; Line::next(alloc, &line, &[&2, &3, &5], 1)?, Some(10));
     Ok(())

@@ -21,6 +21,7 @@ use Rattle.shared_bench.specs.declared.view.Stage.{Stage}
 use Rattle.shared_bench.specs.declared.view.Stage.TheVariants.{Idle, Waiting, Serving, Filling}
 use Rattle.shared_bench.specs.Rule.{World, Kept, Fits, StageFits, AtHome, Home, first_project, spent_of, IsServer, count_bits, bit_of, tickets, many, live, journal_of, opened_of, first_view, AuthorsDrawn}
 use Rattle.shared_bench.specs.Turn.{IsProjectIn, staged, took, entered, HasTurn, Comes, comes, HasLegal, Fills, fills, left_with, leaves, IsLegalIn}
+use Rattle.shared_bench.proofs.Journals.{project_since}
 use Rattle.shared_bench.proofs.Seats.{St, Mine, at_length, only_one, seats_stay, sum_set, few_out, put, put_here, put_other, starts_refl, starts_nil}
 
 -- ---- a ticket
@@ -328,3 +329,13 @@ opens k n some_seat few most is =
             stage = (refl, lit< tt, refl, refl, sym (append-nil (opened_of k)), refl);
           } j u there;
     }
+
+-- the first seat may fill the slot with the bench of the opening
+abbrev MayFill : Mine → Shown → Type 0
+MayFill m d = ((t : ℕ) × (m.0.stage ≡ Filling t (spent_of d))) × (m.1 ≡ []) × (d.journal ≡ m.0.seen) × (m.0.gone ≡ false) × IsProjectIn m.0 d
+
+pub fills_first : (k : Opening) (m : Mine) (d : Shown) → m ≡ (first_view k, []) → d ≡ k.bench.value → MayFill m d
+fills_first k m d is same =
+    let opened = k.bench.value.journal in
+    let whole = ap (project_at (first_project k) opened) (sym (append-nil opened)) ∙ project_since (first_project k) opened [] in
+    subst (λ (n : Mine). MayFill n d) (sym is) (subst (MayFill (first_view k, [])) (sym same) ((0, refl), refl, refl, refl, sym whole))

@@ -31,6 +31,15 @@ fn put(alloc: Global, line: &mut Line<u32>, t: u32, state: u32) -> Result<(), Fa
     Ok(())
 }
 
+fn extend(line: &mut Line<u32>, t: u32) -> Result<(), Fail> {
+    if t == 0 || t >= line.len() {
+        return Err(Fail::from("no such cycle"));
+    }
+    line.reserve(t)?;
+    line.extend();
+    Ok(())
+}
+
 // A state that is put in the middle of a stretch splits it; one that goes on joins the next cycle
 // to it.
 #[test]
@@ -41,10 +50,7 @@ fn states_of_a_line(rt: HostRuntime) -> Result<(), Fail> {
     put(alloc, &mut line, 3, 30)?;
     put(alloc, &mut line, 1, 10)?;
     shows(&line, &[NO, Some(10), NO, Some(30), NO, NO])?;
-    line.reserve(4)?;
-    if line.len() == 6 {
-        line.extend();
-    }
+    extend(&mut line, 4)?;
     shows(&line, &[NO, Some(10), NO, Some(30), Some(30), NO])?;
     assert_eq!(rt; line.same_as_before(4), true);
     assert_eq!(rt; line.same_as_before(3), false);
