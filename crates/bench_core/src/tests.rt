@@ -36,15 +36,16 @@ fn base(alloc: Global) -> Result<Project, Fail> {
     Ok(project)
 }
 
-fn fresh(alloc: Global, clock: u64) -> Result<Bench, Fail> {
-    Ok(
-        Bench::new(alloc, base(alloc)?, clock)
-            .ok()
-            .ok_or("no memory")?,
-    )
+/// A bench of the base project. It stands in a box, since each way out of a function costs its proof something for every
+/// field that it lets go.
+fn fresh(alloc: Global, clock: u64) -> Result<Box<Bench>, Fail> {
+    let bench = Bench::new(alloc, base(alloc)?, clock)
+        .ok()
+        .ok_or("no memory")?;
+    Ok(Box::new(alloc, bench)?)
 }
 
-fn settled(alloc: Global) -> Result<Bench, Fail> {
+fn settled(alloc: Global) -> Result<Box<Bench>, Fail> {
     let mut bench = fresh(alloc, 0)?;
     bench.settle().ok().ok_or("not settled")?;
     Ok(bench)

@@ -1,0 +1,182 @@
+//! Projects, their files and their plain simulation.
+use crate::again::again;
+use machine_cells::from_scratch;
+use omega_net::ScriptEntry;
+use project_book::{Depths, Edit, Project};
+use project_file::{fault_place, read_project, write_project};
+use serial_order::{Ordered, order};
+use std::alloc::Global;
+use word_ops::{Kind, Op};
+
+/// A project of two processors that both add to one word, up to cycle 6.
+pub(crate) const FILE: &str = "format = 1
+k = 1
+horizon = 6
+combine = [true]
+[[page]]
+number = 0
+amount = 0
+base = 0
+[[word]]
+address = 0
+value = 10
+[[script]]
+processor = 0
+entries = [\"sync add 0 1\"]
+[[script]]
+processor = 1
+entries = [\"sync add 0 2\"]
+";
+
+/// The same with an entry that is none.
+const WRONG: &str = "format = 1
+k = 0
+horizon = 0
+[[script]]
+processor = 0
+entries = [\"fence\", \"jump 3\"]
+";
+
+/// The project of the file.
+pub(crate) fn project(alloc: Global) -> Option<Project> {
+    again(|| read_project(alloc, FILE.as_bytes()))
+}
+
+pub(crate) fn add(operand: u32) -> ScriptEntry {
+    ScriptEntry::Reference {
+        sync: true,
+        op: Op {
+            kind: Kind::Add,
+            operand,
+        },
+        address: 0,
+        times: 1,
+    }
+}
+
+/// An edit of each kind, each of which changes the project of the file.
+pub(crate) const EDITS: [Edit; 9] = [
+    Edit::Entry {
+        proc: 0,
+        index: 1,
+        entry: ScriptEntry::Fence,
+    },
+    Edit::Cut { proc: 1, length: 0 },
+    Edit::Word {
+        address: 300,
+        word: 5,
+    },
+    Edit::Page {
+        page: 0,
+        amount: 1,
+        base: 0,
+    },
+    Edit::Depth {
+        queue: Depths::LowForward,
+        depth: 5,
+    },
+    Edit::WaitDepth(3),
+    Edit::Combine {
+        stage: 0,
+        on: false,
+    },
+    Edit::Window(2),
+    Edit::Horizon(7),
+];
+
+pub(crate) fn made(alloc: Global) -> bool {
+    let Some(Some(new)) = again(|| Project::new(alloc, 2, 5)) else {
+        return false;
+    };
+    let Some(built_in) = again(|| Project::built_in(alloc)) else {
+        return false;
+    };
+    let Some(shared) = again(|| new.share()) else {
+        return false;
+    };
+    (new.k(), new.horizon()) == (2, 5)
+        && (built_in.k(), built_in.horizon()) == (0, 8)
+        && (shared.k(), shared.horizon()) == (2, 5)
+}
+
+pub(crate) fn edited(alloc: Global) -> bool {
+    let Some(mut project) = project(alloc) else {
+        return false;
+    };
+    for edit in EDITS {
+        let Some((next, changed)) = again(|| project.apply(edit)) else {
+            return false;
+        };
+        if changed.slots.is_empty() && changed.horizon.is_none() {
+            return false;
+        }
+        project = next;
+    }
+    project.length(0) == 2
+        && project.length(1) == 0
+        && project.word(300) == 5
+        && project.wait() == 3
+        && project.window() == 2
+        && project.horizon() == 7
+}
+
+pub(crate) fn read(alloc: Global) -> bool {
+    match project(alloc) {
+        Some(project) => {
+            project.entry(1, 0) == Some(add(2)) && project.word(0) == 10 && project.combine(0)
+        }
+        None => false,
+    }
+}
+
+/// What is written is read as the project.
+pub(crate) fn written(alloc: Global) -> bool {
+    let Some(project) = project(alloc) else {
+        return false;
+    };
+    let Some(bytes) = again(|| write_project(alloc, &project)) else {
+        return false;
+    };
+    match again(|| read_project(alloc, &bytes)) {
+        Some(back) => back.same(&project),
+        None => false,
+    }
+}
+
+pub(crate) fn placed(alloc: Global) -> bool {
+    match again(|| fault_place(alloc, WRONG.as_bytes())) {
+        Some(Some(line)) => line.as_str() == "script 0, entries 1: no script entry: \"jump 3\"",
+        _ => false,
+    }
+}
+
+pub(crate) fn simulated(alloc: Global) -> bool {
+    let Some(project) = project(alloc) else {
+        return false;
+    };
+    match again(|| from_scratch(alloc, &project)) {
+        Some(rows) => rows.len() == 7 && rows.iter().all(|row| row.len() == 6),
+        None => false,
+    }
+}
+
+/// Whether it is the order of the references 0.0 and 1.0.
+pub(crate) fn is_order(ordered: &Ordered) -> bool {
+    match ordered {
+        Ordered::Order(tags) => match tags.as_slice() {
+            [first, second] => (first.proc, second.proc) == (0, 1),
+            _ => false,
+        },
+        _ => false,
+    }
+}
+
+pub(crate) fn ordered(alloc: Global) -> bool {
+    let Some(project) = project(alloc) else {
+        return false;
+    };
+    match order(alloc, &project, 0) {
+        Ordered::Memory => is_order(&order(alloc, &project, 0)),
+        ordered => is_order(&ordered),
+    }
+}
