@@ -28,8 +28,8 @@ pub enum ProjectFault {
     Missing,
     /// A value is of another type than its key takes.
     WrongType,
-    /// A number is outside its limits, which in format 1 are narrower for k and the horizon, a page has no such interleaving, `combine` has another count
-    /// than k, or a script has more than 256 entries.
+    /// A number is outside its limits, which in format 1 are narrower for k and the horizon, a page has
+    /// no such interleaving, `combine` has another count than k, or a script has more than 256 entries.
     Range,
     /// A text in a script isn't an entry.
     Entry,
