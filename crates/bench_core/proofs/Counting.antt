@@ -28,7 +28,7 @@ use Rattle.bench_core.specs.Asks.{HoldsRunTo}
 use Rattle.monitor_sums.proofs.Over.{same_over}
 use Rattle.bench_core.proofs.Looking.{run_held}
 
-cases_le : (a b : ℕ) → (a ≤ b) ⊎ (b < a)
+pub cases_le : (a b : ℕ) → (a ≤ b) ⊎ (b < a)
 cases_le a b = by_test (nat_le a b) refl
   where
     by_test : (x : Bool) → nat_le a b ≡ x → (a ≤ b) ⊎ (b < a)
@@ -44,14 +44,14 @@ and_right true y e = e
 and_right false y e = cc
 
 -- a cell up to the horizon is present with what it holds; one past it with nothing
-present_at : (v : Seen MachineState Project) (t c : ℕ) → t ≤ v.horizon → present v t c ≡ held v t c
+pub present_at : (v : Seen MachineState Project) (t c : ℕ) → t ≤ v.horizon → present v t c ≡ held v t c
 present_at v t c le = let e : nat_le t v.horizon ≡ true = grind (arith, nat_tests) in rw e refl
 
-present_past : (v : Seen MachineState Project) (t c : ℕ) → v.horizon < t → present v t c ≡ None
+pub present_past : (v : Seen MachineState Project) (t c : ℕ) → v.horizon < t → present v t c ≡ None
 present_past v t c lt = let e : nat_le t v.horizon ≡ false = grind (arith, nat_tests) in rw e refl
 
 -- counters that stand for a map stand for one that is the same at each cell
-stands_along : (sums : Kept) (at other : States) → StandsFor sums at
+pub stands_along : (sums : Kept) (at other : States) → StandsFor sums at
     → ((t c : ℕ) → t ≤ MAX_HORIZON → c < components sums.k → at t c ≡ other t c) → StandsFor sums other
 stands_along sums at other stands same t c le lt = stands t c le lt ∙ ap counted (same t c le lt)
 

@@ -1,5 +1,5 @@
 -- Claims, returned results and settling, in the words of the bench's events.
-use Rattle.std.proofs.Common.{◌≡◌, ℕ, suc, ◌∙◌, sym, ap, subst, refl, inl, inr, Option, None, Some, List, [], ◌∷◌, ◌++◌, length, Result, Ok, Err}
+use Rattle.std.proofs.Common.{◌≡◌, ℕ, suc, ◌∙◌, sym, ap, subst, refl, inl, inr, Bool, Option, None, Some, List, [], ◌∷◌, ◌++◌, length, Result, Ok, Err}
 use Rattle.std.specs.Prelude.{IfOk, IfErr, IfSome}
 use Rattle.std.proofs.lemmas.Bool.{and_parts}
 use Rattle.cell_table.specs.declared.given.Given.{Given}
@@ -57,6 +57,17 @@ pub give_answers : (old new : Shown) (done : Computed MachineState Project) (giv
     → (o : Opening) (h : List Event) (n : ℕ) → Stands o old h → Made o done.claim h n → AnswersMade o h n done given
 give_answers old new done given gives o h n stands made =
     answers_made rp3_rules rp3_laws (table_start o) old.table new.table done (on_table o h) n stands.table made given gives
+
+-- a result that wasn't stored changes nothing
+pub not_stored : (old new : Seen MachineState Project) (done : Computed MachineState Project) (given : Given (Computed MachineState Project)) → GivesAs rp3_rules old done given new
+    → ((changed : Bool) → given ≡ GivenStored changed → ⊥) → new ≡ old
+not_stored old new done Gone g other = g.1
+not_stored old new done NotDue g other = g.2
+not_stored old new done Overtaken g other = g.3
+not_stored old new done Foreign g other = g.2
+not_stored old new done (ClockSpent back) g other = g.5
+not_stored old new done (Memory back) g other = g.5
+not_stored old new done (GivenStored changed) g other = absurd (other changed refl)
 
 -- what became of the project and of the clock
 pub project_given : (old new : Shown) (done : Computed MachineState Project) (given : Given (Computed MachineState Project)) → GivesAs rp3_rules old.table done given new.table → project_of new ≡ project_of old

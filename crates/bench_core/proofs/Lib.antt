@@ -2,6 +2,7 @@ pub mod Good
 pub mod Looking
 pub mod Rows
 pub mod Counting
+pub mod Filling
 pub mod Reporting
 pub mod Asking
 pub mod Answered
@@ -12,3 +13,4 @@ pub mod Waiting
 pub mod Happening
 mod Histories
 pub mod Ordering
+pub mod Keeping

@@ -1,11 +1,15 @@
 -- The due cells that a query waits for, by the events; where no cell is due, there are none.
-use Rattle.std.proofs.Common.{◌≡◌, ℕ, ◌<◌, ◌≤◌, ◌∙◌, sym, ap, subst, refl, arith, Bool, false, List, [], ◌∷◌, Result, Ok, Err}
-use Rattle.std.specs.Prelude.{OnOk}
+use Rattle.std.proofs.Common.{◌≡◌, ℕ, zero, suc, ◌<◌, ◌≤◌, ◌∙◌, inl, inr, sym, ap, subst, refl, arith, Bool, false, List, [], ◌∷◌, Result, Ok, Err}
+use Rattle.std.specs.Prelude.{OnOk, min}
+use Rattle.std.proofs.Math.Nat.{min-eq_left}
+use Rattle.std.proofs.lemmas.Bool.{cases_lt}
 use Rattle.omega_net.specs.Numbers.{components}
+use Rattle.cell_table.specs.Cones.{count_below, count_to, count_cone}
 use Rattle.cell_table.specs.Seen.{due_at}
 use Rattle.cell_table.specs.Due.{due}
 use Rattle.cell_table.specs.Events.{horizon_of}
 use Rattle.cell_table.specs.Settling.{IsSettled}
+use Rattle.cell_table.proofs.ConeRuns.{none_counted}
 use Rattle.cell_table.proofs.Counted.{count_to_same, count_cone_same, count_to_none, count_cone_none, marks_stand}
 use Rattle.machine_cells.specs.GridRules.{rp3_rules}
 use Rattle.project_book.specs.Project.{Project}
@@ -43,6 +47,24 @@ module _ (P : Project) (f : ℕ → ℕ → Bool) (none : (t c : ℕ) → t ≤ 
   waits_none (Level net m t) = count_to_none rp3_rules P P.horizon f none t
   waits_none (Bound x y p) = refl
   waits_none (Place a) = refl
+
+-- where no cell of the run is counted as due, none is
+none_below : (P : Project) (f : ℕ → ℕ → Bool) (t : ℕ) → count_below rp3_rules P f t ≡ 0 → (u c : ℕ) → u ≤ t → c < components P.k → f u c ≡ false
+none_below P f zero none u c le lt =
+    let first : u ≡ 0 = omega arith in
+    subst (λ n. f n c ≡ false) (sym first) (none_counted (f 0) 0 (components P.k) c none (omega arith) (omega arith))
+none_below P f (suc t) none u c le lt = elim (cases_lt t u) [
+  | inl last ↦ let same : u ≡ suc t = omega arith in subst (λ n. f n c ≡ false) (sym same) (none_counted (f (suc t)) 0 (components P.k) c (omega (arith, none)) (omega arith) (omega arith))
+  | inr before ↦ none_below P f t (omega (arith, none)) u c before lt
+]
+
+pub none_in_cone : (b : Shown) (n t c : ℕ) → n ≡ count_to rp3_rules (project_of b) (project_of b).horizon (due_at b.table.rows) (project_of b).horizon → n ≡ 0
+    → 0 ≡ count_cone rp3_rules (project_of b) (project_of b).horizon (due_at b.table.rows) t c
+none_in_cone b n t c counted none =
+    let P = project_of b in
+    let whole : min P.horizon P.horizon ≡ P.horizon = min-eq_left (omega arith) in
+    let below = none_below P (due_at b.table.rows) P.horizon (ap (count_below rp3_rules P (due_at b.table.rows)) (sym whole) ∙ sym counted ∙ none) in
+    sym (count_cone_none rp3_rules P P.horizon (due_at b.table.rows) below t c)
 
 -- after a settling that ended well no query waits
 pub ready : {T E : Type 0} (r : Result T E) (b : Shown) → IsBench b.table b.journal → OnOk r (IsSettled rp3_rules b.table) → OnOk r ((q : Query) → pending b q ≡ 0)

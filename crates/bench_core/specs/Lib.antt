@@ -5,3 +5,5 @@ pub mod Edits
 pub mod Asks
 pub mod Answers
 pub mod Told
+pub mod Recent
+pub mod Filling

@@ -12,9 +12,11 @@ mod looking;
 mod ordering;
 mod reporting;
 mod settling;
+mod wave;
 
 use crate::Noted;
 use crate::counters::Counters;
+use crate::recent::Recent;
 use cell_table::Table;
 use machine_cells::Rp3;
 use omega_net::Shape;
@@ -22,23 +24,27 @@ use project_book::Project;
 use std::alloc::Global;
 use std::marker::Model;
 
-/// A project, its run as far as it was computed, its counters, and the edits that were accepted.
+/// A project, its run as far as it was computed, its counters, the edits that were accepted, and the answers that were
+/// told last.
 #[derive(Drop)]
 pub struct Bench {
     table: Table<Rp3>,
     counters: Counters,
     journal: Vec<Noted>,
+    recent: Recent,
 }
 
 impl Model for Bench {
     ghost use Rattle.bench_core.specs.Shown.{Shown, IsBench, IsCounted};
     ghost use Rattle.bench_core.specs.Stands.{HasHistory};
+    ghost use Rattle.bench_core.specs.Recent.{AreTold};
+    ghost use Rattle.std.specs.Prelude.{length};
 
     ghost Value = { Shown };
 
     ghost view = { λ b. record { table = b.table; journal = b.journal.items } };
 
-    ghost invariant = { λ b. IsBench b.table b.journal.items × IsCounted b.counters b.table × HasHistory (record { table = b.table; journal = b.journal.items }) };
+    ghost invariant = { λ b. IsBench b.table b.journal.items × IsCounted b.counters b.table × HasHistory (record { table = b.table; journal = b.journal.items }) × AreTold b.table.slots (length b.journal.items) b.recent };
 }
 
 impl Bench {
@@ -57,11 +63,15 @@ impl Bench {
         let Ok(counters) = Counters::new(alloc, Shape::new(project.k()).unwrap()) else {
             return Err(project);
         };
+        let Ok(recent) = Recent::new(alloc) else {
+            return Err(project);
+        };
         match Table::new(alloc, project, horizon, clock) {
             Ok(table) => Ok(Bench {
                 table,
                 counters,
                 journal: Vec::new(alloc),
+                recent,
             }),
             Err(project) => Err(project),
         }

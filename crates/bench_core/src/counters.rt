@@ -1,5 +1,8 @@
 //! The counters of a bench.
-ghost use Rattle.std.specs.Prelude.{◌≡◌, ◌+◌, ◌≤◌, IfOk, None};
+ghost use Rattle.std.specs.Prelude.{◌≡◌, ◌+◌, ◌<◌, ◌≤◌, IfOk, None};
+ghost use Rattle.omega_net.specs.Numbers.{components};
+ghost use Rattle.bench_core.specs.Shown.{held};
+ghost use Rattle.bench_core.specs.Filling.{filled_in, filled_to};
 ghost use Rattle.monitor_sums.specs.Kept.{StandsFor};
 ghost use Rattle.monitor_sums.specs.Sums.{States, cleared};
 ghost use Rattle.project_book.specs.declared.limits.TheConstants.{MAX_HORIZON};
@@ -55,6 +58,31 @@ impl Counters {
     }
 }
 
+/// Counts what a component holds at the cycles from one on to before another.
+fn count_filled(sums: &mut Sums, table: &Table<Rp3>, component: u32, from: u32, to: u32)
+    requires component { component < components sums.old.k }
+    requires later { from ≤ to }
+    requires within { to ≤ MAX_HORIZON + 1 }
+    ensures shape { sums.new.k ≡ sums.old.k }
+    ensures stands { (at : States) → StandsFor sums.old at → StandsFor sums.new (filled_in at (held table.now) component from to) }
+{
+    for cycle in from..to {
+        sums.change(component, cycle, table.state(Cell { cycle, component }));
+    }
+}
+
+/// Counts what all components hold at the cycles from one on to before another.
+fn count_all_filled(sums: &mut Sums, table: &Table<Rp3>, from: u32, to: u32)
+    requires later { from ≤ to }
+    requires within { to ≤ MAX_HORIZON + 1 }
+    ensures shape { sums.new.k ≡ sums.old.k }
+    ensures stands { (at : States) → StandsFor sums.old at → StandsFor sums.new (filled_to at (held table.now) (components sums.old.k) from to) }
+{
+    for component in 0..sums.shape().components() {
+        count_filled(sums, table, component, from, to);
+    }
+}
+
 impl Watcher<Rp3> for Counters {
     ghost use Rattle.bench_core.specs.Shown.{IsCounted};
 
@@ -63,5 +91,9 @@ impl Watcher<Rp3> for Counters {
     fn stored(&mut self, table: &Table<Rp3>, cell: Cell) {
         self.sums
             .change(cell.component, cell.cycle, table.state(cell));
+    }
+
+    fn filled(&mut self, table: &Table<Rp3>, from: u32, cycles: u32) {
+        count_all_filled(&mut self.sums, table, from, from + cycles);
     }
 }

@@ -16,12 +16,10 @@ mod asked;
 mod bench;
 mod counters;
 mod noted;
+mod recent;
 mod told;
 
 pub use asked::Asked;
 pub use bench::Bench;
 pub use noted::Noted;
 pub use told::Told;
-
-#[cfg(test)]
-mod tests;

@@ -1,8 +1,7 @@
 -- What a pass does is what a desk is to do.
 use Rattle.std.proofs.Common.{◌≡◌, ℕ, ◌+◌, ◌≤◌, List, [], ◌∷◌, ◌++◌, length, refl, sym, ap, ◌∙◌, subst, arith, append_assoc, append-nil}
 use Rattle.std.proofs.lemmas.List.{length-append, map-append, nil_from_length}
-use Rattle.std.specs.Prelude.{drop, map, Result, Ok, Err}
-use Rattle.grid_law.specs.declared.no_memory.NoMemory.{NoMemory}
+use Rattle.std.specs.Prelude.{drop, Ok, Err}
 use Rattle.project_book.specs.Project.{Project}
 use Rattle.project_book.specs.Edits.{accepts, edited}
 use Rattle.project_book.specs.declared.edit.Edit.{Edit}
@@ -18,8 +17,8 @@ use Rattle.serial_order.specs.Answers.{AnswersOrder}
 use Rattle.serial_order.specs.declared.ordered.Ordered.{Ordered}
 use Rattle.shared_bench.specs.Legal.{Receipt, noted, StartsWith}
 use Rattle.shared_bench.specs.Known.{Known, IsLater}
-use Rattle.shared_bench.specs.Answers.{project_at, project_seen, after_entries, IsMet, IsInTurn, EditsAs}
-use Rattle.shared_bench.proofs.Journals.{project_push, project_since}
+use Rattle.shared_bench.specs.Answers.{project_at, project_seen, after_entries, IsMet, EditsAs}
+use Rattle.shared_bench.proofs.Journals.{project_push}
 use Rattle.bench_shell.specs.Store.{Store, version_in, edited_store, EditGives, IsToldAt, Orders}
 use Rattle.bench_shell.specs.Seated.{entries_of, own_journal, seated_store, IsSeated}
 

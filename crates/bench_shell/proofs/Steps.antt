@@ -13,6 +13,7 @@ use Rattle.bench_shell.specs.Steps.{has_lf, Holds, AnswersLine, Reaches, StopsWi
 use Rattle.bench_shell.specs.declared.answer.Answer.{Answer}
 use Rattle.bench_shell.specs.declared.answer.Answer.TheVariants.{BadLine, BadCut}
 use Rattle.bench_shell.proofs.Lines.{has_lf-snoc, lines_of-whole, lines_of-cut, output-long, store-long, output-whole, store-whole, output-cut, output-cut-long, store-cut, cut_is_one, whole_is_one, splits_none, splits_line, splits_both, output-split, store-split}
+use Rattle.bench_shell.proofs.Writes.{Appends-kept}
 
 -- nothing of a line has come
 pub holds_none : Holds false [] []
@@ -544,3 +545,20 @@ all_known r0 r2 w0 w2 s t p =
     let P : List ℕ → Type 0 = λ x. x ≡ p.0 in
     let Q : List ℕ → Type 0 = λ x. Appends w0 w2 (output s x) in
     if_some_weaker r0 P Q (λ x is. subst Q (sym is) p.3) (at_end r0 r2 p.0 p.1 p.2)
+
+-- what was written stays so where the writer hands it on
+pub goes_kept : (A B : Type 0) (w w' w'' : Option (List ℕ)) (s t : Store) (l l' : Bool) (h h' more : List ℕ)
+    → GoesOn w w' A B s l h more t l' h' → Keeps w' w'' → GoesOn w w'' A B s l h more t l' h'
+goes_kept A B w w' w'' s t l l' h h' more p k = (p.0, Appends-kept w w' w'' p.0 p.1 k, p.2, p.3)
+
+pub fails_kept : (w w' w'' : Option (List ℕ)) (s t : Store) (l : Bool) (h more : List ℕ) → FailsOn w w' s l h more t → Keeps w' w'' → FailsOn w w'' s l h more t
+fails_kept w w' w'' s t l h more p k = (p.0, Appends-kept w w' w'' p.0 p.1 k, p.2)
+
+-- and a run that stops there has stopped at the end of a line
+pub goes_fails : (A B : Type 0) (w w' w'' : Option (List ℕ)) (s t : Store) (l l' : Bool) (h h' more : List ℕ)
+    → GoesOn w w' A B s l h more t l' h' → Keeps w' w'' → B → FailsOn w w'' s l h more t
+goes_fails A B w w' w'' s t l l' h h' more p k b =
+    let P : List ℕ → Type 0 = λ text. Fails s l h text (p.0 ++ []) t in
+    let Q : List ℕ → Type 0 = λ written. Fails s l h more written t in
+    let stopped = moves_fails s t t l l' h h' more [] p.0 [] (p.3 b) (fails_at_once t t l' h' [] refl) in
+    (p.0, Appends-kept w w' w'' p.0 p.1 k, subst Q (append-nil p.0) (subst P (append-nil more) stopped))

@@ -31,7 +31,7 @@ pub trait Desk {
         ensures both { result ≡ ((store self.now).project.k, opening self.now) }
         ensures small { result.0 ≤ MAX_K };
 
-    /// Makes an edit: the new version, or why it was refused.
+    /// Makes an edit: the new version, or why it was refused. Then project and journal are as before.
     fn edit(&mut self, edit: Edit) -> Result<u32, EditFault>
         ensures earlier { is_alone self.new → is_alone self.old }
         ensures gives { is_alone self.new → EditGives (store self.old) edit result (store self.new) }
@@ -41,7 +41,8 @@ pub trait Desk {
         ensures kept { OnErr result (version_in (store self.new) ≡ version_in (store self.old)) }
         ensures spent { result ≡ Err EditFault.ClockSpent → clock_is_spent self.new };
 
-    /// Brings the run up to date, and answers a question about it. Threads may take part.
+    /// Brings the run up to date, and answers a question about it. Threads may take part. Project and journal stay as they
+    /// are, and the cells that were stored stay stored, whatever it answers.
     fn ask<T: Threads + Sync>(&mut self, rt: &T, query: Query) -> Told
         // Calls of a trait have such bounds by a clause alone.
         requires { IsSync T.row }

@@ -22,8 +22,6 @@ mod held;
 mod seated;
 mod serving;
 mod session;
-#[cfg(test)]
-mod tests;
 
 pub use answer::Answer;
 pub use desk::Desk;

@@ -180,10 +180,8 @@ fn take_byte<T: Threads + Sync, W: Sink, D: Desk>(
     desk: &mut D,
     version: &mut u32,
 ) -> Result<(), RunFault>
-    requires version { version.old ≡ version_in (D.store desk.old) }
-    requires flushed { W.is_flushed writer.old ≡ true }
+    requires { version.old ≡ version_in (D.store desk.old) }
     ensures version { OnOk result (version.new ≡ version_in (D.store desk.new)) }
-    ensures flushed { OnOk result (W.is_flushed writer.new ≡ true) }
     ensures earlier { D.is_alone desk.new → D.is_alone desk.old }
     ensures cause { HasCause result ⊥ (W.has_failed writer.new ≡ true) (¬ D.is_alone desk.new) (D.clock_is_spent desk.new) }
     ensures moves { OnOk result (GoesOn (W.contents writer.old) (W.contents writer.new) (D.is_alone desk.old) (D.is_alone desk.new)
@@ -199,14 +197,14 @@ fn take_byte<T: Threads + Sync, W: Sink, D: Desk>(
     match line_answer(rt, held, desk, version) {
         Ok(answer) => {
             held.clear();
-            tell(alloc, writer, answer)
+            write_line(alloc, writer, answer)
         }
         Err(fault) => Err(fault),
     }
 }
 
-/// Takes a piece of the input.
-fn take_piece<T: Threads + Sync, W: Sink, D: Desk>(
+/// Takes each byte of a piece of the input.
+fn take_each<T: Threads + Sync, W: Sink, D: Desk>(
     rt: &T,
     alloc: Global,
     held: &mut Held,
@@ -215,10 +213,8 @@ fn take_piece<T: Threads + Sync, W: Sink, D: Desk>(
     desk: &mut D,
     version: &mut u32,
 ) -> Result<(), RunFault>
-    requires version { version.old ≡ version_in (D.store desk.old) }
-    requires flushed { W.is_flushed writer.old ≡ true }
+    requires { version.old ≡ version_in (D.store desk.old) }
     ensures version { OnOk result (version.new ≡ version_in (D.store desk.new)) }
-    ensures flushed { OnOk result (W.is_flushed writer.new ≡ true) }
     ensures earlier { D.is_alone desk.new → D.is_alone desk.old }
     ensures cause { HasCause result ⊥ (W.has_failed writer.new ≡ true) (¬ D.is_alone desk.new) (D.clock_is_spent desk.new) }
     ensures moves { OnOk result (GoesOn (W.contents writer.old) (W.contents writer.new) (D.is_alone desk.old) (D.is_alone desk.new)
@@ -234,6 +230,36 @@ fn take_piece<T: Threads + Sync, W: Sink, D: Desk>(
         }
     }
     Ok(())
+}
+
+/// Takes a piece of the input, and hands on all that it was answered.
+fn take_piece<T: Threads + Sync, W: Sink, D: Desk>(
+    rt: &T,
+    alloc: Global,
+    held: &mut Held,
+    piece: &[u8],
+    writer: &mut W,
+    desk: &mut D,
+    version: &mut u32,
+) -> Result<(), RunFault>
+    requires { version.old ≡ version_in (D.store desk.old) }
+    ensures version { OnOk result (version.new ≡ version_in (D.store desk.new)) }
+    ensures flushed { OnOk result (W.is_flushed writer.new ≡ true) }
+    ensures earlier { D.is_alone desk.new → D.is_alone desk.old }
+    ensures cause { HasCause result ⊥ (W.has_failed writer.new ≡ true) (¬ D.is_alone desk.new) (D.clock_is_spent desk.new) }
+    ensures moves { OnOk result (GoesOn (W.contents writer.old) (W.contents writer.new) (D.is_alone desk.old) (D.is_alone desk.new)
+        (D.store desk.old) held.old.is_long held.old.bytes.items piece.now (D.store desk.new) held.new.is_long held.new.bytes.items) }
+    ensures fails { D.is_alone desk.new → OnErr result (FailsOn (W.contents writer.old) (W.contents writer.new)
+        (D.store desk.old) held.old.is_long held.old.bytes.items piece.now (D.store desk.new)) }
+    ensures same_reference { W.lender writer.new ≡ W.lender writer.old }
+{
+    match take_each(rt, alloc, held, piece, writer, desk, version) {
+        Ok(()) => hand_on(writer),
+        Err(fault) => {
+            let _ = writer.flush();
+            Err(fault)
+        }
+    }
 }
 
 /// Answers the line that the end of the input cuts.
@@ -259,8 +285,8 @@ fn finish<W: Sink>(alloc: Global, held: &Held, writer: &mut W) -> Result<(), Run
 }
 
 /// Answers each line that comes, until the input ends, over a reader and a writer that are watched. Each answer is one
-/// line, and is flushed before the next line is looked at and before more input is read. A line of any length takes
-/// bounded memory, and no byte is looked at twice. Threads take part in reports alone. The desk must not have edited since
+/// line; it is written before the next line is looked at, and flushed before more input is read and before the run ends.
+/// A line of any length takes bounded memory, and no byte is looked at twice. Threads take part in reports alone. The desk must not have edited since
 /// its opening.
 ///
 /// # Errors

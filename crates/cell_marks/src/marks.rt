@@ -121,6 +121,17 @@ impl Marks {
         self.total = moved(self.total, before, after);
     }
 
+    /// Takes all marks of a row away; a word of 64 in one step.
+    pub fn clear_row(&mut self, t: u32)
+        requires { t < length self.old.rows }
+        ensures { self.new ≡ record { width = self.old.width; rows = slice_set self.old.rows t (replicate self.old.width false) } }
+    {
+        let row = &mut self.rows[t as usize];
+        let before = row.count();
+        row.clear_all();
+        self.total -= u64::from(before);
+    }
+
     /// Adds m rows in which all is marked, or nothing.
     #[tactic(auto, using(crate::proofs::Totals::marked_grown))]
     pub fn grow(&mut self, alloc: Global, m: u32, is_marked: bool) -> Result<(), AllocError>

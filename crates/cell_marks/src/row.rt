@@ -3,7 +3,7 @@ ghost use Rattle.std.specs.Prelude.{◌≡◌, ℕ, ◌<◌, ◌≤◌, ◌+◌,
 ghost use Rattle.cell_marks.specs.Marked.{is_set, count_in, IsFirstFrom};
 
 use crate::word::word_of;
-use crate::words::{clear_in, first_in, has_in, set_in};
+use crate::words::{clear_all_in, clear_in, first_in, has_in, set_in};
 use std::alloc::{AllocError, Global};
 use std::marker::Model;
 
@@ -101,6 +101,14 @@ impl Row {
         let was_set = self.has(c);
         self.count = fewer(self.count, was_set);
         clear_in(&mut self.words, self.len, c);
+    }
+
+    /// Takes all marks away.
+    pub fn clear_all(&mut self)
+        ensures { self.new ≡ replicate (length self.old) false }
+    {
+        clear_all_in(&mut self.words);
+        self.count = 0;
     }
 }
 

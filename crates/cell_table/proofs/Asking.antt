@@ -1,17 +1,18 @@
 -- Which cells read a slot: those of its readers, asked once a stretch.
-use Rattle.std.proofs.Common.{◌≡◌, ℕ, zero, suc, ◌+◌, ◌-◌, ◌<◌, ◌≤◌, ◌∙◌, sym, ap, refl, arith, Bool, true, false, not, eqb, leb, ltb, eq-eqb, ◌&&◌, ◌||◌, ◌⊎◌, inl, inr, Option, None, Some, List, [], ◌∷◌, length, All}
+use Rattle.std.proofs.Common.{◌≡◌, ℕ, zero, suc, ◌+◌, ◌-◌, ◌<◌, ◌≤◌, ◌∙◌, sym, ap, refl, arith, Bool, true, false, not, eqb, leb, ltb, eq-eqb, ◌&&◌, ◌||◌, ◌⊎◌, inl, inr, Option, None, Some, is_some, List, [], ◌∷◌, length, All}
 use Rattle.std.specs.List.{list_any, Contains, AllByRecursion}
 use Rattle.std.proofs.lemmas.Bool.{cases_eq, cases_lt, ne_eqb, lt-ltb, le-ltb, eqb-true, true≢false, false≢true, and_parts}
 use Rattle.std.proofs.lemmas.Grind.{common_steps}
-use Rattle.std.proofs.lemmas.List.Elements.{All-contains, All-from_recursion, recursion_from_All}
+use Rattle.std.proofs.lemmas.List.Elements.{All-contains, All-from_recursion, All-weaker, recursion_from_All}
 use Rattle.grid_law.specs.declared.reader.Reader.{Reader}
 use Rattle.grid_law.specs.Rules.{Rules, Laws, is_first, reader_at}
-use Rattle.cell_table.specs.Seen.{Held, row_at, held_in, held_at}
-use Rattle.cell_table.specs.Inputs.{states_of, inputs_of}
-use Rattle.cell_table.specs.Reads.{reads_one, reads_any, is_reader}
+use Rattle.cell_table.specs.Seen.{Held, Seen, row_at, held_in, held_at}
+use Rattle.cell_table.specs.Cells.{IsThere}
+use Rattle.cell_table.specs.Inputs.{with_state, states_of, inputs_of}
+use Rattle.cell_table.specs.Reads.{reads_one, reads_any, reads_by, is_reader}
 use Rattle.cell_table.specs.Touches.{cell_reads_one}
 use Rattle.cell_table.proofs.States.{states_same, length_states_of, neither}
-use Rattle.cell_table.proofs.Tables.{inputs_first, inputs_later}
+use Rattle.cell_table.proofs.Tables.{inputs_first, inputs_later, all_there}
 
 or_assoc : (a b c : Bool) → ((a || b) || c) ≡ (a || (b || c))
 or_assoc true b c = refl
@@ -60,6 +61,26 @@ later_more false true t cycle to x b low up same = by_place (cases_lt t cycle) (
     by_place (inl h) i = rw (lt-ltb t cycle h, lt-ltb t to (omega arith), early h) (or_false ((leb 1 t && true) && x))
     by_place (inr h) (inl i) = rw (le-ltb t cycle h, lt-ltb t to i, some h, late h) (sym (same h i))
     by_place (inr h) (inr i) = rw (le-ltb t cycle h, le-ltb t to i, some h, late h) refl
+
+-- a range and the one behind it
+pub range_on : (m k : Bool) (t from mid to : ℕ) (x b : Bool) → from ≤ mid → mid ≤ to → (mid ≤ t → t < to → x ≡ b) → ((m || ((k && (leb from t && ltb t mid)) && x)) || ((k && (leb mid t && ltb t to)) && b)) ≡ (m || ((k && (leb from t && ltb t to)) && x))
+range_on true k t from mid to x b low up same = refl
+range_on false false t from mid to x b low up same = refl
+range_on false true t from mid to x b low up same = by_place (cases_lt t mid) (cases_lt t to)
+  where
+    some : mid ≤ t → leb from t ≡ true
+    some h = grind (arith, common_steps)
+
+    late : mid ≤ t → leb mid t ≡ true
+    late h = grind (arith, common_steps)
+
+    early : t < mid → leb mid t ≡ false
+    early h = grind (arith, common_steps)
+
+    by_place : (t < mid) ⊎ (mid ≤ t) → (t < to) ⊎ (to ≤ t) → (((leb from t && ltb t mid) && x) || ((leb mid t && ltb t to) && b)) ≡ ((leb from t && ltb t to) && x)
+    by_place (inl h) i = rw (lt-ltb t mid h, lt-ltb t to (omega arith), early h) (or_false ((leb from t && true) && x))
+    by_place (inr h) (inl i) = rw (le-ltb t mid h, lt-ltb t to i, some h, late h) (sym (same h i))
+    by_place (inr h) (inr i) = rw (le-ltb t mid h, le-ltb t to i, some h, late h) refl
 
 -- all later cycles are those that aren't the first
 pub later_all : (component c t last : ℕ) (x : Bool) → t ≤ last → ((eqb c component) && ((leb 1 t && ltb t (last + 1)) && x)) ≡ (is_reader (reader_at component false) t c && x)
@@ -134,14 +155,30 @@ module _ {State Slots Slot : Type 0} (R : Rules State Slots Slot) where
       ∙ states_same (row_at rows (t - 1)) (row_at rows (t - 1 - 1)) (R.near s c) (flip (row_at rows (t - 1 - 1)) (row_at rows (t - 1)) (R.near s c) (recursion_from_All _ (R.near s c) stay))
       ∙ sym (inputs_later R s rows (t - 1) c (λ e. absurd (omega arith)))
 
-  pub same_more : (s : Slots) (rows : List (List (Held State))) (c from end : ℕ) → 1 ≤ from → from < end → ((t : ℕ) → from ≤ t → t < end → inputs_of R s rows t c ≡ inputs_of R s rows from c) → All (λ m. (held_at rows (end - 1 - 1) m).state ≡ (held_at rows (end - 1) m).state) (R.near s c) → (t : ℕ) → from ≤ t → t < end + 1 → inputs_of R s rows t c ≡ inputs_of R s rows from c
-  same_more s rows c from end low up same stay t h k = by_place (cases_lt t end)
+  -- after cycle 0 its own state alone tells what a component reads, where the other near states are there
+  pub by_own : Laws R → (s : Slots) (rows : List (List (Held State))) (c t : ℕ) (slot : Slot) (o : Option State) → 0 < t → (held_at rows (t - 1) c).state ≡ o → reads_one R s c slot (inputs_of R s rows t c) ≡ (is_some (inputs_of R s rows t c) && reads_by R s c slot o)
+  by_own laws s rows c t slot o later own =
+      let near = laws.near_first s c in
+      let row = row_at rows (t - 1) in
+      let inputs : inputs_of R s rows t c ≡ with_state o (states_of row near.0) =
+      inputs_later R s rows t c (λ e. absurd (omega (arith, e)))
+      ∙ ap (states_of row) near.1
+      ∙ ap (λ x. with_state x (states_of row near.0)) own in
+      ap (reads_one R s c slot) inputs ∙ by_states o (states_of row near.0) ∙ sym (ap (λ x. is_some x && reads_by R s c slot o) inputs)
     where
-      by_place : (t < end) ⊎ (end ≤ t) → inputs_of R s rows t c ≡ inputs_of R s rows from c
-      by_place (inl l) = same t h l
-      by_place (inr l) =
-          let e : t ≡ end = omega (arith, k, l) in
-          ap (λ u. inputs_of R s rows u c) e ∙ same_next s rows c end (omega (arith, low, up)) stay ∙ same (end - 1) (omega (arith, up)) (omega (arith, up))
+      by_states : (o : Option State) (others : Option (List State)) → reads_one R s c slot (with_state o others) ≡ (is_some (with_state o others) && reads_by R s c slot o)
+      by_states None others = refl
+      by_states (Some x) None = refl
+      by_states (Some x) (Some xs) = laws.reads_own s x xs c slot
+
+  -- where all cells hold a state, each has its near states
+  pub ready_where_held : Laws R → (v : Seen State Slots) (f : ℕ → ℕ → State) → ((t c : ℕ) → IsThere R v t c → (held_at v.rows t c).state ≡ Some (f t c)) → (t c : ℕ) → IsThere R v t c → is_some (inputs_of R v.slots v.rows t c) ≡ true
+  ready_where_held laws v f held t c there = by_cycle (cases_eq t 0)
+    where
+      by_cycle : (t ≡ 0) ⊎ (t ≡ 0 → ⊥) → is_some (inputs_of R v.slots v.rows t c) ≡ true
+      by_cycle (inl e) = ap is_some (inputs_first R v.slots v.rows t c e)
+      by_cycle (inr n) =
+          ap is_some (inputs_later R v.slots v.rows t c n) ∙ all_there (row_at v.rows (t - 1)) (R.near v.slots c) (recursion_from_All _ (R.near v.slots c) (All-weaker (λ m. m < R.components v.slots) (λ m. is_some (held_at v.rows (t - 1) m).state ≡ true) (λ m k. ap is_some (held (t - 1) m (record { cycle = omega (arith, there.cycle); component = k }))) (R.near v.slots c) (laws.near_within v.slots c there.component)))
 
   -- a reader stands for its component
   pub of_reader : (r : Reader) (t c : ℕ) → is_reader r t c ≡ true → r.component ≡ c

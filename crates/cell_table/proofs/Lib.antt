@@ -4,6 +4,10 @@ pub mod Marking
 pub mod Tables
 pub mod States
 pub mod Stores
+pub mod Trailing
+pub mod Filled
+pub mod FilledRows
+pub mod MarkedCycle
 pub mod Touched
 pub mod Asking
 pub mod Shortcut
@@ -20,3 +24,4 @@ pub mod Passes
 pub mod Cones
 pub mod ConeRuns
 pub mod Counted
+pub mod Waves

@@ -72,7 +72,7 @@ module _ {State Slots Slot : Type 0} (R : Rules State Slots Slot) where
     clock = λ last. last;
   }
 
-  settling_along : (old v : Seen State Slots) (done : List (Event State Slots Slot)) (t0 c0 t c : ℕ) → Settling R old done v t0 c0 → AtOrAfter t0 c0 t c → Settling R old done v t c
+  pub settling_along : (old v : Seen State Slots) (done : List (Event State Slots Slot)) (t0 c0 t c : ℕ) → Settling R old done v t0 c0 → AtOrAfter t0 c0 t c → Settling R old done v t c
   settling_along old v [] t0 c0 t c e a = e
   settling_along old v (Edits next listed to ∷ done) t0 c0 t c e a = e
   settling_along old v (Claims t1 c1 ∷ done) t0 c0 t c e a = e

@@ -35,7 +35,7 @@ module _ {State : Type 0} where
   both_there (Some x) (Some xs) h k = refl
 
   -- where each component has a state, all their states are there
-  all_there : (row : List (Held State)) (ms : List ℕ) → AllByRecursion (λ m. is_some (held_in row m).state ≡ true) ms → is_some (states_of row ms) ≡ true
+  pub all_there : (row : List (Held State)) (ms : List ℕ) → AllByRecursion (λ m. is_some (held_in row m).state ≡ true) ms → is_some (states_of row ms) ≡ true
   all_there row [] h = refl
   all_there row (m ∷ ms) h = both_there (held_in row m).state (states_of row ms) h.0 (all_there row ms h.1)
 

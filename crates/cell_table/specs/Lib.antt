@@ -19,3 +19,5 @@ pub mod Cones
 pub mod Settling
 pub mod Cost
 pub mod Layout
+pub mod Waves
+pub mod Filling

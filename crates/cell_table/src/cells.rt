@@ -1,17 +1,23 @@
 //! What is held for the cells.
-ghost use Rattle.std.specs.Prelude.{◌≡◌, ℕ, ◌+◌, ◌-◌, ◌<◌, ◌≤◌, ◌++◌, ◌^◌, ◌↔◌, IsTrue, All, IfOk, OnOk, OnErr, IfErr, length, replicate, map, take, option_map, is_some, true, false, MatchOption, Some, None, if◌then◌else◌, nat_lt};
+ghost use Rattle.std.specs.Prelude.{◌≡◌, ℕ, ◌+◌, ◌-◌, ◌<◌, ◌≤◌, ◌++◌, ◌^◌, ◌↔◌, IsTrue, All, IfOk, OnOk, OnErr, IfErr, length, replicate, map, take, option_map, is_some, true, false, MatchOption, Some, None, if◌then◌else◌, nat_lt, slice_index_or, []};
 ghost use Rattle.std.specs.Option.{option_copied};
 ghost use Rattle.std.specs.Arc.{arc_value};
 ghost use Rattle.cell_table.specs.Seen.{fresh, stored, marked, held_at, row_at, due_in_row, due_up_to};
 ghost use Rattle.cell_table.specs.Inputs.{states_of};
+ghost use Rattle.cell_table.specs.Readers.{IsIndex};
+ghost use Rattle.grid_law.specs.Run.{run};
 ghost use Rattle.cell_table.specs.Settling.{IsNextDueInRow};
 ghost use Rattle.cell_table.specs.Layout.{cleared, IsOtherCell};
 
+mod standing;
+
 use crate::Cell;
+use crate::fill::fill_lines;
 use crate::lines::{
-    cut_ends, grow_ends, lines_of, put_state, repeat_state, reserve_ends, shared_in, state_in,
-    stays_in,
+    are_empty_from, cut_ends, grow_ends, lines_of, put_state, repeat_state, reserve_ends,
+    shared_in, state_in, stays_in,
 };
+use crate::readers::Readers;
 use crate::versions::{Versions, grow_rows, rows_of, set_version, version_in};
 use cell_marks::Marks;
 use grid_law::{Grid, NoMemory};
@@ -94,6 +100,14 @@ impl<S: Drop> Cells<S> {
         ensures { result ≡ true → (0 < cell.cycle) × ((held_at self.now (cell.cycle - 1) cell.component).state ≡ (held_at self.now cell.cycle cell.component).state) }
     {
         stays_in(&self.lines, cell)
+    }
+
+    /// Whether no cell holds a state from a cycle on, known by one look at each component; there may
+    /// be such cycles besides.
+    pub(crate) fn is_empty_from(&self, cycle: u32) -> bool
+        ensures { result ≡ true → (t c : ℕ) → cycle ≤ t → (held_at self.now t c).state ≡ None }
+    {
+        are_empty_from(&self.lines, cycle)
     }
 
     pub(crate) fn is_due(&self, cell: Cell) -> bool
@@ -306,4 +320,47 @@ pub(crate) fn are_held<G: Grid>(
         }
     }
     true
+}
+
+/// Takes the marks of these rows away.
+fn clear_rows(due: &mut Marks, from: u32, to: u32)
+    requires after { from ≤ to }
+    requires end { to ≤ length due.old.rows }
+    ensures width { due.new.width ≡ due.old.width }
+    ensures len { length due.new.rows ≡ length due.old.rows }
+    ensures cleared { (t : ℕ) → from ≤ t → t < to → slice_index_or due.new.rows t [] ≡ replicate due.old.width false }
+    ensures earlier { (t : ℕ) → t < from → slice_index_or due.new.rows t [] ≡ slice_index_or due.old.rows t [] }
+    ensures later { (t : ℕ) → to ≤ t → slice_index_or due.new.rows t [] ≡ slice_index_or due.old.rows t [] }
+{
+    for t in from..to {
+        due.clear_row(t);
+    }
+}
+
+/// Fills the cells, which hold the run to before a cycle and nothing from there on, with the run: to before which cycle.
+/// What is filled isn't due. Where memory is wanting, it ends earlier.
+pub(crate) fn fill_cells<G: Grid>(
+    cells: &mut Cells<G::State>,
+    slots: &G::Slots,
+    readers: &Readers,
+    from: u32,
+) -> u32
+    requires from { from < length cells.old }
+    requires whole { (t : ℕ) → t < length cells.old → length (row_at cells.old t) ≡ G.rules.components slots.now }
+    requires index { IsIndex G.rules slots.now readers.now }
+    requires known { (t c : ℕ) → c < G.rules.components slots.now → t < from → (held_at cells.old t c).state ≡ Some (run G.rules slots.now t c) }
+    requires none { (t c : ℕ) → c < G.rules.components slots.now → from ≤ t → t < length cells.old → (held_at cells.old t c).state ≡ None }
+    ensures len { length cells.new ≡ length cells.old }
+    ensures lens { (t : ℕ) → t < length cells.old → length (row_at cells.new t) ≡ G.rules.components slots.now }
+    ensures from { from ≤ result }
+    ensures end { result ≤ length cells.old }
+    ensures earlier { (t c : ℕ) → c < G.rules.components slots.now → t < from → held_at cells.new t c ≡ held_at cells.old t c }
+    ensures states { (t c : ℕ) → c < G.rules.components slots.now → t < result → (held_at cells.new t c).state ≡ Some (run G.rules slots.now t c) }
+    ensures settled { (t c : ℕ) → c < G.rules.components slots.now → from ≤ t → t < result → (held_at cells.new t c).is_due ≡ false }
+    ensures rest { (t c : ℕ) → c < G.rules.components slots.now → result ≤ t → t < length cells.old → held_at cells.new t c ≡ held_at cells.old t c }
+{
+    let end = cells.due.len();
+    let to = fill_lines::<G>(&mut cells.lines, slots, readers, from, end);
+    clear_rows(&mut cells.due, from, to);
+    to
 }

@@ -47,7 +47,8 @@
 //! (`state_line`), in which equal states at consecutive cycles are one stretch, and the due cells are
 //! bits that are counted (`cell_marks`). So an edit asks the readers of a slot once for each stretch;
 //! a cell whose near cells all go on in their stretches gets the state of the cell before it without
-//! a step; and where nothing is due, one number tells it.
+//! a step; and where nothing is due, one number tells it. Cycles that are all new are filled: each is
+//! computed before it is stored, and only components near one that changed are looked at.
 //!
 //! The crate stands on `grid_law` for grids and their laws, on `state_line` and `cell_marks`, and on
 //! `arrayvec` for lists of near components.
@@ -58,6 +59,7 @@ mod cells;
 mod claim;
 mod components;
 mod cone;
+mod fill;
 mod given;
 mod lines;
 mod marks;
@@ -67,12 +69,11 @@ mod rows;
 mod table;
 mod versions;
 mod watcher;
+mod work;
 
 pub use cell::Cell;
 pub use claim::{Claim, Done};
 pub use given::{Given, SettleFault, Settled, StoreFault, TouchFault};
 pub use table::Table;
 pub use watcher::Watcher;
-
-#[cfg(test)]
-mod tests;
+pub use work::Work;

@@ -58,6 +58,18 @@ pub(crate) fn stays_in<S: Drop>(lines: &Vec<Line<S>>, cell: Cell) -> bool
     }
 }
 
+/// Whether no line has a state from a cycle on; there may be such cycles besides.
+pub(crate) fn are_empty_from<S: Drop>(lines: &Vec<Line<S>>, cycle: u32) -> bool
+    ensures { result ≡ true → (t c : ℕ) → cycle ≤ t → state_at lines.now.items t c ≡ None }
+{
+    for c in 0..lines.len() {
+        if !lines[c].is_empty_from(cycle) {
+            return false;
+        }
+    }
+    true
+}
+
 /// Puts another state for a cell; where memory is wanting, it comes back, and no state changes.
 pub(crate) fn put_state<S: Drop>(
     lines: &mut Vec<Line<S>>,
@@ -98,9 +110,9 @@ pub(crate) fn repeat_state<S: Drop>(lines: &mut Vec<Line<S>>, cell: Cell) -> Res
     }
 }
 
-/// Gets the memory for more cycles behind the n that there are.
+/// Gets the memory for a change at cycle n of each line, or for more cycles behind it where there are n.
 pub(crate) fn reserve_ends<S: Drop>(lines: &mut Vec<Line<S>>, n: u32) -> Result<(), NoMemory>
-    requires { (c : ℕ) → c < length lines.old.items → length (line_at lines.old.items c).states ≡ n }
+    requires { (c : ℕ) → c < length lines.old.items → n ≤ length (line_at lines.old.items c).states }
     ensures same { IsSameStates lines.old.items lines.new.items }
     ensures ready { OnOk result ((c : ℕ) → c < length lines.old.items → ((line_at lines.new.items c).place ≡ n) × (0 < (line_at lines.new.items c).room)) }
 {

@@ -70,6 +70,9 @@ fn resize<S: Drop>(cells: &mut Cells<S>, horizon: u32, version: u64) -> Result<(
 {
     let before = cells.cycles();
     if horizon < before {
+        if horizon + 1 == before {
+            return Ok(());
+        }
         cells.truncate(horizon + 1);
         return Ok(());
     }

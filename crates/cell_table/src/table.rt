@@ -14,9 +14,12 @@ ghost use Rattle.grid_law.specs.Run.{run};
 
 mod claiming;
 mod cone;
+mod filling;
 mod giving;
 mod settling;
+mod standing;
 mod touching;
+mod wave;
 
 use crate::Cell;
 use crate::cells::Cells;

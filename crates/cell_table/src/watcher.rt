@@ -4,10 +4,11 @@ use crate::{Cell, Table};
 use grid_law::Grid;
 
 /// Who is told of each state that is stored, right afterwards: `Table::settle_watched` tells it,
-/// and so may whoever calls `Table::give`.
+/// and so may whoever calls `Table::give`. Of cycles that are new it is told at once.
 pub trait Watcher<G: Grid> {
     ghost use Rattle.cell_table.specs.Seen.{Seen};
     ghost use Rattle.cell_table.specs.Gives.{IsStored};
+    ghost use Rattle.cell_table.specs.Filling.{IsFilled};
 
     /// What a watcher keeps of the table that it watches.
     ghost keeps: { Self → Seen G.State G.Slots → Type 0 };
@@ -15,6 +16,11 @@ pub trait Watcher<G: Grid> {
     /// A state was stored for the cell.
     fn stored(&mut self, table: &Table<G>, cell: Cell)
         requires { (before : Seen G.State G.Slots) × keeps self.old before × IsStored G.rules before table.now cell.cycle cell.component }
+        ensures { keeps self.new table.now };
+
+    /// States were stored for all cells of so many cycles from one on, which held none.
+    fn filled(&mut self, table: &Table<G>, from: u32, cycles: u32)
+        requires { (before : Seen G.State G.Slots) × keeps self.old before × IsFilled G.rules before table.now from cycles }
         ensures { keeps self.new table.now };
 }
 
@@ -28,5 +34,11 @@ impl<G: Grid> Watcher<G> for Nobody {
     fn stored(&mut self, table: &Table<G>, cell: Cell) {
         let _ = table;
         let _ = cell;
+    }
+
+    fn filled(&mut self, table: &Table<G>, from: u32, cycles: u32) {
+        let _ = table;
+        let _ = from;
+        let _ = cycles;
     }
 }

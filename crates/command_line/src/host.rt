@@ -4,7 +4,7 @@ use crate::folder::Disk;
 use crate::start::{Stop, serve_words};
 use bench_shell::Hall;
 use std::env;
-use std::io::{Eprint, ErrorKind, Print, Read, Write};
+use std::io::{BufWriter, Eprint, ErrorKind, Print, Read, Write};
 use std::process::ExitCode;
 use std::rt::{Env, Files};
 
@@ -37,13 +37,17 @@ pub fn program<H: Host, R: Read, W: Write>(rt: &H, reader: &mut R, writer: &mut 
     else {
         return ended(rt, &Stop::At(End::CannotStart));
     };
+    // Answers are handed on before more input is read, in one write where several lines were at hand.
+    let Ok(mut writer) = BufWriter::new(rt.alloc(), writer) else {
+        return ended(rt, &Stop::At(End::CannotStart));
+    };
     let stop = serve_words(
         rt,
         rt.alloc(),
         texts.as_slice(),
         &Disk::new(rt),
         reader,
-        writer,
+        &mut writer,
     );
     ended(rt, &stop)
 }

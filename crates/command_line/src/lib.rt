@@ -17,8 +17,6 @@ mod file;
 mod folder;
 mod host;
 mod start;
-#[cfg(test)]
-mod tests;
 mod words;
 
 pub use end::{End, refusal, status};

@@ -1,4 +1,5 @@
-//! Plays the examples and the sessions of the pages that lie beside it, and tells whether the answers are the expected ones.
+//! Plays the examples and the sessions of the pages that lie beside it, and makes the pictures of the examples again: it tells
+//! whether the answers and the pictures are the expected ones.
 #![tactic(auto)]
 
 ghost use Rattle.std.specs.Prelude.{◌≡◌, IfSome};
@@ -7,12 +8,14 @@ ghost use Rattle.bench_shell.specs.Store.{first_store};
 ghost use Rattle.example_runs.specs.Verdicts.{Judges};
 
 mod page;
+mod pictures;
 mod verdict;
 
 use bench_core::Bench;
 use bench_shell::run;
 use command_line::read_file;
 use page::{Session, sessions};
+use pictures::{RUNS, play};
 use project_book::Project;
 use project_file::read_project;
 use std::alloc::{AllocGlobal, Global};
@@ -50,6 +53,9 @@ fn main(rt: HostRuntime) -> io::Result<ExitCode> {
             println!(rt; "{name}, {session}: {verdict}")?;
             status = status_after(status, verdict);
         }
+    }
+    for words in RUNS {
+        status = play(&rt, words, status)?;
     }
     Ok(ExitCode::from(status))
 }

@@ -1,5 +1,5 @@
 -- How long references wait for their replies.
-use Rattle.std.specs.Prelude.{ℕ, ◌+◌, ◌-◌, ◌^◌, ◌==◌, not, Bool, false, if◌then◌else◌, List, [], ◌++◌, filter, Option, None, Some, slice_get, option_map, option_to_list}
+use Rattle.std.specs.Prelude.{◌≡◌, ℕ, ◌+◌, ◌-◌, ◌^◌, ◌==◌, not, Bool, false, if◌then◌else◌, List, [], ◌++◌, filter, Option, None, Some, slice_get, option_map, option_to_list, length, sum}
 use Rattle.std.specs.List.{flat_map}
 use Rattle.omega_net.specs.declared.message.Reply.{Reply}
 use Rattle.omega_net.specs.declared.script.ScriptEntry.{ScriptEntry}
@@ -9,7 +9,12 @@ use Rattle.omega_net.specs.Wires.{below}
 use Rattle.project_book.specs.Project.{Project, entry_at}
 use Rattle.machine_cells.specs.declared.state.MachineState.{MachineState}
 use Rattle.machine_cells.specs.declared.state.MachineState.TheVariants.{Proc}
+use Rattle.machine_cells.specs.Run.{run}
+use Rattle.machine_cells.specs.Runs.{state_in}
 use Rattle.run_queries.specs.Answers.{has_sent}
+use Rattle.experiments.specs.declared.load.Load.{Load}
+use Rattle.experiments.specs.declared.delays.ColdWaits.{ColdWaits}
+use Rattle.experiments.specs.Loads.{IsLoaded}
 
 -- the cycles before t whose state shows that processor p just issued a reference, upwards: at place n that of issue n
 abbrev pub issue_cycles : (ℕ → ℕ → Option MachineState) → ℕ → ℕ → List ℕ
@@ -37,3 +42,9 @@ waits_of P at from to p = flat_map (λ i. waits_in P p (issue_cycles at p to) (i
 
 abbrev pub waits : Project → (ℕ → ℕ → Option MachineState) → ℕ → ℕ → List ℕ
 waits P at from to = flat_map (waits_of P at from to) (below (2 ^ P.k))
+
+-- so many replies came to references that aren't hot, and took so many cycles in all, from a cycle to the last one in the
+-- run of a project of the load
+abbrev pub IsWaited : Load → ℕ → ColdWaits → Type 0
+IsWaited load from w =
+    (P : Project) × IsLoaded load P × (w.count ≡ length (waits P (state_in (run P)) from load.cycles)) × (w.cycles ≡ sum (waits P (state_in (run P)) from load.cycles))

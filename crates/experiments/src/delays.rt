@@ -1,19 +1,30 @@
 //! How long references wait for their replies.
-ghost use Rattle.std.specs.Prelude.{◌≡◌, ◌<◌, ◌≤◌, ◌^◌, ◌++◌, IfOk, OnOk, map, option_to_list};
+ghost use Rattle.std.specs.Prelude.{◌≡◌, ◌<◌, ◌≤◌, ◌^◌, ◌+◌, ◌++◌, IfOk, IfSome, OnOk, map, option_to_list, sum};
+ghost use Rattle.std.specs.List.{AllZip};
 ghost use Rattle.std.specs.Option.{option_copied};
 ghost use Rattle.machine_cells.specs.Run.{run};
 ghost use Rattle.machine_cells.specs.Runs.{state_in};
 ghost use Rattle.project_book.specs.Project.{entry_at};
-ghost use Rattle.experiments.specs.Delays.{issue_cycles, is_cold, waited, waits_in, waits_of, waits};
+ghost use Rattle.experiments.specs.Delays.{issue_cycles, is_cold, waited, waits_in, waits_of, waits, IsWaited};
 
 use crate::queues::state_at;
-use crate::{HOT_ADDRESS, Window};
+use crate::{Fault, HOT_ADDRESS, Load, Window, project_of};
 use grid_law::NoMemory;
 use machine_cells::{MachineState, from_scratch};
 use omega_net::{Reply, ScriptEntry};
-use project_book::Project;
+use page_map::MAX_K;
+use project_book::{MAX_HORIZON, Project};
+use rayon::prelude::*;
 use run_queries::has_sent;
 use std::alloc::{AllocError, Global};
+use std::thread::Threads;
+
+/// How many replies came to references that aren't hot, and how many cycles they took in all.
+#[derive(Clone, Copy, PartialEq, Eq, Debug)]
+pub struct ColdWaits {
+    pub count: u64,
+    pub cycles: u64,
+}
 
 /// Whether an entry refers to another word than the hot one.
 fn is_cold(entry: Option<ScriptEntry>) -> bool
@@ -135,4 +146,63 @@ pub fn cold_waits(alloc: Global, project: &Project, window: Window) -> Result<Ve
         numbers.extend_from_slice(more.as_slice())?;
     }
     Ok(numbers)
+}
+
+/// The sum of numbers, where it has 64 bits.
+fn total(numbers: &[u32]) -> Option<u64>
+    ensures { IfSome result (λ n. n ≡ sum numbers.now) }
+{
+    let mut total: u64 = 0;
+    for number in numbers {
+        total = total.checked_add(u64::from(*number))?;
+    }
+    Some(total)
+}
+
+/// The waits in the run of a load's project from a cycle to the last one.
+fn waited_by(alloc: Global, load: Load, from: u32) -> Result<ColdWaits, Fault>
+    ensures { IfOk result (IsWaited load from) }
+{
+    if load.k > MAX_K || load.cycles > MAX_HORIZON || from > load.cycles {
+        return Err(Fault::Load);
+    }
+    let project = match project_of(alloc, load) {
+        Ok(project) => project,
+        Err(_) => return Err(Fault::Memory),
+    };
+    let window = Window {
+        from,
+        to: load.cycles,
+    };
+    let numbers = match cold_waits(alloc, &project, window) {
+        Ok(numbers) => numbers,
+        Err(_) => return Err(Fault::Memory),
+    };
+    match total(numbers.as_slice()) {
+        Some(cycles) => Ok(ColdWaits {
+            count: numbers.len() as u64,
+            cycles,
+        }),
+        None => Err(Fault::Memory),
+    }
+}
+
+/// For each load the waits from a cycle to its last one. The loads are run by as many threads as there are processors; what
+/// is answered for each hangs on that load alone.
+pub fn waited_each<T: Threads + Sync>(
+    rt: &T,
+    alloc: Global,
+    loads: &[Load],
+    from: u32,
+) -> Result<Vec<Result<ColdWaits, Fault>>, AllocError>
+    ensures { IfOk result (λ v. AllZip (λ load r. IfOk r (IsWaited load from)) loads.now v.items) }
+{
+    loads
+        .par_iter()
+        .map(
+            |load: &Load| -> Result<ColdWaits, Fault>
+                ensures { IfOk result (IsWaited load.now from) }
+            { waited_by(alloc, *load, from) },
+        )
+        .collect(rt, alloc)
 }

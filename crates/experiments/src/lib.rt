@@ -5,7 +5,7 @@
 //! - [`Load`], [`project_of`]: scripts drawn from a seeded generator, in which a share of the references is hot (Pfister and
 //!   Norton 1985).
 //! - [`served`], [`served_each`]: how many references are served in a window of cycles, for many loads at once.
-//! - [`cold_waits`]: how long the references that aren't hot wait for their replies.
+//! - [`cold_waits`], [`waited_each`]: how long the references that aren't hot wait for their replies.
 //! - [`told`], [`sweep_row`]: what a bench is told after one edit more.
 //!
 //! The crate stands on `machine_cells` for runs, on `bench_core` and `run_queries` for questions and their answers, on
@@ -25,7 +25,7 @@ mod sweep;
 #[cfg(test)]
 mod tests;
 
-pub use delays::cold_waits;
+pub use delays::{ColdWaits, cold_waits, waited_each};
 pub use fault::Fault;
 pub use load::{HOT_ADDRESS, Load, MOST_CYCLES, SPREAD_ADDRESS, drawn, project_of};
 pub use map::{SaturationMap, StageLengths, Window, saturation_map};

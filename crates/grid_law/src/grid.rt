@@ -1,5 +1,5 @@
 //! The trait of machines that are simulated cell by cell.
-ghost use Rattle.std.specs.Prelude.{◌≡◌, ◌<◌, ◌↔◌, IsTrue, IfOk, map};
+ghost use Rattle.std.specs.Prelude.{◌≡◌, ◌<◌, ◌↔◌, IsTrue, IfOk, map, ◌∷◌, []};
 ghost use Rattle.std.specs.Arc.{arc_value};
 ghost use Rattle.grid_law.specs.Rules.{Rules, Laws, Agrees, IsNext};
 
@@ -47,6 +47,12 @@ pub trait Grid {
     fn reads(s: &Self::Slots, near: &[Arc<Self::State>], c: u32, slot: &Self::Slot) -> bool
         requires { c < rules.components s.now }
         ensures { result ≡ rules.reads s.now (map arc_value near.now) c slot.now };
+
+    /// The same where it steps and its own state was this one: what the other near states are makes no
+    /// difference.
+    fn reads_later(s: &Self::Slots, own: &Self::State, c: u32, slot: &Self::Slot) -> bool
+        requires { c < rules.components s.now }
+        ensures { result ≡ rules.reads s.now (own.now ∷ []) c slot.now };
 
     /// The components that may read `slot`, at cycle 0 or at a later one: every one for which `reads`
     /// says yes at some near states is listed with such a cycle. By component from the lowest on, cycle

@@ -12,6 +12,8 @@
 //! - agreement: `agree(a, b, near, c)` is true exactly where `a` and `b` have one shape and the
 //!   same value in each slot that `c` reads there; then `c` reads the same slots under both, and
 //!   gets the same state;
+//! - own state: after cycle 0 what a component reads hangs on its own state one cycle earlier and on
+//!   no other near state; `reads_later` is `reads` by that one;
 //! - readers: a component that reads a slot at some state is one of its `readers`, which are found
 //!   without a look at any state;
 //! - `next` is `step` over states that are lent, and nothing where the state stays as it is;

@@ -55,6 +55,13 @@ impl Grid for Line {
         }
     }
 
+    fn reads_later(_s: &Numbers, own: &u32, c: u32, slot: &LineSlot) -> bool {
+        match slot {
+            LineSlot::Seed(_) => false,
+            LineSlot::Add(place) => *place == c && *own % 2 == 1,
+        }
+    }
+
     fn readers(alloc: Global, s: &Numbers, slot: &LineSlot) -> Result<Vec<Reader>, NoMemory> {
         let mut readers = Vec::new(alloc);
         if slot.place() < s.count() {

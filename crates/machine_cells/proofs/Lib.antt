@@ -11,3 +11,4 @@ pub mod Rows
 pub mod Resting
 pub mod Keeping
 pub mod Listing
+pub mod Entries

@@ -106,6 +106,14 @@ impl Grid for Rp3 {
         }
     }
 
+    fn reads_later(s: &Project, own: &MachineState, c: u32, slot: &Slot) -> bool {
+        let component = component_at(s.shape(), c);
+        match slot {
+            Slot::Shape => true,
+            _ => later_reads(s, component, own, *slot),
+        }
+    }
+
     fn readers(alloc: Global, s: &Project, slot: &Slot) -> Result<Vec<Reader>, NoMemory> {
         readers(alloc, s, *slot)
     }

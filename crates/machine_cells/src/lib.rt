@@ -47,8 +47,6 @@ mod shared;
 mod start;
 mod state;
 mod step;
-#[cfg(test)]
-mod tests;
 mod text;
 
 pub use grid::Rp3;

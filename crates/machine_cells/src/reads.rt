@@ -88,12 +88,21 @@ fn proc_may_read(k: u32, proc: u8, slot: Slot) -> bool
     }
 }
 
+#[tactic(auto, using(crate::proofs::Entries::by_index))]
 fn proc_reads(project: &Project, proc: u8, own: &ProcState, slot: Slot) -> bool
     ensures { result ≡ is_listed (later_reads project.now (Some (Component.Proc proc)) (MachineState.Proc own.now)) slot }
 {
-    index_reads(proc, own.index, slot)
-        || entry_reads(project.entry(u32::from(proc), u32::from(own.index)), slot)
-        || out_reads(project.k(), &own.out, slot)
+    if index_reads(proc, own.index, slot) {
+        return true;
+    }
+    match slot {
+        // By the index alone, so what stands there isn't looked up.
+        Slot::Entry(..) => false,
+        _ => {
+            entry_reads(project.entry(u32::from(proc), u32::from(own.index)), slot)
+                || out_reads(project.k(), &own.out, slot)
+        }
+    }
 }
 
 /// The entry at the processor's index, where there can be one.

@@ -55,6 +55,10 @@ impl Words {
     }
 
     /// Leaves a word in a row. It takes memory only where the row had the word 0 and gets another.
+    ///
+    /// # Errors
+    ///
+    /// Where a growth was refused. Then nothing is changed.
     pub fn put(&mut self, row: u16, word: u32) -> Result<(), NoMemory>
         ensures ok { OnOk result (self.new ≡ with_word self.old row word) }
         ensures err { OnErr result (self.new ≡ self.old) }

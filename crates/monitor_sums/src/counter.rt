@@ -6,7 +6,7 @@ ghost use Rattle.monitor_sums.specs.Names.{counter_name, counter_named};
 use std::fmt;
 
 /// What a cell counts. It prints as its name.
-#[derive(Clone, Copy, PartialEq, Eq, Debug)]
+#[derive(Clone, Copy, PartialEq, Eq, Hash, Debug)]
 pub enum Counter {
     /// The references that a processor issued in the step to this cycle: one at most.
     Issued,

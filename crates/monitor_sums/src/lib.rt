@@ -17,8 +17,6 @@ mod counts;
 mod profile;
 mod sums;
 mod tally;
-#[cfg(test)]
-mod tests;
 
 pub use counter::Counter;
 pub use sums::Sums;

@@ -5,7 +5,7 @@ ghost use Rattle.omega_net.specs.Texts.{component_text};
 use std::fmt;
 
 /// The two networks.
-#[derive(Clone, Copy, PartialEq, Eq, Debug)]
+#[derive(Clone, Copy, PartialEq, Eq, Hash, Debug)]
 pub enum Net {
     Low,
     Comb,

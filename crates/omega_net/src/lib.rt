@@ -26,8 +26,6 @@ mod queues;
 mod route;
 mod script;
 mod shape;
-#[cfg(test)]
-mod tests;
 mod wire;
 
 pub use component::{Component, Net};

@@ -1,4 +1,5 @@
 pub mod Listings
+pub mod Halves
 pub mod Accepting
 pub mod Leaving
 pub mod Touching

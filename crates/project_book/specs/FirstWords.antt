@@ -1,5 +1,5 @@
 -- The first words: a list by addresses upwards, in which words of 0 are left out.
-use Rattle.std.specs.Prelude.{ℕ, ◌<◌, ◌==◌, nat_lt, if◌then◌else◌, List, [], ◌∷◌, ◌++◌, filter, find, All, AllPairs}
+use Rattle.std.specs.Prelude.{ℕ, ◌<◌, ◌≤◌, ◌-◌, ◌==◌, nat_lt, if◌then◌else◌, List, [], ◌∷◌, ◌++◌, length, slice_index_or, filter, find, All, AllPairs}
 use Rattle.std.specs.Option.{option_map_or}
 use Rattle.page_map.specs.Limits.{address_count}
 use Rattle.project_book.specs.declared.words.FirstWord.{FirstWord}
@@ -28,3 +28,9 @@ pub record IsListing (ws : List FirstWord) : Type 0 where
   pub ascending : AllPairs (λ v w. v.address < w.address) ws
   pub within : All (λ w. w.address < address_count) ws
   pub nonzero : All (λ w. 0 < w.word) ws
+
+-- of a list by addresses upwards, n words stand below an address
+pub record IsSplit (ws : List FirstWord) (a n : ℕ) : Type 0 where
+  pub few : n ≤ length ws
+  pub below : (d : FirstWord) → 0 < n → (slice_index_or ws (n - 1) d).address < a
+  pub from : (d : FirstWord) → n < length ws → a ≤ (slice_index_or ws n d).address

@@ -25,8 +25,6 @@ mod parts;
 mod project;
 mod scripts;
 mod slot;
-#[cfg(test)]
-mod tests;
 mod words;
 
 pub use depths::{QueueDepths, USUAL_WAIT};

@@ -219,7 +219,7 @@ impl Project {
         self.words.as_slice()
     }
 
-    /// The first word of an address, 0 from 16,384 on. Looks through the list of words.
+    /// The first word of an address, 0 from 16,384 on. The list of words is searched by halves.
     pub fn word(&self, address: u32) -> u32
         ensures { result ≡ word_of self.now address }
     {

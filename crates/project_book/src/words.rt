@@ -1,6 +1,6 @@
 //! The words that stand in memory at cycle 0.
-ghost use Rattle.std.specs.Prelude.{◌≡◌, ◌<◌, ◌==◌, ◌↔◌, IsTrue, find, IfOk, [], ◌++◌};
-ghost use Rattle.project_book.specs.FirstWords.{word_at, with_word, listed, words_below, words_above, IsListing};
+ghost use Rattle.std.specs.Prelude.{◌≡◌, ◌<◌, ◌↔◌, IsTrue, IfOk, [], ◌++◌};
+ghost use Rattle.project_book.specs.FirstWords.{word_at, with_word, listed, IsListing, IsSplit};
 ghost use Rattle.page_map.specs.Limits.{address_count};
 
 use grid_law::NoMemory;
@@ -67,14 +67,11 @@ impl FirstWords {
         same_words(&self.words, &other.words)
     }
 
-    /// The word of an address, 0 where none is listed. Looks through the list.
+    /// The word of an address, 0 where none is listed. The list is searched by halves.
     pub fn word(&self, address: u32) -> u32
         ensures { result ≡ word_at self.now address }
     {
-        match listed_at(&self.words, address) {
-            Some(first) => first.word,
-            None => 0,
-        }
+        word_in(&self.words, address)
     }
 
     /// The words where this address has this word. Copies the list.
@@ -87,10 +84,33 @@ impl FirstWords {
     }
 }
 
-fn listed_at(words: &[FirstWord], address: u32) -> Option<FirstWord>
-    ensures { result ≡ find (λ w. w.address == address) words.now }
+/// How many words of a list by addresses upwards stand below an address. It is searched by halves.
+fn count_below(words: &[FirstWord], address: u32) -> usize
+    ensures { IsSplit words.now address result }
 {
-    words.iter().find(|w| w.address == address).copied()
+    let mut low = 0;
+    let mut high = words.len();
+    while low < high {
+        let middle = low + (high - low) / 2;
+        if words[middle].address < address {
+            low = middle + 1;
+        } else {
+            high = middle;
+        }
+    }
+    low
+}
+
+fn word_in(words: &[FirstWord], address: u32) -> u32
+    requires { IsListing words.now }
+    ensures { result ≡ word_at words.now address }
+{
+    let place = count_below(words, address);
+    if place < words.len() && words[place].address == address {
+        words[place].word
+    } else {
+        0
+    }
 }
 
 fn words_with(
@@ -99,35 +119,17 @@ fn words_with(
     address: u32,
     word: u32,
 ) -> Result<Vec<FirstWord>, NoMemory>
+    requires there { address < address_count }
+    requires listing { IsListing words.now }
     ensures { IfOk result (λ v. v.items ≡ with_word words.now address word) }
 {
+    let below = count_below(words, address);
+    let above = count_below(words, address + 1);
     let mut edited = Vec::with_capacity(alloc, words.len() + 1)?;
-    push_below(&mut edited, words, address)?;
+    edited.extend_from_slice(&words[..below])?;
     push_listed(&mut edited, address, word)?;
-    push_above(&mut edited, words, address)?;
+    edited.extend_from_slice(&words[above..])?;
     Ok(edited)
-}
-
-fn push_below(to: &mut Vec<FirstWord>, words: &[FirstWord], address: u32) -> Result<(), NoMemory>
-    ensures { IfOk result (λ _. to.new.items ≡ to.old.items ++ words_below words.now address) }
-{
-    for first in words {
-        if first.address < address {
-            to.push(*first)?;
-        }
-    }
-    Ok(())
-}
-
-fn push_above(to: &mut Vec<FirstWord>, words: &[FirstWord], address: u32) -> Result<(), NoMemory>
-    ensures { IfOk result (λ _. to.new.items ≡ to.old.items ++ words_above words.now address) }
-{
-    for first in words {
-        if address < first.address {
-            to.push(*first)?;
-        }
-    }
-    Ok(())
 }
 
 fn push_listed(to: &mut Vec<FirstWord>, address: u32, word: u32) -> Result<(), NoMemory>

@@ -21,8 +21,6 @@ mod place;
 mod reading;
 mod scripts;
 mod stages;
-#[cfg(test)]
-mod tests;
 mod words;
 mod write_fault;
 mod writing;

@@ -1,6 +1,6 @@
 //! Benches: what stands after a refusal, and that the same call then does its work.
 use crate::again::again;
-use crate::projects::{EDITS, is_order, project};
+use crate::projects::{EDITS, FILE, is_order, project_of};
 use bench_core::{Asked, Bench};
 use cell_table::{Cell, Done, Given, SettleFault};
 use machine_cells::{Rp3, from_scratch};
@@ -14,26 +14,26 @@ use std::thread::Threads;
 
 /// How a bench looks: version, journal, clock, horizon, and how many cells are due.
 #[derive(Clone, Copy, PartialEq, Eq)]
-struct Looks {
-    version: u32,
+pub(crate) struct Looks {
+    pub version: u32,
     edits: usize,
     clock: u64,
     horizon: u32,
     due: u64,
 }
 
-/// How many requests were served in the whole run.
-fn served(bench: &Bench) -> Query {
+/// How many requests were served up to a cycle.
+pub(crate) fn served(to: u32) -> Query {
     Query::Counter {
         counter: Counter::Served,
         who: None,
         from: 0,
-        to: bench.project().horizon(),
+        to,
     }
 }
 
-fn look_at<R: Threads + Sync>(rt: &R, bench: &mut Bench) -> Looks {
-    let query = served(bench);
+pub(crate) fn look_at<R: Threads + Sync>(rt: &R, bench: &mut Bench) -> Looks {
+    let query = served(bench.project().horizon());
     let due = match bench.ask(rt, query) {
         Asked::Pending(due) => due,
         Asked::Answer { .. } => 0,
@@ -48,24 +48,22 @@ fn look_at<R: Threads + Sync>(rt: &R, bench: &mut Bench) -> Looks {
     }
 }
 
-/// A bench of the project of the file, with no cell computed. It stands in a box, since each way out of a function costs
-/// its proof something for every field that it lets go.
+/// A bench of the project of the file, with no cell computed.
 pub(crate) fn fresh(alloc: Global) -> Option<Box<Bench>> {
-    let project = project(alloc)?;
-    let bench = match Bench::new(alloc, project, 0) {
+    bench_of(alloc, FILE)
+}
+
+/// A bench of the project of a file, with no cell computed. It stands in a box, since each way out of a function costs its
+/// proof something for every field that it lets go.
+pub(crate) fn bench_of(alloc: Global, file: &str) -> Option<Box<Bench>> {
+    let bench = match Bench::new(alloc, project_of(alloc, file)?, 0) {
         Ok(bench) => bench,
         Err(project) => Bench::new(alloc, project, 0).ok()?,
     };
     match Box::new(alloc, bench) {
         Ok(bench) => Some(bench),
-        Err(_) => fresh_again(alloc),
+        Err(failed) => Box::new(alloc, failed.value).ok(),
     }
-}
-
-/// The same where a growth was refused before.
-fn fresh_again(alloc: Global) -> Option<Box<Bench>> {
-    let bench = Bench::new(alloc, project(alloc)?, 0).ok()?;
-    Box::new(alloc, bench).ok()
 }
 
 /// The same, with every cell computed.
@@ -123,7 +121,7 @@ pub(crate) fn settled<R: Threads + Sync>(rt: &R, alloc: Global) -> bool {
 }
 
 /// Whether each state that the bench answers is that of the plain simulation.
-fn is_simulated<R: Threads + Sync>(rt: &R, alloc: Global, bench: &mut Bench) -> bool {
+pub(crate) fn is_simulated<R: Threads + Sync>(rt: &R, alloc: Global, bench: &mut Bench) -> bool {
     let Some(rows) = again(|| from_scratch(alloc, bench.project())) else {
         return false;
     };
@@ -214,7 +212,7 @@ pub(crate) fn asked<R: Threads + Sync>(rt: &R, alloc: Global) -> bool {
             address: 0,
             cycle: 6,
         },
-        served(&bench),
+        served(6),
         Query::Profile { net, stage: 0 },
         Query::Tree { net, module: 0 },
         Query::Level {

@@ -1,6 +1,7 @@
 //! Passes of a shared bench.
 use crate::benches::fresh;
 use bench_core::{Asked, Told};
+use cell_table::{Cell, Given};
 use project_book::{Edit, EditFault};
 use run_queries::{Body, Query};
 use shared_bench::{Pass, SplitFault, open};
@@ -78,4 +79,37 @@ pub(crate) fn used<R: Threads + Wait + Sync>(rt: &R, alloc: Global) -> bool {
             }
         )
         && matches!(project, Some((1, project)) if project.word(0) == 20)
+}
+
+/// A pass claims, computes and gives the first cell: a result that comes back is given again.
+pub(crate) fn given<R: Threads + Wait + Sync>(rt: &R, alloc: Global) -> bool {
+    let Some(mut pass) = first(alloc) else {
+        return false;
+    };
+    let from = Cell {
+        cycle: 0,
+        component: 0,
+    };
+    let claim = match pass.claim(rt, from) {
+        Ok(claim) => claim,
+        Err(_) => match pass.claim(rt, from) {
+            Ok(claim) => claim,
+            Err(_) => return false,
+        },
+    };
+    let Some(claim) = claim else {
+        return false;
+    };
+    let done = match claim.compute() {
+        Ok(done) => done,
+        Err(claim) => match claim.compute() {
+            Ok(done) => done,
+            Err(_) => return false,
+        },
+    };
+    match pass.give(rt, done) {
+        Given::Stored { .. } => true,
+        Given::Memory(done) => matches!(pass.give(rt, done), Given::Stored { .. }),
+        _ => false,
+    }
 }

@@ -39,7 +39,12 @@ entries = [\"fence\", \"jump 3\"]
 
 /// The project of the file.
 pub(crate) fn project(alloc: Global) -> Option<Project> {
-    again(|| read_project(alloc, FILE.as_bytes()))
+    project_of(alloc, FILE)
+}
+
+/// The project of a file.
+pub(crate) fn project_of(alloc: Global, file: &str) -> Option<Project> {
+    again(|| read_project(alloc, file.as_bytes()))
 }
 
 pub(crate) fn add(operand: u32) -> ScriptEntry {

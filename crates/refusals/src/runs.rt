@@ -30,7 +30,7 @@ ok 1 order 0.0 1.0
 ";
 
 /// A list with room for all of the answers, so that no write is refused.
-fn room(alloc: Global) -> Option<Vec<u8>> {
+pub(crate) fn room(alloc: Global) -> Option<Vec<u8>> {
     again(|| Vec::with_capacity(alloc, 1_024))
 }
 
@@ -44,11 +44,16 @@ pub(crate) fn answered<R: Threads + Sync>(rt: &R, alloc: Global) -> bool {
         return false;
     };
     let ended = run(rt, alloc, &mut reader, &mut writer, &mut *bench);
-    holds(ended == Ok(()), ended == Err(RunFault::Memory), &writer)
+    holds(
+        ended == Ok(()),
+        ended == Err(RunFault::Memory),
+        &writer,
+        ANSWERED.as_bytes(),
+    )
 }
 
-fn holds(is_whole: bool, is_refused: bool, written: &[u8]) -> bool {
-    let answers = ANSWERED.as_bytes();
+/// Whether a run has written all answers, or was refused and has written a beginning of them.
+pub(crate) fn holds(is_whole: bool, is_refused: bool, written: &[u8], answers: &[u8]) -> bool {
     (is_whole && written == answers) || (is_refused && answers.starts_with(written))
 }
 
@@ -69,14 +74,14 @@ impl Folder for OneFile {
     }
 }
 
-/// The program ends well, or at its start for want of memory, or as its run does.
-pub(crate) fn served<R: Hall>(rt: &R, alloc: Global) -> bool {
+/// The program on these words ends well, or at its start for want of memory or of a thread, or as its run does.
+pub(crate) fn served<R: Hall>(rt: &R, alloc: Global, words: &[&str]) -> bool {
     let folder = OneFile { alloc };
     let mut reader = TYPED.as_bytes();
     let Some(mut writer) = room(alloc) else {
         return false;
     };
-    let stop = serve_words(rt, alloc, &["m.toml"], &folder, &mut reader, &mut writer);
+    let stop = serve_words(rt, alloc, words, &folder, &mut reader, &mut writer);
     let end = stop.end();
     let is_refused = matches!(
         end,
@@ -85,5 +90,5 @@ pub(crate) fn served<R: Hall>(rt: &R, alloc: Global) -> bool {
             | End::Project(ProjectFault::Memory)
             | End::Served(RunFault::Memory)
     );
-    holds(end == End::Ended, is_refused, &writer)
+    holds(end == End::Ended, is_refused, &writer, ANSWERED.as_bytes())
 }

@@ -1,10 +1,11 @@
 //! What a question is answered.
-ghost use Rattle.std.specs.Prelude.{◌≡◌, Some};
+ghost use Rattle.std.specs.Prelude.{◌≡◌, Some, IfOk};
 ghost use Rattle.std.specs.Arc.{arc_value};
 ghost use Rattle.run_queries.specs.Texts.{received_text, body_text};
 ghost use Rattle.machine_cells.specs.Texts.{state_text};
 
 use crate::spaced::Spaced;
+use grid_law::NoMemory;
 use machine_cells::MachineState;
 use page_map::Place;
 use saturation::Tree;
@@ -57,6 +58,15 @@ impl SharedState {
     {
         &self.state
     }
+
+    /// One more owner of the same state. NoMemory comes only at 2^63 - 1 owners.
+    pub fn share(&self) -> Result<SharedState, NoMemory>
+        ensures { IfOk result (λ shared. shared ≡ self.now) }
+    {
+        Ok(SharedState {
+            state: Arc::try_clone(&self.state)?,
+        })
+    }
 }
 
 /// What a question is answered.
@@ -75,6 +85,25 @@ pub enum Body {
     /// Numerator and denominator, not reduced.
     Fraction(u64, u64),
     Place(Place),
+}
+
+impl Body {
+    /// The same answer once more: a state gets one more owner and is not copied, a tree's levels are copied.
+    pub fn share(&self) -> Result<Body, NoMemory>
+        ensures { IfOk result (λ body. body ≡ self.now) }
+    {
+        Ok(match self {
+            Body::Reply(received) => Body::Reply(*received),
+            Body::State(state) => Body::State(state.share()?),
+            Body::Word(word) => Body::Word(*word),
+            Body::Count(count) => Body::Count(*count),
+            Body::Profile(counts) => Body::Profile(*counts),
+            Body::Tree(tree) => Body::Tree(tree.copied()?),
+            Body::Level(level) => Body::Level(*level),
+            Body::Fraction(numerator, denominator) => Body::Fraction(*numerator, *denominator),
+            Body::Place(place) => Body::Place(*place),
+        })
+    }
 }
 
 /// The state's text.

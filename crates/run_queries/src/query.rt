@@ -11,7 +11,7 @@ use project_book::Project;
 use saturation::bound;
 
 /// A question about the run of a project. The numbers may be any: what the project doesn't have is refused.
-#[derive(Clone, Copy, PartialEq, Eq, Debug)]
+#[derive(Clone, Copy, PartialEq, Eq, Hash, Debug)]
 pub enum Query {
     /// When a processor received the reply to its reference of that issue number, and which word. Issue numbers count
     /// a processor's references from 0.

@@ -1,8 +1,9 @@
 //! What is reported of the saturation towards a module.
-ghost use Rattle.std.specs.Prelude.{◌≡◌, Some};
+ghost use Rattle.std.specs.Prelude.{◌≡◌, Some, IfOk};
 ghost use Rattle.saturation.specs.Texts.{first_text, tree_text};
 
 use arrayvec::ArrayVec;
+use grid_law::NoMemory;
 use project_book::STAGES;
 use std::fmt;
 use std::marker::Model;
@@ -42,6 +43,14 @@ impl Levels {
     {
         &self.levels
     }
+
+    /// The same levels once more.
+    pub fn copied(&self) -> Result<Levels, NoMemory>
+        ensures { IfOk result (λ levels. levels ≡ self.now) }
+    {
+        let levels = Vec::from_slice(*self.levels.allocator(), &self.levels)?;
+        Ok(Levels { levels })
+    }
 }
 
 /// The saturation towards a module in a run: the level of each cycle; and by level, from 1 to k, the first cycle that
@@ -50,6 +59,20 @@ impl Levels {
 pub struct Tree {
     pub levels: Levels,
     pub first: ArrayVec<Option<u32>, STAGES>,
+}
+
+impl Tree {
+    /// The same report once more, with levels of its own.
+    pub fn copied(&self) -> Result<Tree, NoMemory>
+        ensures { IfOk result (λ tree. tree ≡ self.now) }
+    {
+        let levels = self.levels.copied()?;
+        let mut first = ArrayVec::new();
+        match first.try_extend_from_slice(self.first.as_slice()) {
+            Ok(()) => Ok(Tree { levels, first }),
+            Err(_) => unreachable!(),
+        }
+    }
 }
 
 /// `first`, then each level's first cycle, or `-` where no cycle has it, after a space.

@@ -21,6 +21,3 @@ mod steps;
 mod view;
 
 pub use pass::{Pass, SplitFault, open};
-
-#[cfg(test)]
-mod tests;

@@ -21,4 +21,4 @@ mod stack;
 #[cfg(test)]
 mod tests;
 
-pub use line::Line;
+pub use line::{Line, Standing};

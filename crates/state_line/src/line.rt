@@ -1,11 +1,14 @@
 //! One component's states over the cycles.
-ghost use Rattle.std.specs.Prelude.{◌≡◌, ◌<◌, ◌≤◌, ◌+◌, ◌-◌, ◌++◌, ◌^◌, IfOk, OnOk, MatchResult, Some, None, length, replicate, slice_set, slice_index_or, take, true, option_map};
+ghost use Rattle.std.specs.Prelude.{◌≡◌, ℕ, ◌<◌, ◌≤◌, ◌+◌, ◌-◌, ◌++◌, ◌^◌, IfOk, OnOk, MatchResult, Some, None, length, replicate, slice_set, slice_index_or, take, true, option_map};
 ghost use Rattle.std.specs.Arc.{arc_value};
 ghost use Rattle.std.specs.Option.{option_copied};
 ghost use Rattle.state_line.specs.Lined.{nothing_for};
 
+mod standing;
+
 use crate::moves::{back, drop_from, extend_at, forward, grow_at, pass, put_at, stretch_at};
 use crate::stack::{Stack, Stretch};
+pub use standing::Standing;
 use std::alloc::{AllocError, Global};
 use std::marker::Model;
 use std::sync::Arc;
@@ -165,8 +168,28 @@ impl<S: Drop> Line<S> {
         }
     }
 
+    /// Whether no cycle from t on has a state, known by one look; there may be such cycles besides.
+    pub fn is_empty_from(&self, t: u32) -> bool
+        ensures { result ≡ true → (u : ℕ) → t ≤ u → slice_index_or self.now.states u None ≡ None }
+    {
+        if t < self.at || self.next.len() != 1 {
+            return false;
+        }
+        match self.next.top() {
+            Some(last) => match last.state() {
+                Some(_) => false,
+                None => true,
+            },
+            None => false,
+        }
+    }
+
     /// Gets the memory for a state at cycle t, or for more cycles where t is the number of cycles, and
     /// moves the place there.
+    ///
+    /// # Errors
+    ///
+    /// Where a growth was refused. The states are as before, whatever it answers.
     pub fn reserve(&mut self, t: u32) -> Result<(), AllocError>
         requires { t ≤ length self.old.states }
         ensures states { self.new.states ≡ self.old.states }
@@ -177,8 +200,8 @@ impl<S: Drop> Line<S> {
         self.move_to(t)
     }
 
-    /// Makes room for two stretches more.
-    fn make_room(&mut self) -> Result<(), AllocError>
+    /// Gets the memory for two stretches more; the place stays.
+    pub fn make_room(&mut self) -> Result<(), AllocError>
         ensures states { self.new.states ≡ self.old.states }
         ensures place { self.new.place ≡ self.old.place }
         ensures room { OnOk result (2 ≤ self.new.room) }

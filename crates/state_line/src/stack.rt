@@ -4,6 +4,8 @@ ghost use Rattle.std.specs.Option.{option_copied};
 ghost use Rattle.std.specs.Arc.{arc_value};
 ghost use Rattle.state_line.specs.Spans.{Span, covering, lasting, state_in, end_of, Falls, Climbs};
 
+mod places;
+
 use std::alloc::{AllocError, Global};
 use std::marker::Model;
 use std::sync::Arc;

@@ -19,6 +19,22 @@ fn shows(line: &Line<u32>, want: &[Option<u32>]) -> Result<(), Fail> {
             return Err(Fail::from("another state"));
         }
     }
+    for hint in 0..4 {
+        stands(line, hint)?;
+    }
+    Ok(())
+}
+
+/// Each state stands as long as the line tells, whatever hint it is given.
+fn stands(line: &Line<u32>, hint: usize) -> Result<(), Fail> {
+    for t in 0..line.len() {
+        let part = line.standing(t, hint);
+        for u in t..part.end {
+            if line.state(u).copied() != part.state.copied() {
+                return Err(Fail::from("another state before the end"));
+            }
+        }
+    }
     Ok(())
 }
 
@@ -54,6 +70,9 @@ fn states_of_a_line(rt: HostRuntime) -> Result<(), Fail> {
     shows(&line, &[NO, Some(10), NO, Some(30), Some(30), NO])?;
     assert_eq!(rt; line.same_as_before(4), true);
     assert_eq!(rt; line.same_as_before(3), false);
+    if line.len() > 3 {
+        assert_eq!(rt; (line.standing(0, 0).end, line.standing(3, 3).end), (1, 5));
+    }
     line.truncate(4);
     shows(&line, &[NO, Some(10), NO, Some(30)])?;
     line.truncate(9);

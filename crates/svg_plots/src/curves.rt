@@ -335,6 +335,19 @@ pub(crate) fn few(count: usize) -> u32
     if count < 1000 { count as u32 } else { 999 }
 }
 
+/// How many curves the legend names.
+fn named(curves: &[Curve<'_>]) -> u32
+    ensures { result < 1000 }
+{
+    let mut count: usize = 0;
+    for curve in curves {
+        if !curve.label.is_empty() {
+            count = count.saturating_add(1);
+        }
+    }
+    few(count)
+}
+
 /// The picture, with lines of text under it, as an SVG document.
 pub fn draw_curves(
     alloc: Global,
@@ -346,7 +359,7 @@ pub fn draw_curves(
         None => &[],
     };
     let columns = u32::from(curves.legend_columns).max(1);
-    let rows = (few(labelled.len()) + columns - 1) / columns;
+    let rows = (named(labelled) + columns - 1) / columns;
     let height = 450 + 20 * few(rows as usize) + 17 * few(notes.len());
     let mut picture = Picture::new(alloc, WIDTH, height as u16, curves.title)?;
     picture.words(Spot { x: 200, y: 250 }, TITLE, curves.title)?;

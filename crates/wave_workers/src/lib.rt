@@ -16,12 +16,11 @@
 mod gate;
 mod tally;
 mod threads;
+mod wave;
 mod worked;
 mod worker;
 
 pub use gate::{Gate, Ungated};
 pub use threads::{attend, work};
+pub use wave::{settle_wave, settle_where_it_pays};
 pub use worked::{WorkFault, Worked};
-
-#[cfg(test)]
-mod tests;

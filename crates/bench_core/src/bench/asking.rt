@@ -16,6 +16,7 @@ ghost use Rattle.bench_core.specs.Answers.{AnswersRun, AsksRun};
 
 use super::Bench;
 use crate::Asked;
+use crate::recent::Asking;
 use cell_table::Cell;
 use grid_law::NoMemory;
 use omega_net::Shape;
@@ -96,7 +97,8 @@ impl Bench {
         self.table.due_to(to)
     }
 
-    /// How many cells are due in the cone of one that is there.
+    /// How many cells are due in the cone of one that is there. That none is due at all is known by one number.
+    #[tactic(auto, using(crate::proofs::Waiting::none_in_cone))]
     fn pending_cell(&self, cell: Cell) -> Result<u64, NoMemory>
         requires cycle { cell.cycle ≤ (project_of self.now).horizon }
         requires component { cell.component < components (project_of self.now).k }
@@ -104,6 +106,9 @@ impl Bench {
         ensures ready { IfOk result (λ n. n ≡ 0 → held self.now.table cell.cycle cell.component ≡ Some (run rp3_rules (project_of self.now) cell.cycle cell.component)) }
     {
         self.is_bench();
+        if self.pending_to(self.project().horizon()) == 0 {
+            return Ok(0);
+        }
         self.table.due_cone(cell)
     }
 
@@ -127,16 +132,37 @@ impl Bench {
         }
     }
 
+    /// What the run says to a query: what was told of it at this version, where that is still kept, else what is found,
+    /// which is kept from then on.
+    fn told<R: Threads + Sync>(&mut self, rt: &R, query: Query) -> Asked
+        requires good { bad_query (project_of self.old) query ≡ None }
+        requires there { IsUpToDate self.old query }
+        ensures tells { TellsRun self.old query result }
+        ensures unchanged { self.new ≡ self.old }
+    {
+        let version = self.version();
+        let asking = Asking { version, query };
+        if let Some(body) = self.recent.answer(asking) {
+            return self.answered(body);
+        }
+        let told = self.found(rt, query);
+        if let Asked::Answer { body, .. } = &told {
+            self.recent.keep(asking, body);
+        }
+        told
+    }
+
     // What it answers of the bench as it is; the clauses over all lists of events follow from this one.
     #[tactic(auto, using(crate::proofs::Asking::asks_bad, crate::proofs::Asking::asks_pending, crate::proofs::Asking::asks_wanting, crate::proofs::Asking::asks_found))]
-    fn ask_plain<R: Threads + Sync>(&self, rt: &R, query: Query) -> Asked
-        ensures { AsksAs self.now query result }
+    fn ask_plain<R: Threads + Sync>(&mut self, rt: &R, query: Query) -> Asked
+        ensures asks { AsksAs self.old query result }
+        ensures unchanged { self.new ≡ self.old }
     {
         if let Some(number) = query.bad(self.project()) {
             return Asked::BadQuery(number);
         }
         match self.pending(query) {
-            Ok(0) => self.found(rt, query),
+            Ok(0) => self.told(rt, query),
             Ok(due) => Asked::Pending(due),
             Err(NoMemory) => Asked::Memory,
         }
@@ -149,8 +175,9 @@ impl Bench {
     ///
     /// A state or a word waits for the cells that it rests on alone, a counter or a level for the cycles up to its last
     /// one, a reply, a profile or a tree for the whole run. A counter over the whole run and a profile are looked up; a
-    /// counter over a window adds up its cells; a reply looks at each cycle once, a tree at each state, in several
-    /// threads.
+    /// counter over a window adds up its cells; a reply looks at each stretch of its processor's equal states once at
+    /// most, up to where the answer is known; a tree looks at each state, in several threads. The 64 answers that were
+    /// told last are kept, and told again where the same is asked at the same version.
     pub fn ask<R: Threads + Sync>(&mut self, rt: &R, query: Query) -> Asked
         ensures asks { AsksAs self.old query result }
         ensures unchanged { self.new ≡ self.old }

@@ -1,7 +1,9 @@
 //! Looking up replies, states and words.
-ghost use Rattle.std.specs.Prelude.{◌≡◌, ◌<◌, suc, is_some, true};
+ghost use Rattle.std.specs.Prelude.{◌≡◌, ◌<◌, ◌*◌, suc, is_some, true, nat_lt, if◌then◌else◌};
+ghost use Rattle.std.specs.Option.{option_copied};
+ghost use Rattle.omega_net.specs.Numbers.{components};
 ghost use Rattle.page_map.specs.declared.map.TheConstants.{ADDRESSES};
-ghost use Rattle.run_queries.specs.Answers.{issued, first_reply, found_in};
+ghost use Rattle.run_queries.specs.Answers.{has_sent, issued, first_reply, found_in};
 ghost use Rattle.run_queries.specs.declared.query.Query.TheVariants.{Reply as ReplyTo, State as StateOf, Memory as MemoryAt};
 ghost use Rattle.bench_core.specs.Shown.{project_of, version_of, held};
 ghost use Rattle.bench_core.specs.Asks.{TellsAs};
@@ -10,51 +12,66 @@ use super::Bench;
 use crate::Asked;
 use cell_table::Cell;
 use grid_law::NoMemory;
+use machine_cells::MachineState;
 use run_queries::{Body, Received, SharedState, has_sent, word_got, word_in};
 
+/// How many references a processor issued in the last steps of so many cycles with this state.
+fn sent_in(state: Option<&MachineState>, cycles: u32) -> u32
+    ensures { result ≡ cycles * (if has_sent (option_copied state.entry) then 1 else 0) }
+{
+    if has_sent(state) { cycles } else { 0 }
+}
+
 impl Bench {
-    /// How many references a processor issued by the horizon. Each cycle is looked at once.
-    #[tactic(auto, using(crate::proofs::Looking::issued_more))]
-    pub(super) fn issued(&self, proc: u32) -> u32
-        ensures { result ≡ issued (λ t. held self.now.table t proc) (suc (project_of self.now).horizon) }
+    /// Whether a processor issued so many references and one more by the horizon. The stretches of its
+    /// equal states are looked at from cycle 0 on, each once, until it is known.
+    fn has_issued(&self, proc: u32, issue: u32) -> bool
+        requires { proc < components (project_of self.now).k }
+        ensures { result ≡ nat_lt issue (issued (λ t. held self.now.table t proc) (suc (project_of self.now).horizon)) }
     {
+        self.is_bench();
+        let horizon = self.project().horizon();
+        let component = proc;
         let mut count = 0;
-        for cycle in 0..self.project().horizon() + 1 {
-            if has_sent(
-                self.table.state(Cell {
-                    cycle,
-                    component: proc,
-                }),
-            ) {
-                count += 1;
-            }
+        let mut cycle = 0;
+        let mut hint = 0;
+        while cycle <= horizon && count <= issue {
+            let part = self.table.standing(Cell { cycle, component }, hint);
+            count += sent_in(part.state, part.end - cycle);
+            cycle = part.end;
+            hint = part.stretch.saturating_add(1);
         }
-        count
+        count > issue
     }
 
-    /// The first reply that a processor received for an issue number, by the horizon. Each cycle is looked at once at
-    /// most.
-    #[tactic(auto, using(crate::proofs::Looking::reply_more, crate::proofs::Looking::reply_stays))]
+    /// The first reply that a processor received for an issue number, by the horizon. The stretches of
+    /// its equal states are looked at from cycle 0 on, each once, up to that one.
     fn first_reply(&self, proc: u32, issue: u32) -> Option<Received>
+        requires { proc < components (project_of self.now).k }
         ensures { result ≡ first_reply (λ t. held self.now.table t proc) issue (suc (project_of self.now).horizon) }
     {
-        for cycle in 0..self.project().horizon() + 1 {
-            let state = self.table.state(Cell {
-                cycle,
-                component: proc,
-            });
-            if let Some(word) = word_got(state, issue) {
-                return Some(Received { cycle, word });
+        self.is_bench();
+        let horizon = self.project().horizon();
+        let component = proc;
+        let mut cycle = 0;
+        let mut hint = 0;
+        while cycle <= horizon {
+            let part = self.table.standing(Cell { cycle, component }, hint);
+            match word_got(part.state, issue) {
+                Some(word) => return Some(Received { cycle, word }),
+                None => cycle = part.end,
             }
+            hint = part.stretch.saturating_add(1);
         }
         None
     }
 
     /// What the states held say to a query of a reply.
     pub(super) fn reply(&self, proc: u32, issue: u32) -> Asked
+        requires { proc < components (project_of self.now).k }
         ensures { TellsAs (version_of self.now) (found_in (held self.now.table) (project_of self.now) (ReplyTo proc issue)) result }
     {
-        if issue >= self.issued(proc) {
+        if !self.has_issued(proc, issue) {
             return Asked::BadQuery(4);
         }
         self.answered(Body::Reply(self.first_reply(proc, issue)))

@@ -16,7 +16,7 @@ use std::sync::Arc;
 
 impl<G: Grid> Table<G> {
     /// Whether the states that a cell is computed from are all there.
-    fn has_inputs(&self, cell: Cell) -> bool
+    pub(super) fn has_inputs(&self, cell: Cell) -> bool
         requires { IsThere G.rules self.now cell.cycle cell.component }
         ensures { result
             ≡ is_some (inputs_of G.rules self.now.slots self.now.rows cell.cycle cell.component) }

@@ -101,7 +101,7 @@ impl<G: Grid> Table<G> {
 
     /// The state that the present slots and near states give a cell, or none where it is that of
     /// the cell before.
-    fn computed(&self, cell: Cell) -> Result<Option<Arc<G::State>>, NoMemory>
+    pub(super) fn computed(&self, cell: Cell) -> Result<Option<Arc<G::State>>, NoMemory>
         requires there { IsThere G.rules self.now cell.cycle cell.component }
         requires ready { is_some (inputs_of G.rules self.now.slots self.now.rows cell.cycle cell.component) ≡ true }
         ensures { IfOk result (λ o. MatchOption o (IsAsBefore G.rules self.now cell.cycle cell.component)
@@ -142,7 +142,7 @@ impl<G: Grid> Table<G> {
 
     /// Stores what was computed, as `settle_cell` does.
     #[tactic(auto, using(crate::proofs::Stores::current_of_inputs))]
-    fn settle_to(&mut self, cell: Cell, state: Arc<G::State>) -> Result<bool, StoreFault>
+    pub(super) fn settle_to(&mut self, cell: Cell, state: Arc<G::State>) -> Result<bool, StoreFault>
         requires there { IsThere G.rules self.old cell.cycle cell.component }
         requires ready { is_some (inputs_of G.rules self.old.slots self.old.rows cell.cycle cell.component) ≡ true }
         requires computed { arc_value state ≡ current_of G.rules self.old.slots self.old.rows cell.cycle cell.component }
@@ -165,7 +165,7 @@ impl<G: Grid> Table<G> {
 
     /// Stores the state of the cell before, as `settle_cell` does.
     #[tactic(auto, using(crate::proofs::Stores::current_of_inputs))]
-    fn settle_again(&mut self, cell: Cell) -> Result<bool, StoreFault>
+    pub(super) fn settle_again(&mut self, cell: Cell) -> Result<bool, StoreFault>
         requires there { IsThere G.rules self.old cell.cycle cell.component }
         requires ready { is_some (inputs_of G.rules self.old.slots self.old.rows cell.cycle cell.component) ≡ true }
         requires computed { IsAsBefore G.rules self.old cell.cycle cell.component }
@@ -187,7 +187,7 @@ impl<G: Grid> Table<G> {
     }
 
     /// Computes the cell and stores its state; tells whether the cell held no state or another one.
-    fn settle_cell(&mut self, cell: Cell) -> Result<bool, StoreFault>
+    pub(super) fn settle_cell(&mut self, cell: Cell) -> Result<bool, StoreFault>
         requires there { IsThere G.rules self.old cell.cycle cell.component }
         requires ready { is_some (inputs_of G.rules self.old.slots self.old.rows cell.cycle cell.component) ≡ true }
         ensures ok { IfOk result (λ changed. IsAfterStore G.rules self.old self.new cell.cycle cell.component
@@ -225,8 +225,8 @@ impl<G: Grid> Table<G> {
         }
     }
 
-    /// `settle`, where `watcher` is told of each cell as soon as its state is stored.
-    pub fn settle_watched<W: Watcher<G>>(&mut self, watcher: &mut W) -> Result<Settled, SettleFault>
+    /// As `settle_watched`, one cell after another.
+    fn settle_each<W: Watcher<G>>(&mut self, watcher: &mut W) -> Result<Settled, SettleFault>
         requires { W.keeps watcher.old self.old }
         ensures watched { W.keeps watcher.new self.new }
         ensures headline_settles { IfOk result (λ s. (done : List (Event G.State G.Slots G.Slot)) × ((o : Start G.Slots) (h : List (Event G.State G.Slots G.Slot)) → Stands G.rules o self.old h
@@ -260,6 +260,28 @@ impl<G: Grid> Table<G> {
                 Err(StoreFault::ClockSpent) => return Err(SettleFault::ClockSpent { computed }),
                 Err(StoreFault::Memory) => return Err(SettleFault::Memory { computed }),
             }
+        }
+    }
+
+    /// `settle`, where `watcher` is told of what is stored as soon as it is.
+    pub fn settle_watched<W: Watcher<G>>(&mut self, watcher: &mut W) -> Result<Settled, SettleFault>
+        requires { W.keeps watcher.old self.old }
+        ensures watched { W.keeps watcher.new self.new }
+        ensures headline_settles { IfOk result (λ s. (done : List (Event G.State G.Slots G.Slot)) × ((o : Start G.Slots) (h : List (Event G.State G.Slots G.Slot)) → Stands G.rules o self.old h
+            → Settles G.rules o h self.new done s.computed)) }
+        ensures after_fault { IfErr result (λ f. (done : List (Event G.State G.Slots G.Slot)) × ((o : Start G.Slots) (h : List (Event G.State G.Slots G.Slot)) → Stands G.rules o self.old h
+            → SettlesFirst G.rules o h self.new done (computed_of f))) }
+        ensures settled { OnOk result (IsSettled G.rules self.new) }
+        ensures slots { self.new.slots ≡ self.old.slots }
+        ensures horizon { self.new.horizon ≡ self.old.horizon }
+        ensures rises { self.old.clock ≤ self.new.clock }
+        ensures clock { self.old.clock ≡ 2 ^ 64 - 1 → self.new.clock ≡ 2 ^ 64 - 1 }
+        ensures spent { IfErr result (λ f. IsClockSpent f → self.new.clock ≡ 2 ^ 64 - 1) }
+        ensures differs { IfErr result (λ f. IsClockSpent f → IsSpent G.rules self.new 0 0) }
+    {
+        match self.first_new() {
+            Some(from) => self.settle_new(from, watcher),
+            None => self.settle_each(watcher),
         }
     }
 

@@ -1,10 +1,11 @@
 //! Following an edit.
-ghost use Rattle.std.specs.Prelude.{◌≡◌, ℕ, ◌+◌, ◌<◌, ◌≤◌, ◌-◌, ◌^◌, ◌↔◌, IfOk, OnOk, OnErr, unwrap_or, true, false, ◌||◌, ◌&&◌, All, List, ◌∷◌};
+ghost use Rattle.std.specs.Prelude.{◌≡◌, ℕ, is_some, ◌+◌, ◌<◌, ◌≤◌, ◌-◌, ◌^◌, ◌↔◌, IfOk, OnOk, OnErr, unwrap_or, true, false, ◌||◌, ◌&&◌, All, List, ◌∷◌};
+ghost use Rattle.std.specs.Option.{option_copied};
 ghost use Rattle.grid_law.specs.Rules.{Differ, reader_at};
 ghost use Rattle.cell_table.specs.Cells.{IsThere};
 ghost use Rattle.cell_table.specs.Inputs.{inputs_of};
-ghost use Rattle.cell_table.specs.Reads.{reads_one, is_reader};
-ghost use Rattle.cell_table.specs.Touches.{is_marked, IsWithin, cell_reads, cell_reads_one, IsAfterTouch};
+ghost use Rattle.cell_table.specs.Reads.{reads_by, is_reader};
+ghost use Rattle.cell_table.specs.Touches.{covers, is_marked, IsWithin, cell_reads, cell_reads_one, IsAfterTouch};
 ghost use Rattle.cell_table.specs.Events.{Event, Start, Edits};
 ghost use Rattle.cell_table.specs.Stands.{Stands};
 ghost use Rattle.cell_table.specs.Settling.{IsSettled};
@@ -18,53 +19,70 @@ use std::alloc::Global;
 use std::sync::Arc;
 
 impl<G: Grid> Table<G> {
-    /// Whether the cell reads the slot; `near` is room for its near states.
-    fn reads_slot(
-        &self,
-        cell: Cell,
-        slot: &G::Slot,
-        near: &mut Vec<Arc<G::State>>,
-    ) -> Result<bool, NoMemory>
-        requires { IsThere G.rules self.now cell.cycle cell.component }
-        ensures { IfOk result (λ b. b ≡ reads_one G.rules self.now.slots cell.component slot.now
-            (inputs_of G.rules self.now.slots self.now.rows cell.cycle cell.component)) }
+    /// Whether a component reads the slot at cycle 0.
+    fn reads_first(&self, component: u32, slot: &G::Slot) -> bool
+        requires { component < G.rules.components self.now.slots }
+        ensures { result ≡ cell_reads_one G.rules self.now.slots self.now.rows slot.now 0 component }
     {
-        if self.inputs(cell, near)? {
-            Ok(G::reads(&self.slots, near.as_slice(), cell.component, slot))
-        } else {
-            Ok(false)
+        let near: Vec<Arc<G::State>> = Vec::new(self.cells.allocator());
+        G::reads(&self.slots, near.as_slice(), component, slot)
+    }
+
+    /// Whether a component reads the slot after cycle 0, where its own state one cycle earlier was this
+    /// and the other near states are there.
+    fn reads_by(&self, own: Option<&G::State>, component: u32, slot: &G::Slot) -> bool
+        requires { component < G.rules.components self.now.slots }
+        ensures { result ≡ reads_by G.rules self.now.slots component slot.now (option_copied own.entry) }
+    {
+        match own {
+            Some(state) => G::reads_later(&self.slots, state, component, slot),
+            None => false,
         }
     }
 
-    /// The cycle up to which, from that one on, a component's cells have equal near states.
-    fn same_inputs_to(&self, cell: Cell, last: u32) -> u32
-        requires later { 0 < cell.cycle }
-        requires within { cell.cycle ≤ last }
-        requires there { last ≤ self.now.horizon }
-        requires component { cell.component < G.rules.components self.now.slots }
-        ensures after { cell.cycle < result }
-        ensures within { result ≤ last + 1 }
-        ensures same { (t : ℕ) → cell.cycle ≤ t → t < result → inputs_of G.rules self.now.slots self.now.rows t cell.component
-            ≡ inputs_of G.rules self.now.slots self.now.rows cell.cycle cell.component }
+    /// Whether the near states of all cells are there, as one number tells: they are where no cell is
+    /// due.
+    fn all_ready(&self) -> bool
+        ensures { result ≡ true → (t c : ℕ) → IsThere G.rules self.now t c → is_some (inputs_of G.rules self.now.slots self.now.rows t c) ≡ true }
     {
-        // The cycles are at most this many, so the next cycle's number fits.
-        let _cycles = self.cells.cycles();
-        let near = G::near(&self.slots, cell.component);
-        let mut end = cell.cycle + 1;
-        while end <= last && self.cells.all_stay(end - 1, near.as_slice()) {
-            end += 1;
+        self.due_to(self.horizon) == 0
+    }
+
+    /// Adds those cells of a range whose near states are there, where the range reads a slot.
+    fn add_ready(
+        &self,
+        range: CellRange,
+        reads: bool,
+        ranges: &mut Vec<CellRange>,
+    ) -> Result<(), NoMemory>
+        requires range { IsWithin (self.now.horizon + 1) (G.rules.components self.now.slots) range }
+        ensures at { OnOk result ((t c : ℕ) → is_marked ranges.new.items t c
+            ≡ (is_marked ranges.old.items t c || (covers range t c && (is_some (inputs_of G.rules self.now.slots self.now.rows t range.component) && reads)))) }
+        ensures within { (n count : ℕ) → All (IsWithin n count) ranges.old.items → IsWithin n count range → OnOk result (All (IsWithin n count) ranges.new.items) }
+    {
+        if !reads || self.all_ready() {
+            return add_where(ranges, range, reads);
         }
-        end
+        let component = range.component;
+        for cycle in range.from..range.to {
+            let ready = self.has_inputs(Cell { cycle, component });
+            let one = CellRange {
+                component,
+                from: cycle,
+                to: cycle + 1,
+            };
+            add_where(ranges, one, ready)?;
+        }
+        Ok(())
     }
 
     /// Adds the cells of later cycles, up to the last, at which a component reads the slot. It is
-    /// asked once for each stretch of equal near states.
+    /// asked once for each stretch of its own states.
     fn add_later(
         &self,
         component: u32,
         slot: &G::Slot,
         last: u32,
-        near: &mut Vec<Arc<G::State>>,
         ranges: &mut Vec<CellRange>,
     ) -> Result<(), NoMemory>
         requires there { last ≤ self.now.horizon }
@@ -76,19 +94,21 @@ impl<G: Grid> Table<G> {
     {
         // The cycles are at most this many, so the next cycle's number fits.
         let _cycles = self.cells.cycles();
-        let mut cycle = 1;
-        while cycle <= last {
-            let cell = Cell { cycle, component };
-            let to = self.same_inputs_to(cell, last);
-            let reads = self.reads_slot(cell, slot, near)?;
-            let from = cycle;
+        let mut from = 1;
+        let mut hint = 0;
+        while from <= last {
+            let cycle = from - 1;
+            let own = self.standing(Cell { cycle, component }, hint);
+            let to = own.end.min(last) + 1;
+            let reads = self.reads_by(own.state, component, slot);
             let range = CellRange {
                 component,
                 from,
                 to,
             };
-            add_where(ranges, range, reads)?;
-            cycle = to;
+            self.add_ready(range, reads, ranges)?;
+            from = to;
+            hint = own.stretch.saturating_add(1);
         }
         Ok(())
     }
@@ -99,7 +119,6 @@ impl<G: Grid> Table<G> {
         reader: Reader,
         slot: &G::Slot,
         last: u32,
-        near: &mut Vec<Arc<G::State>>,
         ranges: &mut Vec<CellRange>,
     ) -> Result<(), NoMemory>
         requires there { last ≤ self.now.horizon }
@@ -110,13 +129,9 @@ impl<G: Grid> Table<G> {
             ≡ (is_marked ranges.old.items t c || (is_reader reader t c && cell_reads_one G.rules self.now.slots self.now.rows slot.now t reader.component))) }
     {
         if !reader.first {
-            return self.add_later(reader.component, slot, last, near, ranges);
+            return self.add_later(reader.component, slot, last, ranges);
         }
-        let cell = Cell {
-            cycle: 0,
-            component: reader.component,
-        };
-        let reads = self.reads_slot(cell, slot, near)?;
+        let reads = self.reads_first(reader.component, slot);
         let range = CellRange {
             component: reader.component,
             from: 0,
@@ -132,7 +147,6 @@ impl<G: Grid> Table<G> {
         alloc: Global,
         slot: &G::Slot,
         last: u32,
-        near: &mut Vec<Arc<G::State>>,
         ranges: &mut Vec<CellRange>,
     ) -> Result<(), NoMemory>
         requires there { last ≤ self.now.horizon }
@@ -143,7 +157,7 @@ impl<G: Grid> Table<G> {
     {
         let readers = G::readers(alloc, &self.slots, slot)?;
         for reader in readers.as_slice() {
-            self.add_reader(*reader, slot, last, near, ranges)?;
+            self.add_reader(*reader, slot, last, ranges)?;
         }
         Ok(())
     }
@@ -161,9 +175,8 @@ impl<G: Grid> Table<G> {
             ≡ cell_reads G.rules self.now.slots self.now.rows listed.now t c) }
     {
         let mut ranges = Vec::new(alloc);
-        let mut near = Vec::new(alloc);
         for slot in listed {
-            self.add_slot(alloc, slot, last, &mut near, &mut ranges)?;
+            self.add_slot(alloc, slot, last, &mut ranges)?;
         }
         Ok(ranges)
     }
@@ -231,7 +244,8 @@ impl<G: Grid> Table<G> {
     /// at that clock; where the table was settled, what settling it again costs are these cells and
     /// those with a near cell one cycle earlier that differs between the two runs. After a fault
     /// nothing is changed. Of each slot listed its readers are asked, and no other component: at
-    /// cycle 0, or later once for each stretch of cycles with equal near states.
+    /// cycle 0, or later once for each stretch of cycles in which its own state is the same. Where no
+    /// cell is due, nothing else is looked at; else the near states of the cells that read the slot.
     pub fn touch(&mut self, next: G::Slots, changed: Changed<G::Slot>) -> Result<(), TouchFault>
         requires { Differ G.rules self.old.slots next changed.slots.items }
         ensures ok { OnOk result

@@ -228,6 +228,7 @@ the_laws = record {
   near_few = λ P c. few_beside P.k (component_of P.k c) c;
   same_reads = same_reads;
   same_result = same_result;
+  reads_own = λ P own others c slot. refl;
   readers = λ P near c slot h e. reads_readers P near c slot h e;
   readers_exist = λ P slot. readers_exist (λ c first. may_read P c first slot) (components P.k) 0 (components P.k) (omega arith);
   readers_ascend = λ P slot. readers_ascend (λ c first. may_read P c first slot) 0 (components P.k);

@@ -52,7 +52,7 @@ impl Pass {
     }
 
     /// Asks the bench as it is, in one turn, without settling it: an answer as `ask`'s, or the number of due cells that it
-    /// waits for.
+    /// waits for. Nothing of the bench is changed, whatever it answers.
     pub fn look<R: Threads + Wait + Sync>(&mut self, rt: &R, query: Query) -> Asked
         ensures answer { AnswersAt (project_seen self.new) (length self.new.seen) query result }
         ensures later { IsLater self.old self.new }
@@ -67,7 +67,7 @@ impl Pass {
     }
 
     /// A claim of the first cell at or after `from` that is due and can be computed, as `Bench::claim`, in one turn. Its
-    /// result is computed outside of any turn.
+    /// result is computed outside of any turn. Nothing of the bench is changed, whatever it answers.
     pub fn claim<R: Wait>(&mut self, rt: &R, from: Cell) -> Result<Option<Claim<Rp3>>, NoMemory>
         ensures project { IfOk result (λ r. IfSome r (λ claim. claim.slots ≡ project_seen self.new)) }
         ensures later { IsLater self.old self.new }
@@ -81,7 +81,7 @@ impl Pass {
         claim
     }
 
-    /// Gives the result of a claim back, as `Bench::give`, in one turn.
+    /// Gives the result of a claim back, as `Bench::give`, in one turn. All answers but `Stored` change nothing of the bench.
     pub fn give<R: Wait>(&mut self, rt: &R, done: Done<Rp3>) -> Given<Done<Rp3>>
         ensures later { IsLater self.old self.new }
         ensures own { (self.new.numbers ≡ self.old.numbers) × (self.new.receipts ≡ self.old.receipts) }

@@ -1,10 +1,11 @@
 use Rattle.std.proofs.Common.{rules, ◌≡◌, ◌<◌, vec_len, [], subst, sym, append-nil, ◌∙◌}
 use Rattle.std.specs.Prelude.{OnOk}
+use Rattle.std.proofs.KnownBytes.{Keeps-refl}
 use Rattle.shared_bench.specs.Legal.{StartsWith}
 use Rattle.bench_shell.specs.Store.{store_of}
 use Rattle.bench_shell.specs.Seated.{seated_store}
 use Rattle.bench_shell.specs.Output.{AnswersOwn}
-use Rattle.bench_shell.proofs.Openings.{alone_all, alone_part, beside_all, beside_part}
+use Rattle.bench_shell.proofs.Openings.{alone_all, alone_part, beside_all}
 use Rattle.bench_shell.proofs.serving.serve.Goals as goal
 
 pub returns-in-Ok : goal.returns-in-Ok
@@ -16,6 +17,9 @@ pub returns-in-Err : goal.returns-in-Err
 returns-in-Err g c =
     let none : vec_len c.args.gates ≡ 0 = search rules in
     alone_part (vec_len c.args.gates) _ _ _ _ c.in-Some.bench c.args.project (store_of c.run.new.desk) none c.in-Some.ensures.project c.in-Some.ensures.journal (c.in-Err.ensures.fault tt)
+
+pub returns-in-Err-open : goal.returns-in-Err-open
+returns-in-Err-open g c = (Keeps-refl (g.R.Read.remaining c.args.reader.now), Keeps-refl (g.W.Write.contents c.args.writer.now))
 
 pub run_beside-requires-clause-seen : goal.run_beside-requires-clause-seen
 run_beside-requires-clause-seen g c κs within =

@@ -1,4 +1,4 @@
-use Rattle.std.proofs.Common.{sym, refl, subst, ap, ℕ, List, [], ◌∷◌, ◌∙◌, ◌<◌, ◌≤◌, length, append-nil, arith}
+use Rattle.std.proofs.Common.{sym, refl, subst, ℕ, List, [], ◌∷◌, ◌∙◌, ◌<◌, ◌≤◌, length, append-nil, arith}
 use Rattle.std.proofs.lemmas.Result.{on_ok_weaker, on_err_weaker}
 use Rattle.bench_shell.specs.Text.{line_text}
 use Rattle.bench_shell.specs.declared.answer.Answer.TheVariants.{BadLine, BadCut}

@@ -15,22 +15,22 @@ returns-in-Ok-clause-moves g c =
     let held = c.args.held.now in
     let answer = c.in-Ok.answer in
     rw (c.clear.ensures.is_long, c.clear.ensures.bytes, c.if-byte-ne10.false)
-    (on_ok_weaker c.tell.result
+    (on_ok_weaker c.write_line.result
     (λ q. goes_line (g.D.Desk.is_alone c.args.desk.now) (g.D.Desk.is_alone c.line_answer.new.desk) _ _ (g.D.Desk.store c.args.desk.now) (g.D.Desk.store c.line_answer.new.desk) held.is_long held.bytes.items answer
     c.line_answer.ensures.earlier c.in-Ok.ensures.own c.in-Ok.ensures.answers q)
-    c.tell.ensures.ok)
+    c.write_line.ensures.ok)
 
 pub returns-in-Ok-clause-fails : goal.returns-in-Ok-clause-fails
 returns-in-Ok-clause-fails g c = λ alone.
     let held = c.args.held.now in
     let answer = c.in-Ok.answer in
     rw c.if-byte-ne10.false
-    (on_err_weaker c.tell.result
+    (on_err_weaker c.write_line.result
     (λ q. (
       q.0,
       q.2,
       fails_line (g.D.Desk.store c.args.desk.now) (g.D.Desk.store c.line_answer.new.desk) held.is_long held.bytes.items answer q.0 q.1 (c.in-Ok.ensures.answers alone) q.3,
-    )) c.tell.ensures.err)
+    )) c.write_line.ensures.err)
 
 pub returns-in-Err-clause-fails : goal.returns-in-Err-clause-fails
 returns-in-Err-clause-fails g c = λ alone.

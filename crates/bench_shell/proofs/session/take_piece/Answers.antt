@@ -1,39 +1,25 @@
-use Rattle.std.proofs.Common.{refl, ◌∙◌, take}
-use Rattle.bench_shell.proofs.Steps.{goes_none, moves_on, piece_goes, piece_fails}
+use Rattle.bench_shell.proofs.Writes.{kept_ok, kept_err}
+use Rattle.bench_shell.proofs.Steps.{goes_kept, goes_fails, fails_kept}
 use Rattle.bench_shell.proofs.session.take_piece.Goals as goal
 
-pub loop-byte-init : goal.loop-byte-init
-loop-byte-init g c =
+pub returns-in-Ok-clause-moves : goal.returns-in-Ok-clause-moves
+returns-in-Ok-clause-moves g c =
     let held = c.args.held.now in
-    record {
-      version = c.requires.version;
-      flushed = c.requires.flushed;
-      same_reference = refl;
-      earlier = λ alone. alone;
-      moves = goes_none (g.D.Desk.is_alone c.args.desk.now) _ (g.D.Desk.store c.args.desk.now) held.is_long held.bytes.items;
-    }
+    let next = c.take_each.new.held in
+    kept_ok c.hand_on.result
+    (goes_kept (g.D.Desk.is_alone c.args.desk.now) (g.D.Desk.is_alone c.take_each.new.desk) _ _ _ (g.D.Desk.store c.args.desk.now) (g.D.Desk.store c.take_each.new.desk)
+    held.is_long next.is_long held.bytes.items next.bytes.items c.args.piece.now c.in-Ok.ensures.moves c.hand_on.ensures.bytes)
+
+pub returns-in-Ok-clause-fails : goal.returns-in-Ok-clause-fails
+returns-in-Ok-clause-fails g c = λ alone.
+    let held = c.args.held.now in
+    let next = c.take_each.new.held in
+    kept_err c.hand_on.result
+    (goes_fails (g.D.Desk.is_alone c.args.desk.now) (g.D.Desk.is_alone c.take_each.new.desk) _ _ _ (g.D.Desk.store c.args.desk.now) (g.D.Desk.store c.take_each.new.desk)
+    held.is_long next.is_long held.bytes.items next.bytes.items c.args.piece.now c.in-Ok.ensures.moves c.hand_on.ensures.bytes alone)
 
 pub returns-in-Err-clause-fails : goal.returns-in-Err-clause-fails
 returns-in-Err-clause-fails g c = λ alone.
-    let first = c.args.held.now in
-    let held = c.loop-byte.held in
-    piece_fails _ _ _ (g.D.Desk.store c.args.desk.now) (g.D.Desk.store c.loop-byte.desk) (g.D.Desk.store c.take_byte.new.desk)
-    first.is_long held.is_long first.bytes.items held.bytes.items c.args.piece.now c.loop-byte.byte-index _ c.loop-byte-test.true refl
-    (moves_on _ _ (g.D.Desk.is_alone c.args.desk.now) (g.D.Desk.is_alone c.loop-byte.desk) (g.D.Desk.store c.args.desk.now) (g.D.Desk.store c.loop-byte.desk) first.is_long held.is_long first.bytes.items held.bytes.items
-    (take c.loop-byte.byte-index c.args.piece.now) c.loop-byte.invariant.moves (c.take_byte.ensures.earlier alone)) (c.in-Err.ensures.fails alone)
-
-pub loop-byte-preserved : goal.loop-byte-preserved
-loop-byte-preserved g c =
-    let first = c.args.held.now in
-    let held = c.loop-byte.held in
-    let next = c.take_byte.new.held in
-    record {
-      version = c.in-Ok.ensures.version;
-      flushed = c.in-Ok.ensures.flushed;
-      same_reference = c.take_byte.ensures.same_reference ∙ c.loop-byte.invariant.same_reference;
-      earlier = λ alone. c.loop-byte.invariant.earlier (c.take_byte.ensures.earlier alone);
-      moves = piece_goes (g.D.Desk.is_alone c.args.desk.now) (g.D.Desk.is_alone c.loop-byte.desk) (g.D.Desk.is_alone c.take_byte.new.desk)
-          _ _ _ (g.D.Desk.store c.args.desk.now) (g.D.Desk.store c.loop-byte.desk) (g.D.Desk.store c.take_byte.new.desk)
-          first.is_long held.is_long next.is_long first.bytes.items held.bytes.items next.bytes.items c.args.piece.now c.loop-byte.byte-index _ c.loop-byte-test.true refl
-          c.loop-byte.invariant.earlier c.take_byte.ensures.earlier c.loop-byte.invariant.moves c.in-Ok.ensures.moves;
-    }
+    let held = c.args.held.now in
+    fails_kept _ _ _ (g.D.Desk.store c.args.desk.now) (g.D.Desk.store c.take_each.new.desk) held.is_long held.bytes.items c.args.piece.now
+    (c.in-Err.ensures.fails alone) c.flush.ensures.bytes

@@ -1,4 +1,5 @@
-use Rattle.std.proofs.Common.{rules, ◌≡◌, ◌+◌, ◌∙◌, sym, ap, subst, arith, ℕ, List, [], ◌∷◌, ◌++◌}
+use Rattle.std.proofs.Common.{rules, ◌≡◌, ◌+◌, ◌∙◌, sym, ap, subst, arith, ℕ, refl, List, [], ◌∷◌, ◌++◌, length}
+use Rattle.std.proofs.lemmas.List.{length_push}
 use Rattle.std.specs.Option.{unwrap_or}
 use Rattle.cell_table.specs.Touches.{IsAfterTouch}
 use Rattle.machine_cells.specs.GridRules.{rp3_rules}
@@ -12,12 +13,24 @@ use Rattle.bench_core.proofs.Admitting.{admitted_room}
 use Rattle.bench_core.specs.Stands.{HasHistory}
 use Rattle.bench_core.specs.declared.noted.Noted.{Noted}
 use Rattle.bench_core.proofs.Histories.{history_edited}
+use Rattle.bench_core.specs.Recent.{AreTold}
+use Rattle.bench_core.proofs.Keeping.{told_later, holds_still}
 use Rattle.bench_core.proofs.Touching.{bench_edited, after_edit, to}
 use Rattle.bench_core.proofs.Counting.{counted_touched}
 use Rattle.bench_core.proofs.bench.Bench.edit_plain.Goals as goal
 
 pub forget-requires : goal.forget-requires
 forget-requires c = omega (arith, c.horizon-before.ensures, c.self.invariant.0.short)
+
+pub invariant_of-self : goal.invariant_of-self
+invariant_of-self c =
+    let i = c.self.inside in
+    holds_still i.table i.table i.counters i.journal.items c.reserve.new.self.items i.recent refl (search rules) c.self.invariant
+
+pub invariant_of-self-in-Err-touch : goal.invariant_of-self-in-Err-touch
+invariant_of-self-in-Err-touch c =
+    let i = c.self.inside in
+    holds_still i.table c.touch.new.self i.counters i.journal.items c.reserve.new.self.items i.recent (search rules) (search rules) c.self.invariant
 
 pub invariant_of-self-2 : goal.invariant_of-self-2
 invariant_of-self-2 c =
@@ -37,8 +50,12 @@ invariant_of-self-2 c =
     subst (λ (l : List Noted). HasHistory (record { table = new; journal = l })) (sym (c.push_reserved.ensures.items ∙ ap (λ (l : List Noted). l ++ record { author = c.args.author; edit = c.args.edit } ∷ []) kept))
     (history_edited (record { table = old; journal = c.self.inside.journal.items }) (record { table = new; journal = c.self.inside.journal.items ++ record { author = c.args.author; edit = c.args.edit } ∷ [] }) c.args.author c.args.edit (search rules)
     (after_edit old new c.self.inside.journal.items c.args.author c.args.edit next listed horizon c.self.invariant.0 is touches moved touched) c.self.invariant.2) in
+    let recent : AreTold new.slots (length c.push_reserved.new.self.items) c.self.inside.recent =
+    let kept : c.reserve.new.self.items ≡ c.self.inside.journal.items = search rules in
+    let more : length c.push_reserved.new.self.items ≡ length c.self.inside.journal.items + 1 = ap length c.push_reserved.ensures.items ∙ length_push c.reserve.new.self.items (record { author = c.args.author; edit = c.args.edit }) ∙ ap (λ (l : List Noted). length l + 1) kept in
+    subst (λ (n : ℕ). AreTold new.slots n c.self.inside.recent) (sym more) (told_later old.slots (length c.self.inside.journal.items) c.self.inside.recent c.self.invariant.3 new.slots) in
     let at_end : c.horizon-to.result ≡ new.horizon = c.horizon-to.ensures.horizon ∙ sym (touched.horizon ∙ end) in
     let clears : (at : States) → StandsFor c.self.inside.counters at → StandsFor c.forget.new.self (cleared at (new.horizon + 1) old.horizon) =
     subst (λ (n : ℕ). (at : States) → StandsFor c.self.inside.counters at → StandsFor c.forget.new.self (cleared at (n + 1) old.horizon)) at_end
     (subst (λ (n : ℕ). (at : States) → StandsFor c.self.inside.counters at → StandsFor c.forget.new.self (cleared at (c.horizon-to.result + 1) n)) c.horizon-before.ensures c.forget.ensures.stands) in
-    (bench, counted_touched c.self.inside.counters c.forget.new.self old new c.self.invariant.1 c.forget.ensures.shape (unwrap_or horizon old.horizon) next listed (sym touches.shape) touched clears, history)
+    (bench, counted_touched c.self.inside.counters c.forget.new.self old new c.self.invariant.1 c.forget.ensures.shape (unwrap_or horizon old.horizon) next listed (sym touches.shape) touched clears, history, recent)

@@ -1,9 +1,10 @@
-use Rattle.std.proofs.Common.{◌∙◌, refl, ap, sym, arith}
+use Rattle.std.proofs.Common.{rules, ◌∙◌, refl, ap, sym, arith, length}
 use Rattle.cell_table.specs.declared.given.Given.TheVariants.{Stored}
 use Rattle.project_book.specs.Project.{Project}
 use Rattle.bench_core.specs.Shown.{Shown, IsBench}
-use Rattle.bench_core.proofs.Happening.{give_stands, give_answers, project_given, clock_is_given}
+use Rattle.bench_core.proofs.Happening.{not_stored, give_stands, give_answers, project_given, clock_is_given}
 use Rattle.bench_core.proofs.Histories.{history_given}
+use Rattle.bench_core.proofs.Keeping.{told_same, holds_still}
 use Rattle.bench_core.proofs.bench.Bench.give.Goals as goal
 
 pub stored-requires : goal.stored-requires
@@ -23,7 +24,13 @@ invariant_of-self c =
       bench,
       c.stored.ensures.1,
       history_given (record { table = i.table; journal = i.journal.items }) (record { table = c.give.new.self; journal = i.journal.items }) c.args.done (Stored c.in-Stored.changed) gives refl c.self.invariant.2,
+      told_same i.table.slots c.give.new.self.slots (length i.journal.items) i.recent gives.2.slots c.self.invariant.3,
     )
+
+pub invariant_of-self-in_default : goal.invariant_of-self-in_default
+invariant_of-self-in_default c =
+    let i = c.self.inside in
+    holds_still i.table c.give.new.self i.counters i.journal.items i.journal.items i.recent (not_stored i.table c.give.new.self c.args.done c.give.result c.give.ensures.headline_foreign (search rules)) refl c.self.invariant
 
 pub returns-in-Stored-clause-headline_stands : goal.returns-in-Stored-clause-headline_stands
 returns-in-Stored-clause-headline_stands c =

@@ -1,8 +1,9 @@
-use Rattle.std.proofs.Common.{◌∙◌, refl, ap, sym, arith}
+use Rattle.std.proofs.Common.{◌∙◌, refl, ap, sym, arith, length}
 use Rattle.project_book.specs.Project.{Project}
 use Rattle.bench_core.specs.Shown.{IsBench}
 use Rattle.bench_core.proofs.Happening.{settle_all, settle_some}
 use Rattle.bench_core.proofs.Histories.{history_settled}
+use Rattle.bench_core.proofs.Keeping.{told_same}
 use Rattle.bench_core.proofs.Waiting.{ready}
 use Rattle.bench_core.proofs.bench.Bench.settle.Goals as goal
 
@@ -22,6 +23,7 @@ invariant_of-self c =
       bench_after c,
       c.settle_watched.ensures.watched.1,
       history_settled (record { table = i.table; journal = i.journal.items }) (record { table = c.settle_watched.new.self; journal = i.journal.items }) refl c.settle_watched.result c.settle_watched.ensures.headline_settles c.settle_watched.ensures.after_fault c.self.invariant.2,
+      told_same i.table.slots c.settle_watched.new.self.slots (length i.journal.items) i.recent c.settle_watched.ensures.slots c.self.invariant.3,
     )
 
 pub returns-clause-headline_settles : goal.returns-clause-headline_settles

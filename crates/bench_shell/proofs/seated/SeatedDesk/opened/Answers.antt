@@ -1,4 +1,4 @@
-use Rattle.std.proofs.Common.{◌≡◌, ◌∙◌, sym, subst, length, ℕ}
+use Rattle.std.proofs.Common.{◌≡◌, ◌∙◌, sym, subst, length}
 use Rattle.shared_bench.specs.Known.{Known}
 use Rattle.bench_shell.specs.Seated.{seated_store}
 use Rattle.bench_shell.proofs.Seats.{k_seated}

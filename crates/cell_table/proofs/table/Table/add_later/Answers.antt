@@ -1,11 +1,12 @@
-use Rattle.std.proofs.Common.{ℕ, ◌≡◌, ◌+◌, ◌∙◌, ◌&&◌, ◌||◌, sym, ap, arith, eqb, leb, ltb}
+use Rattle.std.proofs.Common.{ℕ, ◌≡◌, ◌<◌, ◌≤◌, ◌+◌, ◌-◌, ◌∙◌, ◌&&◌, ◌||◌, sym, ap, arith, eqb, leb, ltb, is_some}
+use Rattle.std.specs.Option.{option_copied}
+use Rattle.cell_table.specs.Inputs.{inputs_of}
 use Rattle.cell_table.specs.Touches.{is_marked, cell_reads_one}
-use Rattle.cell_table.specs.Reads.{reads_one}
-use Rattle.cell_table.proofs.Asking.{later_more, later_none, later_all}
+use Rattle.cell_table.proofs.Asking.{later_more, later_none, later_all, by_own}
 use Rattle.cell_table.proofs.table.Table.add_later.Goals as goal
 
-pub loop-cycle-init : goal.loop-cycle-init
-loop-cycle-init g c =
+pub loop-from-init : goal.loop-from-init
+loop-from-init g c =
     let one = λ (t : ℕ). cell_reads_one g.G.Grid.rules c.args.self.now.slots c.args.self.now.rows c.args.slot.now t c.args.component in
     record {
       first = omega arith;
@@ -14,28 +15,40 @@ loop-cycle-init g c =
       at = λ t d h. later_none d c.args.component t (is_marked c.args.ranges.now.items t d) (one t);
     }
 
-pub loop-cycle-preserved : goal.loop-cycle-preserved
-loop-cycle-preserved g c =
-    let inv = c.loop-cycle.invariant in
-    let cycle = c.loop-cycle.cycle in
-    let to = c.same_inputs_to-to.result in
-    let one = λ (t : ℕ). cell_reads_one g.G.Grid.rules c.args.self.now.slots c.args.self.now.rows c.args.slot.now t c.args.component in
-    let same = c.same_inputs_to-to.ensures in
+pub loop-from-preserved : goal.loop-from-preserved
+loop-from-preserved g c =
+    let R = g.G.Grid.rules in
+    let s = c.args.self.now.slots in
+    let rows = c.args.self.now.rows in
+    let component = c.args.component in
+    let inv = c.loop-from.invariant in
+    let from = c.loop-from.from in
+    let to = c.min-to.result + 1 in
+    let own = c.standing-own.ensures in
+    let reads = c.reads_by-reads.result in
+    let after : from ≤ c.min-to.result = omega (arith, own.after, inv.first, c.loop-from-test.true, c.min-to.ensures) in
+    let within : to ≤ c.args.last + 1 = omega (arith, c.min-to.ensures) in
+    let up : to ≤ c.standing-own.result.end + 1 = omega (arith, c.min-to.ensures) in
+    let one = λ (t : ℕ). cell_reads_one R s rows c.args.slot.now t component in
+    let ready = λ (t : ℕ). is_some (inputs_of R s rows t component) in
+    let same : (t : ℕ) → from ≤ t → t < to → one t ≡ (ready t && reads) = λ t k l.
+    by_own R g.G.Grid.laws s rows component t c.args.slot.now (option_copied c.standing-own.result.state) (omega (arith, inv.first, k)) (own.same (t - 1) (omega (arith, k)) (omega (arith, k, l, up, inv.first)) ∙ sym own.state)
+    ∙ ap (λ b. ready t && b) (sym c.reads_by-reads.ensures) in
     record {
-      first = omega (arith, inv.first, same.after);
-      to = same.within;
-      within = c.in_ok-add_where.ensures.within (c.args.last + 1) (g.G.Grid.rules.components c.args.self.now.slots) inv.within (omega (arith, same.after), same.within, c.requires.component);
+      first = omega (arith, inv.first, after);
+      to = within;
+      within = c.in_ok-add_ready.ensures.within (c.args.last + 1) (R.components s) inv.within (omega (arith, after), within, c.requires.component);
       at = λ t d h.
-          c.in_ok-add_where.ensures.at t d
-          ∙ ap (λ b. b || (((eqb d c.args.component) && (leb cycle t && ltb t to)) && c.in_ok-reads.reads)) (inv.at t d h)
-          ∙ later_more (is_marked c.args.ranges.now.items t d) (eqb d c.args.component) t cycle to (one t) c.in_ok-reads.reads inv.first (omega (arith, same.after)) (λ k l. ap (reads_one g.G.Grid.rules c.args.self.now.slots c.args.component c.args.slot.now) (same.same t k l) ∙ sym c.in_ok-reads.ensures);
+          c.in_ok-add_ready.ensures.at t d
+          ∙ ap (λ b. b || (((eqb d component) && (leb from t && ltb t to)) && (ready t && reads))) (inv.at t d h)
+          ∙ later_more (is_marked c.args.ranges.now.items t d) (eqb d component) t from to (one t) (ready t && reads) inv.first (omega (arith, after)) (same t);
     }
 
 pub returns-clause-at : goal.returns-clause-at
 returns-clause-at g c = λ t d h.
-    let inv = c.loop-cycle.invariant in
+    let inv = c.loop-from.invariant in
     let one = λ (t : ℕ). cell_reads_one g.G.Grid.rules c.args.self.now.slots c.args.self.now.rows c.args.slot.now t c.args.component in
-    let end : c.loop-cycle.cycle ≡ c.args.last + 1 = omega (arith, inv.to, c.loop-cycle-test.false) in
+    let end : c.loop-from.from ≡ c.args.last + 1 = omega (arith, inv.to, c.loop-from-test.false) in
     inv.at t d h
     ∙ ap (λ n. is_marked c.args.ranges.now.items t d || ((eqb d c.args.component) && ((leb 1 t && ltb t n) && one t))) end
     ∙ ap (λ b. is_marked c.args.ranges.now.items t d || b) (later_all c.args.component d t c.args.last (one t) h)

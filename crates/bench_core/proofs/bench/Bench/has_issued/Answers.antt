@@ -1,0 +1,42 @@
+use Rattle.std.proofs.Common.{◌≡◌, ℕ, suc, ◌+◌, ◌-◌, ◌*◌, ◌<◌, ◌≤◌, ◌∙◌, ◌⊎◌, inl, inr, cond, sym, ap, arith, Option}
+use Rattle.std.specs.Option.{option_copied}
+use Rattle.machine_cells.specs.declared.state.MachineState.{MachineState}
+use Rattle.project_book.specs.Project.{Project}
+use Rattle.run_queries.specs.Answers.{has_sent, issued}
+use Rattle.bench_core.specs.Shown.{project_of, held}
+use Rattle.bench_core.proofs.Looking.{issued_until, at_most, count_tells}
+use Rattle.bench_core.proofs.bench.Bench.has_issued.Goals.{then-loop-cycle-test+else-count-issue, else-loop-cycle-test}
+use Rattle.bench_core.proofs.bench.Bench.has_issued.Goals as goal
+
+pub loop-cycle-preserved : goal.loop-cycle-preserved
+loop-cycle-preserved c =
+    let b = c.args.self.now in
+    let at : ℕ → Option MachineState = λ t. held b.table t c.args.proc in
+    let inv = c.loop-cycle.invariant in
+    let from = c.loop-cycle.cycle in
+    let to = c.standing-part.result.end in
+    let sent = c.sent_in-count.result in
+    let state : option_copied c.standing-part.result.state ≡ at from = rw (← c.self.view_is) c.standing-part.ensures.state in
+    let same : (t : ℕ) → from ≤ t → t < to → at t ≡ at from = rw (← c.self.view_is) c.standing-part.ensures.same in
+    let within : to ≤ b.table.horizon + 1 = rw (← c.self.view_is) c.standing-part.ensures.within in
+    let more : issued at to ≡ issued at from + (to - from) * cond (has_sent (at from)) 1 0 = issued_until at from to c.standing-part.ensures.after same in
+    let here : sent ≡ (to - from) * cond (has_sent (at from)) 1 0 = c.sent_in-count.ensures ∙ ap (λ s. (to - from) * cond (has_sent s) 1 0) state in
+    let few : (to - from) * cond (has_sent (at from)) 1 0 ≤ to - from = at_most (to - from) (has_sent (at from)) in
+    let less : sent ≤ to - from = omega (arith, here, few) in
+    record {
+      is = ap (λ n. n + sent) inv.is ∙ ap (λ n. issued at from + n) here ∙ sym more;
+      few = omega (arith, inv.few, less, c.standing-part.ensures.after);
+      within = omega (arith, within, c.is_bench.ensures.bench.horizon);
+    }
+
+pub returns : goal.returns
+returns c =
+    let b = c.args.self.now in
+    let at : ℕ → Option MachineState = λ t. held b.table t c.args.proc in
+    let inv = c.loop-cycle.invariant in
+    let end : c.horizon-horizon.result ≡ (project_of b).horizon = c.horizon-horizon.ensures.horizon ∙ ap (λ (p : Project). p.horizon) c.project.ensures in
+    let known : (c.args.issue < c.loop-cycle.count) ⊎ (c.loop-cycle.cycle ≡ suc (project_of b).horizon) = elim c.loop-cycle-test.branch [
+      | then-loop-cycle-test+else-count-issue w ↦ inl w.if-count-issue.false
+      | else-loop-cycle-test w ↦ inr (omega (arith, end, inv.within, w.loop-cycle-test.false))
+    ] in
+    count_tells at c.args.issue c.loop-cycle.count c.loop-cycle.cycle (suc (project_of b).horizon) inv.is (omega (arith, inv.within)) known

@@ -1,0 +1,58 @@
+use Rattle.std.proofs.Common.{◌≡◌, ◌∙◌, sym, ap, subst, length, None, Ok}
+use Rattle.run_queries.specs.declared.body.Body.{Body}
+use Rattle.run_queries.specs.Answers.{answer}
+use Rattle.run_queries.specs.Bad.{bad_query}
+use Rattle.bench_core.specs.Shown.{Shown, project_of, version_of}
+use Rattle.bench_core.specs.Asks.{TellsRun}
+use Rattle.bench_core.specs.declared.asked.Asked.{Asked}
+use Rattle.bench_core.specs.declared.asked.Asked.TheVariants.{Answer}
+use Rattle.bench_core.specs.declared.recent.Asking.{Asking}
+use Rattle.bench_core.proofs.Keeping.{told_kept, told_more, answer_told, kept_tells}
+use Rattle.bench_core.proofs.bench.Bench.told.Goals as goal
+
+pub invariant_of-self : goal.invariant_of-self
+invariant_of-self g c =
+    let i = c.self.inside in
+    (c.self.invariant.0, c.self.invariant.1, c.self.invariant.2, told_kept i.table.slots (length i.journal.items) i.recent c.self.invariant.3 c.answer.new.self c.answer.ensures.stays)
+
+pub returns-in-Some-clause-tells : goal.returns-in-Some-clause-tells
+returns-in-Some-clause-tells g c =
+    let b = c.args.self.now in
+    let i = c.self.inside in
+    let asking : Asking = record { version = c.version-version.result; query = c.args.query } in
+    let at : c.version-version.result ≡ length i.journal.items = c.version-version.ensures ∙ ap version_of (sym c.self.view_is) in
+    let was : answer i.table.slots c.args.query ≡ Ok c.in-Some.body = (c.self.invariant.3 (asking, c.in-Some.body) c.in-Some.ensures.kept).1 at in
+    let is : answer (project_of b) c.args.query ≡ Ok c.in-Some.body = ap (λ (s : Shown). answer (project_of s) c.args.query) (sym c.self.view_is) ∙ was in
+    subst (λ (r : Asked). TellsRun b c.args.query r) (sym c.answered.ensures)
+    (subst (λ (s : Shown). TellsRun b c.args.query (Answer (version_of s) c.in-Some.body)) (sym c.self.view_is) (kept_tells b c.args.query c.in-Some.body c.requires.good is))
+
+pub invariant_of-self-2 : goal.invariant_of-self-2
+invariant_of-self-2 g c =
+    let i = c.self.inside in
+    (c.self.invariant.0, c.self.invariant.1, c.self.invariant.2, told_kept i.table.slots (length i.journal.items) i.recent c.self.invariant.3 c.answer.new.self c.answer.ensures.stays)
+
+pub invariant_of-self-in-Answer : goal.invariant_of-self-in-Answer
+invariant_of-self-in-Answer g c =
+    let i = c.self.inside in
+    let b : Shown = record { table = i.table; journal = i.journal.items } in
+    let q = c.args.query in
+    let asking : Asking = record { version = c.version-version.result; query = q } in
+    let at : c.version-version.result ≡ length i.journal.items = c.version-version.ensures ∙ ap version_of (sym c.self.view_is) in
+    let good : bad_query (project_of b) q ≡ None = subst (λ (s : Shown). bad_query (project_of s) q ≡ None) (sym c.self.view_is) c.requires.good in
+    let is : answer i.table.slots q ≡ Ok c.in-Answer.body = answer_told b q c.in-Answer.body good c.in-Answer.version (subst (λ (r : Asked). TellsRun b q r) c.in-Answer.is c.found-told.ensures) in
+    let before = told_kept i.table.slots (length i.journal.items) i.recent c.self.invariant.3 c.answer.new.self c.answer.ensures.stays in
+    (c.self.invariant.0, c.self.invariant.1, c.self.invariant.2, told_more i.table.slots (length i.journal.items) c.answer.new.self before c.keep.new.self (asking, c.in-Answer.body) c.keep.ensures at is)
+
+pub invariant_of-self-in_default-told : goal.invariant_of-self-in_default-told
+invariant_of-self-in_default-told g c =
+    let i = c.self.inside in
+    (c.self.invariant.0, c.self.invariant.1, c.self.invariant.2, told_kept i.table.slots (length i.journal.items) i.recent c.self.invariant.3 c.answer.new.self c.answer.ensures.stays)
+
+pub returns-in-Answer-clause-tells : goal.returns-in-Answer-clause-tells
+returns-in-Answer-clause-tells g c = subst (λ (s : Shown). TellsRun s c.args.query c.found-told.result) c.self.view_is c.found-told.ensures
+
+pub returns-in_default-told : goal.returns-in_default-told
+returns-in_default-told g c = record {
+  tells = subst (λ (s : Shown). TellsRun s c.args.query c.found-told.result) c.self.view_is c.found-told.ensures;
+  unchanged = c.self.view_is;
+}

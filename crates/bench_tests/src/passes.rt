@@ -1,0 +1,156 @@
+//! Passes in several threads: the worked examples, and many answers compared with the plain simulation.
+ghost use Rattle.std.specs.Prelude.{◌≡◌, ◌<◌, ◌≤◌, IfOk, IfSome};
+
+mod benches;
+mod doing;
+mod many;
+
+use bench_core::{Asked, Bench};
+use benches::{add, begun, fresh, word};
+use cell_table::{Cell, Claim};
+use doing::{Came, Task, does, together};
+use machine_cells::Rp3;
+use many::{four, right, simulated_versions};
+use project_book::EditFault;
+use run_queries::Query;
+use shared_bench::{Pass, SplitFault, open};
+use std::alloc::Global;
+use std::sync::Wait;
+use std::test::*;
+
+const FIRST_WORD: Query = Query::Memory {
+    address: 0,
+    cycle: 0,
+};
+
+const FIRST_STATE: Query = Query::State {
+    component: 0,
+    cycle: 0,
+};
+
+fn opened(alloc: Global, bench: Box<Bench>, seats: u32) -> Result<Pass, Fail>
+    requires { (0 < seats) × (seats ≤ 64) }
+{
+    Ok(
+        open(alloc, Box::into_inner(bench), seats)
+            .ok()
+            .ok_or("no memory")?,
+    )
+}
+
+fn split(pass: &mut Pass) -> Result<Pass, Fail>
+    ensures same { pass.new ≡ pass.old }
+    ensures opening { IfOk result (λ p. p.opening ≡ pass.old.opening) }
+{
+    match pass.split() {
+        Ok(new) => Ok(new),
+        Err(_) => Err(Fail::from("no seat")),
+    }
+}
+
+/// A claim of processor 0 at this cycle, or of the first cell after it.
+fn claimed<R: Wait>(rt: &R, pass: &mut Pass, cycle: u32) -> Result<Claim<Rp3>, Fail>
+    ensures { pass.new.opening ≡ pass.old.opening }
+{
+    let from = Cell {
+        cycle,
+        component: 0,
+    };
+    match pass.claim(rt, from) {
+        Ok(Some(claim)) => Ok(claim),
+        _ => Err(Fail::from("no claim")),
+    }
+}
+
+/// 11: processor 0 at cycle 1 reads nothing of processor 1's script, so another pass's edit doesn't overtake it.
+#[test]
+fn example_11(rt: HostRuntime) -> Result<(), Fail> {
+    let mut a = opened(rt.alloc(), begun(rt.alloc())?, 2)?;
+    let b = split(&mut a)?;
+    let claim = claimed(&rt, &mut a, 1)?;
+    let ((a, given), (b, edited)) = together(&rt, a, Task::Give(claim), b, Task::Edit(add(1)));
+    assert_eq!(rt; given, Came::Stored { changed: true });
+    assert_eq!(rt; edited, Came::Version(1));
+    assert!(rt; a.join(b).close().is_ok());
+    Ok(())
+}
+
+/// 14: two claims of one cell, computed and given in two threads. One result is stored, and then the cell isn't due.
+#[test]
+fn example_14(rt: HostRuntime) -> Result<(), Fail> {
+    let mut a = opened(rt.alloc(), fresh(rt.alloc(), 0)?, 2)?;
+    assert!(rt; matches!(a.look(&rt, FIRST_STATE), Asked::Pending(1)));
+    let mut b = split(&mut a)?;
+    let one = Task::Give(claimed(&rt, &mut a, 0)?);
+    let other = Task::Give(claimed(&rt, &mut b, 0)?);
+    let ((_, first), (_, second)) = together(&rt, a, one, b, other);
+    let stored = Came::Stored { changed: true };
+    assert!(rt;
+        (first, second) == (stored, Came::NotDue) || (first, second) == (Came::NotDue, stored)
+    );
+    Ok(())
+}
+
+/// 16: a pass that was split after an edit answers by it; one that was split before answers by the version that it finds.
+#[test]
+fn example_16(rt: HostRuntime) -> Result<(), Fail> {
+    let mut a = opened(rt.alloc(), fresh(rt.alloc(), 0)?, 3)?;
+    assert_eq!(rt; (a.base(), a.k()), (0, 1));
+    let early = split(&mut a)?;
+    let asks = Task::Ask(FIRST_WORD);
+    let ((mut a, edited), (early, raced)) = together(&rt, a, Task::Edit(word(20)), early, asks);
+    assert_eq!(rt; edited, Came::Version(1));
+    let now = Came::Word {
+        version: 1,
+        word: 20,
+    };
+    assert!(rt;
+        raced == now
+            || raced
+                == Came::Word {
+                    version: 0,
+                    word: 10
+                }
+    );
+    let mut b = split(&mut a)?;
+    assert_eq!(rt; b.length(), 1);
+    let (b, told) = does(&rt, b, Task::Ask(FIRST_WORD));
+    let (b, shared) = does(&rt, b, Task::Project);
+    assert_eq!(rt; (told, shared), (now, now));
+    assert!(rt; matches!(a.split(), Err(SplitFault::NoSeat)));
+    let Err(a) = a.close() else {
+        panic!(rt; "two other passes are there")
+    };
+    let Ok(bench) = a.join(early).join(b).close() else {
+        panic!(rt; "no other pass is there")
+    };
+    assert_eq!(rt; bench.journal().len(), 1);
+    Ok(())
+}
+
+/// 20: with the clock at its last value a pass is told so, and its edits are refused.
+#[test]
+fn example_20(rt: HostRuntime) -> Result<(), Fail> {
+    let pass = opened(rt.alloc(), fresh(rt.alloc(), u64::MAX)?, 1)?;
+    let (pass, told) = does(&rt, pass, Task::Ask(FIRST_STATE));
+    assert_eq!(rt; told, Came::ClockSpent);
+    let (pass, edited) = does(&rt, pass, Task::Edit(word(10)));
+    assert_eq!(rt; edited, Came::Refused(EditFault::ClockSpent));
+    assert!(rt; pass.close().is_ok());
+    Ok(())
+}
+
+/// Each of 800 answers between 800 edits is that of the simulation of the journal that the pass had seen then.
+#[test]
+fn four_at_once(rt: HostRuntime) -> Result<(), Fail> {
+    let mut a = opened(rt.alloc(), fresh(rt.alloc(), 0)?, 4)?;
+    let (b, c, d) = (split(&mut a)?, split(&mut a)?, split(&mut a)?);
+    let (pass, heard) = four(&rt, rt.alloc(), ((a, b), (c, d)));
+    let Ok(bench) = pass.close() else {
+        panic!(rt; "no other pass is there")
+    };
+    assert_eq!(rt; bench.version(), 800);
+    let words = simulated_versions(rt.alloc(), bench.journal())?;
+    assert_eq!(rt; right(&heard, &words), 800);
+    Ok(())
+}

@@ -1,0 +1,113 @@
+//! The gates of two workers that meet, or of two pieces of a wave.
+use cell_table::Cell;
+use std::alloc::Global;
+use std::sync::Arc;
+use std::sync::atomic::{AtomicU64, Ordering};
+use std::thread;
+use wave_workers::Gate;
+
+/// How often a gate looks for the other at most.
+const MOST_LOOKS: u64 = 100_000_000;
+
+/// What two gates report.
+#[derive(Drop)]
+pub(super) struct Board {
+    first: Reports,
+    second: Reports,
+}
+
+/// What a gate has reported: the component of its first claim, where that was at cycle 0, and whether it has computed a
+/// cell.
+#[derive(Drop)]
+struct Reports {
+    claimed: AtomicU64,
+    computed: AtomicU64,
+}
+
+/// No component that there is.
+const NONE: u64 = u64::MAX;
+
+impl Reports {
+    fn new() -> Reports {
+        Reports {
+            claimed: AtomicU64::new(NONE),
+            computed: AtomicU64::new(0),
+        }
+    }
+
+    fn has_computed(&self) -> bool {
+        self.computed.load(Ordering::SeqCst) != 0
+    }
+}
+
+impl Board {
+    pub(super) fn new() -> Board {
+        Board {
+            first: Reports::new(),
+            second: Reports::new(),
+        }
+    }
+
+    pub(super) fn both_met(&self) -> bool {
+        self.first.has_computed() && self.second.has_computed()
+    }
+
+    /// The components whose first cells they claimed.
+    pub(super) fn first_cells(&self) -> (u64, u64) {
+        (
+            self.first.claimed.load(Ordering::SeqCst),
+            self.second.claimed.load(Ordering::SeqCst),
+        )
+    }
+}
+
+/// The gate of the first or the second worker. The first reports what it has computed only once the second has.
+#[derive(Drop)]
+pub(super) struct Meeting {
+    board: Arc<Board, Global>,
+    is_first: bool,
+}
+
+impl Meeting {
+    pub(super) fn new(board: Arc<Board, Global>, is_first: bool) -> Meeting {
+        Meeting { board, is_first }
+    }
+
+    fn own(&self) -> &Reports {
+        if self.is_first {
+            &self.board.first
+        } else {
+            &self.board.second
+        }
+    }
+
+    /// Whether the second has computed a cell, looked for often.
+    fn sees_second(&self) -> bool {
+        for _ in 0..MOST_LOOKS {
+            if self.board.second.has_computed() {
+                return true;
+            }
+            thread::yield_now();
+        }
+        false
+    }
+}
+
+impl Gate for Meeting {
+    fn go_on(&mut self, _turn: u64) -> bool {
+        true
+    }
+
+    fn claimed(&mut self, cell: Cell) {
+        let claimed = &self.own().claimed;
+        if cell.cycle == 0 && claimed.load(Ordering::SeqCst) == NONE {
+            claimed.store(u64::from(cell.component), Ordering::SeqCst);
+        }
+    }
+
+    fn computed(&mut self, _cell: Cell) {
+        if !self.is_first || self.sees_second() {
+            self.own().computed.store(1, Ordering::SeqCst);
+        }
+    }
+}

@@ -1,0 +1,64 @@
+//! Waves: benches that are settled by several threads.
+use super::benches::fresh;
+use super::gates::{Board, Meeting};
+use bench_core::Bench;
+use cell_table::Settled;
+use omega_net::ScriptEntry;
+use project_book::Edit;
+use std::sync::Arc;
+use std::test::*;
+use std::thread::Threads;
+use wave_workers::{Ungated, settle_wave};
+
+/// 11.2: the thread of the first piece ends its first computation only once that of the second has ended one, so both are
+/// at work. The pieces of cycle 0 are the components 0 to 2 and 3 to 5.
+#[test]
+fn example_11_2(rt: HostRuntime) -> Result<(), Fail> {
+    let alloc = rt.alloc();
+    let board = Arc::new(alloc, Board::new())?;
+    let first = Meeting::new(Arc::try_clone(&board)?, true);
+    let second = Meeting::new(Arc::try_clone(&board)?, false);
+    let mut bench = fresh(alloc)?;
+    let settled = settle_wave(&rt, &mut bench, vec![in alloc; first, second]?);
+    assert_eq!(rt; settled, Ok(Settled { computed: 66 }));
+    assert_eq!(rt; board.both_met(), true);
+    assert_eq!(rt; board.first_cells(), (0, 3));
+    Ok(())
+}
+
+/// Settles a bench by waves of three pieces: how many cells were computed.
+fn waved<R: AllocGlobal + Threads + Sync>(rt: &R, bench: &mut Bench) -> Result<u64, Fail> {
+    let gates = vec![in rt.alloc(); Ungated, Ungated, Ungated]?;
+    match settle_wave(rt, bench, gates) {
+        Ok(settled) => Ok(settled.computed),
+        Err(_) => Err(Fail::from("not settled")),
+    }
+}
+
+/// 9: 32 cells after an edit of word 300, 28 after an entry of processor 0, 12 at a greater horizon, none at a smaller one.
+#[test]
+fn example_9_by_waves(rt: HostRuntime) -> Result<(), Fail> {
+    let alloc = rt.alloc();
+    let word = Edit::Word {
+        address: 300,
+        word: 5,
+    };
+    let fence = Edit::Entry {
+        proc: 0,
+        index: 0,
+        entry: ScriptEntry::Fence,
+    };
+    for (edit, then, cells) in [
+        (word, word, (32, 0)),
+        (fence, fence, (28, 0)),
+        (Edit::Horizon(12), Edit::Horizon(5), (12, 0)),
+    ] {
+        let mut bench = fresh(alloc)?;
+        assert_eq!(rt; waved(&rt, &mut bench)?, 66);
+        bench.edit(0, edit)?;
+        let first = waved(&rt, &mut bench)?;
+        bench.edit(0, then)?;
+        assert_eq!(rt; (first, waved(&rt, &mut bench)?), cells);
+    }
+    Ok(())
+}

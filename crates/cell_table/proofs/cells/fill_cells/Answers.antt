@@ -1,0 +1,99 @@
+use Rattle.std.proofs.Common.{◌<◌, ◌∙◌, sym, ap, arith, length}
+use Rattle.cell_table.specs.Seen.{Held}
+use Rattle.cell_table.proofs.Keeping.{seen_cycles, seen_cycle, seen_length, seen_state, length_row}
+use Rattle.cell_table.proofs.FilledRows.{marks_filled, none_on, filled_cell, same_cell, unmarked_cell}
+use Rattle.cell_table.proofs.cells.fill_cells.Goals as goal
+
+pub fill_lines-to-requires-clause-count : goal.fill_lines-to-requires-clause-count
+fill_lines-to-requires-clause-count g c =
+    let i = c.cells.inside in
+    let some : 0 < length c.args.cells.now = omega (arith, c.requires.from) in
+    let wide = seen_length i.lines.items i.due i.versions.items c.args.cells.now c.cells.view_is 0 (seen_cycle i.lines.items i.due i.versions.items c.args.cells.now c.cells.view_is 0 some) in
+    c.cells.invariant.components ∙ sym wide ∙ c.requires.whole 0 some
+
+pub fill_lines-to-requires-clause-from : goal.fill_lines-to-requires-clause-from
+fill_lines-to-requires-clause-from g c =
+    let i = c.cells.inside in
+    omega (arith, c.len-end.ensures, c.requires.from, seen_cycles i.lines.items i.due i.versions.items c.args.cells.now c.cells.view_is)
+
+pub fill_lines-to-requires-clause-known : goal.fill_lines-to-requires-clause-known
+fill_lines-to-requires-clause-known g c = λ t d h k.
+    let i = c.cells.inside in
+    sym (seen_state i.lines.items i.due i.versions.items c.args.cells.now c.cells.view_is c.cells.invariant t d)
+    ∙ c.requires.known t d (omega (arith, h, fill_lines-to-requires-clause-count g c)) k
+
+pub fill_lines-to-requires-clause-rest : goal.fill_lines-to-requires-clause-rest
+fill_lines-to-requires-clause-rest g c = λ t d h k.
+    let i = c.cells.inside in
+    let cycles = seen_cycles i.lines.items i.due i.versions.items c.args.cells.now c.cells.view_is in
+    none_on i.lines.items (length i.due.rows) t d (c.cells.invariant.cycles d (omega (arith, h, c.cells.invariant.components)))
+    (λ l. sym (seen_state i.lines.items i.due i.versions.items c.args.cells.now c.cells.view_is c.cells.invariant t d)
+    ∙ c.requires.none t d (omega (arith, h, fill_lines-to-requires-clause-count g c)) k (omega (arith, l, cycles)))
+
+pub returns-clause-lens : goal.returns-clause-lens
+returns-clause-lens g c = λ t h.
+    let i = c.cells.inside in
+    let some : 0 < length c.args.cells.now = omega (arith, c.requires.from) in
+    let wide = seen_length i.lines.items i.due i.versions.items c.args.cells.now c.cells.view_is 0 (seen_cycle i.lines.items i.due i.versions.items c.args.cells.now c.cells.view_is 0 some) in
+    let count = c.cells.invariant.components ∙ sym wide ∙ c.requires.whole 0 some in
+    let cycles = seen_cycles i.lines.items i.due i.versions.items c.args.cells.now c.cells.view_is in
+    length_row c.fill_lines-to.new.lines.items c.clear_rows.new.due i.versions.items t (omega (arith, h, cycles, c.clear_rows.ensures.len))
+    ∙ c.clear_rows.ensures.width ∙ sym c.cells.invariant.components ∙ count
+
+pub returns-clause-end : goal.returns-clause-end
+returns-clause-end g c =
+    let i = c.cells.inside in
+    let some : 0 < length c.args.cells.now = omega (arith, c.requires.from) in
+    let wide = seen_length i.lines.items i.due i.versions.items c.args.cells.now c.cells.view_is 0 (seen_cycle i.lines.items i.due i.versions.items c.args.cells.now c.cells.view_is 0 some) in
+    let count = c.cells.invariant.components ∙ sym wide ∙ c.requires.whole 0 some in
+    omega (arith, c.fill_lines-to.ensures.end, c.len-end.ensures, seen_cycles i.lines.items i.due i.versions.items c.args.cells.now c.cells.view_is)
+
+pub returns-clause-earlier : goal.returns-clause-earlier
+returns-clause-earlier g c = λ t d h k.
+    let i = c.cells.inside in
+    let some : 0 < length c.args.cells.now = omega (arith, c.requires.from) in
+    let wide = seen_length i.lines.items i.due i.versions.items c.args.cells.now c.cells.view_is 0 (seen_cycle i.lines.items i.due i.versions.items c.args.cells.now c.cells.view_is 0 some) in
+    let count = c.cells.invariant.components ∙ sym wide ∙ c.requires.whole 0 some in
+    let f = c.fill_lines-to.ensures in
+    let r = c.clear_rows.ensures in
+    let inside : d < length i.lines.items = omega (arith, h, count) in
+    let marks = marks_filled i.due c.clear_rows.new.due c.args.from c.fill_lines-to.result c.cells.invariant.marks r.cleared r.earlier r.later in
+    same_cell i.lines.items c.fill_lines-to.new.lines.items i.due c.clear_rows.new.due i.versions.items c.args.cells.now c.cells.invariant c.cells.view_is f.len f.lens r.width r.len marks t d
+    (f.known t d inside (omega (arith, k, f.from)) ∙ sym (sym (seen_state i.lines.items i.due i.versions.items c.args.cells.now c.cells.view_is c.cells.invariant t d) ∙ c.requires.known t d h k)) (r.earlier t k)
+
+pub returns-clause-states : goal.returns-clause-states
+returns-clause-states g c = λ t d h k.
+    let i = c.cells.inside in
+    let some : 0 < length c.args.cells.now = omega (arith, c.requires.from) in
+    let wide = seen_length i.lines.items i.due i.versions.items c.args.cells.now c.cells.view_is 0 (seen_cycle i.lines.items i.due i.versions.items c.args.cells.now c.cells.view_is 0 some) in
+    let count = c.cells.invariant.components ∙ sym wide ∙ c.requires.whole 0 some in
+    let f = c.fill_lines-to.ensures in
+    let r = c.clear_rows.ensures in
+    let inside : d < length i.lines.items = omega (arith, h, count) in
+    let marks = marks_filled i.due c.clear_rows.new.due c.args.from c.fill_lines-to.result c.cells.invariant.marks r.cleared r.earlier r.later in
+    ap (λ (x : Held g.row.G-State.Denot). x.state) (filled_cell i.lines.items c.fill_lines-to.new.lines.items i.due c.clear_rows.new.due i.versions.items c.args.cells.now c.cells.invariant c.cells.view_is f.len f.lens r.width r.len marks t d)
+    ∙ f.known t d inside k
+
+pub returns-clause-settled : goal.returns-clause-settled
+returns-clause-settled g c = λ t d h k l.
+    let i = c.cells.inside in
+    let some : 0 < length c.args.cells.now = omega (arith, c.requires.from) in
+    let wide = seen_length i.lines.items i.due i.versions.items c.args.cells.now c.cells.view_is 0 (seen_cycle i.lines.items i.due i.versions.items c.args.cells.now c.cells.view_is 0 some) in
+    let count = c.cells.invariant.components ∙ sym wide ∙ c.requires.whole 0 some in
+    let f = c.fill_lines-to.ensures in
+    let r = c.clear_rows.ensures in
+    let marks = marks_filled i.due c.clear_rows.new.due c.args.from c.fill_lines-to.result c.cells.invariant.marks r.cleared r.earlier r.later in
+    unmarked_cell i.lines.items c.fill_lines-to.new.lines.items i.due c.clear_rows.new.due i.versions.items c.args.cells.now c.cells.invariant c.cells.view_is f.len f.lens r.width r.len marks t d (omega (arith, h, c.cells.invariant.components, count)) (r.cleared t k l)
+
+pub returns-clause-rest : goal.returns-clause-rest
+returns-clause-rest g c = λ t d h k l.
+    let i = c.cells.inside in
+    let some : 0 < length c.args.cells.now = omega (arith, c.requires.from) in
+    let wide = seen_length i.lines.items i.due i.versions.items c.args.cells.now c.cells.view_is 0 (seen_cycle i.lines.items i.due i.versions.items c.args.cells.now c.cells.view_is 0 some) in
+    let count = c.cells.invariant.components ∙ sym wide ∙ c.requires.whole 0 some in
+    let f = c.fill_lines-to.ensures in
+    let r = c.clear_rows.ensures in
+    let inside : d < length i.lines.items = omega (arith, h, count) in
+    let marks = marks_filled i.due c.clear_rows.new.due c.args.from c.fill_lines-to.result c.cells.invariant.marks r.cleared r.earlier r.later in
+    same_cell i.lines.items c.fill_lines-to.new.lines.items i.due c.clear_rows.new.due i.versions.items c.args.cells.now c.cells.invariant c.cells.view_is f.len f.lens r.width r.len marks t d
+    (f.rest t d inside k ∙ sym (sym (seen_state i.lines.items i.due i.versions.items c.args.cells.now c.cells.view_is c.cells.invariant t d) ∙ c.requires.none t d h (omega (arith, k, f.from)) l)) (r.later t k)

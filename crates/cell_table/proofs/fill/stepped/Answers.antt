@@ -1,0 +1,27 @@
+use Rattle.std.proofs.Common.{◌≡◌, ◌-◌, ◌∙◌, ap, sym, arith, map, take, length, ◌≤◌, Bor}
+use Rattle.std.proofs.lemmas.List.{length-map}
+use Rattle.grid_law.specs.Run.{run}
+use Rattle.cell_table.proofs.States.{first_five}
+use Rattle.cell_table.proofs.Shortcut.{ok_along}
+use Rattle.cell_table.proofs.Trailing.{no_last, next_runs}
+use Rattle.cell_table.proofs.fill.stepped.Goals as goal
+
+pub unreachable-requires : goal.unreachable-requires
+unreachable-requires g c =
+    no_last g.G.Grid.rules c.args.slots.now _ c.args.cycle c.args.component _ (c.requires.trails c.args.component (omega (arith, c.requires.component, c.requires.count))) c.requires.later c.in-None.ensures
+
+pub returns : goal.returns
+returns g c =
+    let t = c.args.cycle in
+    let d = c.args.component in
+    let R = g.G.Grid.rules in
+    let s = c.args.slots.now in
+    let near = c.as_slice.ensures.value ∙ c.near-near.ensures in
+    let few : length (R.near s d) ≤ 5 = g.G.Grid.laws.near_few s d in
+    let count : c.len.result ≡ length (R.near s d) = c.len.ensures.value ∙ ap length c.near-near.ensures in
+    let lent = map (λ (r : Bor g.row.G-State.Denot). r.now) c.first-lent.result.now in
+    let xs = map (run R s (t - 1)) (R.near s d) in
+    let all : lent ≡ xs = c.first-lent.ensures
+    ∙ ap (take c.len.result) (c.five_last-five.ensures xs (ap (map (run R s (t - 1))) near))
+    ∙ first_five xs c.len.result c.in-Some.own.now (length-map (R.near s d) (run R s (t - 1)) ∙ sym count) (omega (arith, count, few)) in
+    ok_along (next_runs R s g.G.Grid.laws t d c.requires.later lent all) c.next.result c.next.ensures

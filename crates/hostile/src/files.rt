@@ -1,0 +1,191 @@
+//! Project files that are cut, damaged, or end otherwise than they began.
+use crate::reading::Pieces;
+use crate::sessions::BASE;
+use command_line::{MOST_BYTES, read_bytes};
+use project_file::{fault_place, read_project};
+use std::alloc::Global;
+use std::io::{Read, Result};
+
+/// The number of a file's fault, 0 where it is accepted.
+fn number_of(alloc: Global, bytes: &[u8]) -> u8 {
+    match read_project(alloc, bytes) {
+        Ok(_) => 0,
+        Err(fault) => fault.number(),
+    }
+}
+
+/// Whether a file has a fault of this number, and that its place can be looked for.
+fn is_refused(alloc: Global, bytes: &[u8], number: u8) -> bool {
+    number_of(alloc, bytes) == number && fault_place(alloc, bytes).is_ok()
+}
+
+/// What the base project's file is, cut after none of its bytes, after one, and so on: the number of its fault, 0 where it is
+/// accepted. They were worked out by another reader of TOML and of the rules of `docs/PROJECT_FILE.md`.
+const CUT: &[u8] = b"\
+32222222225522225522222222220002222222220022222222222222220022222220022222222222\
+22200222222222222220022222222222222200222222222222222002222222220022222220022222\
+22552222222225522222222255222222200222222255222222222552222222225522222220022222\
+22552222222222552222222200022222222255222222222222552222222222200222222222552222\
+22222222552222222222200";
+
+/// Cut after each of its bytes.
+pub(crate) fn cut(alloc: Global) -> Option<u32> {
+    let file = BASE.as_bytes();
+    if CUT.len() != file.len() + 1 {
+        return None;
+    }
+    let mut held = 0u32;
+    for (length, digit) in CUT.iter().enumerate() {
+        let front = file.split_at(length.min(file.len())).0;
+        if !is_refused(alloc, front, digit.wrapping_sub(b'0')) {
+            return None;
+        }
+        held = held.saturating_add(1);
+    }
+    Some(held)
+}
+
+/// Each of its bytes at 0, which no TOML document has, and at 255, which no UTF-8 has.
+pub(crate) fn damaged(alloc: Global) -> Option<u32> {
+    let mut held = 0u32;
+    for place in 0..BASE.len() {
+        if !is_refused_with(alloc, place, 0)? || !is_refused_with(alloc, place, 255)? {
+            return None;
+        }
+        held = held.saturating_add(2);
+    }
+    Some(held)
+}
+
+/// Whether the file with this byte at a place is no document.
+fn is_refused_with(alloc: Global, place: usize, byte: u8) -> Option<bool> {
+    let mut bytes = Vec::from_slice(alloc, BASE.as_bytes()).ok()?;
+    if let Some(at) = bytes.get_mut(place) {
+        *at = byte;
+    }
+    Some(is_refused(alloc, &bytes, 2))
+}
+
+/// The shortest project, before a key that isn't known.
+const SMALL: &str = "format = 1\nk = 0\nhorizon = 0\n";
+
+/// The same with the key.
+const KEY: &str = "format = 1\nk = 0\nhorizon = 0\na = ";
+
+/// Files with something nested: what stands before it, what opens it so many times, what it holds, what closes it as often,
+/// and the number of the file's fault. Of keys, tables and arrays in one another 80 are read, and then the key isn't known.
+const NESTED: [(&str, &str, u32, &str, &str, u8); 15] = [
+    ("", "[", 100_000, "", "", 2),
+    ("", "{", 100_000, "", "", 2),
+    ("", "\"", 100_000, "", "", 2),
+    ("", "a.", 100_000, "", "", 2),
+    (KEY, "[", 100_000, "", "]", 2),
+    (KEY, "{a = ", 100_000, "1", "}", 2),
+    (KEY, "[", 1_000, "", "]", 2),
+    (KEY, "[", 80, "", "]", 4),
+    (KEY, "{a = ", 1_000, "1", "}", 2),
+    (KEY, "{a = ", 70, "1", "}", 4),
+    (SMALL, "a.", 1_000, "a = 1", "", 2),
+    (SMALL, "a.", 79, "a = 1", "", 4),
+    ("[", "a.", 1_000, "a]", "", 2),
+    ("[", "a.", 79, "a]", "", 3),
+    ("[[", "a.", 1_000, "a]]", "", 2),
+];
+
+/// Adds a piece so many times.
+fn add(text: &mut String, piece: &str, times: u32) -> Option<()> {
+    for _ in 0..times {
+        text.push_str(piece).ok()?;
+    }
+    Some(())
+}
+
+/// Adds the text of such a file.
+fn add_nested(
+    text: &mut String,
+    front: &str,
+    (opens, holds, closes): (&str, &str, &str),
+    times: u32,
+) -> Option<()> {
+    add(text, front, 1)?;
+    add(text, opens, times)?;
+    add(text, holds, 1)?;
+    add(text, closes, times)
+}
+
+/// A byte that no UTF-8 has, and files with something nested.
+pub(crate) fn deep(alloc: Global) -> Option<u32> {
+    let mut held = 0u32;
+    for (front, opens, times, holds, closes, number) in NESTED {
+        let mut text = String::new(alloc);
+        add_nested(&mut text, front, (opens, holds, closes), times)?;
+        if !is_refused(alloc, text.as_bytes(), number) {
+            return None;
+        }
+        held = held.saturating_add(1);
+    }
+    if is_refused(alloc, &[255], 2) {
+        Some(held.saturating_add(1))
+    } else {
+        None
+    }
+}
+
+/// A reader that fails at each of its calls in turn, of pieces of three lengths.
+pub(crate) fn failing(alloc: Global) -> Option<u32> {
+    let mut held = 0u32;
+    for most in [1, 7, 4_096] {
+        held = held.saturating_add(failing_pieces(alloc, most)?);
+    }
+    Some(held)
+}
+
+/// Whether the whole file is read, or nothing.
+fn is_read(alloc: Global, reader: Pieces, is_whole: bool) -> bool {
+    match read_bytes(alloc, reader) {
+        Ok(bytes) => is_whole && bytes.as_slice() == BASE.as_bytes(),
+        Err(_) => !is_whole,
+    }
+}
+
+fn failing_pieces(alloc: Global, most: usize) -> Option<u32> {
+    if most == 0 {
+        return None;
+    }
+    let file = BASE.as_bytes();
+    let pieces = file.len().div_ceil(most);
+    let mut held = 0u32;
+    for calls in 0..file.len() + 2 {
+        let is_whole = calls > pieces;
+        if !is_read(alloc, Pieces::new(file, most, calls), is_whole) {
+            return None;
+        }
+        held = held.saturating_add(1);
+        if is_whole {
+            return Some(held);
+        }
+    }
+    None
+}
+
+/// Gives spaces without an end.
+#[derive(Drop)]
+struct Endless;
+
+impl Read for Endless {
+    fn read(&mut self, buf: &mut [u8]) -> Result<usize> {
+        buf.fill(b' ');
+        Ok(buf.len())
+    }
+}
+
+/// One that grows for as long as it is read: one byte more than a file may have is read, and it is too long.
+pub(crate) fn growing(alloc: Global) -> Option<u32> {
+    let bytes = read_bytes(alloc, Endless).ok()?;
+    let is_cut = bytes.len() as u64 == MOST_BYTES;
+    if is_cut && number_of(alloc, &bytes) == 1 {
+        Some(1)
+    } else {
+        None
+    }
+}

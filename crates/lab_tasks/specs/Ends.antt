@@ -1,0 +1,39 @@
+-- How the program ends.
+use Rattle.std.specs.Prelude.{ℕ, List, [], ◌++◌, codes, decimal}
+use Rattle.project_file.specs.Faults.{number_of}
+use Rattle.lab_tasks.specs.declared.end.Reason.{Reason}
+use Rattle.lab_tasks.specs.declared.end.Reason.TheVariants.{Form, Within, Backwards, Refused}
+use Rattle.lab_tasks.specs.declared.end.End.{End}
+use Rattle.lab_tasks.specs.declared.end.End.TheVariants.{Done, Words, Word, NotRead, NotWritten, Project, Memory, Output}
+
+-- a word that isn't written as it should is one of the command line, the others have numbers outside of what there is
+abbrev pub status_for : Reason → ℕ
+status_for (Form wanted) = 2
+status_for _ = 7
+
+abbrev pub status_of : End → ℕ
+status_of Done = 0
+status_of Words = 2
+status_of (Word option word reason) = status_for reason
+status_of (NotRead name) = 3
+status_of (NotWritten name) = 3
+status_of (Project fault) = 4
+status_of Memory = 5
+status_of Output = 5
+
+abbrev pub reason_text : Reason → List ℕ
+reason_text (Form wanted) = codes "is not " ++ wanted.now
+reason_text (Within least most) = codes "is not within " ++ decimal least ++ codes " to " ++ decimal most
+reason_text Backwards = codes "ends before it begins"
+reason_text (Refused n) = codes "is answered bad " ++ decimal n
+
+-- the line on standard error
+abbrev pub end_text : End → List ℕ
+end_text Done = []
+end_text Words = []
+end_text (Word option word reason) = codes "lab: " ++ option.now ++ codes ": " ++ word.now ++ codes " " ++ reason_text reason
+end_text (NotRead name) = codes "lab: cannot read " ++ name.now
+end_text (NotWritten name) = codes "lab: cannot write " ++ name.now
+end_text (Project fault) = codes "lab: project refused: " ++ decimal (number_of fault)
+end_text Memory = codes "lab: no memory"
+end_text Output = codes "lab: cannot write to standard output"

@@ -1,0 +1,44 @@
+-- What tables say.
+use Rattle.std.specs.Prelude.{ℕ, ◌+◌, ◌-◌, ◌*◌, ◌/◌, ◌%◌, ◌^◌, min, max, Bool, if◌then◌else◌, List, ◌++◌, codes, decimal}
+use Rattle.experiments.specs.declared.load.Load.{Load}
+use Rattle.lab_tasks.specs.declared.tables.RatePoint.{RatePoint}
+use Rattle.lab_tasks.specs.declared.tables.DelayPoint.{DelayPoint}
+
+-- a number of thousandths with three places behind its point
+abbrev pub thousandths_text : ℕ → List ℕ
+thousandths_text n = decimal (n / 1000) ++ codes "." ++ decimal (n / 100 % 10) ++ decimal (n / 10 % 10) ++ decimal (n % 10)
+
+-- there are at most 2^6 processors
+abbrev pub processors_of : ℕ → ℕ
+processors_of k = 2 ^ min k 6
+
+-- p / (1 + h (p - 1)) in thousandths, where h is a number of hundredths (Pfister and Norton 1985)
+unfoldable pub bound_of : ℕ → ℕ → ℕ
+bound_of p hot = p * 100000 / (100 + hot * (p - 1))
+
+abbrev pub switch_text : Bool → List ℕ
+switch_text on = if on then codes "on" else codes "off"
+
+-- served requests in a cycle, in thousandths
+abbrev pub rate_of : RatePoint → ℕ
+rate_of p = p.served * 1000 / max p.cycles 1
+
+-- the machine of a load: processors, whether combining is on, how many of a hundred references are hot
+abbrev pub machine_text : Load → List ℕ
+machine_text load = decimal (processors_of load.k) ++ codes "," ++ switch_text load.combine ++ codes "," ++ decimal load.hot
+
+abbrev pub bound_text : Load → List ℕ
+bound_text load = thousandths_text (bound_of (processors_of load.k) load.hot)
+
+-- the mean number of cycles in thousandths
+abbrev pub mean_of : DelayPoint → ℕ
+mean_of p = p.waited * 1000 / max p.replies 1
+
+abbrev pub network_text : Bool → List ℕ
+network_text sync = if sync then codes "combining" else codes "low"
+
+-- a row of the table of `delays`
+abbrev pub delay_row : DelayPoint → List ℕ
+delay_row p =
+    network_text p.load.sync ++ codes "," ++ machine_text p.load ++ codes "," ++ decimal p.replies ++ codes "," ++ decimal p.waited
+    ++ codes "," ++ thousandths_text (mean_of p)

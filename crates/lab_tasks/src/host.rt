@@ -1,0 +1,224 @@
+//! The program at a terminal.
+use crate::end::{End, status};
+use crate::outcome::{OutFile, Outcome};
+use crate::progress::Progress;
+use crate::task::perform;
+use crate::words::{Asked, read_words};
+use clap::Error;
+use clap::error::ErrorKind;
+use project_file::{MAX_BYTES, fault_place};
+use std::alloc::Global;
+use std::io::{Eprint, Print, Read, Write};
+use std::process::ExitCode;
+use std::rt::{Env, Files};
+use std::thread::Threads;
+use std::time::{Clock, Duration, Instant};
+use std::{env, fs, io};
+
+/// What the program takes of its host.
+pub trait Host: AllocGlobal + Env + Files + Print + Eprint + Clock + Threads + Sync {}
+
+impl<R: AllocGlobal + Env + Files + Print + Eprint + Clock + Threads + Sync> Host for R {}
+
+/// A line on a terminal that says how far a task is, once it takes longer than a second.
+#[derive(Drop)]
+struct Line<'a, R> {
+    rt: &'a R,
+    /// When the task began, where there is a terminal.
+    begun: Option<Instant>,
+    shown: bool,
+}
+
+impl<R: Eprint + Clock> Progress for Line<'_, R> {
+    fn tell(&mut self, done: usize, all: usize) {
+        let Some(begun) = self.begun else {
+            return;
+        };
+        let Ok(passed) = begun.elapsed(self.rt) else {
+            return;
+        };
+        if done < all && passed.as_secs() >= 1 {
+            let _ = eprint!(self.rt; "\rlab: {done} of {all} runs");
+            self.shown = true;
+        }
+    }
+}
+
+impl<R: Eprint> Line<'_, R> {
+    /// Takes the line away.
+    fn clear(&mut self) {
+        if self.shown {
+            let _ = eprint!(self.rt; "\r\x1b[K");
+        }
+    }
+}
+
+fn file_bytes<R: Files + AllocGlobal>(rt: &R, name: &str) -> io::Result<Vec<u8>> {
+    let mut bytes = Vec::new(rt.alloc());
+    let file = fs::open(rt, name)?;
+    file.take(MAX_BYTES as u64 + 1).read_to_end(&mut bytes)?;
+    Ok(bytes)
+}
+
+fn beside(alloc: Global, name: &str) -> io::Result<String> {
+    Ok(format!(in alloc; "{name}.part")?)
+}
+
+/// Writes a file under another name, which is taken away again where that fails.
+fn write_beside<R: Files + AllocGlobal>(rt: &R, file: &OutFile) -> io::Result<()> {
+    let part = beside(rt.alloc(), file.name.as_str())?;
+    match fs::write(rt, part.as_str(), file.bytes.as_slice()) {
+        Ok(()) => Ok(()),
+        Err(fault) => {
+            let _ = fs::remove_file(rt, part.as_str());
+            Err(fault)
+        }
+    }
+}
+
+/// Gives a file its name; its part is taken away where that fails.
+fn rename_part<R: Files + AllocGlobal>(rt: &R, file: &OutFile) -> io::Result<()> {
+    let part = beside(rt.alloc(), file.name.as_str())?;
+    match fs::rename(rt, part.as_str(), file.name.as_str()) {
+        Ok(()) => Ok(()),
+        Err(fault) => {
+            let _ = fs::remove_file(rt, part.as_str());
+            Err(fault)
+        }
+    }
+}
+
+/// The first file that can't be written; none is half written.
+fn save<'a, R: Files + AllocGlobal>(rt: &R, outcome: &'a Outcome) -> Result<(), End<'a>> {
+    if let Some(folder) = &outcome.folder {
+        if fs::create_dir_all(rt, folder.as_str()).is_err() {
+            return Err(End::NotWritten(folder.as_str()));
+        }
+    }
+    for file in &outcome.files {
+        if write_beside(rt, file).is_err() || rename_part(rt, file).is_err() {
+            return Err(End::NotWritten(file.name.as_str()));
+        }
+    }
+    Ok(())
+}
+
+/// Writes what is printed, and the files.
+fn delivered<R: Host>(rt: &R, outcome: &Outcome) -> u8 {
+    if let Err(end) = save(rt, outcome) {
+        return ended(rt, &end);
+    }
+    if io::writer(rt)
+        .write_all(outcome.printed.as_slice())
+        .is_err()
+    {
+        return ended(rt, &End::Output);
+    }
+    status(&End::Done)
+}
+
+/// Prints the line of an end that has one, and gives its status.
+fn ended<R: Eprint>(rt: &R, end: &End<'_>) -> u8 {
+    let _ = match end {
+        End::Done | End::Words => Ok(()),
+        _ => eprintln!(rt; "{end}"),
+    };
+    status(end)
+}
+
+/// The status after words that are no command line, or ask for help or the version.
+fn refused<R: Print + Eprint>(rt: &R, error: &Error) -> u8 {
+    let _ = error.print(rt);
+    match error.kind() {
+        ErrorKind::DisplayHelp | ErrorKind::DisplayVersion => status(&End::Done),
+        ErrorKind::OutOfMemory => status(&End::Memory),
+        _ => status(&End::Words),
+    }
+}
+
+/// The bytes of the file that is to be read, or none.
+fn bytes_for<'a, R: Files + AllocGlobal>(rt: &R, asked: &Asked<'a>) -> Result<Vec<u8>, End<'a>> {
+    match asked.file() {
+        None => Ok(Vec::new(rt.alloc())),
+        Some(name) => match file_bytes(rt, name) {
+            Ok(bytes) => Ok(bytes),
+            Err(_) => Err(End::NotRead(name)),
+        },
+    }
+}
+
+/// The outcome of what is asked for; meanwhile it is told how far it is.
+fn performed<'a, R: Host>(
+    rt: &R,
+    asked: &Asked<'a>,
+    bytes: &[u8],
+    terminal: bool,
+) -> Result<Outcome, End<'a>> {
+    let begun = if terminal {
+        Instant::now(rt).ok()
+    } else {
+        None
+    };
+    let mut line = Line {
+        rt,
+        begun,
+        shown: false,
+    };
+    let outcome = perform(rt, rt.alloc(), asked, bytes, &mut line);
+    line.clear();
+    outcome
+}
+
+/// Says where a file is wrong that was refused as a project.
+fn tell_place<R: Eprint + AllocGlobal>(rt: &R, bytes: &[u8]) {
+    if let Ok(Some(place)) = fault_place(rt.alloc(), bytes) {
+        let _ = eprintln!(rt; "lab: {place}");
+    }
+}
+
+/// Does what is asked for.
+fn done<R: Host>(rt: &R, asked: &Asked<'_>, terminal: bool) -> u8 {
+    let bytes = match bytes_for(rt, asked) {
+        Ok(bytes) => bytes,
+        Err(end) => return ended(rt, &end),
+    };
+    match performed(rt, asked, bytes.as_slice(), terminal) {
+        Ok(outcome) => delivered(rt, &outcome),
+        Err(end) => {
+            let status = ended(rt, &end);
+            if let End::Project(_) = end {
+                tell_place(rt, bytes.as_slice());
+            }
+            status
+        }
+    }
+}
+
+/// The program, from the host's arguments to its status. On a terminal it tells how far it is.
+pub fn program<R: Host>(rt: &R, terminal: bool) -> ExitCode {
+    let Ok(words) = env::args(rt) else {
+        let _ = eprintln!(rt; "lab: the command line is not UTF-8");
+        return ExitCode::from(status(&End::Words));
+    };
+    let status = match words.collect::<Vec<String>>(rt.alloc()) {
+        Ok(words) => told(rt, words.as_slice(), terminal),
+        Err(_) => ended(rt, &End::Memory),
+    };
+    ExitCode::from(status)
+}
+
+/// Does what the words ask for, of which the first is the program's name.
+fn told<R: Host>(rt: &R, words: &[String], terminal: bool) -> u8 {
+    let Ok(texts) = words
+        .iter()
+        .skip(1)
+        .map(String::as_str)
+        .collect::<Vec<&str>>(rt.alloc())
+    else {
+        return ended(rt, &End::Memory);
+    };
+    match read_words(rt.alloc(), texts.as_slice()) {
+        Ok(asked) => done(rt, &asked, terminal),
+        Err(error) => refused(rt, &error),
+    }
+}

@@ -1,0 +1,37 @@
+//! The program `lab` but for its `main`: pictures and tables of the runs of a machine.
+//!
+//! [`read_words`] reads the program's words with the crate `clap`; [`perform`] does what they ask for over the bytes of their
+//! FILE, and answers an [`Outcome`]: what is printed, and the files that are to be written. [`program`] does both over the
+//! host's arguments and files, writes each file beside its name and renames it, and ends by a [`status`]. An [`End`] is why
+//! there is no outcome, with its status and its line.
+//!
+//! The crate stands on `experiments` for figures, on `svg_plots` for pictures, on `commands` for the words of questions,
+//! and on `project_file` for files. It promises how numbers, lists and ranges are read (`specs/Numbers.antt`), which
+//! points are measured and in which order (`specs/Points.antt`), rates, means and the bound (`specs/Tables.antt`), what a
+//! summary counts (`specs/Counts.antt`), and the statuses and lines (`specs/Ends.antt`). What the pictures look like is
+//! shown by examples.
+#![tactic(auto)]
+
+mod check;
+mod curves;
+mod delays;
+mod end;
+mod host;
+mod map;
+mod numbers;
+mod outcome;
+mod plan;
+mod points;
+mod progress;
+mod rates;
+mod sweep;
+mod tables;
+mod task;
+mod words;
+
+pub use end::{End, Reason, status};
+pub use host::program;
+pub use outcome::{OutFile, Outcome};
+pub use progress::{Progress, Silent};
+pub use task::perform;
+pub use words::{Asked, CurveWords, MapWords, SweepWords, read_words};

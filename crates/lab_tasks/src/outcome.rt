@@ -1,0 +1,17 @@
+//! What comes of a task.
+
+/// A file that is to be written.
+#[derive(Drop)]
+pub struct OutFile {
+    pub name: String,
+    pub bytes: Vec<u8>,
+}
+
+/// What comes of a task: what goes to standard output, and the files.
+#[derive(Drop)]
+pub struct Outcome {
+    pub printed: Vec<u8>,
+    pub files: Vec<OutFile>,
+    /// A folder that is to be there before the files are written.
+    pub folder: Option<String>,
+}

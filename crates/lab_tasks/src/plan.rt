@@ -1,0 +1,143 @@
+//! The numbers that the words of `map`, `rates` and `delays` give.
+ghost use Rattle.std.specs.Prelude.{◌≡◌, ◌<◌, ◌≤◌, ◌-◌, IfOk, option_map};
+ghost use Rattle.omega_net.specs.Numbers.{lines};
+ghost use Rattle.page_map.specs.Limits.{max_k};
+ghost use Rattle.lab_tasks.specs.Numbers.{IsTold};
+
+use crate::end::{End, Reason};
+use crate::numbers::list_in;
+use crate::words::{CurveWords, MapWords};
+use experiments::{MOST_CYCLES, Window};
+use line_words::number;
+use omega_net::Net;
+use page_map::MAX_K;
+use project_book::Project;
+use std::alloc::Global;
+
+/// The number at an option, which has to be within two others; without a word a usual one.
+fn number_at<'a>(
+    option: &'static str,
+    word: Option<&'a str>,
+    usual: u32,
+    least: u32,
+    most: u32,
+) -> Result<u32, End<'a>>
+    ensures told { IfOk result (IsTold (option_map (λ w. w.now) word.entry) usual least most) }
+    ensures most { usual ≤ most → IfOk result (λ n. n ≤ most) }
+{
+    let Some(word) = word else {
+        return Ok(usual);
+    };
+    match number(word.as_bytes()) {
+        None => Err(End::Word {
+            option,
+            word,
+            reason: Reason::Form("a number"),
+        }),
+        Some(value) if value < least || value > most => Err(End::Word {
+            option,
+            word,
+            reason: Reason::Within(least, most),
+        }),
+        Some(value) => Ok(value),
+    }
+}
+
+/// What `map` draws.
+#[derive(Clone, Copy)]
+pub(crate) struct MapPlan {
+    pub net: Net,
+    pub module: u32,
+    pub window: Window,
+}
+
+fn net_at<'a>(word: Option<&'a str>) -> Result<Net, End<'a>> {
+    match word {
+        None | Some("low") => Ok(Net::Low),
+        Some("comb") => Ok(Net::Comb),
+        Some(word) => Err(End::Word {
+            option: "--net",
+            word,
+            reason: Reason::Form("low or comb"),
+        }),
+    }
+}
+
+/// What is to be drawn of a project: a module that it has, and cycles up to its horizon.
+pub(crate) fn map_plan<'a>(words: &MapWords<'a>, project: &Project) -> Result<MapPlan, End<'a>>
+    ensures there { IfOk result (λ plan. plan.«module» < lines project.now.k) }
+    ensures window { IfOk result (λ plan. plan.window.from ≤ plan.window.to) }
+    ensures within { IfOk result (λ plan. plan.window.to ≤ project.now.horizon) }
+{
+    let horizon = project.horizon();
+    let net = net_at(words.net)?;
+    let most = project.processors().saturating_sub(1);
+    let module = number_at("--module", words.module, 0, 0, most)?;
+    let from = number_at("--from", words.from, 0, 0, horizon)?;
+    let to = number_at("--to", words.to, horizon, 0, horizon)?;
+    if to < from {
+        return Err(End::Word {
+            option: "--to",
+            word: words.to.unwrap_or(""),
+            reason: Reason::Backwards,
+        });
+    }
+    Ok(MapPlan {
+        net,
+        module,
+        window: Window { from, to },
+    })
+}
+
+/// What `rates` and `delays` measure.
+#[derive(Drop)]
+pub(crate) struct CurvePlan {
+    /// 2^k processors at most.
+    pub k: u32,
+    /// How many of a hundred references are hot, for each curve or point.
+    pub hot: Vec<u32>,
+    pub cycles: u32,
+    pub seed: u64,
+}
+
+/// The shares that are measured where none are given.
+const USUAL_SHARES: [u32; 7] = [0, 1, 2, 4, 8, 16, 32];
+
+fn shares_at<'a>(alloc: Global, word: Option<&'a str>) -> Result<Vec<u32>, End<'a>> {
+    let Some(word) = word else {
+        return Ok(USUAL_SHARES.to_vec(alloc)?);
+    };
+    let refused = |reason: Reason| End::Word {
+        option: "--hot",
+        word,
+        reason,
+    };
+    let Some(shares) = list_in(alloc, word.as_bytes())? else {
+        return Err(refused(Reason::Form("numbers with commas between")));
+    };
+    if shares.len() > USUAL_SHARES.len() {
+        return Err(refused(Reason::Form("up to seven numbers")));
+    }
+    for share in shares.as_slice() {
+        if *share > 100 {
+            return Err(refused(Reason::Within(0, 100)));
+        }
+    }
+    Ok(shares)
+}
+
+/// What is to be measured.
+pub(crate) fn curve_plan<'a>(alloc: Global, words: &CurveWords<'a>) -> Result<CurvePlan, End<'a>>
+    ensures { IfOk result (λ plan. plan.k ≤ max_k) }
+{
+    let k = number_at("--k", words.k, MAX_K, 1, MAX_K)?;
+    let hot = shares_at(alloc, words.hot)?;
+    let cycles = number_at("--cycles", words.cycles, MOST_CYCLES, 2, MOST_CYCLES)?;
+    let seed = number_at("--seed", words.seed, 1, 0, u32::MAX)?;
+    Ok(CurvePlan {
+        k,
+        hot,
+        cycles,
+        seed: u64::from(seed),
+    })
+}

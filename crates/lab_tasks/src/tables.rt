@@ -1,0 +1,182 @@
+//! Tables as text: rows of fields with commas between.
+ghost use Rattle.std.specs.Prelude.{◌≡◌, ◌≤◌, ◌<◌, ◌^◌, Some};
+ghost use Rattle.lab_tasks.specs.Tables.{thousandths_text, processors_of, bound_of, rate_of, mean_of, delay_row, switch_text, network_text, machine_text, bound_text};
+
+use experiments::Load;
+use std::fmt;
+
+/// A number with three places behind its point.
+#[derive(Clone, Copy)]
+pub struct Thousandths(pub u64);
+
+impl fmt::Display for Thousandths {
+    ghost use Rattle.lab_tasks.specs.Tables.{thousandths_text};
+
+    ghost output = { λ n. Some (thousandths_text n.0) };
+
+    fn fmt<W: fmt::Write>(&self, f: &mut fmt::Formatter<W>) -> fmt::Result {
+        let whole = self.0 / 1000;
+        let (tenths, hundredths, last) = (self.0 / 100 % 10, self.0 / 10 % 10, self.0 % 10);
+        write!(f, "{whole}.{tenths}{hundredths}{last}")
+    }
+}
+
+/// The processors of a machine: there are at most 2^6.
+pub(crate) fn processors_of(k: u32) -> u64
+    ensures number { result ≡ processors_of k }
+    ensures some { 1 ≤ result }
+    ensures most { result ≤ 64 }
+{
+    match k {
+        0 => 1,
+        1 => 2,
+        2 => 4,
+        3 => 8,
+        4 => 16,
+        5 => 32,
+        _ => 64,
+    }
+}
+
+/// The bound of Pfister and Norton (1985) on what so many processors are served in a cycle, in thousandths:
+/// p / (1 + h (p - 1)), where h is a number of hundredths.
+#[tactic(auto, unfolding(crate::specs::Tables::bound_of))]
+pub(crate) fn bound_thousandths(processors: u64, hot: u32) -> u64
+    requires { processors ≤ 64 }
+    ensures { result ≡ bound_of processors hot }
+{
+    processors * 100_000 / (100 + u64::from(hot) * processors.saturating_sub(1))
+}
+
+/// What was served of a load.
+#[derive(Clone, Copy)]
+pub struct RatePoint {
+    pub load: Load,
+    /// How many requests, in how many cycles.
+    pub served: u32,
+    pub cycles: u32,
+}
+
+/// The first row of the table of `rates`.
+pub(crate) const RATE_HEADER: &str =
+    "processors,combining,hot_percent,served,cycles,served_per_cycle,bound\n";
+
+fn switch(on: bool) -> &'static str
+    ensures { result.now ≡ switch_text on }
+{
+    if on { "on" } else { "off" }
+}
+
+impl RatePoint {
+    /// How many requests were served in a cycle, in thousandths.
+    pub fn rate(&self) -> u64
+        ensures { result ≡ rate_of self.now }
+    {
+        u64::from(self.served) * 1000 / u64::from(self.cycles.max(1))
+    }
+}
+
+/// The machine of a load: how many processors, whether combining is on, how many of a hundred references are hot.
+#[derive(Clone, Copy)]
+struct Machine(Load);
+
+impl fmt::Display for Machine {
+    ghost output = { λ m. Some (machine_text m.0) };
+
+    fn fmt<W: fmt::Write>(&self, f: &mut fmt::Formatter<W>) -> fmt::Result {
+        let processors = processors_of(self.0.k);
+        let combining = switch(self.0.combine);
+        let hot = self.0.hot;
+        write!(f, "{processors},{combining},{hot}")
+    }
+}
+
+/// The bound of a load, as text.
+#[derive(Clone, Copy)]
+struct Bound(Load);
+
+impl fmt::Display for Bound {
+    ghost output = { λ b. Some (bound_text b.0) };
+
+    fn fmt<W: fmt::Write>(&self, f: &mut fmt::Formatter<W>) -> fmt::Result {
+        let processors = processors_of(self.0.k);
+        let bound = Thousandths(bound_thousandths(processors, self.0.hot));
+        write!(f, "{bound}")
+    }
+}
+
+impl fmt::Display for RatePoint {
+    fn fmt<W: fmt::Write>(&self, f: &mut fmt::Formatter<W>) -> fmt::Result {
+        let machine = Machine(self.load);
+        let served = self.served;
+        let cycles = self.cycles;
+        let rate = Thousandths(self.rate());
+        let bound = Bound(self.load);
+        write!(f, "{machine},{served},{cycles},{rate},{bound}")
+    }
+}
+
+/// How long the references of a load that aren't hot waited.
+#[derive(Clone, Copy)]
+pub struct DelayPoint {
+    pub load: Load,
+    /// How many replies came, and how many cycles they took in all.
+    pub replies: u32,
+    pub waited: u32,
+}
+
+/// The first row of the table of `delays`.
+pub(crate) const DELAY_HEADER: &str =
+    "network,processors,combining,hot_percent,replies,cycles_waited,mean_delay\n";
+
+impl DelayPoint {
+    /// The mean number of cycles in thousandths; 0 where there was no reply.
+    pub fn mean(&self) -> u64
+        ensures { result ≡ mean_of self.now }
+    {
+        u64::from(self.waited) * 1000 / u64::from(self.replies.max(1))
+    }
+}
+
+fn network(sync: bool) -> &'static str
+    ensures { result.now ≡ network_text sync }
+{
+    if sync { "combining" } else { "low" }
+}
+
+impl fmt::Display for DelayPoint {
+    ghost output = { λ p. Some (delay_row p) };
+
+    fn fmt<W: fmt::Write>(&self, f: &mut fmt::Formatter<W>) -> fmt::Result {
+        let network = network(self.load.sync);
+        let machine = Machine(self.load);
+        let replies = self.replies;
+        let waited = self.waited;
+        let mean = Thousandths(self.mean());
+        write!(f, "{network},{machine},{replies},{waited},{mean}")
+    }
+}
+
+/// A text as one field of a table: in quotes where it has a comma or a quote, each of which is then written twice.
+#[derive(Clone, Copy)]
+pub struct Field<'a>(pub &'a str);
+
+impl fmt::Display for Field<'_> {
+    fn fmt<W: fmt::Write>(&self, f: &mut fmt::Formatter<W>) -> fmt::Result {
+        let quoted = self
+            .0
+            .chars()
+            .any(|character| character == ',' || character == '"');
+        if !quoted {
+            return f.write_str(self.0);
+        }
+        f.write_char('"')?;
+        for character in self.0.chars() {
+            if character == '"' {
+                f.write_char('"')?;
+            }
+            f.write_char(character)?;
+        }
+        f.write_char('"')
+    }
+}

@@ -1,0 +1,251 @@
+//! What is asked for is done.
+use crate::check::summary;
+use crate::delays::{delay_picture, delay_points, delay_table};
+use crate::end::End;
+use crate::map::map_picture;
+use crate::outcome::{OutFile, Outcome};
+use crate::plan::{CurvePlan, curve_plan, map_plan};
+use crate::points::{delay_loads, rate_loads};
+use crate::progress::Progress;
+use crate::rates::{rate_picture, rate_points, rate_table};
+use crate::sweep::sweep_table;
+use crate::tables::{DelayPoint, RatePoint};
+use crate::words::{Asked, CurveWords, MapWords, SweepWords};
+use experiments::{Load, project_of};
+use page_map::MAX_K;
+use project_book::{Edit, MAX_HORIZON, Project};
+use project_file::{read_project, write_project};
+use std::alloc::{AllocError, Global};
+use std::thread::Threads;
+
+/// Nothing printed, and no file.
+fn nothing(alloc: Global) -> Outcome {
+    Outcome {
+        printed: Vec::new(alloc),
+        files: Vec::new(alloc),
+        folder: None,
+    }
+}
+
+/// Adds a file.
+fn add_file(
+    alloc: Global,
+    outcome: &mut Outcome,
+    name: &str,
+    bytes: Vec<u8>,
+) -> Result<(), AllocError> {
+    let name = String::from_str(alloc, name)?;
+    outcome.files.push(OutFile { name, bytes })?;
+    Ok(())
+}
+
+/// The bytes as the file of that name, or without a name on standard output.
+fn to_file_or_output(
+    alloc: Global,
+    name: Option<&str>,
+    bytes: Vec<u8>,
+) -> Result<Outcome, AllocError> {
+    let mut outcome = nothing(alloc);
+    match name {
+        Some(name) => add_file(alloc, &mut outcome, name, bytes)?,
+        None => outcome.printed = bytes,
+    }
+    Ok(outcome)
+}
+
+fn project_in<'a>(alloc: Global, bytes: &[u8]) -> Result<Project, End<'a>> {
+    match read_project(alloc, bytes) {
+        Ok(project) => Ok(project),
+        Err(fault) => Err(End::Project(fault)),
+    }
+}
+
+fn map<'a>(alloc: Global, words: &MapWords<'a>, bytes: &[u8]) -> Result<Outcome, End<'a>> {
+    let project = project_in(alloc, bytes)?;
+    let plan = map_plan(words, &project)?;
+    let text = map_picture(alloc, words.file, &project, plan)?;
+    Ok(to_file_or_output(alloc, words.out, text.into_bytes())?)
+}
+
+/// The name of a load's project file.
+fn name_of(alloc: Global, folder: &str, load: Load) -> Result<String, AllocError> {
+    let (k, hot) = (load.k, load.hot);
+    let net = match (load.sync, load.combine) {
+        (false, _) => "low",
+        (true, false) => "off",
+        (true, true) => "on",
+    };
+    format!(in alloc; "{folder}/k{k}-hot{hot}-{net}.toml")
+}
+
+/// The project of a load with combining at the stages that it has: a file names no others.
+fn kept_project<'a>(alloc: Global, load: Load) -> Result<Project, End<'a>> {
+    if load.k > MAX_K || load.cycles > MAX_HORIZON {
+        return Err(End::Memory);
+    }
+    let plain = Load {
+        combine: false,
+        ..load
+    };
+    let mut project = project_of(alloc, plain)?;
+    if !load.combine {
+        return Ok(project);
+    }
+    for stage in 0..load.k {
+        project = match project.apply(Edit::Combine { stage, on: true }) {
+            Ok((edited, _changed)) => edited,
+            Err(_) => return Err(End::Memory),
+        };
+    }
+    Ok(project)
+}
+
+/// Adds the project file of each load.
+fn keep<'a>(
+    alloc: Global,
+    outcome: &mut Outcome,
+    folder: &str,
+    loads: &[Load],
+) -> Result<(), End<'a>> {
+    outcome.folder = Some(String::from_str(alloc, folder)?);
+    for load in loads {
+        let project = kept_project(alloc, *load)?;
+        let name = name_of(alloc, folder, *load)?;
+        let bytes = write_project(alloc, &project)?;
+        outcome.files.push(OutFile { name, bytes })?;
+    }
+    Ok(())
+}
+
+/// The table and the picture where they are wanted; the table on standard output where neither is.
+fn curves<'a>(
+    alloc: Global,
+    words: &CurveWords<'a>,
+    table: String,
+    picture: String,
+) -> Result<Outcome, AllocError> {
+    let mut outcome = nothing(alloc);
+    if let Some(name) = words.out {
+        add_file(alloc, &mut outcome, name, picture.into_bytes())?;
+    }
+    match words.csv {
+        Some(name) => add_file(alloc, &mut outcome, name, table.into_bytes())?,
+        None if words.out.is_none() => outcome.printed = table.into_bytes(),
+        None => {}
+    }
+    Ok(outcome)
+}
+
+/// Adds the project files of some loads, where they are wanted.
+fn with_kept<'a>(
+    alloc: Global,
+    words: &CurveWords<'a>,
+    loads: &[Load],
+    outcome: Outcome,
+) -> Result<Outcome, End<'a>> {
+    let mut outcome = outcome;
+    if let Some(folder) = words.keep {
+        keep(alloc, &mut outcome, folder, loads)?;
+    }
+    Ok(outcome)
+}
+
+fn rates_drawn<'a>(
+    alloc: Global,
+    words: &CurveWords<'a>,
+    plan: &CurvePlan,
+    points: &[RatePoint],
+) -> Result<Outcome, AllocError> {
+    let table = rate_table(alloc, points)?;
+    let picture = rate_picture(alloc, plan, points)?;
+    curves(alloc, words, table, picture)
+}
+
+fn rates<'a, T: Threads + Sync, P: Progress>(
+    rt: &T,
+    alloc: Global,
+    words: &CurveWords<'a>,
+    progress: &mut P,
+) -> Result<Outcome, End<'a>> {
+    let plan = curve_plan(alloc, words)?;
+    let points = rate_points(rt, alloc, &plan, progress)?;
+    let outcome = rates_drawn(alloc, words, &plan, points.as_slice())?;
+    let loads = rate_loads(alloc, &plan)?;
+    with_kept(alloc, words, loads.as_slice(), outcome)
+}
+
+fn delays_drawn<'a>(
+    alloc: Global,
+    words: &CurveWords<'a>,
+    plan: &CurvePlan,
+    points: &[DelayPoint],
+) -> Result<Outcome, AllocError> {
+    let table = delay_table(alloc, points)?;
+    let picture = delay_picture(alloc, plan, points)?;
+    curves(alloc, words, table, picture)
+}
+
+fn delays<'a, T: Threads + Sync, P: Progress>(
+    rt: &T,
+    alloc: Global,
+    words: &CurveWords<'a>,
+    progress: &mut P,
+) -> Result<Outcome, End<'a>> {
+    let plan = curve_plan(alloc, words)?;
+    let points = delay_points(rt, alloc, &plan, progress)?;
+    let outcome = delays_drawn(alloc, words, &plan, points.as_slice())?;
+    let loads = delay_loads(alloc, &plan)?;
+    with_kept(alloc, words, loads.as_slice(), outcome)
+}
+
+fn sweep<'a, T: Threads + Sync>(
+    rt: &T,
+    alloc: Global,
+    words: &SweepWords<'a>,
+    bytes: &[u8],
+) -> Result<Outcome, End<'a>> {
+    let project = project_in(alloc, bytes)?;
+    let (depths, asks) = (words.depths.as_slice(), words.asks.as_slice());
+    let table = sweep_table(rt, alloc, project, depths, asks)?;
+    Ok(to_file_or_output(alloc, words.csv, table.into_bytes())?)
+}
+
+fn check<'a>(alloc: Global, bytes: &[u8]) -> Result<Outcome, End<'a>> {
+    let project = project_in(alloc, bytes)?;
+    let text = summary(alloc, &project)?;
+    Ok(to_file_or_output(alloc, None, text.into_bytes())?)
+}
+
+fn convert<'a>(alloc: Global, out: Option<&str>, bytes: &[u8]) -> Result<Outcome, End<'a>> {
+    let project = project_in(alloc, bytes)?;
+    let bytes = write_project(alloc, &project)?;
+    Ok(to_file_or_output(alloc, out, bytes)?)
+}
+
+/// Does what is asked for, over the bytes of its FILE where it has one.
+///
+/// # Errors
+///
+/// The project that is refused, a word that is, or a growth.
+pub fn perform<'a, T: Threads + Sync, P: Progress>(
+    rt: &T,
+    alloc: Global,
+    asked: &Asked<'a>,
+    bytes: &[u8],
+    progress: &mut P,
+) -> Result<Outcome, End<'a>> {
+    match asked {
+        Asked::Map(words) => map(alloc, words, bytes),
+        Asked::Rates(words) => rates(rt, alloc, words, progress),
+        Asked::Delays(words) => delays(rt, alloc, words, progress),
+        Asked::Sweep(words) => sweep(rt, alloc, words, bytes),
+        Asked::Check { .. } => {
+            let outcome = check(alloc, bytes)?;
+            Ok(outcome)
+        }
+        Asked::Convert { out, .. } => {
+            let outcome = convert(alloc, *out, bytes)?;
+            Ok(outcome)
+        }
+    }
+}

@@ -1,6 +1,0 @@
-use Rattle.std.proofs.Common.{◌≡◌, ◌++◌, take}
-use Rattle.project_book.specs.FirstWords.{words_above}
-use Rattle.project_book.proofs.words.push_above.Given as goal
-
-abbrev pub invariant-loop-first : goal.invariant-loop-first
-invariant-loop-first l = l.to.items ≡ l.initial.to.items ++ words_above (take l.first-index l.words) l.address

@@ -1,0 +1,392 @@
+//! Worked rows, a file of every fault, and a whole project.
+
+use omega_net::ScriptEntry;
+use project_book::{Depths, FirstWord, Project};
+use project_file::{ProjectFault, WriteFault, fault_place, read_project, write_project};
+use std::alloc::Global;
+use std::test::Fail;
+use word_ops::{Kind, Op};
+
+/// What the shortest project says.
+const SMALL: &str = "format = 1\nk = 0\nhorizon = 0\n";
+
+/// A project that says something at every key.
+const FULL: &str = "format = 1
+k = 1
+horizon = 10
+window = 2
+combine = [true]
+[depths]
+low_forward = 5
+low_reverse = 6
+comb_forward = 7
+comb_reverse = 9
+module = 10
+wait = 3
+[[page]]
+number = 1
+amount = 0
+base = 1
+[[word]]
+address = 300
+value = 5
+[[word]]
+address = 7
+value = 4294967295
+[[word]]
+address = 8
+value = 0
+[[script]]
+processor = 1
+entries = [\"sync add 0 1 2\", \"fence\", \"idle 4\"]
+";
+
+/// Two processors and the horizon 10; page 0 in module 0, page 1 in module 1; word 0 is 10.
+const BASE: &str = "format = 1
+k = 1
+horizon = 10
+page = [{number = 0, amount = 0, base = 0}, {number = 1, amount = 0, base = 1}]
+word = [{address = 0, value = 10}]
+";
+
+/// The largest machine, whose last processor has every entry that there is.
+const LARGEST: &str = "format = 2
+k = 6
+horizon = 2000
+combine = [true, false, false, false, false, true]
+[[script]]
+processor = 63
+entries = [\"until sync store-if-zero 0 1 0\", \"until plain load 16383 0 12 7\", \"fence\", \"idle 1000\", \"plain store 0 0\"]
+";
+
+/// The number of a file's fault, 0 where there is none; a refused growth is tried again.
+fn number_of(alloc: Global, text: &[u8]) -> u8 {
+    for _ in 0..2 {
+        match read_project(alloc, text) {
+            Ok(_) => return 0,
+            Err(ProjectFault::Memory) => {}
+            Err(fault) => return fault.number(),
+        }
+    }
+    ProjectFault::Memory.number()
+}
+
+/// The number of the fault of the shortest project with more text behind it.
+fn number_with(alloc: Global, more: &str) -> Result<u8, Fail> {
+    let text = format!(in alloc; "{SMALL}{more}")?;
+    Ok(number_of(alloc, text.as_str().as_bytes()))
+}
+
+/// The first fault of short files: in the order of the keys, after keys that aren't known.
+#[test]
+fn roots(rt: HostRuntime) -> Result<(), Fail> {
+    let alloc = rt.alloc();
+    for (text, number) in [
+        ("", 3),
+        ("format = 3", 3),
+        ("format = 0", 3),
+        ("format = true", 3),
+        ("format = 1", 5),
+        ("format = 2", 5),
+        ("format = 2\nk = 7", 7),
+        ("format = 2\nk = 6\nhorizon = 2001", 7),
+        ("format = 2\nk = 6\nhorizon = 2000", 0),
+        ("format = 1\nk = 6", 7),
+        ("format = 1\nk = 5\nhorizon = 1001", 7),
+        ("format = 1\nk = 5\nhorizon = 1000", 0),
+        ("format = 1\nk = \"1\"", 6),
+        ("format = 1\nk = true", 6),
+        ("format = 1\nk = -1", 7),
+        ("format = 1\nk = 0", 5),
+        ("format = 1\nk = 9\ncolour = 1", 4),
+        ("format = 1\nhorizon = 1001", 5),
+        (SMALL, 0),
+        ("k = [", 2),
+        // An integer of more than 64 bits is no document.
+        ("format = 2\nk = 9223372036854775808", 2),
+    ] {
+        assert_eq!(rt; number_of(alloc, text.as_bytes()), number);
+    }
+    // A byte that no UTF-8 has.
+    assert_eq!(rt; number_of(alloc, &[255]), 2);
+    Ok(())
+}
+
+/// The first fault at each key behind the first three.
+#[test]
+fn keys(rt: HostRuntime) -> Result<(), Fail> {
+    let alloc = rt.alloc();
+    for (more, number) in [
+        ("colour = 1", 4),
+        ("window = 9", 7),
+        ("combine = [true]", 7),
+        ("combine = [true, 1]", 6),
+        ("depths = 4", 6),
+        ("[depths]\ncomb_reverse = 3", 7),
+        ("[depths]\ncomb_reverse = 3\nwidth = 1", 4),
+        ("page = [1]", 6),
+        ("[[page]]\nnumber = 64\namount = 0\nbase = 0", 7),
+        // The amount is above k, which is looked at after the base was read.
+        ("[[page]]\nnumber = 0\namount = 2", 5),
+        ("[[page]]\nnumber = 0\namount = 2\nbase = 0", 7),
+        (
+            "[[page]]\nnumber = 0\namount = 0\nbase = 0\n[[page]]\nnumber = 0",
+            9,
+        ),
+        (
+            "[[word]]\naddress = 0\nvalue = 1\n[[word]]\naddress = 0\nvalue = 1",
+            9,
+        ),
+        ("[[word]]\naddress = 0\nvalue = 4294967296", 7),
+        ("[[word]]\nvalue = 1\nplace = 0", 4),
+        ("[[script]]\nprocessor = 0\nentries = [\"jump 3\"]", 8),
+        // An entry whose number is out of its limits stands before a text that is no entry.
+        (
+            "[[script]]\nprocessor = 0\nentries = [\"idle 0\", \"jump\"]",
+            8,
+        ),
+        ("[[script]]\nprocessor = 0\nentries = [\"idle 0\"]", 7),
+        ("[[script]]\nprocessor = 0\nentries = [\"jump\", 1]", 6),
+        ("[[script]]\nprocessor = 1\nentries = []", 7),
+        (
+            "[[script]]\nprocessor = 0\nentries = []\n[[script]]\nprocessor = 0",
+            9,
+        ),
+        ("[[script]]\nprocessor = 0\nentries = []", 0),
+        // Format 1 has no entry that waits for a word.
+        (
+            "[[script]]\nprocessor = 0\nentries = [\"until sync load 0 0 12\"]",
+            8,
+        ),
+    ] {
+        assert_eq!(rt; number_with(alloc, more)?, number);
+    }
+    Ok(())
+}
+
+/// Format 2 has the entry that waits for a word.
+#[test]
+fn waiting_entries(rt: HostRuntime) -> Result<(), Fail> {
+    let alloc = rt.alloc();
+    let text =
+        "format = 2\nk = 0\nhorizon = 0\n[[script]]\nprocessor = 0\nentries = [\"until sync load 0 0 12\"]";
+    let until = ScriptEntry::Until {
+        sync: true,
+        op: Op {
+            kind: Kind::Load,
+            operand: 0,
+        },
+        address: 0,
+        value: 12,
+        times: 1_000,
+    };
+    for _ in 0..2 {
+        if let Ok(project) = read_project(alloc, text.as_bytes()) {
+            assert_eq!(rt; project.entry(0, 0), Some(until));
+            return Ok(());
+        }
+    }
+    Err(Fail::from("within the limits"))
+}
+
+/// What a whole project says.
+fn is_full(project: &Project) -> bool {
+    let add = ScriptEntry::Reference {
+        sync: true,
+        op: Op {
+            kind: Kind::Add,
+            operand: 1,
+        },
+        address: 0,
+        times: 2,
+    };
+    let words = [
+        FirstWord {
+            address: 7,
+            word: u32::MAX,
+        },
+        FirstWord {
+            address: 300,
+            word: 5,
+        },
+    ];
+    (
+        project.k(),
+        project.horizon(),
+        project.window(),
+        project.wait(),
+    ) == (1, 10, 2, 3)
+        && project.combine(0)
+        && project.depth(Depths::LowForward) == 5
+        && project.depth(Depths::LowReverse) == 6
+        && project.depth(Depths::CombForward) == 7
+        && project.depth(Depths::CombReverse) == 9
+        && project.depth(Depths::ModuleQueue) == 10
+        && project.pages().page(0) == Some((1, 0))
+        && project.pages().page(1) == Some((0, 1))
+        && project.words() == words.as_slice()
+        && project.length(0) == 0
+        && project.entry(1, 0) == Some(add)
+        && project.entry(1, 1) == Some(ScriptEntry::Fence)
+        && project.entry(1, 2) == Some(ScriptEntry::Idle(4))
+        && project.length(1) == 3
+}
+
+/// A whole project is read as it is written, and each growth that is refused says so.
+#[test]
+fn whole(rt: HostRuntime) -> Result<(), Fail> {
+    let alloc = rt.alloc();
+    let project = match read_project(alloc, FULL.as_bytes()) {
+        Ok(project) => project,
+        Err(fault) => {
+            assert_eq!(rt; fault, ProjectFault::Memory);
+            read_project(alloc, FULL.as_bytes())?
+        }
+    };
+    assert!(rt; is_full(&project));
+    Ok(())
+}
+
+/// What is written of a project is read as it; a refused growth says so and the project is written again.
+fn comes_back(alloc: Global, project: &Project) -> Result<bool, Fail> {
+    for _ in 0..2 {
+        match write_project(alloc, project) {
+            Ok(bytes) => return Ok(read_project(alloc, &bytes)?.same(project)),
+            Err(WriteFault::Memory) => {}
+            Err(_) => return Ok(false),
+        }
+    }
+    Err(Fail::from("no memory twice"))
+}
+
+/// 15.3: projects are written and read: the base project, one that says something at every key, the largest one.
+#[test]
+fn written_and_read(rt: HostRuntime) -> Result<(), Fail> {
+    let alloc = rt.alloc();
+    for text in [BASE, FULL, LARGEST] {
+        let project = match read_project(alloc, text.as_bytes()) {
+            Ok(project) => project,
+            Err(_) => read_project(alloc, text.as_bytes())?,
+        };
+        assert!(rt; comes_back(alloc, &project)?);
+    }
+    Ok(())
+}
+
+/// A file that is cut is a project only where its first three keys are there.
+#[test]
+fn prefixes(rt: HostRuntime) -> Result<(), Fail> {
+    let alloc = rt.alloc();
+    let bytes = FULL.as_bytes();
+    let least = "format = 1\nk = 1\nhorizon = 1".len();
+    for end in 0..bytes.len() {
+        let number = number_of(alloc, &bytes[..end]);
+        assert!(rt; number != 0 || end >= least);
+    }
+    Ok(())
+}
+
+/// Files of many bytes: too long, nested without end, and a script of 257 entries.
+#[test]
+fn many_bytes(rt: HostRuntime) -> Result<(), Fail> {
+    let alloc = rt.alloc();
+    let spaces = vec![in alloc; b' '; 4_194_305]?;
+    assert_eq!(rt; number_of(alloc, &spaces), 1);
+    assert_eq!(rt; number_of(alloc, &spaces[1..]), 3);
+    let brackets = vec![in alloc; b'['; 100_000]?;
+    assert_eq!(rt; number_of(alloc, &brackets), 2);
+    for (count, number) in [(256, 0), (257, 7)] {
+        let mut more = String::new(alloc);
+        more.push_str("[[script]]\nprocessor = 0\nentries = [")?;
+        for _ in 0..count {
+            more.push_str("\"fence\",")?;
+        }
+        more.push_str("]")?;
+        assert_eq!(rt; number_with(alloc, more.as_str())?, number);
+    }
+    Ok(())
+}
+
+/// The texts of faults.
+#[test]
+fn texts(rt: HostRuntime) -> Result<(), Fail> {
+    let alloc = rt.alloc();
+    for (fault, text) in [
+        (
+            ProjectFault::TooLong,
+            "the file is longer than 4,194,304 bytes",
+        ),
+        (ProjectFault::Memory, "no memory"),
+    ] {
+        assert_eq!(rt; format!(in alloc; "{fault}")?.as_str(), text);
+    }
+    let unread = WriteFault::Unread;
+    assert_eq!(rt; unread.number(), 3);
+    assert_eq!(rt;
+        format!(in alloc; "{unread}")?.as_str(),
+        "the file is not read as the project"
+    );
+    Ok(())
+}
+
+/// The line that says where a file is wrong.
+fn place_of(alloc: Global, text: &[u8]) -> Result<String, Fail> {
+    match fault_place(alloc, text)? {
+        Some(line) => Ok(line),
+        None => Ok(String::new(alloc)),
+    }
+}
+
+/// Where files are wrong: by line and column, by key, or by item.
+#[test]
+fn places(rt: HostRuntime) -> Result<(), Fail> {
+    let alloc = rt.alloc();
+    assert_eq!(rt; place_of(alloc, &[b'k', 255])?.as_str(), "byte 1: no UTF-8");
+    assert_eq!(rt; place_of(alloc, FULL.as_bytes())?.as_str(), "");
+    for (more, place) in [
+        (
+            "k = 3",
+            "TOML parse error at line 4, column 1: duplicate key",
+        ),
+        ("colour = 1", "colour: no such key"),
+        ("window = 9", "window: 9 is not 1 to 8"),
+        ("combine = [true]", "combine: 1 stages where k is 0"),
+        (
+            "depths = 4",
+            "depths: of type integer where a table belongs",
+        ),
+        (
+            "[depths]\ncomb_reverse = 3",
+            "depths, comb_reverse: 3 is not 4 to 16",
+        ),
+        (
+            "page = [1]",
+            "page 0: of type integer where a table belongs",
+        ),
+        (
+            "[[page]]\nnumber = 1\namount = 0\nbase = 0\n[[page]]\nnumber = 1",
+            "page 1, number: page 1 is given twice",
+        ),
+        (
+            "[[page]]\nnumber = 0\namount = 2\nbase = 0",
+            "page 0, amount: 2 with base 0 is no interleaving of 1 modules",
+        ),
+        ("[[word]]\naddress = 0", "word 0, value: missing"),
+        (
+            "[[script]]\nprocessor = 0\nentries = [\"fence\", \"jump\\u0007 3\"]",
+            "script 0, entries 1: no script entry: \"jump? 3\"",
+        ),
+        (
+            "[[script]]\nprocessor = 0\nentries = [\"until sync load 0 0 1\"]",
+            "script 0, entries 0: format 1 has no such entry: \"until sync load 0 0 1\"",
+        ),
+        (
+            "[[script]]\nprocessor = 0\nentries = [\"idle 0\"]",
+            "script 0, entries 0: a number is outside its limits: \"idle 0\"",
+        ),
+    ] {
+        let text = format!(in alloc; "{SMALL}{more}")?;
+        assert_eq!(rt; place_of(alloc, text.as_str().as_bytes())?.as_str(), place);
+    }
+    Ok(())
+}

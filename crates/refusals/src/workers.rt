@@ -1,0 +1,63 @@
+//! Workers in threads of their own. Here threads are refused too: `work` then gives its pass back with `NoThread`, and a
+//! session can't start, or goes on without the worker.
+use crate::again::again;
+use crate::benches::{fresh, served as served_query};
+use bench_core::Asked;
+use bench_shell::Hall;
+use run_queries::Body;
+use shared_bench::{Pass, open};
+use std::alloc::Global;
+use wave_workers::{Ungated, WorkFault, Worked, work};
+
+/// A pass to a fresh bench, with seats for two workers more than are needed.
+fn opened(alloc: Global) -> Option<Pass> {
+    let bench = Box::into_inner(fresh(alloc)?);
+    match open(alloc, bench, 4) {
+        Ok(pass) => Some(pass),
+        Err(bench) => open(alloc, bench, 4).ok(),
+    }
+}
+
+/// What comes of one worker.
+fn with_worker<H: Hall>(rt: &H, alloc: Global, pass: Pass) -> Option<Worked> {
+    let gates = again(|| vec![in alloc; Ungated])?;
+    Some(work(rt, pass, gates, 100))
+}
+
+/// One worker computes all cells: a growth that is refused in a turn ends the turn alone. Where it can't be started, the pass
+/// comes back, nothing was given, and the next one does the work.
+pub(crate) fn works<H: Hall>(rt: &H, alloc: Global) -> bool {
+    let Some(pass) = opened(alloc) else {
+        return false;
+    };
+    let Some(worked) = with_worker(rt, alloc, pass) else {
+        return false;
+    };
+    match worked.fault {
+        None => is_done(rt, worked),
+        Some(WorkFault::Memory | WorkFault::NoThread) if worked.given == 0 => {
+            match with_worker(rt, alloc, worked.pass) {
+                Some(worked) => worked.fault.is_none() && is_done(rt, worked),
+                None => false,
+            }
+        }
+        Some(_) => false,
+    }
+}
+
+/// Whether all cells were stored, and the counter of served requests is that of the run.
+fn is_done<H: Hall>(rt: &H, worked: Worked) -> bool {
+    let mut pass = worked.pass;
+    let asked = match pass.look(rt, served_query(6)) {
+        Asked::Memory => pass.look(rt, served_query(6)),
+        asked => asked,
+    };
+    worked.stored == 42
+        && matches!(
+            asked,
+            Asked::Answer {
+                version: 0,
+                body: Body::Count(1)
+            }
+        )
+}

@@ -1,0 +1,157 @@
+//! Sessions with workers.
+ghost use Rattle.std.specs.Prelude.{◌≤◌};
+
+use bench_shell::{Hall, serve};
+use cell_table::Cell;
+use project_book::{Edit, Project};
+use std::alloc::Global;
+use std::io::{Read, Result};
+use std::sync::Arc;
+use std::sync::atomic::{AtomicU64, Ordering};
+use std::test::Fail;
+use std::thread;
+use wave_workers::{Gate, Ungated};
+
+/// Two processors and this horizon; page 0 on module 0, page 1 on module 1; word 0 is 10.
+fn base(alloc: Global, horizon: u32) -> std::result::Result<Project, Fail> {
+    let mut project = Project::new(alloc, 1, horizon)?.ok_or("within the limits")?;
+    for (page, module) in [(0, 0), (1, 1)] {
+        let edit = Edit::Page {
+            page,
+            amount: 0,
+            base: module,
+        };
+        project = project.apply(edit)?.0;
+    }
+    let word = Edit::Word {
+        address: 0,
+        word: 10,
+    };
+    Ok(project.apply(word)?.0)
+}
+
+const LINES: &[u8] =
+    b"entry 0 0 sync add 0 1\nentry 1 0 sync add 0 2\nreply 1 0\ncombine 0 on\nreply 1 0\nmemory 0 8\ncounter served all 0 8\nplace 300\norder 0\norder 300\norder 16384\n";
+
+const ANSWERS: &[u8] =
+    b"ok 1\nok 2\nok 2 at 7 word 11\nok 3\nok 3 at 6 word 11\nok 3 13\nok 3 1\nok 3 1:300\nok 3 order 0.0 1.0\nok 3 order\nbad 3\n";
+
+/// What is written for the lines with so many workers.
+fn answers<H: AllocGlobal + Hall>(rt: &H, workers: usize) -> std::result::Result<Vec<u8>, Fail>
+    requires { workers ≤ 16 }
+{
+    let alloc = rt.alloc();
+    let gates = vec![in alloc; Ungated; workers]?;
+    let mut reader = LINES;
+    let mut writer = Vec::new(alloc);
+    let project = base(alloc, 8)?;
+    match serve(rt, alloc, &mut reader, &mut writer, project, gates) {
+        Ok(()) => Ok(writer),
+        Err(_) => Err(Fail::from("a fault")),
+    }
+}
+
+/// 18, and 16.3: the same bytes with 0, 1 and 4 workers.
+#[test]
+fn examples_18_and_16_3(rt: HostRuntime) -> std::result::Result<(), Fail> {
+    assert_eq!(rt; answers(&rt, 0)?.as_slice(), ANSWERS);
+    assert_eq!(rt; answers(&rt, 1)?.as_slice(), ANSWERS);
+    assert_eq!(rt; answers(&rt, 4)?.as_slice(), ANSWERS);
+    Ok(())
+}
+
+/// How often a reader or a gate looks for the other at most.
+const MOST_LOOKS: u64 = 100_000_000;
+
+/// What a reader and a gate tell each other.
+#[derive(Drop)]
+struct Meeting {
+    asked: AtomicU64,
+    computed: AtomicU64,
+}
+
+fn is_told(word: &AtomicU64) -> bool {
+    word.load(Ordering::SeqCst) != 0
+}
+
+/// Whether it was told, looked for often.
+fn comes(word: &AtomicU64) -> bool {
+    for _ in 0..MOST_LOOKS {
+        if is_told(word) {
+            return true;
+        }
+        thread::yield_now();
+    }
+    false
+}
+
+/// Gives its line once the worker has computed a cell.
+#[derive(Drop)]
+struct Waiting<'a> {
+    line: &'a [u8],
+    meeting: Arc<Meeting, Global>,
+}
+
+impl Read for Waiting<'_> {
+    fn read(&mut self, buf: &mut [u8]) -> Result<usize> {
+        self.meeting.asked.store(1, Ordering::SeqCst);
+        if !comes(&self.meeting.computed) {
+            return Ok(0);
+        }
+        self.line.read(buf)
+    }
+}
+
+/// Computes its first cell once the reader was asked.
+#[derive(Drop)]
+struct Holding {
+    meeting: Arc<Meeting, Global>,
+}
+
+impl Gate for Holding {
+    fn go_on(&mut self, _turn: u64) -> bool {
+        true
+    }
+
+    fn claimed(&mut self, _cell: Cell) {}
+
+    fn computed(&mut self, _cell: Cell) {
+        if is_told(&self.meeting.computed) || comes(&self.meeting.asked) {
+            self.meeting.computed.store(1, Ordering::SeqCst);
+        }
+    }
+}
+
+/// 9.1: the shell waits for its reader while the worker computes, and the worker for the shell.
+#[test]
+fn example_9_1(rt: HostRuntime) -> std::result::Result<(), Fail> {
+    let alloc = rt.alloc();
+    let meeting = Arc::new(
+        alloc,
+        Meeting {
+            asked: AtomicU64::new(0),
+            computed: AtomicU64::new(0),
+        },
+    )?;
+    let gate = Holding {
+        meeting: Arc::try_clone(&meeting)?,
+    };
+    let mut reader = Waiting {
+        line: b"memory 0 0\n",
+        meeting: Arc::try_clone(&meeting)?,
+    };
+    let mut writer = Vec::new(alloc);
+    let gates = vec![in alloc; gate]?;
+    let ended = serve(
+        &rt,
+        alloc,
+        &mut reader,
+        &mut writer,
+        base(alloc, 10)?,
+        gates,
+    );
+    assert!(rt; ended.is_ok());
+    assert_eq!(rt; writer.as_slice(), b"ok 0 10\n".as_slice());
+    assert!(rt; is_told(&meeting.asked) && is_told(&meeting.computed));
+    Ok(())
+}

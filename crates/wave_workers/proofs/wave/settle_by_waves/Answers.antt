@@ -1,0 +1,70 @@
+use Rattle.std.proofs.Common.{◌≡◌, ◌+◌, ◌<◌, ◌^◌, ◌∙◌, Ok, Err, All, refl, ap, sym, subst, arith}
+use Rattle.std.proofs.lemmas.List.Elements.{All-nil}
+use Rattle.cell_table.specs.declared.given.Settled.{Settled}
+use Rattle.cell_table.specs.declared.given.SettleFault.{SettleFault}
+use Rattle.cell_table.specs.declared.given.SettleFault.TheVariants.{ClockSpent, Memory}
+use Rattle.cell_table.specs.Settling.{IsSettled, IsSpent, SettlesNext}
+use Rattle.cell_table.specs.Waves.{IsWork}
+use Rattle.cell_table.proofs.Passes.{IsAt, begins, of_some, of_none, few_next, goes_on, spent_first, first_settled, all_settled}
+use Rattle.machine_cells.specs.GridRules.{rp3_rules}
+use Rattle.machine_cells.specs.GridLaws.{rp3_laws}
+use Rattle.bench_core.specs.Shown.{Shown, project_of}
+use Rattle.bench_core.proofs.Happening.{settle_all, settle_some}
+use Rattle.bench_core.proofs.Waiting.{ready}
+use Rattle.wave_workers.proofs.wave.settle_by_waves.Goals as goal
+
+pub overflow_add-computed : goal.overflow_add-computed
+overflow_add-computed g c =
+    let at = c.loop-cell.invariant.at in
+    let cell = c.in-Ok-Some.cell in
+    let next = of_some (SettlesNext rp3_rules c.loop-cell.bench.table c.settle_next.new.bench.table c.loop-cell.from.cycle c.loop-cell.from.component) c.in-Ok-Some.field-0 cell c.in-Ok-Some.field-0-is c.in-Ok-Some.ensures.some in
+    let fits = of_some (λ cell. (cell.cycle < 2 ^ 32) × (cell.component + 1 < 2 ^ 32)) c.in-Ok-Some.field-0 cell c.in-Ok-Some.field-0-is c.in-Ok-Some.ensures.fits in
+    omega (arith, few_next c.loop-cell.from.cycle c.loop-cell.from.component cell.cycle cell.component c.loop-cell.computed next.after at.few at.fits, fits.0, fits.1)
+
+pub loop-cell-preserved : goal.loop-cell-preserved
+loop-cell-preserved g c =
+    let cell = c.in-Ok-Some.cell in
+    let next = of_some (SettlesNext rp3_rules c.loop-cell.bench.table c.settle_next.new.bench.table c.loop-cell.from.cycle c.loop-cell.from.component) c.in-Ok-Some.field-0 cell c.in-Ok-Some.field-0-is c.in-Ok-Some.ensures.some in
+    let fits = of_some (λ cell. (cell.cycle < 2 ^ 32) × (cell.component + 1 < 2 ^ 32)) c.in-Ok-Some.field-0 cell c.in-Ok-Some.field-0-is c.in-Ok-Some.ensures.fits in
+    record {
+      at = goes_on rp3_rules c.args.bench.now.table c.loop-cell.bench.table c.settle_next.new.bench.table c.loop-cell.from.cycle c.loop-cell.from.component c.loop-cell.computed cell c.loop-cell.invariant.at next fits.1;
+      works = subst (λ s. All (IsWork rp3_rules s) c.settle_next.new.works.items) (sym next.settled.after.slots) c.in-Ok-Some.ensures.works;
+      journal = c.in-Ok-Some.ensures.journal ∙ c.loop-cell.invariant.journal;
+    }
+
+pub returns-in-Ok-None-clause-headline_settles : goal.returns-in-Ok-None-clause-headline_settles
+returns-in-Ok-None-clause-headline_settles g c =
+    let none = of_none (IsSettled rp3_rules c.loop-cell.bench.table × (c.settle_next.new.bench ≡ c.loop-cell.bench)) c.in-Ok-None.field-0 c.in-Ok-None.field-0-is c.in-Ok-None.ensures.none in
+    let at = subst (λ (v : Shown). IsAt rp3_rules c.args.bench.now.table v.table c.loop-cell.from.cycle c.loop-cell.from.component c.loop-cell.computed) (sym none.1) c.loop-cell.invariant.at in
+    let settled = subst (λ (v : Shown). IsSettled rp3_rules v.table) (sym none.1) none.0 in
+    settle_all c.args.bench.now c.settle_next.new.bench (c.in-Ok-None.ensures.journal ∙ c.loop-cell.invariant.journal) {E = SettleFault} (Ok (record { computed = c.loop-cell.computed }))
+    (at.done, all_settled rp3_rules rp3_laws c.args.bench.now.table c.settle_next.new.bench.table c.loop-cell.from.cycle c.loop-cell.from.component c.loop-cell.computed at settled)
+
+pub returns-in-Err-ClockSpent-clause-after_fault : goal.returns-in-Err-ClockSpent-clause-after_fault
+returns-in-Err-ClockSpent-clause-after_fault g c =
+    let at = subst (λ (v : Shown). IsAt rp3_rules c.args.bench.now.table v.table c.loop-cell.from.cycle c.loop-cell.from.component c.loop-cell.computed) (sym c.in-Err-ClockSpent.ensures.err) c.loop-cell.invariant.at in
+    settle_some c.args.bench.now c.settle_next.new.bench (c.in-Err-ClockSpent.ensures.journal ∙ c.loop-cell.invariant.journal) {T = Settled} (Err (ClockSpent c.loop-cell.computed))
+    (at.done, first_settled rp3_rules rp3_laws c.args.bench.now.table c.settle_next.new.bench.table c.loop-cell.from.cycle c.loop-cell.from.component c.loop-cell.computed at)
+
+pub returns-in-Err-Memory-clause-after_fault : goal.returns-in-Err-Memory-clause-after_fault
+returns-in-Err-Memory-clause-after_fault g c =
+    let at = subst (λ (v : Shown). IsAt rp3_rules c.args.bench.now.table v.table c.loop-cell.from.cycle c.loop-cell.from.component c.loop-cell.computed) (sym c.in-Err-Memory.ensures.err) c.loop-cell.invariant.at in
+    settle_some c.args.bench.now c.settle_next.new.bench (c.in-Err-Memory.ensures.journal ∙ c.loop-cell.invariant.journal) {T = Settled} (Err (Memory c.loop-cell.computed))
+    (at.done, first_settled rp3_rules rp3_laws c.args.bench.now.table c.settle_next.new.bench.table c.loop-cell.from.cycle c.loop-cell.from.component c.loop-cell.computed at)
+
+pub returns-in-Err-ClockSpent-clause-differs : goal.returns-in-Err-ClockSpent-clause-differs
+returns-in-Err-ClockSpent-clause-differs g c =
+    λ _. subst (λ (v : Shown). IsSpent rp3_rules v.table 0 0) (sym c.in-Err-ClockSpent.ensures.err) (spent_first rp3_rules c.loop-cell.bench.table c.loop-cell.from.cycle c.loop-cell.from.component c.loop-cell.invariant.at.none_before (c.in-Err-ClockSpent.ensures.spent (ap Err c.in-Err-ClockSpent.field-0-is)))
+
+pub loop-cell-init : goal.loop-cell-init
+loop-cell-init g c = record {
+  at = begins rp3_rules c.args.bench.now.table;
+  works = subst (All (IsWork rp3_rules (project_of c.args.bench.now))) (sym c.new-works.ensures.items) (All-nil (IsWork rp3_rules (project_of c.args.bench.now)));
+  journal = refl;
+}
+
+pub returns-in-Ok-None-clause-ready : goal.returns-in-Ok-None-clause-ready
+returns-in-Ok-None-clause-ready g c =
+    let none = of_none (IsSettled rp3_rules c.loop-cell.bench.table × (c.settle_next.new.bench ≡ c.loop-cell.bench)) c.in-Ok-None.field-0 c.in-Ok-None.field-0-is c.in-Ok-None.ensures.none in
+    let settled = subst (λ (v : Shown). IsSettled rp3_rules v.table) (sym none.1) none.0 in
+    ready {T = Settled} {E = SettleFault} (Ok (record { computed = c.loop-cell.computed })) c.settle_next.new.bench c.is_bench.ensures.bench settled
