@@ -50,6 +50,15 @@ sum_below-le f m (suc n) le =
     let last : f n ≤ m = le n (omega arith) in
     omega (arith, mul-suc m n)
 
+-- where each number has the same part, the sum is so many times that part
+pub sum_below-all : (f : ℕ → ℕ) (m n : ℕ) → ((i : ℕ) → i < n → f i ≡ m) → sum_below f n ≡ m * n
+unfolding sum_below
+sum_below-all f m zero is = omega (arith, mul-zero m)
+sum_below-all f m (suc n) is =
+    let rest : sum_below f n ≡ m * n = sum_below-all f m n (λ i b. is i (omega arith)) in
+    let last : f n ≡ m = is n (omega arith) in
+    omega (arith, mul-suc m n)
+
 -- the sum is at least each number's part
 pub sum_below-part : (f : ℕ → ℕ) (j n : ℕ) → j < n → f j ≤ sum_below f n
 unfolding sum_below

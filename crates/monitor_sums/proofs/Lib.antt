@@ -2,6 +2,7 @@ pub mod Named
 pub mod Adding
 pub mod Over
 pub mod Parts
+pub mod Profiles
 pub mod Putting
 pub mod Standing
 pub mod Starting

@@ -7,7 +7,7 @@ use Rattle.project_book.specs.Limits.{max_horizon}
 use Rattle.monitor_sums.specs.Adding.{sum_below}
 use Rattle.monitor_sums.specs.Sums.{sum_over}
 use Rattle.monitor_sums.specs.Whole.{sum_before}
-use Rattle.monitor_sums.proofs.Adding.{sum_none, sum_more, sum_below-same, sum_below-change, sum_below-le, sum_below-part, sum_below-cut, sum_below-split, sum_below-plus}
+use Rattle.monitor_sums.proofs.Adding.{sum_none, sum_more, sum_below-same, sum_below-change, sum_below-le, sum_below-all, sum_below-part, sum_below-cut, sum_below-split, sum_below-plus}
 use Rattle.monitor_sums.specs.Limits.{max_components}
 
 -- a component's sum over the cycles from `from` on and before `end`
@@ -53,46 +53,6 @@ cut_over k f (Some c) h to asked le none =
 cut_over k f None h to asked le none =
     sum_below-same (over_cycles f 0 (to + 1)) (over_cycles f 0 (h + 1)) (components k)
     (λ c there. sum_below-cut (λ i. f (i + 0) c) (h + 1 - 0) (to + 1 - 0) (omega arith) (λ i a b. none (i + 0) c (omega arith) (omega arith) there))
-
--- two functions that differ at one cell
-module _ (k : ℕ) (f g : ℕ → ℕ → ℕ) (t c from end : ℕ) (began : from ≤ t) (in_time : t < end) (there : c < components k)
-    (same : (u d : ℕ) → from ≤ u → u < end → (u ≡ t → d ≡ c → ⊥) → f u d ≡ g u d) where
-  -- have sums of its component that differ as they do there
-  pub changed_own : sum_before k f (Some c) from end + g t c ≡ sum_before k g (Some c) from end + f t c
-  changed_own =
-      let at : t - from + from ≡ t = omega (arith, began) in
-      let f_at : f (t - from + from) c ≡ f t c = ap (λ n. f n c) at in
-      let g_at : g (t - from + from) c ≡ g t c = ap (λ n. g n c) at in
-      let sums : sum_before k f (Some c) from end + g (t - from + from) c ≡ sum_before k g (Some c) from end + f (t - from + from) c =
-      sum_below-change (λ i. f (i + from) c) (λ i. g (i + from) c) (t - from) (end - from) (omega (arith, began, in_time))
-      (λ i b apart. same (i + from) c (omega arith) (omega (arith, b)) (λ (e : i + from ≡ t) _. apart (omega (arith, e)))) in
-      omega arith
-
-  -- the same sums of another one
-  pub changed_other : (d : ℕ) → (d ≡ c → ⊥) → sum_before k f (Some d) from end ≡ sum_before k g (Some d) from end
-  changed_other d apart = same_cycles f g from end d (λ u a b. same u d a b (λ _ e. apart e))
-
-  -- and sums of all that differ as they do there
-  pub changed_all : sum_before k f None from end + g t c ≡ sum_before k g None from end + f t c
-  changed_all =
-      let outer : sum_before k f None from end + over_cycles g from end c ≡ sum_before k g None from end + over_cycles f from end c =
-      sum_below-change (over_cycles f from end) (over_cycles g from end) c (components k) there (λ d b apart. changed_other d apart) in
-      let inner : over_cycles f from end c + g t c ≡ over_cycles g from end c + f t c = changed_own in
-      omega arith
-
--- a cell's part is within its component's sum, and within that of all
-pub part_own : (k : ℕ) (f : ℕ → ℕ → ℕ) (t c from end : ℕ) → from ≤ t → t < end → f t c ≤ sum_before k f (Some c) from end
-part_own k f t c from end began in_time =
-    let at : t - from + from ≡ t = omega (arith, began) in
-    let f_at : f (t - from + from) c ≡ f t c = ap (λ n. f n c) at in
-    let le : f (t - from + from) c ≤ over_cycles f from end c = sum_below-part (λ i. f (i + from) c) (t - from) (end - from) (omega (arith, began, in_time)) in
-    omega arith
-
-pub part_all : (k : ℕ) (f : ℕ → ℕ → ℕ) (t c from end : ℕ) → from ≤ t → t < end → c < components k → f t c ≤ sum_before k f None from end
-part_all k f t c from end began in_time there =
-    let own : f t c ≤ over_cycles f from end c = part_own k f t c from end began in_time in
-    let all : over_cycles f from end c ≤ sum_before k f None from end = sum_below-part (over_cycles f from end) c (components k) there in
-    omega arith
 
 -- parts that fit a byte have small sums
 pub small_cycles : (f : ℕ → ℕ → ℕ) (from end c : ℕ) → ((t : ℕ) → f t c < 256) → over_cycles f from end c ≤ 256 * (end - from)
@@ -158,3 +118,59 @@ before_split k f (Some c) from mid end le before = cycles_split f from mid end c
 before_split k f None from mid end le before =
     sum_below-same (over_cycles f from end) (λ c. over_cycles f from mid c + over_cycles f mid end c) (components k) (λ c there. cycles_split f from mid end c le before)
     ∙ sum_below-plus (over_cycles f from mid) (over_cycles f mid end) (components k)
+
+-- cells of a component that have the same part
+all_cycles : (f : ℕ → ℕ → ℕ) (from to c y : ℕ) → ((t : ℕ) → from ≤ t → t < to → f t c ≡ y) → over_cycles f from to c ≡ y * (to - from)
+all_cycles f from to c y is = sum_below-all (λ i. f (i + from) c) y (to - from) (λ i b. is (i + from) (omega arith) (omega (arith, b)))
+
+-- so many cycles of a component within others
+cycles_within : (f : ℕ → ℕ → ℕ) (began from to end c : ℕ) → began ≤ from → from ≤ to → to ≤ end
+    → over_cycles f began end c ≡ over_cycles f began from c + over_cycles f from to c + over_cycles f to end c
+cycles_within f began from to end c low some high =
+    let first : over_cycles f began end c ≡ over_cycles f began from c + over_cycles f from end c = cycles_split f began from end c low (omega (arith, some, high)) in
+    let second : over_cycles f from end c ≡ over_cycles f from to c + over_cycles f to end c = cycles_split f from to end c some high in
+    omega (arith, first, second)
+
+-- two functions that differ at some cycles of a component, where each has the same at all of these
+module _ (k : ℕ) (f g : ℕ → ℕ → ℕ) (c began from to end y z : ℕ) (low : began ≤ from) (some : from ≤ to) (high : to ≤ end) (there : c < components k)
+    (f_is : (t : ℕ) → from ≤ t → t < to → f t c ≡ y) (g_is : (t : ℕ) → from ≤ t → t < to → g t c ≡ z)
+    (same : (u d : ℕ) → began ≤ u → u < end → (from ≤ u → u < to → d ≡ c → ⊥) → f u d ≡ g u d) where
+  -- have sums of that component that differ as they do there
+  pub changed_own : sum_before k f (Some c) began end + z * (to - from) ≡ sum_before k g (Some c) began end + y * (to - from)
+  changed_own =
+      let f_parts : over_cycles f began end c ≡ over_cycles f began from c + over_cycles f from to c + over_cycles f to end c = cycles_within f began from to end c low some high in
+      let g_parts : over_cycles g began end c ≡ over_cycles g began from c + over_cycles g from to c + over_cycles g to end c = cycles_within g began from to end c low some high in
+      let before : over_cycles f began from c ≡ over_cycles g began from c =
+      same_cycles f g began from c (λ u a b. same u c a (omega (arith, b, some, high)) (λ p q e. omega (arith, p, b))) in
+      let after : over_cycles f to end c ≡ over_cycles g to end c =
+      same_cycles f g to end c (λ u a b. same u c (omega (arith, a, low, some)) b (λ p q e. omega (arith, q, a))) in
+      let f_here : over_cycles f from to c ≡ y * (to - from) = all_cycles f from to c y f_is in
+      let g_here : over_cycles g from to c ≡ z * (to - from) = all_cycles g from to c z g_is in
+      omega (arith, f_parts, g_parts, before, after, f_here, g_here)
+
+  -- the same sums of another one
+  pub changed_other : (d : ℕ) → (d ≡ c → ⊥) → sum_before k f (Some d) began end ≡ sum_before k g (Some d) began end
+  changed_other d apart = same_cycles f g began end d (λ u a b. same u d a b (λ _ _ e. apart e))
+
+  -- and sums of all that differ as they do there
+  pub changed_all : sum_before k f None began end + z * (to - from) ≡ sum_before k g None began end + y * (to - from)
+  changed_all =
+      let outer : sum_before k f None began end + over_cycles g began end c ≡ sum_before k g None began end + over_cycles f began end c =
+      sum_below-change (over_cycles f began end) (over_cycles g began end) c (components k) there (λ d b apart. changed_other d apart) in
+      let inner : over_cycles f began end c + z * (to - from) ≡ over_cycles g began end c + y * (to - from) = changed_own in
+      omega (arith, outer, inner)
+
+-- what such cells have is within their component's sum, and within that of all
+pub part_own : (k : ℕ) (f : ℕ → ℕ → ℕ) (c began from to end y : ℕ) → began ≤ from → from ≤ to → to ≤ end → ((t : ℕ) → from ≤ t → t < to → f t c ≡ y)
+    → y * (to - from) ≤ sum_before k f (Some c) began end
+part_own k f c began from to end y low some high is =
+    let parts : over_cycles f began end c ≡ over_cycles f began from c + over_cycles f from to c + over_cycles f to end c = cycles_within f began from to end c low some high in
+    let here : over_cycles f from to c ≡ y * (to - from) = all_cycles f from to c y is in
+    omega (arith, parts, here)
+
+pub part_all : (k : ℕ) (f : ℕ → ℕ → ℕ) (c began from to end y : ℕ) → began ≤ from → from ≤ to → to ≤ end → c < components k
+    → ((t : ℕ) → from ≤ t → t < to → f t c ≡ y) → y * (to - from) ≤ sum_before k f None began end
+part_all k f c began from to end y low some high there is =
+    let own : y * (to - from) ≤ over_cycles f began end c = part_own k f c began from to end y low some high is in
+    let all : over_cycles f began end c ≤ sum_before k f None began end = sum_below-part (over_cycles f began end) c (components k) there in
+    omega (arith, own, all)

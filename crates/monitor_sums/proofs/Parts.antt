@@ -1,5 +1,5 @@
 -- What a cell counted is small.
-use Rattle.std.proofs.Common.{◌≡◌, ℕ, zero, ◌+◌, ◌<◌, ◌≤◌, Bool, true, false, cond, List, Option, None, Some, refl, arith}
+use Rattle.std.proofs.Common.{◌≡◌, ℕ, zero, ◌<◌, ◌≤◌, Bool, true, false, cond, List, Option, None, Some, refl, arith}
 use Rattle.std.specs.Prelude.{◌==◌, slice_index}
 use Rattle.omega_net.specs.declared.component.Net.{Net}
 use Rattle.omega_net.specs.Numbers.{component_of}

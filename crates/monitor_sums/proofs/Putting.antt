@@ -1,8 +1,8 @@
 -- What is kept adds up again where one cell's counts are replaced.
-use Rattle.std.proofs.Common.{◌≡◌, ℕ, zero, suc, ◌+◌, ◌*◌, ◌/◌, ◌^◌, ◌<◌, ◌≤◌, Bool, true, false, cond, List, [], length, Option, None, Some, refl, ap, sym, subst, ◌∙◌, arith}
-use Rattle.std.specs.Prelude.{◌==◌, ◌&&◌, min, slice_index, slice_index_or, slice_set}
-use Rattle.std.specs.Option.{ForSome}
+use Rattle.std.proofs.Common.{◌≡◌, ℕ, ◌+◌, ◌-◌, ◌*◌, ◌/◌, ◌^◌, ◌<◌, ◌≤◌, Bool, true, false, cond, List, [], length, Option, None, Some, refl, ap, sym, subst, ◌∙◌, arith}
+use Rattle.std.specs.Prelude.{◌==◌, ◌&&◌, nat_le, nat_lt, slice_index, slice_index_or, slice_set}
 use Rattle.std.proofs.lemmas.Bool.{eqb-true, eq-eqb, false≢true}
+use Rattle.std.proofs.lemmas.Bool.Decides.{nat_tests}
 use Rattle.std.proofs.lemmas.List.{get_or-set_same, get_or-set_other, get_or_default, length-set}
 use Rattle.omega_net.specs.declared.component.Net.{Net}
 use Rattle.omega_net.specs.Numbers.{components}
@@ -15,14 +15,27 @@ use Rattle.monitor_sums.specs.Parts.{part, tallied, AreShort, IsSmall}
 use Rattle.monitor_sums.specs.Kept.{nothing, kept_at}
 use Rattle.monitor_sums.specs.Whole.{counted_in, block_end, block_place, lengths_of, tally_at, profile_at, AddsUp}
 use Rattle.monitor_sums.proofs.Parts.{part_small, in_profile_small}
-use Rattle.monitor_sums.proofs.Over.{same_before, same_cycles, changed_own, changed_other, changed_all, part_own, part_all, small_before}
+use Rattle.monitor_sums.proofs.Over.{same_before, same_cycles, changed_own, changed_all, part_own, part_all, small_before}
 use Rattle.monitor_sums.specs.Limits.{profile_lengths, blocks}
 
--- the counts of a component where one of its cells has others
-pub kept_put : (t c : ℕ) (cells : List (List Counted)) (row : List Counted) (x : Counted) → c < length cells
-    → ((u : ℕ) → slice_index_or row u nothing ≡ cond (u == t) x (slice_index_or (slice_index_or cells c []) u nothing))
-    → (u d : ℕ) → kept_at (slice_set cells c row) u d ≡ cond ((u == t) && (d == c)) x (kept_at cells u d)
-kept_put t c cells row x there each u d = by_place (d == c) refl
+-- whether a cycle is one from `from` on and before `to`
+abbrev in_run : ℕ → ℕ → ℕ → Bool
+in_run from to u = nat_le from u && nat_lt u to
+
+in_run-true : (from to u : ℕ) → from ≤ u → u < to → in_run from to u ≡ true
+in_run-true from to u low high = grind (arith, nat_tests)
+
+in_run-low : (from to u : ℕ) → in_run from to u ≡ true → from ≤ u
+in_run-low from to u e = grind (arith, nat_tests)
+
+in_run-high : (from to u : ℕ) → in_run from to u ≡ true → u < to
+in_run-high from to u e = grind (arith, nat_tests)
+
+-- the counts of a component where some of its cells have others
+pub kept_put : (test : ℕ → Bool) (c : ℕ) (cells : List (List Counted)) (row : List Counted) (x : Counted) → c < length cells
+    → ((u : ℕ) → slice_index_or row u nothing ≡ cond (test u) x (slice_index_or (slice_index_or cells c []) u nothing))
+    → (u d : ℕ) → kept_at (slice_set cells c row) u d ≡ cond (test u && (d == c)) x (kept_at cells u d)
+kept_put test c cells row x there each u d = by_place (d == c) refl
   where
     no_more : (a : Bool) (y : Counted) → y ≡ cond (a && false) x y
     no_more true y = refl
@@ -32,30 +45,43 @@ kept_put t c cells row x there each u d = by_place (d == c) refl
     the_same true y = refl
     the_same false y = refl
 
-    by_place : (v : Bool) → (d == c) ≡ v → kept_at (slice_set cells c row) u d ≡ cond ((u == t) && v) x (kept_at cells u d)
+    by_place : (v : Bool) → (d == c) ≡ v → kept_at (slice_set cells c row) u d ≡ cond (test u && v) x (kept_at cells u d)
     by_place true e =
         let same : d ≡ c = eqb-true d c e in
         ap (λ n. slice_index_or (slice_index_or (slice_set cells c row) n []) u nothing) same
         ∙ ap (λ ys. slice_index_or ys u nothing) (get_or-set_same cells c row [] there)
         ∙ each u
-        ∙ ap (λ n. cond (u == t) x (slice_index_or (slice_index_or cells n []) u nothing)) (sym same)
-        ∙ the_same (u == t) (kept_at cells u d)
+        ∙ ap (λ n. cond (test u) x (slice_index_or (slice_index_or cells n []) u nothing)) (sym same)
+        ∙ the_same (test u) (kept_at cells u d)
     by_place false e =
-        ap (λ ys. slice_index_or ys u nothing) (get_or-set_other cells c d row [] (λ (p : d ≡ c). false≢true (sym e ∙ eq-eqb d c p))) ∙ no_more (u == t) (kept_at cells u d)
+        ap (λ ys. slice_index_or ys u nothing) (get_or-set_other cells c d row [] (λ (p : d ≡ c). false≢true (sym e ∙ eq-eqb d c p))) ∙ no_more (test u) (kept_at cells u d)
 
--- the block of a cycle has it
-block_began : (t b : ℕ) → b ≡ t / 32 → 32 * b ≤ t
-block_began t b e = omega (arith, e)
+-- cells that keep what they count
+pub run_kept : (cells : List (List Counted)) (c from to : ℕ) (x : Counted) → ((u : ℕ) → from ≤ u → u < to → kept_at cells u c ≡ x)
+    → (u d : ℕ) → kept_at cells u d ≡ cond ((nat_le from u && nat_lt u to) && (d == c)) x (kept_at cells u d)
+run_kept cells c from to x is u d = by_tests (in_run from to u) (d == c) refl refl
+  where
+    by_tests : (v w : Bool) → in_run from to u ≡ v → (d == c) ≡ w → kept_at cells u d ≡ cond (v && w) x (kept_at cells u d)
+    by_tests true true e f = ap (kept_at cells u) (eqb-true d c f) ∙ is u (in_run-low from to u e) (in_run-high from to u e)
+    by_tests true false e f = refl
+    by_tests false w e f = refl
 
-block_goes_on : (t b : ℕ) → t ≤ max_horizon → b ≡ t / 32 → t < block_end b
-block_goes_on t b h e = omega (arith, h, e)
+-- the block of cycles has them
+block_began : (from b : ℕ) → b ≡ from / 32 → 32 * b ≤ from
+block_began from b e = omega (arith, e)
+
+block_goes_on : (from to b : ℕ) → to ≤ block_end (from / 32) → b ≡ from / 32 → to ≤ block_end b
+block_goes_on from to b h e = omega (arith, h, e)
 
 pub block_there : (t b : ℕ) → t ≤ max_horizon → b ≡ t / 32 → b < blocks
 block_there t b h e = omega (arith, h, e)
 
--- no other block has it
-block_other : (t b d : ℕ) → t ≤ max_horizon → b ≡ t / 32 → 32 * d ≤ t → t < block_end d → d ≡ b
-block_other t b d h e began before = omega (arith, h, e, began, before)
+pub block_few : (from to : ℕ) → to ≤ block_end (from / 32) → to - from ≤ 32
+block_few from to h = omega (arith, h)
+
+-- no other block has one of them
+block_other : (from to u b d : ℕ) → to ≤ block_end (from / 32) → b ≡ from / 32 → from ≤ u → u < to → 32 * d ≤ u → u < block_end d → d ≡ b
+block_other from to u b d h e low high began before = omega (arith, h, e, low, high, began, before)
 
 -- what a cell counted is within the totals of its block, and they are small
 module _ (k : ℕ) (cells : List (List Counted)) (own all : List Tally) (profiles : List (List ℕ)) (kept : AddsUp k cells own all profiles) where
@@ -65,24 +91,26 @@ module _ (k : ℕ) (cells : List (List Counted)) (own all : List Tally) (profile
   pub small_in : (counter : Counter) (who : Option ℕ) (b : ℕ) → counted_in k counter cells who b < 2 ^ 32
   small_in counter who b = small_before k (λ t c. part counter (kept_at cells t c)) who (32 * b) (block_end b) kept.few (omega arith) (part_here counter)
 
-  pub held_own : (t c b place : ℕ) (old : Counted) → b ≡ t / 32 → place ≡ block_place c b → old ≡ kept_at cells t c → t ≤ max_horizon → c < components k
-      → (counter : Counter) → part counter old ≤ tallied counter (tally_at own place)
-  held_own t c b place old b_is place_is old_is in_time there counter =
-      let old_part : part counter old ≡ part counter (kept_at cells t c) = ap (part counter) old_is in
+  pub held_own : (from to c b place : ℕ) (old : Counted) → b ≡ from / 32 → from ≤ to → to ≤ block_end (from / 32) → place ≡ block_place c b
+      → ((u : ℕ) → from ≤ u → u < to → kept_at cells u c ≡ old) → from ≤ max_horizon → c < components k
+      → (counter : Counter) → part counter old * (to - from) ≤ tallied counter (tally_at own place)
+  held_own from to c b place old b_is some high place_is old_is in_time there counter =
       let at : tallied counter (tally_at own place) ≡ tallied counter (tally_at own (block_place c b)) = ap (λ n. tallied counter (tally_at own n)) place_is in
-      let is : tallied counter (tally_at own (block_place c b)) ≡ counted_in k counter cells (Some c) b = kept.parts counter c b there (block_there t b in_time b_is) in
-      let le : part counter (kept_at cells t c) ≤ counted_in k counter cells (Some c) b =
-      part_own k (λ t c. part counter (kept_at cells t c)) t c (32 * b) (block_end b) (block_began t b b_is) (block_goes_on t b in_time b_is) in
-      omega (arith, old_part, at, is, le)
+      let is : tallied counter (tally_at own (block_place c b)) ≡ counted_in k counter cells (Some c) b = kept.parts counter c b there (block_there from b in_time b_is) in
+      let le : part counter old * (to - from) ≤ counted_in k counter cells (Some c) b =
+      part_own k (λ t c. part counter (kept_at cells t c)) c (32 * b) from to (block_end b) (part counter old) (block_began from b b_is) some (block_goes_on from to b high b_is)
+      (λ u p q. ap (part counter) (old_is u p q)) in
+      omega (arith, at, is, le)
 
-  pub held_all : (t c b : ℕ) (old : Counted) → b ≡ t / 32 → old ≡ kept_at cells t c → t ≤ max_horizon → c < components k
-      → (counter : Counter) → part counter old ≤ tallied counter (tally_at all b)
-  held_all t c b old b_is old_is in_time there counter =
-      let old_part : part counter old ≡ part counter (kept_at cells t c) = ap (part counter) old_is in
-      let is : tallied counter (tally_at all b) ≡ counted_in k counter cells None b = kept.whole counter b (block_there t b in_time b_is) in
-      let le : part counter (kept_at cells t c) ≤ counted_in k counter cells None b =
-      part_all k (λ t c. part counter (kept_at cells t c)) t c (32 * b) (block_end b) (block_began t b b_is) (block_goes_on t b in_time b_is) there in
-      omega (arith, old_part, is, le)
+  pub held_all : (from to c b : ℕ) (old : Counted) → b ≡ from / 32 → from ≤ to → to ≤ block_end (from / 32)
+      → ((u : ℕ) → from ≤ u → u < to → kept_at cells u c ≡ old) → from ≤ max_horizon → c < components k
+      → (counter : Counter) → part counter old * (to - from) ≤ tallied counter (tally_at all b)
+  held_all from to c b old b_is some high old_is in_time there counter =
+      let is : tallied counter (tally_at all b) ≡ counted_in k counter cells None b = kept.whole counter b (block_there from b in_time b_is) in
+      let le : part counter old * (to - from) ≤ counted_in k counter cells None b =
+      part_all k (λ t c. part counter (kept_at cells t c)) c (32 * b) from to (block_end b) (part counter old) (block_began from b b_is) some (block_goes_on from to b high b_is) there
+      (λ u p q. ap (part counter) (old_is u p q)) in
+      omega (arith, is, le)
 
   pub room_own : (c b place : ℕ) → b < blocks → place ≡ block_place c b → c < components k → (counter : Counter) → tallied counter (tally_at own place) < 2 ^ 32
   room_own c b place h place_is there counter =
@@ -95,15 +123,15 @@ module _ (k : ℕ) (cells : List (List Counted)) (own all : List Tally) (profile
       let is : tallied counter (tally_at all b) ≡ counted_in k counter cells None b = kept.whole counter b h in
       omega (arith, is, small_in counter None b)
 
-  pub held_profile : (t c : ℕ) (old : Counted) → old ≡ kept_at cells t c → t ≤ max_horizon → c < components k → (net : Net) (stage n : ℕ) → stage < k → n < profile_lengths
-      → in_profile k net stage n c old.lengths ≤ slice_index (profile_at k profiles net stage) n
-  held_profile t c old old_is in_time there net stage n in_net short =
-      let old_part : in_profile k net stage n c old.lengths ≡ in_profile k net stage n c (kept_at cells t c).lengths =
-      ap (λ (y : Counted). in_profile k net stage n c y.lengths) old_is in
+  pub held_profile : (from to c : ℕ) (old : Counted) → from ≤ to → to ≤ block_end (from / 32) → ((u : ℕ) → from ≤ u → u < to → kept_at cells u c ≡ old) → c < components k
+      → (net : Net) (stage n : ℕ) → stage < k → n < profile_lengths
+      → in_profile k net stage n c old.lengths * (to - from) ≤ slice_index (profile_at k profiles net stage) n
+  held_profile from to c old some high old_is there net stage n in_net short =
       let is : slice_index (profile_at k profiles net stage) n ≡ lengths_of k cells net stage n = kept.lengths net stage n in_net short in
-      let le : in_profile k net stage n c (kept_at cells t c).lengths ≤ lengths_of k cells net stage n =
-      part_all k (λ t c. in_profile k net stage n c (kept_at cells t c).lengths) t c 0 (max_horizon + 1) (omega arith) (omega (arith, in_time)) there in
-      omega (arith, old_part, is, le)
+      let le : in_profile k net stage n c old.lengths * (to - from) ≤ lengths_of k cells net stage n =
+      part_all k (λ t c. in_profile k net stage n c (kept_at cells t c).lengths) c 0 from to (max_horizon + 1) (in_profile k net stage n c old.lengths) (omega arith) some (omega (arith, high)) there
+      (λ u p q. ap (λ (y : Counted). in_profile k net stage n c y.lengths) (old_is u p q)) in
+      omega (arith, is, le)
 
   pub short_old : (t c : ℕ) (old : Counted) → old ≡ kept_at cells t c → AreShort old.lengths
   short_old t c old old_is = subst (λ (y : Counted). AreShort y.lengths) (sym old_is) (kept.small t c).lengths
@@ -116,59 +144,62 @@ module _ (k : ℕ) (cells : List (List Counted)) (own all : List Tally) (profile
       (λ t c. in_profile_small k net stage n c (kept_at cells t c).lengths) in
       omega (arith, is, lt)
 
-  module _ (t c b : ℕ) (x : Counted) (in_time : t ≤ max_horizon) (there : c < components k) (b_is : b ≡ t / 32)
-      (after : List (List Counted)) (each : (u d : ℕ) → kept_at after u d ≡ cond ((u == t) && (d == c)) x (kept_at cells u d)) where
-    here : kept_at after t c ≡ x
-    here = each t c ∙ ap (λ v. cond (v && (c == c)) x (kept_at cells t c)) (eq-eqb t t refl) ∙ ap (λ v. cond v x (kept_at cells t c)) (eq-eqb c c refl)
+  module _ (from to c b : ℕ) (x old : Counted) (in_time : from ≤ max_horizon) (some : from ≤ to) (high : to ≤ block_end (from / 32)) (there : c < components k) (b_is : b ≡ from / 32)
+      (old_is : (u : ℕ) → from ≤ u → u < to → kept_at cells u c ≡ old)
+      (after : List (List Counted)) (each : (u d : ℕ) → kept_at after u d ≡ cond ((nat_le from u && nat_lt u to) && (d == c)) x (kept_at cells u d)) where
+    here : (u : ℕ) → from ≤ u → u < to → kept_at after u c ≡ x
+    here u p q = each u c ∙ ap (λ v. cond (v && (c == c)) x (kept_at cells u c)) (in_run-true from to u p q) ∙ ap (λ v. cond v x (kept_at cells u c)) (eq-eqb c c refl)
 
-    elsewhere : (u d : ℕ) → (u ≡ t → d ≡ c → ⊥) → kept_at after u d ≡ kept_at cells u d
-    elsewhere u d apart = each u d ∙ by_tests (u == t) (d == c) refl refl
+    elsewhere : (u d : ℕ) → (from ≤ u → u < to → d ≡ c → ⊥) → kept_at after u d ≡ kept_at cells u d
+    elsewhere u d apart = each u d ∙ by_tests (in_run from to u) (d == c) refl refl
       where
-        by_tests : (v w : Bool) → (u == t) ≡ v → (d == c) ≡ w → cond (v && w) x (kept_at cells u d) ≡ kept_at cells u d
-        by_tests true true e f = absurd (apart (eqb-true u t e) (eqb-true d c f))
+        by_tests : (v w : Bool) → in_run from to u ≡ v → (d == c) ≡ w → cond (v && w) x (kept_at cells u d) ≡ kept_at cells u d
+        by_tests true true e f = absurd (apart (in_run-low from to u e) (in_run-high from to u e) (eqb-true d c f))
         by_tests true false e f = refl
         by_tests false w e f = refl
 
-    part_elsewhere : (counter : Counter) (u d : ℕ) → u < max_horizon + 1 → (u ≡ t → d ≡ c → ⊥) → part counter (kept_at after u d) ≡ part counter (kept_at cells u d)
-    part_elsewhere counter u d also apart = ap (part counter) (elsewhere u d apart)
+    part_elsewhere : (counter : Counter) (u d : ℕ) → (from ≤ u → u < to → d ≡ c → ⊥) → part counter (kept_at after u d) ≡ part counter (kept_at cells u d)
+    part_elsewhere counter u d apart = ap (part counter) (elsewhere u d apart)
 
-    -- in the cell's block its component's sum, and that of all, change as the cell does
-    own_here : (counter : Counter) → counted_in k counter after (Some c) b + part counter (kept_at cells t c) ≡ counted_in k counter cells (Some c) b + part counter x
+    -- in the cells' block their component's sum, and that of all, change as the cells do
+    own_here : (counter : Counter) → counted_in k counter after (Some c) b + part counter old * (to - from) ≡ counted_in k counter cells (Some c) b + part counter x * (to - from)
     own_here counter =
-        changed_own k (λ u d. part counter (kept_at after u d)) (λ u d. part counter (kept_at cells u d)) t c (32 * b) (block_end b) (block_began t b b_is) (block_goes_on t b in_time b_is) there
-        (λ u d low high apart. part_elsewhere counter u d (omega (arith, high)) apart)
-        ∙ ap (λ y. counted_in k counter cells (Some c) b + part counter y) here
+        changed_own k (λ u d. part counter (kept_at after u d)) (λ u d. part counter (kept_at cells u d)) c (32 * b) from to (block_end b) (part counter x) (part counter old)
+        (block_began from b b_is) some (block_goes_on from to b high b_is) there
+        (λ u p q. ap (part counter) (here u p q)) (λ u p q. ap (part counter) (old_is u p q))
+        (λ u d p q apart. part_elsewhere counter u d apart)
 
-    all_here : (counter : Counter) → counted_in k counter after None b + part counter (kept_at cells t c) ≡ counted_in k counter cells None b + part counter x
+    all_here : (counter : Counter) → counted_in k counter after None b + part counter old * (to - from) ≡ counted_in k counter cells None b + part counter x * (to - from)
     all_here counter =
-        changed_all k (λ u d. part counter (kept_at after u d)) (λ u d. part counter (kept_at cells u d)) t c (32 * b) (block_end b) (block_began t b b_is) (block_goes_on t b in_time b_is) there
-        (λ u d low high apart. part_elsewhere counter u d (omega (arith, high)) apart)
-        ∙ ap (λ y. counted_in k counter cells None b + part counter y) here
+        changed_all k (λ u d. part counter (kept_at after u d)) (λ u d. part counter (kept_at cells u d)) c (32 * b) from to (block_end b) (part counter x) (part counter old)
+        (block_began from b b_is) some (block_goes_on from to b high b_is) there
+        (λ u p q. ap (part counter) (here u p q)) (λ u p q. ap (part counter) (old_is u p q))
+        (λ u d p q apart. part_elsewhere counter u d apart)
 
     -- elsewhere the sums stay
     own_there : (counter : Counter) (d a : ℕ) → d < components k → (d ≡ c → a ≡ b → ⊥) → counted_in k counter after (Some d) a ≡ counted_in k counter cells (Some d) a
     own_there counter d a lt apart =
         same_cycles (λ u e. part counter (kept_at after u e)) (λ u e. part counter (kept_at cells u e)) (32 * a) (block_end a) d
-        (λ u low high. part_elsewhere counter u d (omega (arith, high)) (λ same_time same_component. apart same_component (block_other t b a in_time b_is (omega (arith, low, same_time)) (omega (arith, high, same_time)))))
+        (λ u l h. part_elsewhere counter u d (λ p q same_component. apart same_component (block_other from to u b a high b_is p q l h)))
 
     all_there : (counter : Counter) (a : ℕ) → (a ≡ b → ⊥) → counted_in k counter after None a ≡ counted_in k counter cells None a
     all_there counter a apart =
         same_before k (λ u e. part counter (kept_at after u e)) (λ u e. part counter (kept_at cells u e)) None (32 * a) (block_end a) (λ e is. absurd (none_some is))
-        (λ u e low high e_there. part_elsewhere counter u e (omega (arith, high)) (λ same_time _. apart (block_other t b a in_time b_is (omega (arith, low, same_time)) (omega (arith, high, same_time)))))
+        (λ u e l h e_there. part_elsewhere counter u e (λ p q _. apart (block_other from to u b a high b_is p q l h)))
       where
         none_some : {m : ℕ} → None ≡ Some m → ⊥
         none_some e = cc
 
-    in_stage : (net : Net) (stage n : ℕ) → lengths_of k after net stage n + in_profile k net stage n c (kept_at cells t c).lengths
-        ≡ lengths_of k cells net stage n + in_profile k net stage n c x.lengths
+    in_stage : (net : Net) (stage n : ℕ) → lengths_of k after net stage n + in_profile k net stage n c old.lengths * (to - from)
+        ≡ lengths_of k cells net stage n + in_profile k net stage n c x.lengths * (to - from)
     in_stage net stage n =
         changed_all k (λ u d. in_profile k net stage n d (kept_at after u d).lengths) (λ u d. in_profile k net stage n d (kept_at cells u d).lengths)
-        t c 0 (max_horizon + 1) (omega arith) (omega (arith, in_time)) there
-        (λ u d low high apart. ap (λ (y : Counted). in_profile k net stage n d y.lengths) (elsewhere u d apart))
-        ∙ ap (λ (y : Counted). lengths_of k cells net stage n + in_profile k net stage n c y.lengths) here
+        c 0 from to (max_horizon + 1) (in_profile k net stage n c x.lengths) (in_profile k net stage n c old.lengths) (omega arith) some (omega (arith, high)) there
+        (λ u p q. ap (λ (y : Counted). in_profile k net stage n c y.lengths) (here u p q)) (λ u p q. ap (λ (y : Counted). in_profile k net stage n c y.lengths) (old_is u p q))
+        (λ u d p q apart. ap (λ (y : Counted). in_profile k net stage n d y.lengths) (elsewhere u d apart))
 
     small_after : IsSmall x → (u d : ℕ) → IsSmall (kept_at after u d)
-    small_after small u d = subst IsSmall (sym (each u d)) (by_test ((u == t) && (d == c)))
+    small_after small u d = subst IsSmall (sym (each u d)) (by_test (in_run from to u && (d == c)))
       where
         by_test : (v : Bool) → IsSmall (cond v x (kept_at cells u d))
         by_test true = small
@@ -176,15 +207,15 @@ module _ (k : ℕ) (cells : List (List Counted)) (own all : List Tally) (profile
 
     pub put_adds : (place : ℕ) (own' all' : List Tally) (profiles' : List (List ℕ)) → length after ≡ length cells → place ≡ block_place c b → IsSmall x
         → length own' ≡ length own
-        → ((counter : Counter) → tallied counter (tally_at own' place) + part counter (kept_at cells t c) ≡ tallied counter (tally_at own place) + part counter x)
+        → ((counter : Counter) → tallied counter (tally_at own' place) + part counter old * (to - from) ≡ tallied counter (tally_at own place) + part counter x * (to - from))
         → ((i : ℕ) → (i ≡ place → ⊥) → tally_at own' i ≡ tally_at own i)
         → length all' ≡ length all
-        → ((counter : Counter) → tallied counter (tally_at all' b) + part counter (kept_at cells t c) ≡ tallied counter (tally_at all b) + part counter x)
+        → ((counter : Counter) → tallied counter (tally_at all' b) + part counter old * (to - from) ≡ tallied counter (tally_at all b) + part counter x * (to - from))
         → ((i : ℕ) → (i ≡ b → ⊥) → tally_at all' i ≡ tally_at all i)
         → length profiles' ≡ length profiles
         → ((net : Net) (stage n : ℕ) → stage < k → n < profile_lengths
-        → slice_index (profile_at k profiles' net stage) n + in_profile k net stage n c (kept_at cells t c).lengths
-        ≡ slice_index (profile_at k profiles net stage) n + in_profile k net stage n c x.lengths)
+        → slice_index (profile_at k profiles' net stage) n + in_profile k net stage n c old.lengths * (to - from)
+        ≡ slice_index (profile_at k profiles net stage) n + in_profile k net stage n c x.lengths * (to - from))
         → AddsUp k after own' all' profiles'
     put_adds place own' all' profiles' as_long place_is small own_size own_moved own_others all_size all_moved all_others as_many lengths_moved = record {
       few = kept.few;
@@ -199,7 +230,7 @@ module _ (k : ℕ) (cells : List (List Counted)) (own all : List Tally) (profile
     }
       where
         in_blocks : b < blocks
-        in_blocks = block_there t b in_time b_is
+        in_blocks = block_there from b in_time b_is
 
         own_after : (counter : Counter) (d a : ℕ) → d < components k → a < blocks → tallied counter (tally_at own' (block_place d a)) ≡ counted_in k counter after (Some d) a
         own_after counter d a lt low = by_test (block_place d a == place) refl
@@ -234,36 +265,32 @@ module _ (k : ℕ) (cells : List (List Counted)) (own all : List Tally) (profile
         lengths_after : (net : Net) (stage n : ℕ) → stage < k → n < profile_lengths → slice_index (profile_at k profiles' net stage) n ≡ lengths_of k after net stage n
         lengths_after net stage n in_net short =
             let was : slice_index (profile_at k profiles net stage) n ≡ lengths_of k cells net stage n = kept.lengths net stage n in_net short in
-            let is : slice_index (profile_at k profiles' net stage) n + in_profile k net stage n c (kept_at cells t c).lengths
-            ≡ slice_index (profile_at k profiles net stage) n + in_profile k net stage n c x.lengths = lengths_moved net stage n in_net short in
-            let sum_is : lengths_of k after net stage n + in_profile k net stage n c (kept_at cells t c).lengths
-            ≡ lengths_of k cells net stage n + in_profile k net stage n c x.lengths = in_stage net stage n in
+            let is : slice_index (profile_at k profiles' net stage) n + in_profile k net stage n c old.lengths * (to - from)
+            ≡ slice_index (profile_at k profiles net stage) n + in_profile k net stage n c x.lengths * (to - from) = lengths_moved net stage n in_net short in
+            let sum_is : lengths_of k after net stage n + in_profile k net stage n c old.lengths * (to - from)
+            ≡ lengths_of k cells net stage n + in_profile k net stage n c x.lengths * (to - from) = in_stage net stage n in
             omega (arith, was, is, sum_is)
 
 -- the same, where the old counts were read
 module _ (k : ℕ) (cells : List (List Counted)) (own all : List Tally) (profiles : List (List ℕ)) (kept : AddsUp k cells own all profiles) where
-  pub put_read : (t c b place : ℕ) (x old : Counted) (before row : List Counted) (own' all' : List Tally) (profiles' : List (List ℕ)) → t ≤ max_horizon → c < components k → b ≡ t / 32
-      → place ≡ block_place c b → old ≡ kept_at cells t c → IsSmall x
+  pub put_read : (from to c b place : ℕ) (x old : Counted) (before row : List Counted) (own' all' : List Tally) (profiles' : List (List ℕ)) → from ≤ max_horizon → from ≤ to → to ≤ block_end (from / 32)
+      → c < components k → b ≡ from / 32 → place ≡ block_place c b → ((u : ℕ) → from ≤ u → u < to → kept_at cells u c ≡ old) → IsSmall x
       → before ≡ slice_index_or cells c before
-      → ((u : ℕ) → slice_index_or row u nothing ≡ cond (u == t) x (slice_index_or before u nothing))
+      → ((u : ℕ) → slice_index_or row u nothing ≡ cond (nat_le from u && nat_lt u to) x (slice_index_or before u nothing))
       → length own' ≡ length own
-      → ((counter : Counter) → tallied counter (tally_at own' place) + part counter old ≡ tallied counter (tally_at own place) + part counter x)
+      → ((counter : Counter) → tallied counter (tally_at own' place) + part counter old * (to - from) ≡ tallied counter (tally_at own place) + part counter x * (to - from))
       → ((i : ℕ) → (i ≡ place → ⊥) → tally_at own' i ≡ tally_at own i)
       → length all' ≡ length all
-      → ((counter : Counter) → tallied counter (tally_at all' b) + part counter old ≡ tallied counter (tally_at all b) + part counter x)
+      → ((counter : Counter) → tallied counter (tally_at all' b) + part counter old * (to - from) ≡ tallied counter (tally_at all b) + part counter x * (to - from))
       → ((i : ℕ) → (i ≡ b → ⊥) → tally_at all' i ≡ tally_at all i)
       → length profiles' ≡ length profiles
       → ((net : Net) (stage n : ℕ) → stage < k → n < profile_lengths
-      → slice_index (profile_at k profiles' net stage) n + in_profile k net stage n c old.lengths
-      ≡ slice_index (profile_at k profiles net stage) n + in_profile k net stage n c x.lengths)
+      → slice_index (profile_at k profiles' net stage) n + in_profile k net stage n c old.lengths * (to - from)
+      ≡ slice_index (profile_at k profiles net stage) n + in_profile k net stage n c x.lengths * (to - from))
       → AddsUp k (slice_set cells c row) own' all' profiles'
-  put_read t c b place x old before row own' all' profiles' in_time there b_is place_is old_is small read each own_size own_moved own_others all_size all_moved all_others as_many lengths_moved =
+  put_read from to c b place x old before row own' all' profiles' in_time some high there b_is place_is old_is small read each own_size own_moved own_others all_size all_moved all_others as_many lengths_moved =
       let in_cells : c < length cells = omega (arith, there, kept.room) in
       let at_place : before ≡ slice_index_or cells c [] = read ∙ get_or_default cells c before [] in_cells in
-      put_adds k cells own all profiles kept t c b x in_time there b_is (slice_set cells c row) (kept_put t c cells row x in_cells (λ u. each u ∙ ap (λ ys. cond (u == t) x (slice_index_or ys u nothing)) at_place)) place own' all' profiles' (length-set cells c row) place_is small own_size
-      (λ counter. subst (λ y. tallied counter (tally_at own' place) + part counter y ≡ tallied counter (tally_at own place) + part counter x) old_is (own_moved counter))
-      own_others all_size
-      (λ counter. subst (λ y. tallied counter (tally_at all' b) + part counter y ≡ tallied counter (tally_at all b) + part counter x) old_is (all_moved counter))
-      all_others as_many
-      (λ net stage n in_net short.
-      subst (λ (y : Counted). slice_index (profile_at k profiles' net stage) n + in_profile k net stage n c y.lengths ≡ slice_index (profile_at k profiles net stage) n + in_profile k net stage n c x.lengths) old_is (lengths_moved net stage n in_net short))
+      put_adds k cells own all profiles kept from to c b x old in_time some high there b_is old_is (slice_set cells c row)
+      (kept_put (in_run from to) c cells row x in_cells (λ u. each u ∙ ap (λ ys. cond (in_run from to u) x (slice_index_or ys u nothing)) at_place))
+      place own' all' profiles' (length-set cells c row) place_is small own_size own_moved own_others all_size all_moved all_others as_many lengths_moved

@@ -1,6 +1,6 @@
 -- What is kept before any cell holds a state.
-use Rattle.std.proofs.Common.{◌≡◌, ℕ, zero, suc, ◌+◌, ◌*◌, ◌<◌, ◌≤◌, ◌⊎◌, inl, inr, List, [], ◌∷◌, length, get_or, replicate, Option, None, Some, refl, ap, sym, subst, ◌∙◌, arith}
-use Rattle.std.specs.Prelude.{min, slice_index, slice_index_or}
+use Rattle.std.proofs.Common.{◌≡◌, ℕ, ◌+◌, ◌*◌, ◌<◌, ◌≤◌, ◌⊎◌, inl, inr, List, [], get_or, replicate, Option, None, Some, refl, ap, sym, subst, ◌∙◌, arith}
+use Rattle.std.specs.Prelude.{slice_index, slice_index_or}
 use Rattle.std.proofs.lemmas.Bool.{cases_lt}
 use Rattle.std.proofs.lemmas.List.{get_or-replicate, get_or_past, length-replicate}
 use Rattle.page_map.specs.Limits.{max_k}
@@ -11,10 +11,10 @@ use Rattle.monitor_sums.specs.declared.counter.Counter.{Counter}
 use Rattle.monitor_sums.specs.declared.counter.Counter.TheVariants.{Issued, Answered, Served, Combined, Waiting}
 use Rattle.monitor_sums.specs.declared.counted.Counted.{Counted}
 use Rattle.monitor_sums.specs.declared.tally.Tally.{Tally}
-use Rattle.monitor_sums.specs.Sums.{States, in_profile}
+use Rattle.monitor_sums.specs.Sums.{in_profile}
 use Rattle.monitor_sums.specs.Parts.{part, tallied, IsSmall}
-use Rattle.monitor_sums.specs.Kept.{Kept, StandsFor, nothing, kept_at, counted}
-use Rattle.monitor_sums.specs.Whole.{counted_in, block_end, block_place, lengths_of, none, tally_at, profile_place, profile_at, AddsUp}
+use Rattle.monitor_sums.specs.Kept.{Kept, StandsFor, nothing, kept_at}
+use Rattle.monitor_sums.specs.Whole.{counted_in, block_end, block_place, lengths_of, none, profile_place, profile_at, AddsUp}
 use Rattle.monitor_sums.proofs.Parts.{part_nothing, in_profile_nothing}
 use Rattle.monitor_sums.proofs.Over.{none_before}
 use Rattle.monitor_sums.specs.Limits.{profile_lengths, blocks}

@@ -1,5 +1,5 @@
 -- What is kept of a run: what each cell counts.
-use Rattle.std.specs.Prelude.{◌≡◌, ℕ, ◌+◌, ◌*◌, ◌<◌, ◌≤◌, List, [], Option, Some, None, slice_index_or}
+use Rattle.std.specs.Prelude.{◌≡◌, ℕ, ◌<◌, ◌≤◌, List, [], Option, None, slice_index_or}
 use Rattle.omega_net.specs.Numbers.{components}
 use Rattle.project_book.specs.Limits.{max_horizon}
 use Rattle.monitor_sums.specs.declared.counter.Counter.TheVariants.{Issued, Answered, Served, Combined, Waiting}

@@ -1,5 +1,5 @@
 -- What was counted, by counter.
-use Rattle.std.specs.Prelude.{◌≡◌, ℕ, ◌+◌, ◌<◌, List, Option, None, Some, slice_index}
+use Rattle.std.specs.Prelude.{ℕ, ◌<◌, List, Option, None, Some, slice_index}
 use Rattle.monitor_sums.specs.declared.counter.Counter.{Counter}
 use Rattle.monitor_sums.specs.declared.counter.Counter.TheVariants.{Issued, Answered, Served, Combined, Waiting}
 use Rattle.monitor_sums.specs.declared.counted.Counted.{Counted}

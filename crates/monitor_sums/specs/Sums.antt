@@ -1,5 +1,5 @@
 -- The sums over the cells of a map from cycle and component to states.
-use Rattle.std.specs.Prelude.{◌≡◌, ℕ, ◌+◌, ◌-◌, ◌<◌, ◌≤◌, ◌==◌, ◌&&◌, nat_le, Bool, false, if◌then◌else◌, List, map, slice_index, Option, None, Some}
+use Rattle.std.specs.Prelude.{◌≡◌, ℕ, ◌+◌, ◌-◌, ◌<◌, ◌≤◌, ◌==◌, ◌&&◌, nat_le, nat_lt, Bool, false, if◌then◌else◌, List, map, slice_index, Option, None, Some}
 use Rattle.omega_net.specs.declared.component.Net.{Net}
 use Rattle.omega_net.specs.declared.component.Component.{Component}
 use Rattle.omega_net.specs.declared.component.Component.TheVariants.{Switch}
@@ -54,6 +54,10 @@ profile_of k at net stage h = map (pairs_of k at net stage h) (below profile_len
 -- the map where a cell holds another state, or none
 abbrev pub changed : States → ℕ → ℕ → Option MachineState → States
 changed at t c state u d = if (u == t) && (d == c) then state else at u d
+
+-- the map where the cells of a component at the cycles from `from` on and before `end` hold another state, or none
+abbrev pub filled : States → ℕ → ℕ → ℕ → Option MachineState → States
+filled at c from end state u d = if (nat_le from u && nat_lt u end) && (d == c) then state else at u d
 
 -- the map where the cells of the cycles `from` to `to` hold no state
 abbrev pub cleared : States → ℕ → ℕ → States

@@ -1,5 +1,5 @@
 //! What one component counts, by cycle.
-ghost use Rattle.std.specs.Prelude.{◌≡◌, ℕ, ◌<◌, ◌≤◌, [], IfOk, length, vec_capacity, slice_index_or, ◌==◌, if◌then◌else◌};
+ghost use Rattle.std.specs.Prelude.{◌≡◌, ℕ, ◌<◌, ◌≤◌, [], IfOk, length, vec_capacity, slice_index_or, ◌==◌, ◌&&◌, nat_le, nat_lt, ◌+◌, if◌then◌else◌};
 ghost use Rattle.project_book.specs.Limits.{max_horizon};
 ghost use Rattle.monitor_sums.specs.Kept.{nothing};
 
@@ -41,29 +41,82 @@ impl Counts {
     pub fn at(&self, cycle: u32) -> Counted
         ensures { result ≡ slice_index_or self.now cycle nothing }
     {
-        match self.counts.get(cycle as usize) {
-            Some(counted) => *counted,
-            None => Counted::nothing(),
-        }
+        at(&self.counts, cycle)
     }
 
-    /// The cell of a cycle counts this now. It takes no memory.
-    pub fn put(&mut self, cycle: u32, new: Counted)
-        requires { cycle ≤ max_horizon }
-        ensures { (t : ℕ) → slice_index_or self.new t nothing ≡ (if t == cycle then new else slice_index_or self.old t nothing) }
+    /// Before which cycle, `end` at most, the cells from one on count what that one does.
+    pub fn same_to(&self, cycle: u32, end: u32) -> u32
+        requires { cycle < end }
+        ensures on { cycle < result }
+        ensures within { result ≤ end }
+        ensures same { (t : ℕ) → cycle ≤ t → t < result → slice_index_or self.now t nothing ≡ slice_index_or self.now cycle nothing }
     {
-        put(&mut self.counts, cycle, new);
+        same_to(&self.counts, cycle, end)
+    }
+
+    /// The cells of the cycles from one on and before another count this now. It takes no memory.
+    pub fn put(&mut self, from: u32, end: u32, new: Counted)
+        requires order { from ≤ end }
+        requires within { end ≤ max_horizon + 1 }
+        ensures { (t : ℕ) → slice_index_or self.new t nothing ≡ (if nat_le from t && nat_lt t end then new else slice_index_or self.old t nothing) }
+    {
+        put(&mut self.counts, from, end, new);
     }
 }
 
-fn put(counts: &mut Vec<Counted>, cycle: u32, new: Counted)
+fn same_to(counts: &Vec<Counted>, cycle: u32, end: u32) -> u32
+    requires { cycle < end }
+    ensures on { cycle < result }
+    ensures within { result ≤ end }
+    ensures same { (t : ℕ) → cycle ≤ t → t < result → slice_index_or counts.now.items t nothing ≡ slice_index_or counts.now.items cycle nothing }
+{
+    if cycle as usize >= counts.len() {
+        return end;
+    }
+    let first = at(counts, cycle);
+    let mut next = cycle + 1;
+    while next < end && at(counts, next) == first {
+        next += 1;
+    }
+    next
+}
+
+fn at(counts: &Vec<Counted>, cycle: u32) -> Counted
+    ensures { result ≡ slice_index_or counts.now.items cycle nothing }
+{
+    match counts.get(cycle as usize) {
+        Some(counted) => *counted,
+        None => Counted::nothing(),
+    }
+}
+
+fn put(counts: &mut Vec<Counted>, from: u32, end: u32, new: Counted)
+    requires order { from ≤ end }
+    requires within { end ≤ max_horizon + 1 }
+    requires room { max_horizon < vec_capacity counts.old }
+    ensures capacity { vec_capacity counts.new ≡ vec_capacity counts.old }
+    ensures each { (t : ℕ) → slice_index_or counts.new.items t nothing ≡ (if nat_le from t && nat_lt t end then new else slice_index_or counts.old.items t nothing) }
+{
+    fill(counts, from as usize);
+    for cycle in from..end {
+        put_one(counts, cycle, new);
+    }
+}
+
+/// The cell of one of the cycles that are there, or of the next, counts this now.
+fn put_one(counts: &mut Vec<Counted>, cycle: u32, new: Counted)
+    requires there { cycle ≤ length counts.old.items }
     requires within { cycle ≤ max_horizon }
     requires room { max_horizon < vec_capacity counts.old }
     ensures capacity { vec_capacity counts.new ≡ vec_capacity counts.old }
+    ensures there { cycle < length counts.new.items }
     ensures each { (t : ℕ) → slice_index_or counts.new.items t nothing ≡ (if t == cycle then new else slice_index_or counts.old.items t nothing) }
 {
-    fill(counts, cycle as usize + 1);
-    counts[cycle as usize] = new;
+    if (cycle as usize) < counts.len() {
+        counts[cycle as usize] = new;
+    } else {
+        counts.push_reserved(new);
+    }
 }
 
 /// Adds cells that count nothing, up to so many.

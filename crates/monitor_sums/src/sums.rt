@@ -2,7 +2,7 @@
 ghost use Rattle.std.specs.Prelude.{◌≡◌, ℕ, ◌+◌, ◌-◌, ◌*◌, ◌/◌, ◌^◌, ◌<◌, ◌≤◌, IfOk, Some, None, [], length, slice_index, replicate, ◌==◌, ◌&&◌, nat_le, nat_lt, if◌then◌else◌};
 ghost use Rattle.std.specs.Option.{ForSome, option_copied};
 ghost use Rattle.omega_net.specs.Numbers.{components};
-ghost use Rattle.monitor_sums.specs.Sums.{States, sum_of, total_of, profile_of, changed, cleared, NonePast};
+ghost use Rattle.monitor_sums.specs.Sums.{States, sum_of, total_of, profile_of, changed, filled, cleared, NonePast};
 ghost use Rattle.monitor_sums.specs.Kept.{StandsFor, kept_at, nothing};
 ghost use Rattle.monitor_sums.specs.Adding.{sum_below};
 ghost use Rattle.monitor_sums.specs.declared.counter.Counter.{Counter as CounterIs};
@@ -95,6 +95,19 @@ impl Sums {
         ensures stands { (at : States) → StandsFor self.old at → StandsFor self.new (changed at cycle component (option_copied new.entry)) }
     {
         self.put(component, cycle, Counted::of(new));
+    }
+
+    /// The cells of a component at the cycles from `from` on and before `end` hold this state now, or none
+    /// of them holds one. It takes no memory. Of cells that counted the same, those of a block of 32
+    /// cycles are one change of the totals and of the profiles.
+    pub fn fill(&mut self, component: u32, from: u32, end: u32, new: Option<&MachineState>)
+        requires component { component < components self.old.k }
+        requires order { from ≤ end }
+        requires within { end ≤ max_horizon + 1 }
+        ensures shape { self.new.k ≡ self.old.k }
+        ensures stands { (at : States) → StandsFor self.old at → StandsFor self.new (filled at component from end (option_copied new.entry)) }
+    {
+        self.put_cells(component, from, end, Counted::of(new));
     }
 
     /// The cells of the cycles `from` to `to` hold no state any more. It takes no memory, and a fixed
@@ -217,22 +230,72 @@ impl Sums {
         ensures each { (t c : ℕ) → t ≤ max_horizon → c < components self.old.k
             → kept_at self.new.cells t c ≡ (if (t == cycle) && (c == component) then new else kept_at self.old.cells t c) }
     {
-        let old = cell_at(&self.cells, component, cycle);
+        self.put_run(component, cycle, cycle + 1, new);
+    }
+
+    /// What was counted for the cells of a component from a cycle on and before another one is replaced.
+    fn put_cells(&mut self, component: u32, from: u32, end: u32, new: Counted)
+        requires component { component < components self.old.k }
+        requires order { from ≤ end }
+        requires within { end ≤ max_horizon + 1 }
+        requires small { IsSmall new }
+        ensures shape { self.new.k ≡ self.old.k }
+        ensures each { (t c : ℕ) → t ≤ max_horizon → c < components self.old.k
+            → kept_at self.new.cells t c ≡ (if (nat_le from t && nat_lt t end) && (c == component) then new else kept_at self.old.cells t c) }
+    {
+        let mut cycle = from;
+        while cycle < end {
+            let next = self.run_end(component, cycle, end);
+            self.put_run(component, cycle, next, new);
+            cycle = next;
+        }
+    }
+
+    /// Before which cycle, `end` at most, the cells of a component from one on are of its block and
+    /// counted the same.
+    fn run_end(&self, component: u32, cycle: u32, end: u32) -> u32
+        requires component { component < components self.now.k }
+        requires order { cycle < end }
+        requires within { end ≤ max_horizon + 1 }
+        ensures on { cycle < result }
+        ensures within { result ≤ end }
+        ensures block { result ≤ block_end (cycle / 32) }
+        ensures same { (t : ℕ) → cycle ≤ t → t < result → kept_at self.now.cells t component ≡ kept_at self.now.cells cycle component }
+    {
+        same_to(&self.cells, component, cycle, part_end(cycle, end - 1))
+    }
+
+    /// What was counted for the cells of a component from a cycle on and before another one of its block,
+    /// the same for each, is replaced, and with it the totals and the profiles that they are in.
+    fn put_run(&mut self, component: u32, from: u32, end: u32, new: Counted)
+        requires component { component < components self.old.k }
+        requires order { from < end }
+        requires block { end ≤ block_end (from / 32) }
+        requires there { from ≤ max_horizon }
+        requires same { (t : ℕ) → from ≤ t → t < end → kept_at self.old.cells t component ≡ kept_at self.old.cells from component }
+        requires small { IsSmall new }
+        ensures shape { self.new.k ≡ self.old.k }
+        ensures each { (t c : ℕ) → t ≤ max_horizon → c < components self.old.k
+            → kept_at self.new.cells t c ≡ (if (nat_le from t && nat_lt t end) && (c == component) then new else kept_at self.old.cells t c) }
+    {
+        let old = cell_at(&self.cells, component, from);
         if old == new {
             return;
         }
-        let block = block_of(cycle);
+        let count = end - from;
+        let block = block_of(from);
         let own = block_place(component, block);
-        move_tally(&mut self.own, own, &old, &new);
-        move_tally(&mut self.all, block, &old, &new);
+        move_tally(&mut self.own, own, &old, &new, count);
+        move_tally(&mut self.all, block, &old, &new, count);
         move_lengths(
             self.shape,
             &mut self.profiles,
             component,
             old.lengths,
             new.lengths,
+            count,
         );
-        self.cells[component as usize].put(cycle, new);
+        self.cells[component as usize].put(from, end, new);
     }
 }
 
@@ -270,16 +333,17 @@ fn block_place(component: u32, block: usize) -> usize
     component as usize * BLOCKS + block
 }
 
-/// One of the cells that a tally is over counts something else.
-fn move_tally(tallies: &mut Vec<Tally>, place: usize, old: &Counted, new: &Counted)
+/// So many of the cells that a tally is over, which each counted `old`, count something else.
+fn move_tally(tallies: &mut Vec<Tally>, place: usize, old: &Counted, new: &Counted, count: u32)
     requires there { place < length tallies.old.items }
-    requires held { (counter : CounterIs) → part counter old.now ≤ tallied counter (tally_at tallies.old.items place) }
+    requires few { count ≤ 32 }
+    requires held { (counter : CounterIs) → part counter old.now * count ≤ tallied counter (tally_at tallies.old.items place) }
     requires room { (counter : CounterIs) → tallied counter (tally_at tallies.old.items place) < 2 ^ 32 }
     ensures size { length tallies.new.items ≡ length tallies.old.items }
-    ensures moved { (counter : CounterIs) → tallied counter (tally_at tallies.new.items place) + part counter old.now ≡ tallied counter (tally_at tallies.old.items place) + part counter new.now }
+    ensures moved { (counter : CounterIs) → tallied counter (tally_at tallies.new.items place) + part counter old.now * count ≡ tallied counter (tally_at tallies.old.items place) + part counter new.now * count }
     ensures others { (i : ℕ) → (i ≡ place → ⊥) → tally_at tallies.new.items i ≡ tally_at tallies.old.items i }
 {
-    let moved = tally_at(tallies, place).moved(old, new);
+    let moved = tally_at(tallies, place).moved(old, new, count);
     tallies[place] = moved;
 }
 
@@ -313,6 +377,17 @@ fn sum_at(cells: &Vec<Counts>, counter: Counter, component: u32, from: u32, end:
         total += u64::from(cell_at(cells, component, cycle).part(counter));
     }
     total
+}
+
+/// Before which cycle, `end` at most, the cells of a component from one on counted the same.
+fn same_to(cells: &Vec<Counts>, component: u32, cycle: u32, end: u32) -> u32
+    requires component { component < length cells.now.items }
+    requires order { cycle < end }
+    ensures on { cycle < result }
+    ensures within { result ≤ end }
+    ensures same { (t : ℕ) → cycle ≤ t → t < result → kept_at cells.now.items t component ≡ kept_at cells.now.items cycle component }
+{
+    cells[component as usize].same_to(cycle, end)
 }
 
 /// What was counted for a cell.

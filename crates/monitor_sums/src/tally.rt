@@ -1,5 +1,5 @@
 //! Totals by counter.
-ghost use Rattle.std.specs.Prelude.{◌≡◌, ◌+◌, ◌<◌, ◌≤◌, ◌^◌};
+ghost use Rattle.std.specs.Prelude.{◌≡◌, ◌+◌, ◌*◌, ◌<◌, ◌≤◌, ◌^◌};
 ghost use Rattle.monitor_sums.specs.declared.counter.Counter.{Counter as CounterIs};
 
 use crate::Counter;
@@ -45,27 +45,32 @@ impl Tally {
         }
     }
 
-    /// The totals where one of the cells that they are over counts something else.
-    pub fn moved(&self, old: &Counted, new: &Counted) -> Tally
-        requires held { (counter : CounterIs) → part counter old.now ≤ tallied counter self.now }
+    /// The totals where so many of the cells that they are over, which each counted `old`, count
+    /// something else.
+    pub fn moved(&self, old: &Counted, new: &Counted, cells: u32) -> Tally
+        requires few { cells ≤ 32 }
+        requires held { (counter : CounterIs) → part counter old.now * cells ≤ tallied counter self.now }
         requires room { (counter : CounterIs) → tallied counter self.now < 2 ^ 32 }
-        ensures { (counter : CounterIs) → tallied counter result + part counter old.now ≡ tallied counter self.now + part counter new.now }
+        ensures { (counter : CounterIs) → tallied counter result + part counter old.now * cells ≡ tallied counter self.now + part counter new.now * cells }
     {
         Tally {
-            issued: moved(self.issued, old.issued, new.issued),
-            answered: moved(self.answered, old.answered, new.answered),
-            served: moved(self.served, old.served, new.served),
-            combined: moved(self.combined, old.combined, new.combined),
-            waiting: moved(self.waiting, old.waiting, new.waiting),
+            issued: moved(self.issued, old.issued, new.issued, cells),
+            answered: moved(self.answered, old.answered, new.answered, cells),
+            served: moved(self.served, old.served, new.served, cells),
+            combined: moved(self.combined, old.combined, new.combined, cells),
+            waiting: moved(self.waiting, old.waiting, new.waiting, cells),
         }
     }
 }
 
-/// A total where one of its parts was `old` and is `new`.
-fn moved(total: u64, old: u8, new: u8) -> u64
-    requires held { old ≤ total }
+/// A total where so many of its parts were `old` and are `new`.
+fn moved(total: u64, old: u8, new: u8, parts: u32) -> u64
+    requires few { parts ≤ 32 }
+    requires held { old * parts ≤ total }
     requires room { total < 2 ^ 32 }
-    ensures { result + old ≡ total + new }
+    ensures { result + old * parts ≡ total + new * parts }
 {
-    total - u64::from(old) + u64::from(new)
+    let was = u64::from(old) * u64::from(parts);
+    let is = u64::from(new) * u64::from(parts);
+    total - was + is
 }

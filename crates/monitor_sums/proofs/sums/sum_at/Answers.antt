@@ -1,4 +1,4 @@
-use Rattle.std.proofs.Common.{◌≡◌, ◌+◌, ◌-◌, ◌*◌, ◌≤◌, ap, sym, arith}
+use Rattle.std.proofs.Common.{◌≡◌, ◌+◌, ◌-◌, ap, sym, arith}
 use Rattle.monitor_sums.specs.Adding.{sum_below}
 use Rattle.monitor_sums.specs.Parts.{part}
 use Rattle.monitor_sums.specs.Kept.{kept_at}

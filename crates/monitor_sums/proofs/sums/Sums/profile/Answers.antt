@@ -1,5 +1,4 @@
-use Rattle.std.proofs.Common.{◌≡◌, ℕ, ◌<◌, length, rules, arith}
-use Rattle.std.specs.Prelude.{slice_index}
+use Rattle.std.proofs.Common.{◌≡◌, length, rules, arith}
 use Rattle.project_book.specs.Limits.{max_horizon}
 use Rattle.monitor_sums.specs.Limits.{profile_lengths}
 use Rattle.monitor_sums.proofs.Standing.{stands_profile, none_past, profile_seen}
