@@ -10,17 +10,17 @@ use Rattle.cell_table.specs.Filling.{IsFilled}
 use Rattle.machine_cells.specs.declared.state.MachineState.{MachineState}
 use Rattle.machine_cells.specs.GridRules.{rp3_rules}
 use Rattle.monitor_sums.specs.Kept.{Kept, StandsFor}
-use Rattle.monitor_sums.specs.Sums.{States, changed}
+use Rattle.monitor_sums.specs.Sums.{States, filled}
 use Rattle.project_book.specs.Project.{Project}
 use Rattle.bench_core.specs.Shown.{IsCounted, held, present}
 use Rattle.bench_core.specs.Filling.{filled_in, filled_to}
 use Rattle.bench_core.proofs.Counting.{stands_along, present_at, present_past, cases_le}
 
 module _ {X : Type 0} where
-  put_one : (b1 b2 b3 b4 b5 : Bool) (x y z : X) → (b1 ≡ true → b2 ≡ true → x ≡ y) → (b1 ≡ true → (b3 ≡ true) × (b5 ≡ true)) → (b1 ≡ false → b4 ≡ b5) → cond (b1 && b2) x (cond (b2 && (b3 && b4)) y z) ≡ cond (b2 && (b3 && b5)) y z
-  put_one true true b3 b4 b5 x y z same in_it kept = rw ((in_it refl).0, (in_it refl).1) (same refl refl)
-  put_one true false b3 b4 b5 x y z same in_it kept = refl
-  put_one false b2 b3 b4 b5 x y z same in_it kept = ap (λ b. cond (b2 && (b3 && b)) y z) (kept refl)
+  put_run : (b1 b2 b3 b4 : Bool) (x y z : X) → (b1 ≡ true → b2 ≡ true → x ≡ y) → (b1 ≡ true → b4 ≡ true) → (b1 ≡ false → b3 ≡ b4) → cond (b1 && b2) x (cond (b2 && b3) y z) ≡ cond (b2 && b4) y z
+  put_run true true b3 b4 x y z same in_it kept = rw (in_it refl) (same refl refl)
+  put_run true false b3 b4 x y z same in_it kept = refl
+  put_run false b2 b3 b4 x y z same in_it kept = ap (λ b. cond (b2 && b) y z) (kept refl)
 
   put_component : (b1 b2 b3 b4 : Bool) (y z : X) → (b1 ≡ true → b4 ≡ true) → (b1 ≡ false → b3 ≡ b4) → cond (b1 && b2) y (cond (b3 && b2) y z) ≡ cond (b4 && b2) y z
   put_component true true b3 b4 y z last kept = rw (last refl) refl
@@ -28,22 +28,20 @@ module _ {X : Type 0} where
   put_component true false false b4 y z last kept = rw (last refl) refl
   put_component false b2 b3 b4 y z last kept = ap (λ b. cond (b && b2) y z) (kept refl)
 
--- one cycle more
-pub stands_one : (sums next : Kept) (at states : States) (c from t : ℕ) → next.k ≡ sums.k → from ≤ t → StandsFor sums (filled_in at states c from t)
-    → ((other : States) → StandsFor sums other → StandsFor next (changed other t c (states t c))) → StandsFor next (filled_in at states c from (t + 1))
-stands_one sums next at states c from t shape after stands change =
-    stands_along next (changed (filled_in at states c from t) t c (states t c)) (filled_in at states c from (t + 1)) (change (filled_in at states c from t) stands)
-    (λ u d le lt. put_one (u == t) (d == c) (nat_le from u) (nat_lt u t) (nat_lt u (t + 1)) (states t c) (states u d) (at u d)
-    (λ e f. ap (λ i. states i c) (sym (eqb-true u t e)) ∙ ap (states u) (sym (eqb-true d c f)))
-    (λ e. let same : u ≡ t = eqb-true u t e in (grind (arith, nat_tests), grind (arith, nat_tests)))
-    (λ e. same_test u t e))
+-- cycles more, with the same state
+pub stands_more : (sums next : Kept) (at states : States) (c from t end : ℕ) (s : Option MachineState) → from ≤ t → t ≤ end → StandsFor sums (filled_in at states c from t)
+    → ((u : ℕ) → t ≤ u → u < end → states u c ≡ s) → ((other : States) → StandsFor sums other → StandsFor next (filled other c t end s)) → StandsFor next (filled_in at states c from end)
+stands_more sums next at states c from t end s after some stands same fills =
+    stands_along next (filled (filled_in at states c from t) c t end s) (filled_in at states c from end) (fills (filled_in at states c from t) stands)
+    (λ u d le lt. put_run (nat_le t u && nat_lt u end) (d == c) (nat_le from u && nat_lt u t) (nat_le from u && nat_lt u end) s (states u d) (at u d)
+    (λ e f. sym (ap (states u) (eqb-true d c f) ∙ same u (grind (arith, nat_tests)) (grind (arith, nat_tests))))
+    (λ e. grind (arith, nat_tests))
+    (λ e. same_test u e (cases_le t u) (cases_le end u)))
   where
-    same_test : (u t : ℕ) → (u == t) ≡ false → nat_lt u t ≡ nat_lt u (t + 1)
-    same_test u t e = by_order (cases_le (u + 1) t)
-      where
-        by_order : (u + 1 ≤ t) ⊎ (t < u + 1) → nat_lt u t ≡ nat_lt u (t + 1)
-        by_order (inl h) = let a : nat_lt u t ≡ true = grind (arith, nat_tests) in let b : nat_lt u (t + 1) ≡ true = grind (arith, nat_tests) in a ∙ sym b
-        by_order (inr h) = let a : nat_lt u t ≡ false = grind (arith, nat_tests) in let b : nat_lt u (t + 1) ≡ false = grind (arith, nat_tests) in a ∙ sym b
+    same_test : (u : ℕ) → (nat_le t u && nat_lt u end) ≡ false → (t ≤ u) ⊎ (u < t) → (end ≤ u) ⊎ (u < end) → (nat_le from u && nat_lt u t) ≡ (nat_le from u && nat_lt u end)
+    same_test u e (inl p) (inl q) = let a : nat_lt u t ≡ false = grind (arith, nat_tests) in let b : nat_lt u end ≡ false = grind (arith, nat_tests) in ap (λ v. nat_le from u && v) (a ∙ sym b)
+    same_test u e (inl p) (inr q) = let inside : (nat_le t u && nat_lt u end) ≡ true = grind (arith, nat_tests) in absurd (true≢false (sym inside ∙ e))
+    same_test u e (inr p) q = let a : nat_lt u t ≡ true = grind (arith, nat_tests) in let b : nat_lt u end ≡ true = grind (arith, nat_tests) in ap (λ v. nat_le from u && v) (a ∙ sym b)
 
 -- one component more
 pub stands_component : (sums next : Kept) (at states : States) (n from to : ℕ) → StandsFor sums (filled_to at states n from to)

@@ -58,23 +58,34 @@ impl Counters {
     }
 }
 
-/// Counts what a component holds at the cycles from one on to before another.
+/// Counts what a component holds at the cycles from one on to before another: each stretch of equal states
+/// at once.
 fn count_filled(sums: &mut Sums, table: &Table<Rp3>, component: u32, from: u32, to: u32)
     requires component { component < components sums.old.k }
+    requires same { sums.old.k ≡ table.now.slots.k }
     requires later { from ≤ to }
     requires within { to ≤ MAX_HORIZON + 1 }
+    requires there { to ≤ table.now.horizon + 1 }
     ensures shape { sums.new.k ≡ sums.old.k }
     ensures stands { (at : States) → StandsFor sums.old at → StandsFor sums.new (filled_in at (held table.now) component from to) }
 {
-    for cycle in from..to {
-        sums.change(component, cycle, table.state(Cell { cycle, component }));
+    let mut cycle = from;
+    let mut hint = 0;
+    while cycle < to {
+        let part = table.standing(Cell { cycle, component }, hint);
+        let end = part.end.min(to);
+        sums.fill(component, cycle, end, part.state);
+        cycle = end;
+        hint = part.stretch.saturating_add(1);
     }
 }
 
 /// Counts what all components hold at the cycles from one on to before another.
 fn count_all_filled(sums: &mut Sums, table: &Table<Rp3>, from: u32, to: u32)
+    requires same { sums.old.k ≡ table.now.slots.k }
     requires later { from ≤ to }
     requires within { to ≤ MAX_HORIZON + 1 }
+    requires there { to ≤ table.now.horizon + 1 }
     ensures shape { sums.new.k ≡ sums.old.k }
     ensures stands { (at : States) → StandsFor sums.old at → StandsFor sums.new (filled_to at (held table.now) (components sums.old.k) from to) }
 {

@@ -20,6 +20,9 @@ loop-component-preserved c =
       stands = λ at s. stands_component c.loop-component.sums c.count_filled.new.sums at (held c.args.table.now) c.loop-component.component c.args.from c.args.to (inv.stands at s) c.count_filled.ensures.stands;
     }
 
+pub count_filled-requires-clause-same : goal.count_filled-requires-clause-same
+count_filled-requires-clause-same c = c.loop-component.invariant.shape ∙ c.requires.same
+
 pub returns-clause-stands : goal.returns-clause-stands
 returns-clause-stands c = λ at s.
     let count = c.components-component-end.ensures.value ∙ ap components c.shape.ensures in

@@ -1,15 +1,24 @@
-use Rattle.std.proofs.Common.{◌≡◌, ◌∙◌, refl, subst, arith}
+use Rattle.std.proofs.Common.{◌≡◌, ℕ, ◌<◌, ◌≤◌, ◌∙◌, refl, sym, subst, arith}
+use Rattle.std.specs.Option.{option_copied}
+use Rattle.omega_net.specs.Numbers.{components}
 use Rattle.monitor_sums.specs.Kept.{StandsFor}
-use Rattle.monitor_sums.specs.Sums.{States, changed}
 use Rattle.bench_core.specs.Shown.{held}
 use Rattle.bench_core.specs.Filling.{filled_in}
-use Rattle.bench_core.proofs.Filling.{stands_one, stands_none}
+use Rattle.bench_core.proofs.Filling.{stands_more, stands_none}
 use Rattle.bench_core.proofs.counters.count_filled.Goals as goal
 
 pub loop-cycle-init : goal.loop-cycle-init
 loop-cycle-init c = record {
+  began = omega arith;
+  ended = c.requires.later;
   shape = refl;
   stands = λ at s. stands_none c.args.sums.now at (held c.args.table.now) c.args.component c.args.from s;
+}
+
+pub standing-part-requires : goal.standing-part-requires
+standing-part-requires c = record {
+  cycle = omega (arith, c.loop-cycle-test.true, c.requires.there);
+  component = subst (λ k. c.args.component < components k) c.requires.same c.requires.component;
 }
 
 pub loop-cycle-preserved : goal.loop-cycle-preserved
@@ -17,13 +26,19 @@ loop-cycle-preserved c =
     let inv = c.loop-cycle.invariant in
     let t = c.loop-cycle.cycle in
     let d = c.args.component in
-    let change = subst (λ x. (at : States) → StandsFor c.loop-cycle.sums at → StandsFor c.change.new.self (changed at t d x)) c.state.ensures c.change.ensures.stands in
+    let at_most : c.min-end.result ≤ c.standing-part.result.end = omega (arith, c.min-end.ensures) in
+    let within : c.min-end.result ≤ c.args.to = omega (arith, c.min-end.ensures) in
+    let on : t < c.min-end.result = omega (arith, c.min-end.ensures, c.standing-part.ensures.after, c.loop-cycle-test.true) in
+    let same : (u : ℕ) → t ≤ u → u < c.min-end.result → held c.args.table.now u d ≡ option_copied c.standing-part.result.state =
+    λ u p q. c.standing-part.ensures.same u p (omega (arith, q, at_most)) ∙ sym c.standing-part.ensures.state in
     record {
-      shape = c.change.ensures.shape ∙ inv.shape;
-      stands = λ at s. stands_one c.loop-cycle.sums c.change.new.self at (held c.args.table.now) d c.args.from t c.change.ensures.shape c.loop-cycle.auto.cycle (inv.stands at s) change;
+      began = omega (arith, inv.began, on);
+      ended = within;
+      shape = c.fill.ensures.shape ∙ inv.shape;
+      stands = λ at s. stands_more c.loop-cycle.sums c.fill.new.self at (held c.args.table.now) d c.args.from t c.min-end.result (option_copied c.standing-part.result.state) inv.began (omega (arith, on)) (inv.stands at s) same c.fill.ensures.stands;
     }
 
 pub returns-clause-stands : goal.returns-clause-stands
 returns-clause-stands c = λ at s.
-    let end : c.loop-cycle.cycle ≡ c.args.to = omega (arith, c.loop-cycle-test.false, c.loop-cycle.auto.cycle-end, c.requires.later) in
+    let end : c.loop-cycle.cycle ≡ c.args.to = omega (arith, c.loop-cycle-test.false, c.loop-cycle.invariant.ended) in
     subst (λ n. StandsFor c.loop-cycle.sums (filled_in at (held c.args.table.now) c.args.component c.args.from n)) end (c.loop-cycle.invariant.stands at s)
