@@ -1,8 +1,13 @@
 //! A bench as a desk: one editor alone.
+ghost use Rattle.std.specs.Prelude.{◌≡◌, ◌-◌, ◌^◌, OnOk, IfErr};
+ghost use Rattle.cell_table.specs.Settling.{IsClockSpent};
+ghost use Rattle.bench_core.specs.Shown.{project_of, version_of};
+ghost use Rattle.bench_core.specs.Asks.{pending};
+ghost use Rattle.bench_core.specs.Told.{TellsAt};
 
 use crate::desk::Desk;
 use bench_core::{Asked, Bench, Told};
-use cell_table::SettleFault;
+use cell_table::{SettleFault, Settled};
 use grid_law::NoMemory;
 use project_book::{Edit, EditFault};
 use run_queries::Query;
@@ -11,6 +16,33 @@ use std::thread::Threads;
 
 /// The author of the edits of a run on a bench.
 const AUTHOR: u32 = 0;
+
+/// What is told of a question to a bench that was settled with this result.
+#[tactic(auto, using(crate::proofs::Benches::bad_told, crate::proofs::Benches::never_pending))]
+pub fn answered<T: Threads + Sync>(
+    rt: &T,
+    bench: &mut Bench,
+    settled: Result<Settled, SettleFault>,
+    query: Query,
+) -> Told
+    requires ready { OnOk settled (pending bench.old query ≡ 0) }
+    requires spent { IfErr settled (λ f. IsClockSpent f → bench.old.table.clock ≡ 2 ^ 64 - 1) }
+    ensures told { TellsAt (project_of bench.old) (version_of bench.old) query result }
+    ensures spent { result ≡ Told.ClockSpent → bench.new.table.clock ≡ 2 ^ 64 - 1 }
+    ensures same { bench.new ≡ bench.old }
+{
+    match settled {
+        Ok(_) => {}
+        Err(SettleFault::ClockSpent { .. }) => return Told::ClockSpent,
+        Err(SettleFault::Memory { .. }) => return Told::Memory,
+    }
+    match Bench::ask(bench, rt, query) {
+        Asked::Answer { version, body } => Told::Answer { version, body },
+        Asked::BadQuery(number) => Told::BadQuery(number),
+        Asked::Pending(_) => unreachable!(),
+        Asked::Memory => Told::Memory,
+    }
+}
 
 impl Desk for Bench {
     ghost use Rattle.std.specs.Prelude.{◌≡◌, ◌-◌, ◌^◌};
@@ -35,20 +67,11 @@ impl Desk for Bench {
     }
 
     /// Settles the bench, and asks it.
-    #[tactic(auto, using(crate::proofs::Benches::bad_told, crate::proofs::Benches::never_pending))]
     fn ask<T: Threads + Sync>(&mut self, rt: &T, query: Query) -> Told {
-        match self.settle() {
-            Ok(_) => {}
-            Err(SettleFault::ClockSpent { .. }) => return Told::ClockSpent,
-            Err(SettleFault::Memory { .. }) => return Told::Memory,
-        }
-        match Bench::ask(self, rt, query) {
-            Asked::Answer { version, body } => Told::Answer { version, body },
-            Asked::BadQuery(number) => Told::BadQuery(number),
-            Asked::Pending(_) => unreachable!(),
-            Asked::Memory => Told::Memory,
-        }
+        let settled = self.settle();
+        answered(rt, self, settled, query)
     }
+
     /// Settles the bench as far as it can, and reads the order from the cells held; where some stay due, from a simulation.
     fn order(&mut self, address: u32) -> Result<(u32, Ordered), NoMemory> {
         let _ = self.settle();

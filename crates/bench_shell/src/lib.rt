@@ -22,6 +22,7 @@ mod held;
 mod seated;
 mod serving;
 mod session;
+mod waves;
 
 pub use answer::Answer;
 pub use desk::Desk;
@@ -30,3 +31,4 @@ pub use fault::RunFault;
 pub use seated::Seated;
 pub use serving::{Beside, Hall, ServeFault, run_beside, serve};
 pub use session::{run, run_watched, run_within};
+pub use waves::Waves;

@@ -13,6 +13,7 @@ use crate::attendance::{Session, with_session};
 use crate::fault::RunFault;
 use crate::seated::Seated;
 use crate::session::run;
+use crate::waves::Waves;
 use bench_core::Bench;
 use project_book::Project;
 use shared_bench::{Pass, open};
@@ -152,13 +153,14 @@ pub fn serve<H: Hall, R: Read, W: Write, G: Gate + Send + Drop + 'static>(
     ensures { ServesAs (vec_len gates) (first_store project) (R.remaining reader.old) (R.remaining reader.new)
         (W.contents writer.old) (W.contents writer.new) result }
 {
-    let mut bench = match fresh(alloc, project) {
+    let bench = match fresh(alloc, project) {
         Some(bench) => bench,
         None => return Err(ServeFault::Start),
     };
     let workers = gates.len();
     if workers == 0 {
-        match run(rt, alloc, reader, writer, &mut bench) {
+        let mut desk = Waves::new(alloc, bench);
+        match run(rt, alloc, reader, writer, &mut desk) {
             Ok(()) => return Ok(()),
             Err(fault) => return Err(ServeFault::Run(fault)),
         }

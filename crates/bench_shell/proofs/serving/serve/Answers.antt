@@ -1,6 +1,7 @@
-use Rattle.std.proofs.Common.{rules, ◌≡◌, ◌<◌, vec_len, [], subst, sym, append-nil, ◌∙◌}
+use Rattle.std.proofs.Common.{rules, ◌≡◌, ◌<◌, vec_len, [], subst, sym, ap, append-nil, ◌∙◌}
 use Rattle.std.specs.Prelude.{OnOk}
 use Rattle.std.proofs.KnownBytes.{Keeps-refl}
+use Rattle.bench_core.specs.Shown.{Shown, project_of}
 use Rattle.shared_bench.specs.Legal.{StartsWith}
 use Rattle.bench_shell.specs.Store.{store_of}
 use Rattle.bench_shell.specs.Seated.{seated_store}
@@ -11,12 +12,12 @@ use Rattle.bench_shell.proofs.serving.serve.Goals as goal
 pub returns-in-Ok : goal.returns-in-Ok
 returns-in-Ok g c =
     let none : vec_len c.args.gates ≡ 0 = search rules in
-    alone_all (vec_len c.args.gates) _ _ _ _ c.in-Some.bench c.args.project (store_of c.run.new.desk) none c.in-Some.ensures.project c.in-Some.ensures.journal (c.in-Ok.ensures.all tt)
+    alone_all (vec_len c.args.gates) _ _ _ _ c.new-desk.result c.args.project (store_of c.run.new.desk) none (ap project_of c.new-desk.ensures ∙ c.in-Some.ensures.project) (ap (λ (b : Shown). b.journal) c.new-desk.ensures ∙ c.in-Some.ensures.journal) (c.in-Ok.ensures.all tt)
 
 pub returns-in-Err : goal.returns-in-Err
 returns-in-Err g c =
     let none : vec_len c.args.gates ≡ 0 = search rules in
-    alone_part (vec_len c.args.gates) _ _ _ _ c.in-Some.bench c.args.project (store_of c.run.new.desk) none c.in-Some.ensures.project c.in-Some.ensures.journal (c.in-Err.ensures.fault tt)
+    alone_part (vec_len c.args.gates) _ _ _ _ c.new-desk.result c.args.project (store_of c.run.new.desk) none (ap project_of c.new-desk.ensures ∙ c.in-Some.ensures.project) (ap (λ (b : Shown). b.journal) c.new-desk.ensures ∙ c.in-Some.ensures.journal) (c.in-Err.ensures.fault tt)
 
 pub returns-in-Err-open : goal.returns-in-Err-open
 returns-in-Err-open g c = (Keeps-refl (g.R.Read.remaining c.args.reader.now), Keeps-refl (g.W.Write.contents c.args.writer.now))

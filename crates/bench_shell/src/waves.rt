@@ -1,0 +1,73 @@
+//! A bench that is settled by waves where they pay, as a desk: one editor alone.
+ghost use Rattle.std.specs.Prelude.{◌≡◌};
+
+use crate::bench::answered;
+use crate::desk::Desk;
+use bench_core::{Bench, Told};
+use grid_law::NoMemory;
+use project_book::{Edit, EditFault};
+use run_queries::Query;
+use serial_order::Ordered;
+use std::alloc::Global;
+use std::marker::Model;
+use std::thread::Threads;
+use wave_workers::settle_where_it_pays;
+
+/// A bench that several threads settle where that pays, and one where it doesn't. It is told the same, and edited and asked
+/// for orders as the bench itself: which of the two settled it shows in nothing but time. Contracts see the bench.
+#[derive(Drop)]
+pub struct Waves {
+    alloc: Global,
+    bench: Bench,
+}
+
+impl Model for Waves {
+    ghost use Rattle.bench_core.specs.Shown.{Shown};
+
+    ghost Value = { Shown };
+
+    ghost view = { λ w. w.bench };
+}
+
+impl Waves {
+    /// The desk of a bench.
+    pub fn new(alloc: Global, bench: Bench) -> Waves
+        ensures { result ≡ bench }
+    {
+        Waves { alloc, bench }
+    }
+}
+
+impl Desk for Waves {
+    ghost use Rattle.std.specs.Prelude.{◌≡◌, ◌-◌, ◌^◌};
+    ghost use Rattle.bench_core.specs.Shown.{version_of};
+    ghost use Rattle.bench_shell.specs.Store.{store_of};
+
+    ghost store = { store_of };
+
+    // Each run opens a bench anew.
+    ghost opening = { version_of };
+
+    ghost is_alone = { λ _. Unit {0} };
+
+    ghost clock_is_spent = { λ b. b.table.clock ≡ 2 ^ 64 - 1 };
+
+    fn opened(&self) -> (u32, u32) {
+        self.bench.opened()
+    }
+
+    fn edit(&mut self, edit: Edit) -> Result<u32, EditFault> {
+        Desk::edit(&mut self.bench, edit)
+    }
+
+    /// Settles the bench by waves where they pay, and asks it.
+    fn ask<T: Threads + Sync>(&mut self, rt: &T, query: Query) -> Told {
+        let settled = settle_where_it_pays(rt, self.alloc, &mut self.bench);
+        answered(rt, &mut self.bench, settled, query)
+    }
+
+    /// As of a bench, by one thread.
+    fn order(&mut self, address: u32) -> Result<(u32, Ordered), NoMemory> {
+        Desk::order(&mut self.bench, address)
+    }
+}
