@@ -1,9 +1,12 @@
-//! Sessions with workers.
-ghost use Rattle.std.specs.Prelude.{◌≤◌};
+//! Sessions with workers, and beside another editor.
+ghost use Rattle.std.specs.Prelude.{◌≡◌, ◌≤◌, [], IfOk};
+ghost use Rattle.shared_bench.specs.Legal.{StartsWith};
 
-use bench_shell::{Hall, serve};
+use super::bench;
+use bench_shell::{Hall, RunFault, Seated, run, serve};
 use cell_table::Cell;
 use project_book::{Edit, Project};
+use shared_bench::{Pass, open};
 use std::alloc::Global;
 use std::io::{Read, Result};
 use std::sync::Arc;
@@ -153,5 +156,38 @@ fn example_9_1(rt: HostRuntime) -> std::result::Result<(), Fail> {
     assert!(rt; ended.is_ok());
     assert_eq!(rt; writer.as_slice(), b"ok 0 10\n".as_slice());
     assert!(rt; is_told(&meeting.asked) && is_told(&meeting.computed));
+    Ok(())
+}
+
+/// Two passes to a bench of the built-in machine.
+fn two_passes(alloc: Global) -> std::result::Result<(Pass, Pass), Fail>
+    ensures edits { IfOk result (λ p. p.0.receipts ≡ []) }
+    ensures seen { IfOk result (λ p. StartsWith p.0.seen p.0.opened) }
+{
+    let bench = bench(alloc, 0)?;
+    let Ok(mut pass) = open(alloc, bench, 2) else {
+        return Err(Fail::from("no memory"));
+    };
+    match pass.split() {
+        Ok(other) => Ok((pass, other)),
+        Err(_) => Err(Fail::from("no seat")),
+    }
+}
+
+/// 9.2: the other pass has set word 0 to 20, so the run is answered at a version that isn't of its own edits.
+#[test]
+fn example_9_2(rt: HostRuntime) -> std::result::Result<(), Fail> {
+    let (pass, mut other) = two_passes(rt.alloc())?;
+    let word = Edit::Word {
+        address: 0,
+        word: 20,
+    };
+    assert_eq!(rt; other.edit(&rt, word), Ok(1));
+    let mut desk = Seated::new(&rt, rt.alloc(), pass);
+    let mut reader = b"memory 0 0\n".as_slice();
+    let mut writer = Vec::new(rt.alloc());
+    let ended = run(&rt, rt.alloc(), &mut reader, &mut writer, &mut desk);
+    assert_eq!(rt; ended, Err(RunFault::OtherEditor));
+    assert!(rt; writer.is_empty());
     Ok(())
 }
