@@ -169,9 +169,14 @@ fn settle_by_waves<R: Threads + Sync, G: Gate + Send>(
     }
 }
 
-/// How many cells a cycle has to have for a wave to pay. Starting the threads of a wave of four takes 30 to 45 us, and what
-/// they share is the steps alone, since one thread stores the results: by these figures a wave saves nothing even in a cycle
-/// of 512 cells that all step, which is the largest that there is. So no machine has cycles worth a wave today.
+/// How many cells a cycle has to have for a wave to pay. By measurement no machine has so many, so all are settled by
+/// `settle`. The largest has cycles of 512 cells: there, on four processors, where an edit left 430 cells of each cycle to
+/// compute, a cycle took `settle` 0.80 ms and waves of four 0.77 ms under one load, 0.62 and 0.75 ms under another; where it
+/// left 200, 0.18 and 0.40 ms. On half as large a machine waves took from as long to four times as long.
+///
+/// A wave starts its threads anew, and shares the steps alone: one thread stores the results, and drops what the others
+/// allocated. New cells are worse still: `settle` fills whole cycles of them at once, under some loads in half the time,
+/// and a wave stores each by itself. So a limit within reach would have to leave benches with new cycles to `settle`.
 const LEAST_DUE: u32 = 1024;
 
 /// Settles a bench as `Bench::settle` does, with the same contract. The due cells of one cycle are cut by component into one
@@ -212,8 +217,8 @@ fn components(bench: &Bench) -> u32 {
     }
 }
 
-/// Settles a bench as `Bench::settle` does, with the same contract: by waves of four gates where the machine has cycles that
-/// are worth one, and else by `Bench::settle` itself.
+/// Settles a bench as `Bench::settle` does, with the same contract: by waves of four gates where the machine's cycles have as
+/// many cells as make a wave pay, which none has today, and else by `Bench::settle` itself.
 pub fn settle_where_it_pays<R: Threads + Sync>(
     rt: &R,
     alloc: Global,
