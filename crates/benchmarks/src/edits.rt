@@ -1,12 +1,13 @@
 //! A bench: a fresh settling, and edits with a question after each.
 use crate::clock::row;
 use crate::load::hot_spot;
-use anyhow::{Context, Error, Result};
+use anyhow::{Error, Result};
 use bench_core::{Asked, Bench};
 use omega_net::ScriptEntry;
-use project_book::Edit;
+use project_book::{Edit, Project};
 use run_queries::{Body, Query, Received};
 use serial_order::Ordered;
+use std::alloc::Global;
 use std::fmt;
 use std::thread::Threads;
 use std::time::Instant;
@@ -50,36 +51,56 @@ pub fn measure<T: Threads + Sync>(
     horizon: u32,
 ) -> Result<Told> {
     let since = Instant::now(rt)?;
-    let mut bench = opened(rt, k, horizon)?;
-    let fresh = settled(&mut bench)?;
+    let mut bench = hot_bench(rt, k, horizon)?;
+    edit_twice(rt, threads, &mut bench, since)
+}
+
+/// Settles a bench that was opened then, edits it twice, and asks for an order.
+fn edit_twice<T: Threads + Sync>(
+    rt: &HostRuntime,
+    threads: &T,
+    bench: &mut Bench,
+    since: Instant,
+) -> Result<Told> {
+    let fresh = settled(bench)?;
     row(rt, "bench, a fresh settling, a cell", since, fresh)?;
-    let since = Instant::now(rt)?;
     let edit = Edit::Word {
         address: 300,
         word: 5,
     };
-    let word = edited(&mut bench, edit)?;
-    let last = bench.project().processors().saturating_sub(1);
-    let reply = replied(threads, &mut bench, last)?;
-    row(rt, "bench, a word and a reply", since, 1)?;
-    let since = Instant::now(rt)?;
+    let (word, reply) = timed(rt, threads, bench, edit, "bench, a word and a reply")?;
     let edit = Edit::Entry {
         proc: 0,
         index: 1,
         entry: ScriptEntry::Fence,
     };
-    let entry = edited(&mut bench, edit)?;
-    replied(threads, &mut bench, last)?;
-    row(rt, "bench, a late entry and a reply", since, 1)?;
-    ordered(rt, &bench)?;
+    let (entry, _) = timed(rt, threads, bench, edit, "bench, a late entry and a reply")?;
+    ordered(rt, bench)?;
     Ok(Told {
-        k,
-        horizon,
+        k: bench.project().k(),
+        horizon: bench.project().horizon(),
         fresh,
         word,
         entry,
         reply,
     })
+}
+
+/// Makes an edit, and writes how long it took with the last processor's first reply: how many cells were computed, and
+/// the reply.
+fn timed<T: Threads + Sync>(
+    rt: &HostRuntime,
+    threads: &T,
+    bench: &mut Bench,
+    edit: Edit,
+    what: &str,
+) -> Result<(u64, Option<Received>)> {
+    let last = bench.project().processors().saturating_sub(1);
+    let since = Instant::now(rt)?;
+    let cells = edited(bench, edit)?;
+    let reply = replied(threads, bench, last)?;
+    row(rt, what, since, 1)?;
+    Ok((cells, reply))
 }
 
 /// Asks for the order of the hot word.
@@ -96,18 +117,39 @@ fn ordered(rt: &HostRuntime, bench: &Bench) -> Result<()> {
     Ok(())
 }
 
-/// Edits one word so many times at 2 processors and horizon 10, each time with a question of that word at the horizon:
-/// the last answer.
-pub fn words<T: Threads + Sync>(rt: &HostRuntime, threads: &T, edits: u32) -> Result<u32> {
-    let mut bench = opened(rt, 1, 10)?;
-    settled(&mut bench)?;
+/// The last answer after so many edits of a word.
+#[derive(Clone, Copy)]
+pub struct LastWord {
+    word: u32,
+    edits: u32,
+}
+
+impl fmt::Display for LastWord {
+    fn fmt<W: fmt::Write>(&self, f: &mut fmt::Formatter<W>) -> fmt::Result {
+        write!(f, "word {} after {} edits", self.word, self.edits)
+    }
+}
+
+/// Edits one word so many times at 2 processors and horizon 10, each time with a question of that word at the horizon.
+pub fn words<T: Threads + Sync>(rt: &HostRuntime, threads: &T, edits: u32) -> Result<LastWord> {
+    let mut bench = hot_bench(rt, 1, 10)?;
+    edit_words(rt, threads, &mut bench, edits)
+}
+
+fn edit_words<T: Threads + Sync>(
+    rt: &HostRuntime,
+    threads: &T,
+    bench: &mut Bench,
+    edits: u32,
+) -> Result<LastWord> {
+    settled(bench)?;
     let since = Instant::now(rt)?;
     let mut last = 0;
     for word in 1..=edits {
-        last = word_at_10(threads, &mut bench, word)?;
+        last = word_at_10(threads, bench, word)?;
     }
     row(rt, "bench, an edit and a word", since, u64::from(edits))?;
-    Ok(last)
+    Ok(LastWord { word: last, edits })
 }
 
 /// The word of address 0 at cycle 10 where it is `word` at first.
@@ -126,13 +168,21 @@ fn word_at_10<T: Threads + Sync>(threads: &T, bench: &mut Bench, word: u32) -> R
     }
 }
 
-fn opened(rt: &HostRuntime, k: u32, horizon: u32) -> Result<Bench> {
-    let project = hot_spot(rt.alloc(), k, horizon)?;
-    Bench::new(rt.alloc(), project, 0).ok().context("no memory")
+/// A fresh bench of the hot spot.
+pub fn hot_bench(rt: &HostRuntime, k: u32, horizon: u32) -> Result<Box<Bench>> {
+    opened(rt.alloc(), hot_spot(rt.alloc(), k, horizon)?)
+}
+
+/// A fresh bench.
+pub fn opened(alloc: Global, project: Project) -> Result<Box<Bench>> {
+    match Bench::new(alloc, project, 0) {
+        Ok(bench) => Ok(Box::new(alloc, bench)?),
+        Err(_) => Err(Error::msg("no memory")),
+    }
 }
 
 /// Settles the bench: how many cells were computed.
-fn settled(bench: &mut Bench) -> Result<u64> {
+pub fn settled(bench: &mut Bench) -> Result<u64> {
     match bench.settle() {
         Ok(settled) => Ok(settled.computed),
         Err(_) => Err(Error::msg("not settled")),
@@ -140,12 +190,13 @@ fn settled(bench: &mut Bench) -> Result<u64> {
 }
 
 /// Makes an edit and settles the bench: how many cells were computed.
-fn edited(bench: &mut Bench, edit: Edit) -> Result<u64> {
+pub fn edited(bench: &mut Bench, edit: Edit) -> Result<u64> {
     bench.edit(0, edit)?;
     settled(bench)
 }
 
-fn replied<T: Threads + Sync>(
+/// The first reply of a processor, of a settled bench.
+pub fn replied<T: Threads + Sync>(
     threads: &T,
     bench: &mut Bench,
     proc: u32,

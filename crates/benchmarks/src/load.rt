@@ -1,10 +1,12 @@
-//! The project that is measured.
+//! The projects that are measured.
 ghost use Rattle.std.specs.Prelude.{◌≡◌, IfOk};
 
 use anyhow::{Context, Result};
 use omega_net::ScriptEntry;
+use page_map::ADDRESSES;
 use project_book::{Edit, Project};
 use std::alloc::Global;
+use std::fmt;
 use word_ops::{Kind, Op};
 
 /// 2^k processors that each add 1 to address 0 a thousand times over the combining network, every
@@ -35,6 +37,121 @@ pub fn hot_spot(alloc: Global, k: u32, horizon: u32) -> Result<Project>
     }
     for stage in 0..k {
         project = project.apply(Edit::Combine { stage, on: true })?.0;
+    }
+    Ok(project)
+}
+
+/// What the processors do. Every stage combines.
+#[derive(Clone, Copy, PartialEq, Eq)]
+pub enum Load {
+    /// The hot spot: all add to one word all the time, window 1.
+    Hot,
+    /// Each makes four references, to words of all modules, window 1.
+    Quiet,
+    /// Each makes 256 references, to words of all modules, window 4.
+    Uniform,
+    /// The same, but every second reference adds 1 to address 0.
+    Mixed,
+}
+
+/// All loads, those first that take less memory.
+pub const LOADS: [Load; 4] = [Load::Quiet, Load::Hot, Load::Mixed, Load::Uniform];
+
+impl fmt::Display for Load {
+    fn fmt<W: fmt::Write>(&self, f: &mut fmt::Formatter<W>) -> fmt::Result {
+        f.write_str(match self {
+            Load::Hot => "hot",
+            Load::Quiet => "quiet",
+            Load::Uniform => "uniform",
+            Load::Mixed => "mixed",
+        })
+    }
+}
+
+impl Load {
+    /// How many entries a script has.
+    pub fn entries(self) -> u32 {
+        match self {
+            Load::Hot => 1,
+            Load::Quiet => 4,
+            Load::Uniform | Load::Mixed => 256,
+        }
+    }
+
+    fn window(self) -> u32 {
+        match self {
+            Load::Hot | Load::Quiet => 1,
+            Load::Uniform | Load::Mixed => 4,
+        }
+    }
+
+    fn is_to_hot_word(self, index: u32) -> bool {
+        match self {
+            Load::Hot => true,
+            Load::Quiet | Load::Uniform => false,
+            Load::Mixed => index % 2 == 1,
+        }
+    }
+
+    fn entry(self, proc: u32, index: u32) -> ScriptEntry {
+        let number = drawn(proc, index);
+        if self.is_to_hot_word(index) {
+            reference(true, Kind::Add, 0)
+        } else {
+            let kind = if number & 0x1_0000 == 0 {
+                Kind::Load
+            } else {
+                Kind::Add
+            };
+            reference(number & 0x2_0000 == 0, kind, number % ADDRESSES)
+        }
+    }
+}
+
+fn reference(sync: bool, kind: Kind, address: u32) -> ScriptEntry {
+    ScriptEntry::Reference {
+        sync,
+        op: Op { kind, operand: 1 },
+        address,
+        times: 1,
+    }
+}
+
+/// A number that hangs on these two alone, and is spread as if it were drawn at random.
+fn drawn(proc: u32, index: u32) -> u32 {
+    let number = proc.wrapping_mul(256).wrapping_add(index).wrapping_add(1);
+    let number = number.wrapping_mul(2_654_435_761);
+    let number = (number ^ (number >> 15)).wrapping_mul(2_246_822_519);
+    let number = (number ^ (number >> 13)).wrapping_mul(3_266_489_917);
+    number ^ (number >> 16)
+}
+
+/// 2^k processors with a load.
+pub fn loaded(alloc: Global, load: Load, k: u32, horizon: u32) -> Result<Project> {
+    if load == Load::Hot {
+        return hot_spot(alloc, k, horizon);
+    }
+    let blank = Project::new(alloc, k, horizon)?;
+    let mut project = blank.context("k or the horizon is past its limit")?;
+    for proc in 0..project.processors() {
+        project = scripted(project, load, proc)?;
+    }
+    for stage in 0..k {
+        project = project.apply(Edit::Combine { stage, on: true })?.0;
+    }
+    Ok(project.apply(Edit::Window(load.window()))?.0)
+}
+
+/// The project with a processor's script.
+fn scripted(project: Project, load: Load, proc: u32) -> Result<Project> {
+    let mut project = project;
+    for index in 0..load.entries() {
+        let edit = Edit::Entry {
+            proc,
+            index,
+            entry: load.entry(proc, index),
+        };
+        project = project.apply(edit)?.0;
     }
     Ok(project)
 }

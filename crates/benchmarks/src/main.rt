@@ -4,8 +4,10 @@
 //! the plain simulation of 2^K processors up to horizon H; `benchmarks parts N` N steps of each
 //! component by itself; `benchmarks bench K H` a bench that is settled and edited; `benchmarks words N`
 //! N edits of one word, each with a question after it; `benchmarks turns N` N questions in turns of a shared bench, and a
-//! thread that waits for its turn. Standard output gets one line of what was computed, which hangs on nothing but the words
-//! given; standard error gets the figures, a row each.
+//! thread that waits for its turn; `benchmarks loads K H` what a fresh settling, edits, answers and memory cost on four loads,
+//! each row beside the plain simulation; `benchmarks workers K H` the cells that workers and waves compute, and edits beside
+//! workers. Standard output gets one line of what was computed, which hangs on nothing but the words given; standard error
+//! gets the figures, a row each.
 //!
 //! A further group of rows is a module with a call that takes the runtime and the group's numbers,
 //! writes its rows, and returns its part of the line; [`Asked`] gets its word.
@@ -14,20 +16,23 @@
 mod clock;
 mod edits;
 mod load;
+mod loads;
 mod parts;
 mod scratch;
 #[cfg(test)]
 mod tests;
 mod turns;
+mod waves;
+mod workers;
 
 use anyhow::Result;
 use line_words::number;
 use page_map::MAX_K;
 use project_book::MAX_HORIZON;
 use std::env;
+use std::fmt::Display;
 use std::process::ExitCode;
-use std::sync::Wait;
-use std::thread::Threads;
+use workers::Hall;
 
 /// The words are none of those above.
 const WRONG_WORDS: u8 = 2;
@@ -43,6 +48,8 @@ enum Asked {
     Edits { k: u32, horizon: u32 },
     Words { edits: u32 },
     Turns { turns: u32 },
+    Loads { k: u32, horizon: u32 },
+    Workers { k: u32, horizon: u32 },
 }
 
 fn main(rt: HostRuntime) -> ExitCode {
@@ -50,7 +57,7 @@ fn main(rt: HostRuntime) -> ExitCode {
         Ok(Some(asked)) => asked,
         Ok(None) => {
             let _ = eprintln!(rt;
-                "usage: benchmarks [from-scratch K H | parts N | bench K H | words N | turns N], K from 0 to {MAX_K}, H to {MAX_HORIZON}, N of words to 65535"
+                "usage: benchmarks [from-scratch K H | parts N | bench K H | words N | turns N | loads K H | workers K H], K from 0 to {MAX_K}, H to {MAX_HORIZON}, N of words to 65535"
             );
             return ExitCode::from(WRONG_WORDS);
         }
@@ -74,77 +81,73 @@ fn words(rt: &HostRuntime) -> Result<Option<Asked>> {
     let Some(what) = words.next() else {
         return Ok(Some(Asked::Everything));
     };
-    let (first, second, more) = (words.next(), words.next(), words.next());
-    let asked = match what.as_str() {
-        "from-scratch" if more.is_none() => {
-            sized(first, second).map(|(k, horizon)| Asked::FromScratch { k, horizon })
+    let mut numbers = Vec::new(rt.alloc());
+    for word in words {
+        match number(word.as_bytes()) {
+            Some(number) => numbers.push(number)?,
+            None => return Ok(None),
         }
-        "bench" if more.is_none() => {
-            sized(first, second).map(|(k, horizon)| Asked::Edits { k, horizon })
-        }
-        "words" if second.is_none() => first
-            .and_then(number_in)
-            .map(|edits| Asked::Words { edits }),
-        "turns" if second.is_none() => first
-            .and_then(number_in)
-            .map(|turns| Asked::Turns { turns }),
-        "parts" if second.is_none() => first
-            .and_then(number_in)
-            .map(|steps| Asked::Parts { steps }),
+    }
+    Ok(match numbers.as_slice() {
+        [number] => of_number(what.as_str(), *number),
+        [k, horizon] => of_size(what.as_str(), *k, *horizon),
         _ => None,
-    };
-    Ok(asked)
+    })
 }
 
-/// The k and the horizon that these words are.
-fn sized(k: Option<String>, horizon: Option<String>) -> Option<(u32, u32)> {
-    let k = number_in(k?)?;
-    let horizon = number_in(horizon?)?;
-    if k <= MAX_K && horizon <= MAX_HORIZON {
-        Some((k, horizon))
-    } else {
-        None
+/// What is asked for with one number.
+fn of_number(what: &str, number: u32) -> Option<Asked> {
+    match what {
+        "parts" => Some(Asked::Parts { steps: number }),
+        "words" => Some(Asked::Words { edits: number }),
+        "turns" => Some(Asked::Turns { turns: number }),
+        _ => None,
     }
 }
 
-fn number_in(word: String) -> Option<u32> {
-    number(word.as_bytes())
+/// What is asked for with a machine's k and horizon.
+fn of_size(what: &str, k: u32, horizon: u32) -> Option<Asked> {
+    if k > MAX_K || horizon > MAX_HORIZON {
+        return None;
+    }
+    match what {
+        "from-scratch" => Some(Asked::FromScratch { k, horizon }),
+        "bench" => Some(Asked::Edits { k, horizon }),
+        "loads" => Some(Asked::Loads { k, horizon }),
+        "workers" => Some(Asked::Workers { k, horizon }),
+        _ => None,
+    }
 }
 
-fn measure<T: Threads + Wait + Sync>(rt: &HostRuntime, threads: &T, asked: Asked) -> Result<()> {
+/// Writes what came of it.
+fn told<D: Display + Drop>(rt: &HostRuntime, came: Result<D>) -> Result<()> {
+    let came = came?;
+    println!(rt; "{came}")?;
+    Ok(())
+}
+
+fn measure<H: Hall>(rt: &HostRuntime, host: &H, asked: Asked) -> Result<()> {
     match asked {
-        Asked::Everything => {
-            let run = scratch::measure(rt, 0, 8)?;
-            let sums = parts::measure(rt, 1000)?;
-            let told = edits::measure(rt, threads, 0, 8)?;
-            let word = edits::words(rt, threads, 10)?;
-            let looks = turns::measure(rt, threads, 10)?;
-            let both = turns::waiting(rt, threads, 0, 8)?;
-            println!(rt;
-                "{run}; {sums}; {told}; word {word} after 10 edits; {looks} looks answered, {both}"
-            )?;
-        }
-        Asked::FromScratch { k, horizon } => {
-            let run = scratch::measure(rt, k, horizon)?;
-            println!(rt; "{run}")?;
-        }
-        Asked::Parts { steps } => {
-            let sums = parts::measure(rt, steps)?;
-            println!(rt; "{sums}")?;
-        }
-        Asked::Edits { k, horizon } => {
-            let told = edits::measure(rt, threads, k, horizon)?;
-            println!(rt; "{told}")?;
-        }
-        Asked::Words { edits } => {
-            let word = edits::words(rt, threads, edits)?;
-            println!(rt; "word {word} after {edits} edits")?;
-        }
-        Asked::Turns { turns } => {
-            let looks = turns::measure(rt, threads, turns)?;
-            let both = turns::waiting(rt, threads, 5, 1000)?;
-            println!(rt; "{looks} looks answered, {both}")?;
-        }
+        Asked::Everything => everything(rt, host),
+        Asked::FromScratch { k, horizon } => told(rt, scratch::measure(rt, k, horizon)),
+        Asked::Parts { steps } => told(rt, parts::measure(rt, steps)),
+        Asked::Edits { k, horizon } => told(rt, edits::measure(rt, host, k, horizon)),
+        Asked::Words { edits } => told(rt, edits::words(rt, host, edits)),
+        Asked::Turns { turns } => told(rt, turns::measure(rt, host, turns, 5, 1000)),
+        Asked::Loads { k, horizon } => told(rt, loads::measure(rt, host, k, horizon)),
+        Asked::Workers { k, horizon } => told(rt, workers::measure(rt, host, k, horizon)),
     }
+}
+
+/// Every group of rows, small enough for a test.
+fn everything<H: Hall>(rt: &HostRuntime, host: &H) -> Result<()> {
+    let run = scratch::measure(rt, 0, 8)?;
+    let sums = parts::measure(rt, 1000)?;
+    let told = edits::measure(rt, host, 0, 8)?;
+    let words = edits::words(rt, host, 10)?;
+    let turns = turns::measure(rt, host, 10, 0, 8)?;
+    let loads = loads::measure(rt, host, 1, 8)?;
+    let workers = workers::measure(rt, host, 0, 8)?;
+    println!(rt; "{run}; {sums}; {told}; {words}; {turns}; {loads}; {workers}")?;
     Ok(())
 }

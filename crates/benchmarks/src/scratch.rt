@@ -51,7 +51,7 @@ pub fn measure(rt: &HostRuntime, k: u32, horizon: u32) -> Result<Run> {
     })
 }
 
-fn cells_of(rows: &[Vec<MachineState>]) -> u64 {
+pub fn cells_of(rows: &[Vec<MachineState>]) -> u64 {
     let mut cells: u64 = 0;
     for row in rows {
         cells = cells.saturating_add(row.len() as u64);
@@ -71,7 +71,7 @@ fn word_of(row: &[MachineState], k: u32) -> u32 {
 /// The bytes that a run holds: cells × the size of a cell's state, which for modules and switches is the
 /// owning of one that is kept apart; and the size of each of those that isn't that of the cycle before,
 /// for a module with its words. What the allocator takes beside isn't counted.
-fn bytes_of(rows: &[Vec<MachineState>]) -> u64 {
+pub fn bytes_of(rows: &[Vec<MachineState>]) -> u64 {
     let mut bytes: u64 = 0;
     let mut before: &[MachineState] = &[];
     for row in rows {

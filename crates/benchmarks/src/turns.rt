@@ -1,14 +1,17 @@
 //! Turns of a shared bench: what one costs, and what waiting for one costs.
+ghost use Rattle.std.specs.Prelude.{◌<◌, ◌≤◌};
+
 use crate::clock::{processor_time, row};
-use crate::load::hot_spot;
-use anyhow::{Context, Error, Result};
+use crate::edits::hot_bench;
+use anyhow::{Error, Result};
 use bench_core::{Asked, Bench, Told};
 use run_queries::Query;
 use shared_bench::{Pass, open};
+use std::alloc::Global;
 use std::sync::Wait;
-use std::thread;
 use std::thread::Threads;
 use std::time::Instant;
+use std::{fmt, thread};
 
 /// A question that looks at no cell.
 const PLACE: Query = Query::Place { address: 0 };
@@ -16,16 +19,73 @@ const PLACE: Query = Query::Place { address: 0 };
 /// A question that waits for every cell.
 const REPLY: Query = Query::Reply { proc: 0, issue: 0 };
 
+/// How many looks were answered, and whether two passes were of which one waited for the other.
+#[derive(Clone, Copy)]
+pub struct Both {
+    looks: u32,
+    waited: bool,
+}
+
+impl fmt::Display for Both {
+    fn fmt<W: fmt::Write>(&self, f: &mut fmt::Formatter<W>) -> fmt::Result {
+        write!(f, "{} looks answered, {}", self.looks, self.waited)
+    }
+}
+
+/// So many looks of each kind; and a wait beside the settling of 2^k processors.
+pub fn measure<R: Threads + Wait + Sync>(
+    rt: &HostRuntime,
+    threads: &R,
+    turns: u32,
+    k: u32,
+    horizon: u32,
+) -> Result<Both> {
+    Ok(Both {
+        looks: all_kinds(rt, threads, turns)?,
+        waited: waiting(rt, threads, k, horizon)?,
+    })
+}
+
 /// Asks a bench so often, by itself, then through a pass, then through two passes at once: how often it was answered.
-pub fn measure<R: Threads + Wait + Sync>(rt: &HostRuntime, threads: &R, turns: u32) -> Result<u32> {
-    let mut bench = opened(rt, 1, 10)?;
+fn all_kinds<R: Threads + Wait + Sync>(rt: &HostRuntime, threads: &R, turns: u32) -> Result<u32> {
+    let mut bench = hot_bench(rt, 1, 10)?;
+    let alone = alone(rt, threads, &mut bench, turns)?;
+    let mut pass = shared(rt.alloc(), bench, 2)?;
+    let taken = taken(rt, threads, &mut pass, turns)?;
+    let two = by_two(rt, threads, pass, turns)?;
+    Ok(alone.wrapping_add(taken).wrapping_add(two))
+}
+
+fn alone<R: Threads + Sync>(
+    rt: &HostRuntime,
+    threads: &R,
+    bench: &mut Bench,
+    turns: u32,
+) -> Result<u32> {
     let since = Instant::now(rt)?;
-    let alone = asks(threads, &mut bench, turns);
+    let answered = asks(threads, bench, turns);
     row(rt, "turns, a look without a turn", since, u64::from(turns))?;
-    let mut pass = shared(rt, bench)?;
+    Ok(answered)
+}
+
+fn taken<R: Threads + Wait + Sync>(
+    rt: &HostRuntime,
+    threads: &R,
+    pass: &mut Pass,
+    turns: u32,
+) -> Result<u32> {
     let since = Instant::now(rt)?;
-    let taken = looks(threads, &mut pass, turns);
+    let answered = looks(threads, pass, turns);
     row(rt, "turns, a look in a turn", since, u64::from(turns))?;
+    Ok(answered)
+}
+
+fn by_two<R: Threads + Wait + Sync>(
+    rt: &HostRuntime,
+    threads: &R,
+    mut pass: Pass,
+    turns: u32,
+) -> Result<u32> {
     let other = second(&mut pass)?;
     let since = Instant::now(rt)?;
     let (one, two) = thread::join(
@@ -34,23 +94,18 @@ pub fn measure<R: Threads + Wait + Sync>(rt: &HostRuntime, threads: &R, turns: u
         move || -> u32 { all_looks(threads, other, turns) },
     );
     row(rt, "turns, a look of one of two", since, u64::from(turns))?;
-    Ok(
-        alone
-            .wrapping_add(taken)
-            .wrapping_add(one)
-            .wrapping_add(two),
-    )
+    Ok(one.wrapping_add(two))
 }
 
 /// One pass settles the hot spot of 2^k processors in its turn, and another waits for it: whether both were answered. The
 /// rows have how long the second waited, and the processor time that it used meanwhile.
-pub fn waiting<R: Threads + Wait + Sync>(
+fn waiting<R: Threads + Wait + Sync>(
     rt: &HostRuntime,
     threads: &R,
     k: u32,
     horizon: u32,
 ) -> Result<bool> {
-    let mut pass = shared(rt, opened(rt, k, horizon)?)?;
+    let mut pass = shared(rt.alloc(), hot_bench(rt, k, horizon)?, 2)?;
     let other = second(&mut pass)?;
     let (settled, waited) = thread::join(
         threads,
@@ -60,16 +115,18 @@ pub fn waiting<R: Threads + Wait + Sync>(
     Ok(settled && waited?)
 }
 
-fn opened(rt: &HostRuntime, k: u32, horizon: u32) -> Result<Bench> {
-    let project = hot_spot(rt.alloc(), k, horizon)?;
-    Bench::new(rt.alloc(), project, 0).ok().context("no memory")
+/// The first pass to a bench, with so many seats.
+pub fn shared(alloc: Global, bench: Box<Bench>, seats: u32) -> Result<Pass>
+    requires { (0 < seats) × (seats ≤ 64) }
+{
+    match open(alloc, Box::into_inner(bench), seats) {
+        Ok(pass) => Ok(pass),
+        Err(_) => Err(Error::msg("no memory")),
+    }
 }
 
-fn shared(rt: &HostRuntime, bench: Bench) -> Result<Pass> {
-    open(rt.alloc(), bench, 2).ok().context("no memory")
-}
-
-fn second(pass: &mut Pass) -> Result<Pass> {
+/// A pass more.
+pub fn second(pass: &mut Pass) -> Result<Pass> {
     match pass.split() {
         Ok(pass) => Ok(pass),
         Err(_) => Err(Error::msg("no pass")),

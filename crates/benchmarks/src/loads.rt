@@ -1,0 +1,374 @@
+//! The loads, each with the plain simulation beside it.
+use crate::clock::{Beside, Times, bytes_beside, resident, row_beside, taken};
+use crate::edits::{edited, opened, replied, settled};
+use crate::load::{LOADS, Load, loaded};
+use crate::scratch::bytes_of;
+use anyhow::Result;
+use bench_core::Bench;
+use machine_cells::from_scratch;
+use omega_net::ScriptEntry;
+use project_book::{Depths, Edit, Project};
+use run_queries::Received;
+use std::fmt;
+use std::thread::Threads;
+use std::time::Instant;
+
+/// How often each thing is done.
+const TIMES: u32 = 7;
+
+/// How often all replies are asked for again.
+const AGAIN: u32 = 100;
+
+/// What came of a load: how many cells were computed at first, and after the last of each kind of edit; the last
+/// processor's first reply.
+#[derive(Clone, Copy)]
+struct Told {
+    load: Load,
+    fresh: u64,
+    word: u64,
+    entry: u64,
+    depth: u64,
+    reply: Option<Received>,
+}
+
+impl fmt::Display for Told {
+    fn fmt<W: fmt::Write>(&self, f: &mut fmt::Formatter<W>) -> fmt::Result {
+        let Told {
+            load,
+            fresh,
+            word,
+            entry,
+            depth,
+            reply,
+        } = *self;
+        write!(f, "{load}: {fresh} cells at first, {word} for a word, ")?;
+        write!(f, "{entry} for an entry, {depth} for a depth, ")?;
+        match reply {
+            Some(reply) => write!(f, "a reply {reply}"),
+            None => write!(f, "no reply"),
+        }
+    }
+}
+
+/// What came of all loads.
+#[derive(Clone, Copy)]
+pub struct All {
+    k: u32,
+    horizon: u32,
+    told: [Told; 4],
+}
+
+impl fmt::Display for All {
+    fn fmt<W: fmt::Write>(&self, f: &mut fmt::Formatter<W>) -> fmt::Result {
+        write!(f, "loads k {} horizon {}", self.k, self.horizon)?;
+        for told in &self.told {
+            write!(f, "; {told}")?;
+        }
+        Ok(())
+    }
+}
+
+/// Measures each load on 2^k processors.
+pub fn measure<T: Threads + Sync>(
+    rt: &HostRuntime,
+    threads: &T,
+    k: u32,
+    horizon: u32,
+) -> Result<All> {
+    memory(rt, k, horizon)?;
+    Ok(All {
+        k,
+        horizon,
+        told: [
+            one_load(rt, threads, Load::Hot, k, horizon)?,
+            one_load(rt, threads, Load::Quiet, k, horizon)?,
+            one_load(rt, threads, Load::Uniform, k, horizon)?,
+            one_load(rt, threads, Load::Mixed, k, horizon)?,
+        ],
+    })
+}
+
+/// A settled bench, and what it takes.
+#[derive(Drop)]
+struct Held {
+    load: Load,
+    bytes: u64,
+    cells: u64,
+    bench: Box<Bench>,
+}
+
+/// The memory of a settled bench of each load: what the process has more. None is dropped before all are measured, so
+/// that no memory is used twice.
+fn memory(rt: &HostRuntime, k: u32, horizon: u32) -> Result<()> {
+    let mut all = Vec::new(rt.alloc());
+    for load in LOADS {
+        all.push(bench_held(rt, load, k, horizon)?)?;
+    }
+    for held in &all {
+        plain_memory(rt, held)?;
+    }
+    Ok(())
+}
+
+fn bench_held(rt: &HostRuntime, load: Load, k: u32, horizon: u32) -> Result<Held> {
+    let project = loaded(rt.alloc(), load, k, horizon)?;
+    let before = resident(rt)?;
+    let mut bench = opened(rt.alloc(), project)?;
+    let cells = settled(&mut bench)?;
+    let bytes = resident(rt)?.saturating_sub(before);
+    Ok(Held {
+        load,
+        bytes,
+        cells,
+        bench,
+    })
+}
+
+/// Writes what a bench takes beside the plain simulation.
+fn plain_memory(rt: &HostRuntime, held: &Held) -> Result<()> {
+    let rows = from_scratch(rt.alloc(), held.bench.project())?;
+    let beside = Beside {
+        name: "from_scratch",
+        all: bytes_of(&rows),
+        count: held.cells,
+    };
+    bytes_beside(rt, held.load, held.bytes, held.cells, beside)
+}
+
+/// How long the plain simulation takes, and dropping what it made.
+#[derive(Clone, Copy)]
+struct Plain {
+    whole: u64,
+    dropping: u64,
+}
+
+impl Plain {
+    /// The simulation of so many cells, which are all.
+    fn of(self, cells: u64) -> Beside<'static> {
+        Beside {
+            name: "from_scratch",
+            all: self.whole,
+            count: cells,
+        }
+    }
+
+    fn dropping(self) -> Beside<'static> {
+        Beside {
+            name: "of from_scratch",
+            all: self.dropping,
+            count: 1,
+        }
+    }
+}
+
+/// Simulates a project from cycle 0 on, several times.
+fn simulated(rt: &HostRuntime, project: &Project) -> Result<Plain> {
+    let (mut whole, mut dropping) = (Times::none(), Times::none());
+    for _ in 0..TIMES {
+        let since = Instant::now(rt)?;
+        let rows = from_scratch(rt.alloc(), project)?;
+        whole = whole.and(taken(rt, since)?);
+        let since = Instant::now(rt)?;
+        drop(rows);
+        dropping = dropping.and(taken(rt, since)?);
+    }
+    Ok(Plain {
+        whole: whole.best(),
+        dropping: dropping.best(),
+    })
+}
+
+/// Measures a load.
+fn one_load<T: Threads + Sync>(
+    rt: &HostRuntime,
+    threads: &T,
+    load: Load,
+    k: u32,
+    horizon: u32,
+) -> Result<Told> {
+    let project = loaded(rt.alloc(), load, k, horizon)?;
+    let plain = simulated(rt, &project)?;
+    let fresh = opened_often(rt, load, &project, plain)?;
+    let mut bench = opened(rt.alloc(), project)?;
+    edited_told(rt, threads, load, &mut bench, fresh, plain)
+}
+
+/// Measures edits and answers of a bench that had so many cells computed at first.
+fn edited_told<T: Threads + Sync>(
+    rt: &HostRuntime,
+    threads: &T,
+    load: Load,
+    bench: &mut Bench,
+    fresh: u64,
+    plain: Plain,
+) -> Result<Told> {
+    settled(bench)?;
+    Ok(Told {
+        load,
+        fresh,
+        word: edits(rt, threads, load, bench, What::Word, plain)?,
+        entry: edits(rt, threads, load, bench, What::LastEntry, plain)?,
+        depth: edits(rt, threads, load, bench, What::Depth, plain)?,
+        reply: replies(rt, threads, load, bench, plain)?,
+    })
+}
+
+/// How long a bench was opened, settled from the opening on, and dropped; how many cells were computed.
+#[derive(Clone, Copy)]
+struct Opening {
+    opening: Times,
+    settling: Times,
+    dropping: Times,
+    cells: u64,
+}
+
+/// Opens, settles and drops a bench several times: how many cells were computed.
+fn opened_often(rt: &HostRuntime, load: Load, project: &Project, plain: Plain) -> Result<u64> {
+    let mut times = Opening {
+        opening: Times::none(),
+        settling: Times::none(),
+        dropping: Times::none(),
+        cells: 0,
+    };
+    for _ in 0..TIMES {
+        times = once_more(rt, project, times)?;
+    }
+    let Opening {
+        opening,
+        settling,
+        dropping,
+        cells,
+    } = times;
+    row_beside(rt, load, "opening", opening, 1, plain.of(1))?;
+    let beside = plain.of(cells);
+    row_beside(rt, load, "fresh settling, a cell", settling, cells, beside)?;
+    row_beside(rt, load, "dropping", dropping, 1, plain.dropping())?;
+    Ok(cells)
+}
+
+fn once_more(rt: &HostRuntime, project: &Project, times: Opening) -> Result<Opening> {
+    let project = project.share()?;
+    let since = Instant::now(rt)?;
+    let mut bench = opened(rt.alloc(), project)?;
+    let opening = taken(rt, since)?;
+    let cells = settled(&mut bench)?;
+    let settling = taken(rt, since)?;
+    let since = Instant::now(rt)?;
+    drop(bench);
+    Ok(Opening {
+        opening: times.opening.and(opening),
+        settling: times.settling.and(settling),
+        dropping: times.dropping.and(taken(rt, since)?),
+        cells,
+    })
+}
+
+/// A kind of edit that is made again and again, to one value and back.
+#[derive(Clone, Copy)]
+pub enum What {
+    Word,
+    LastEntry,
+    Depth,
+}
+
+impl What {
+    fn name(self) -> &'static str {
+        match self {
+            What::Word => "a word and a reply",
+            What::LastEntry => "a last entry and a reply",
+            What::Depth => "a depth and a reply",
+        }
+    }
+
+    /// The edit that is made at this time. The entry is behind the script where there is room for one, and else its last.
+    pub fn edit(self, load: Load, time: u32) -> Edit {
+        let even = time % 2 == 0;
+        match self {
+            What::Word => Edit::Word {
+                address: 300,
+                word: if even { 5 } else { 6 },
+            },
+            What::LastEntry => Edit::Entry {
+                proc: 0,
+                index: load.entries().min(255),
+                entry: if even {
+                    ScriptEntry::Fence
+                } else {
+                    ScriptEntry::Idle(1)
+                },
+            },
+            What::Depth => Edit::Depth {
+                queue: Depths::CombForward,
+                depth: if even { 5 } else { 4 },
+            },
+        }
+    }
+}
+
+/// Edits of one kind on a settled bench, each with the last processor's first reply: how many cells the last had computed.
+fn edits<T: Threads + Sync>(
+    rt: &HostRuntime,
+    threads: &T,
+    load: Load,
+    bench: &mut Bench,
+    what: What,
+    plain: Plain,
+) -> Result<u64> {
+    let last = bench.project().processors().saturating_sub(1);
+    let mut times = Times::none();
+    let mut cells = 0;
+    for time in 0..TIMES {
+        let since = Instant::now(rt)?;
+        cells = edited(bench, what.edit(load, time))?;
+        replied(threads, bench, last)?;
+        times = times.and(taken(rt, since)?);
+    }
+    row_beside(rt, load, what.name(), times, 1, plain.of(1))?;
+    eprintln!(rt; "{load}, {}: {cells} cells", what.name())?;
+    Ok(cells)
+}
+
+/// The first replies of all processors on a settled bench, asked for anew, after an edit that changes nothing, and again:
+/// the last one.
+fn replies<T: Threads + Sync>(
+    rt: &HostRuntime,
+    threads: &T,
+    load: Load,
+    bench: &mut Bench,
+    plain: Plain,
+) -> Result<Option<Received>> {
+    let count = bench.project().processors();
+    let (mut anew, mut again) = (Times::none(), Times::none());
+    let mut reply = None;
+    for _ in 0..TIMES {
+        let same = Edit::Window(bench.project().window());
+        edited(bench, same)?;
+        let since = Instant::now(rt)?;
+        reply = all_replied(threads, bench, count, 1)?;
+        anew = anew.and(taken(rt, since)?);
+        let since = Instant::now(rt)?;
+        all_replied(threads, bench, count, AGAIN)?;
+        again = again.and(taken(rt, since)?);
+    }
+    let count = u64::from(count);
+    row_beside(rt, load, "a reply, asked anew", anew, count, plain.of(1))?;
+    let count = count.saturating_mul(u64::from(AGAIN));
+    row_beside(rt, load, "a reply, asked again", again, count, plain.of(1))?;
+    Ok(reply)
+}
+
+/// Asks for the first replies of so many processors so often: the last one.
+fn all_replied<T: Threads + Sync>(
+    threads: &T,
+    bench: &mut Bench,
+    count: u32,
+    times: u32,
+) -> Result<Option<Received>> {
+    let mut reply = None;
+    for _ in 0..times {
+        for proc in 0..count {
+            reply = replied(threads, bench, proc)?;
+        }
+    }
+    Ok(reply)
+}

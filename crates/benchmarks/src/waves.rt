@@ -1,0 +1,206 @@
+//! Waves: the cells that one thread settles by itself, and by waves of several pieces.
+ghost use Rattle.std.specs.Prelude.{◌≤◌, ◌<◌};
+
+use crate::clock::{Beside, Times, row_beside, taken};
+use crate::edits::{opened, settled};
+use crate::load::{Load, loaded};
+use anyhow::{Error, Result};
+use bench_core::Bench;
+use project_book::{Depths, Edit, Project};
+use std::alloc::Global;
+use std::thread::Threads;
+use std::time::Instant;
+use wave_workers::{Ungated, settle_wave};
+
+/// How often each thing is done.
+const TIMES: u32 = 5;
+
+/// An edit that reaches most cells from the first cycles on, to one value and back.
+#[derive(Clone, Copy)]
+enum What {
+    Depth,
+    Window,
+}
+
+impl What {
+    fn name(self) -> &'static str {
+        match self {
+            What::Depth => "cells held, a depth set",
+            What::Window => "cells held, the window set",
+        }
+    }
+
+    fn edit(self, project: &Project) -> Edit {
+        match self {
+            What::Depth => Edit::Depth {
+                queue: Depths::CombForward,
+                depth: 9u32.saturating_sub(project.depth(Depths::CombForward)),
+            },
+            What::Window => Edit::Window(9u32.saturating_sub(project.window())),
+        }
+    }
+}
+
+/// How long a bench was settled by one thread, and by waves of 1, 2 and 4 pieces.
+#[derive(Clone, Copy)]
+struct Ways {
+    alone: Times,
+    one: Times,
+    two: Times,
+    four: Times,
+    cells: u64,
+}
+
+impl Ways {
+    fn none() -> Ways {
+        Ways {
+            alone: Times::none(),
+            one: Times::none(),
+            two: Times::none(),
+            four: Times::none(),
+            cells: 0,
+        }
+    }
+
+    fn rows(self, rt: &HostRuntime, load: Load, what: &str) -> Result<()> {
+        let Ways {
+            alone,
+            one,
+            two,
+            four,
+            cells,
+        } = self;
+        let beside = Beside {
+            name: "by settle",
+            all: alone.best(),
+            count: cells,
+        };
+        eprintln!(rt; "{load}, {what}, a cell of {cells}:")?;
+        row_beside(rt, load, "waves of 1 piece", one, cells, beside)?;
+        row_beside(rt, load, "waves of 2 pieces", two, cells, beside)?;
+        row_beside(rt, load, "waves of 4 pieces", four, cells, beside)
+    }
+}
+
+/// Settles a bench by waves of so many pieces, or without: how many cells were computed.
+fn settled_by<R: Threads + Sync>(
+    alloc: Global,
+    threads: &R,
+    bench: &mut Bench,
+    pieces: usize,
+) -> Result<u64>
+    requires { pieces ≤ 16 }
+{
+    let settled = if pieces == 0 {
+        bench.settle()
+    } else {
+        settle_wave(threads, bench, vec![in alloc; Ungated; pieces]?)
+    };
+    match settled {
+        Ok(settled) => Ok(settled.computed),
+        Err(_) => Err(Error::msg("not settled")),
+    }
+}
+
+/// Settles a fresh bench so: the time, and the cells.
+fn fresh<R: Threads + Sync>(
+    rt: &HostRuntime,
+    threads: &R,
+    project: &Project,
+    pieces: usize,
+) -> Result<(u64, u64)>
+    requires { pieces ≤ 16 }
+{
+    let mut bench = opened(rt.alloc(), project.share()?)?;
+    let since = Instant::now(rt)?;
+    let cells = settled_by(rt.alloc(), threads, &mut bench, pieces)?;
+    Ok((taken(rt, since)?, cells))
+}
+
+/// Makes an edit, settles the bench so, and does both again with the edit taken back: the time, and the cells.
+fn held<R: Threads + Sync>(
+    rt: &HostRuntime,
+    threads: &R,
+    bench: &mut Bench,
+    what: What,
+    pieces: usize,
+) -> Result<(u64, u64)>
+    requires { pieces ≤ 16 }
+{
+    let since = Instant::now(rt)?;
+    bench.edit(0, what.edit(bench.project()))?;
+    let there = settled_by(rt.alloc(), threads, bench, pieces)?;
+    bench.edit(0, what.edit(bench.project()))?;
+    let back = settled_by(rt.alloc(), threads, bench, pieces)?;
+    Ok((taken(rt, since)?, there.wrapping_add(back)))
+}
+
+fn all_fresh<R: Threads + Sync>(
+    rt: &HostRuntime,
+    threads: &R,
+    load: Load,
+    project: &Project,
+) -> Result<u64> {
+    let mut ways = Ways::none();
+    for _ in 0..TIMES {
+        let (alone, cells) = fresh(rt, threads, project, 0)?;
+        ways = Ways {
+            alone: ways.alone.and(alone),
+            one: ways.one.and(fresh(rt, threads, project, 1)?.0),
+            two: ways.two.and(fresh(rt, threads, project, 2)?.0),
+            four: ways.four.and(fresh(rt, threads, project, 4)?.0),
+            cells,
+        };
+    }
+    ways.rows(rt, load, "fresh")?;
+    Ok(ways.cells)
+}
+
+fn all_held<R: Threads + Sync>(
+    rt: &HostRuntime,
+    threads: &R,
+    load: Load,
+    bench: &mut Bench,
+    what: What,
+) -> Result<u64> {
+    let mut ways = Ways::none();
+    for _ in 0..TIMES {
+        let (alone, cells) = held(rt, threads, bench, what, 0)?;
+        ways = Ways {
+            alone: ways.alone.and(alone),
+            one: ways.one.and(held(rt, threads, bench, what, 1)?.0),
+            two: ways.two.and(held(rt, threads, bench, what, 2)?.0),
+            four: ways.four.and(held(rt, threads, bench, what, 4)?.0),
+            cells,
+        };
+    }
+    ways.rows(rt, load, what.name())?;
+    Ok(ways.cells)
+}
+
+/// Measures the waves of a load: how many cells a fresh bench has, and two edits have computed, there and back.
+pub fn measure<R: Threads + Sync>(
+    rt: &HostRuntime,
+    threads: &R,
+    load: Load,
+    k: u32,
+    horizon: u32,
+) -> Result<(u64, u64, u64)> {
+    let project = loaded(rt.alloc(), load, k, horizon)?;
+    let fresh = all_fresh(rt, threads, load, &project)?;
+    let mut bench = opened(rt.alloc(), project)?;
+    let (depth, window) = both_held(rt, threads, load, &mut bench)?;
+    Ok((fresh, depth, window))
+}
+
+fn both_held<R: Threads + Sync>(
+    rt: &HostRuntime,
+    threads: &R,
+    load: Load,
+    bench: &mut Bench,
+) -> Result<(u64, u64)> {
+    settled(bench)?;
+    let depth = all_held(rt, threads, load, bench, What::Depth)?;
+    let window = all_held(rt, threads, load, bench, What::Window)?;
+    Ok((depth, window))
+}
