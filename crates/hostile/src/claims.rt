@@ -1,6 +1,6 @@
 //! Claims that are dropped, and results that are given twice, elsewhere or late, to a bench in one thread.
 use crate::benches::{is_simulated, word};
-use crate::sessions::{base, bench_of};
+use crate::sessions::{bench_of, fresh, other};
 use bench_core::Bench;
 use cell_table::{Cell, Done, Given};
 use machine_cells::Rp3;
@@ -46,7 +46,10 @@ impl Came {
 
 /// The result of the first claimable cell at or after one.
 fn result(bench: &Bench, from: Cell) -> Option<Done<Rp3>> {
-    bench.claim(from).ok()??.compute().ok()
+    match bench.claim(from) {
+        Ok(Some(claim)) => claim.compute().ok(),
+        _ => None,
+    }
 }
 
 /// Whether a bench is settled by so many cells, and then holds the plain simulation.
@@ -59,7 +62,7 @@ fn settles<R: Threads + Sync>(rt: &R, alloc: Global, bench: &mut Bench, cells: u
 
 /// Ten thousand claims, each of the first cell, since none is given; all 66 cells are due after.
 pub(crate) fn dropped<R: Threads + Sync>(rt: &R, alloc: Global) -> Option<u32> {
-    let mut bench = bench_of(alloc, base(alloc)?, 0)?;
+    let mut bench = fresh(alloc)?;
     let held = drops(&bench);
     if settles(rt, alloc, &mut bench, 66) {
         held
@@ -81,12 +84,15 @@ fn drops(bench: &Bench) -> Option<u32> {
 
 /// The first claimable cell.
 fn first_cell(bench: &Bench) -> Option<Cell> {
-    Some(bench.claim(FIRST).ok()??.cell())
+    match bench.claim(FIRST) {
+        Ok(Some(claim)) => Some(claim.cell()),
+        _ => None,
+    }
 }
 
 /// Two results for each cell, both given: the first is stored, and then the cell isn't due.
 pub(crate) fn twice<R: Threads + Sync>(rt: &R, alloc: Global) -> Option<u32> {
-    let mut bench = bench_of(alloc, base(alloc)?, 0)?;
+    let mut bench = fresh(alloc)?;
     let held = all_twice(&mut bench);
     if settles(rt, alloc, &mut bench, 0) {
         held
@@ -119,9 +125,9 @@ fn given_twice(bench: &mut Bench) -> Option<(Came, Came)> {
 /// foreign, and the cell's own one is given in their place, so that both clocks go on as one; all others are as good as own
 /// ones.
 pub(crate) fn elsewhere<R: Threads + Sync>(rt: &R, alloc: Global) -> Option<u32> {
-    let mut here = bench_of(alloc, base(alloc)?, 0)?;
-    let (project, _) = base(alloc)?.apply(word(0, 11)).ok()?;
-    let mut there = bench_of(alloc, project, 0)?;
+    let mut here = fresh(alloc)?;
+    let other = other(alloc)?;
+    let mut there = bench_of(alloc, other, 0)?;
     let held = all_elsewhere(&mut here, &mut there);
     if settles(rt, alloc, &mut there, 0) {
         held
@@ -162,7 +168,9 @@ const MODULE: Cell = Cell {
 /// Makes edits, each accepted.
 fn edited(bench: &mut Bench, edits: &[Edit]) -> Option<()> {
     for edit in edits {
-        bench.edit(0, *edit).ok()?;
+        if bench.edit(0, *edit).is_err() {
+            return None;
+        }
     }
     Some(())
 }
@@ -170,7 +178,7 @@ fn edited(bench: &mut Bench, edits: &[Edit]) -> Option<()> {
 /// A thousand times: a word is another one, so that both modules at cycle 0 are due; the result for one is held while the
 /// word is set away and back, and is overtaken; another is held while a script changes that no module reads, and is stored.
 pub(crate) fn over_edits<R: Threads + Sync>(rt: &R, alloc: Global) -> Option<u32> {
-    let mut bench = bench_of(alloc, base(alloc)?, 0)?;
+    let mut bench = fresh(alloc)?;
     let held = all_over_edits(&mut bench);
     if is_settled(rt, alloc, &mut bench) {
         held
@@ -217,7 +225,7 @@ const FENCE: Edit = Edit::Entry {
 /// A hundred times: cycle 11 is new, and the results of its six cells are held. Three are given while it is cut off, and the
 /// three others once it is there again: those cells are gone, and these are new since. Then it is cut off for good.
 pub(crate) fn over_horizons<R: Threads + Sync>(rt: &R, alloc: Global) -> Option<u32> {
-    let mut bench = bench_of(alloc, base(alloc)?, 0)?;
+    let mut bench = fresh(alloc)?;
     let held = all_over_horizons(alloc, &mut bench);
     if is_settled(rt, alloc, &mut bench) {
         held
@@ -256,7 +264,9 @@ fn last_results(alloc: Global, bench: &Bench) -> Option<Vec<Done<Rp3>>> {
                 component,
             },
         )?;
-        results.push(done).ok()?;
+        if results.push(done).is_err() {
+            return None;
+        }
     }
     Some(results)
 }

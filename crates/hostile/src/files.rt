@@ -59,7 +59,9 @@ pub(crate) fn damaged(alloc: Global) -> Option<u32> {
 
 /// Whether the file with this byte at a place is no document.
 fn is_refused_with(alloc: Global, place: usize, byte: u8) -> Option<bool> {
-    let mut bytes = Vec::from_slice(alloc, BASE.as_bytes()).ok()?;
+    let Ok(mut bytes) = Vec::from_slice(alloc, BASE.as_bytes()) else {
+        return None;
+    };
     if let Some(at) = bytes.get_mut(place) {
         *at = byte;
     }
@@ -72,54 +74,55 @@ const SMALL: &str = "format = 1\nk = 0\nhorizon = 0\n";
 /// The same with the key.
 const KEY: &str = "format = 1\nk = 0\nhorizon = 0\na = ";
 
-/// Files with something nested: what stands before it, what opens it so many times, what it holds, what closes it as often,
-/// and the number of the file's fault. Of keys, tables and arrays in one another 80 are read, and then the key isn't known.
-const NESTED: [(&str, &str, u32, &str, &str, u8); 15] = [
-    ("", "[", 100_000, "", "", 2),
-    ("", "{", 100_000, "", "", 2),
-    ("", "\"", 100_000, "", "", 2),
-    ("", "a.", 100_000, "", "", 2),
-    (KEY, "[", 100_000, "", "]", 2),
-    (KEY, "{a = ", 100_000, "1", "}", 2),
-    (KEY, "[", 1_000, "", "]", 2),
-    (KEY, "[", 80, "", "]", 4),
-    (KEY, "{a = ", 1_000, "1", "}", 2),
-    (KEY, "{a = ", 70, "1", "}", 4),
-    (SMALL, "a.", 1_000, "a = 1", "", 2),
-    (SMALL, "a.", 79, "a = 1", "", 4),
-    ("[", "a.", 1_000, "a]", "", 2),
-    ("[", "a.", 79, "a]", "", 3),
-    ("[[", "a.", 1_000, "a]]", "", 2),
+/// What stands before something nested, what opens it, what it holds, and what closes it.
+type Nested = (&'static str, &'static str, &'static str, &'static str);
+
+/// Files with something nested so many times, and the number of the file's fault. Of keys, tables and arrays in one another 80
+/// are read, and then the key isn't known.
+const NESTED: &[(Nested, u32, u8)] = &[
+    (("", "[", "", ""), 100_000, 2),
+    (("", "{", "", ""), 100_000, 2),
+    (("", "\"", "", ""), 100_000, 2),
+    (("", "a.", "", ""), 100_000, 2),
+    ((KEY, "[", "", "]"), 100_000, 2),
+    ((KEY, "{a = ", "1", "}"), 100_000, 2),
+    ((KEY, "[", "", "]"), 1_000, 2),
+    ((KEY, "[", "", "]"), 80, 4),
+    ((KEY, "{a = ", "1", "}"), 1_000, 2),
+    ((KEY, "{a = ", "1", "}"), 70, 4),
+    ((SMALL, "a.", "a = 1", ""), 1_000, 2),
+    ((SMALL, "a.", "a = 1", ""), 79, 4),
+    (("[", "a.", "a]", ""), 1_000, 2),
+    (("[", "a.", "a]", ""), 79, 3),
+    (("[[", "a.", "a]]", ""), 1_000, 2),
 ];
 
 /// Adds a piece so many times.
 fn add(text: &mut String, piece: &str, times: u32) -> Option<()> {
     for _ in 0..times {
-        text.push_str(piece).ok()?;
+        if text.push_str(piece).is_err() {
+            return None;
+        }
     }
     Some(())
 }
 
-/// Adds the text of such a file.
-fn add_nested(
-    text: &mut String,
-    front: &str,
-    (opens, holds, closes): (&str, &str, &str),
-    times: u32,
-) -> Option<()> {
-    add(text, front, 1)?;
-    add(text, opens, times)?;
-    add(text, holds, 1)?;
-    add(text, closes, times)
+/// The text of such a file.
+fn nested(alloc: Global, (front, opens, holds, closes): Nested, times: u32) -> Option<String> {
+    let mut text = String::new(alloc);
+    add(&mut text, front, 1)?;
+    add(&mut text, opens, times)?;
+    add(&mut text, holds, 1)?;
+    add(&mut text, closes, times)?;
+    Some(text)
 }
 
 /// A byte that no UTF-8 has, and files with something nested.
 pub(crate) fn deep(alloc: Global) -> Option<u32> {
     let mut held = 0u32;
-    for (front, opens, times, holds, closes, number) in NESTED {
-        let mut text = String::new(alloc);
-        add_nested(&mut text, front, (opens, holds, closes), times)?;
-        if !is_refused(alloc, text.as_bytes(), number) {
+    for (kind, times, number) in NESTED {
+        let text = nested(alloc, *kind, *times)?;
+        if !is_refused(alloc, text.as_bytes(), *number) {
             return None;
         }
         held = held.saturating_add(1);

@@ -118,7 +118,8 @@ fn goes_beside<R: Host>(rt: &R, pass: &mut Pass, beside: Beside, board: &Board) 
 
 /// A pass to a settled bench of the base project, to which an edit was made, and another for a worker.
 fn opened<R: Host>(rt: &R, alloc: Global, first: Edit) -> Option<(Pass, Pass)> {
-    let mut pass = pass_to(alloc, base(alloc)?, 0, 3)?;
+    let project = base(alloc)?;
+    let mut pass = pass_to(alloc, project, 0, 3)?;
     if asked(rt, &mut pass).is_none() || pass.edit(rt, first).is_err() {
         return None;
     }

@@ -2,7 +2,7 @@
 ghost use Rattle.std.specs.Prelude.{◌<◌, ◌≤◌};
 
 use bench_core::Bench;
-use project_book::{Edit, Project};
+use project_book::Project;
 use project_file::read_project;
 use shared_bench::{Pass, open};
 use std::alloc::Global;
@@ -62,9 +62,37 @@ ok 3 1
 ok 3 1:300
 ";
 
+/// The same with the horizon 8, and with word 0 at 11.
+const SHORT: &str = "format = 1
+k = 1
+horizon = 8
+page = [{number = 0, amount = 0, base = 0}, {number = 1, amount = 0, base = 1}]
+word = [{address = 0, value = 10}]
+";
+
+const OTHER: &str = "format = 1
+k = 1
+horizon = 10
+page = [{number = 0, amount = 0, base = 0}, {number = 1, amount = 0, base = 1}]
+word = [{address = 0, value = 11}]
+";
+
+/// The project of a file.
+fn project_of(alloc: Global, file: &str) -> Option<Project> {
+    match read_project(alloc, file.as_bytes()) {
+        Ok(project) => Some(project),
+        Err(_) => None,
+    }
+}
+
 /// The base project.
 pub(crate) fn base(alloc: Global) -> Option<Project> {
-    read_project(alloc, BASE.as_bytes()).ok()
+    project_of(alloc, BASE)
+}
+
+/// The base project with word 0 at 11.
+pub(crate) fn other(alloc: Global) -> Option<Project> {
+    project_of(alloc, OTHER)
 }
 
 /// A bench of a project, with no cell computed. It stands in a box, since each way out of a function costs its proof
@@ -74,17 +102,26 @@ pub(crate) fn bench_of(alloc: Global, project: Project, clock: u64) -> Option<Bo
     Box::new(alloc, bench).ok()
 }
 
+/// A bench of the base project.
+pub(crate) fn fresh(alloc: Global) -> Option<Box<Bench>> {
+    let project = base(alloc)?;
+    bench_of(alloc, project, 0)
+}
+
 /// A pass to a fresh bench of a project, with so many seats.
 pub(crate) fn pass_to(alloc: Global, project: Project, clock: u64, seats: u32) -> Option<Pass>
     requires { (0 < seats) × (seats ≤ 64) }
 {
     let bench = bench_of(alloc, project, clock)?;
-    open(alloc, Box::into_inner(bench), seats).ok()
+    match open(alloc, Box::into_inner(bench), seats) {
+        Ok(pass) => Some(pass),
+        Err(_) => None,
+    }
 }
 
 /// A bench for the session.
 pub(crate) fn desk(alloc: Global) -> Option<Box<Bench>> {
-    let (project, _) = base(alloc)?.apply(Edit::Horizon(8)).ok()?;
+    let project = project_of(alloc, SHORT)?;
     bench_of(alloc, project, 0)
 }
 

@@ -84,9 +84,8 @@ fn is_spent(told: Told) -> bool {
 
 /// The result of this very cell.
 pub(crate) fn result<R: Host>(rt: &R, pass: &mut Pass, cell: Cell) -> Option<Done<Rp3>> {
-    let claim = pass.claim(rt, cell).ok()??;
-    if claim.cell() != cell {
-        return None;
+    match pass.claim(rt, cell) {
+        Ok(Some(claim)) if claim.cell() == cell => claim.compute().ok(),
+        _ => None,
     }
-    claim.compute().ok()
 }

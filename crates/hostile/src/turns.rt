@@ -1,7 +1,7 @@
 //! Stories played by two passes in two threads, each of which waits for the other's steps.
 use crate::benches::{tells_simulated, word};
 use crate::claims::{Came, STORED};
-use crate::sessions::{base, pass_to};
+use crate::sessions::{base, other, pass_to};
 use crate::stories::{Host, Step, comes, result};
 use cell_table::{Cell, Done};
 use machine_cells::Rp3;
@@ -83,7 +83,8 @@ fn plays<R: Host>(
 
 /// Two passes to a bench of the base project.
 fn passes(alloc: Global, clock: u64) -> Option<(Pass, Pass)> {
-    let mut one = pass_to(alloc, base(alloc)?, clock, 2)?;
+    let project = base(alloc)?;
+    let mut one = pass_to(alloc, project, clock, 2)?;
     match one.split() {
         Ok(other) => Some((one, other)),
         Err(_) => None,
@@ -228,7 +229,8 @@ pub(crate) fn played<R: Host>(rt: &R, alloc: Global) -> Option<u32> {
 
 /// The result of a component at cycle 0, computed by a pass to a bench of its own, whose word 0 is 10.
 fn made_elsewhere<R: Host>(rt: &R, alloc: Global, component: u32) -> Option<Done<Rp3>> {
-    let mut pass = pass_to(alloc, base(alloc)?, 0, 1)?;
+    let project = base(alloc)?;
+    let mut pass = pass_to(alloc, project, 0, 1)?;
     let cell = Cell {
         cycle: 0,
         component,
@@ -244,7 +246,7 @@ fn given_elsewhere<R: Host>(rt: &R, alloc: Global) -> Option<bool> {
         || made_elsewhere(rt, alloc, 2),
         || made_elsewhere(rt, alloc, 0),
     );
-    let (project, _) = base(alloc)?.apply(word(0, 11)).ok()?;
+    let project = other(alloc)?;
     let mut pass = pass_to(alloc, project, 0, 1)?;
     let came = (
         given(rt, &mut pass, module),
@@ -255,5 +257,6 @@ fn given_elsewhere<R: Host>(rt: &R, alloc: Global) -> Option<bool> {
 
 /// What comes of a result that is given, where there is one.
 fn given<R: Host>(rt: &R, pass: &mut Pass, done: Option<Done<Rp3>>) -> Option<Came> {
-    Some(Came::of(pass.give(rt, done?)))
+    let done = done?;
+    Some(Came::of(pass.give(rt, done)))
 }

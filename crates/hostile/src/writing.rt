@@ -22,12 +22,11 @@ impl Write for Taking {
     fn write(&mut self, buf: &[u8]) -> Result<usize> {
         if self.calls == 0 {
             self.failed_write = true;
-        }
-        if self.calls == 0 && self.fails {
-            return Err(Error::from(ErrorKind::Other));
-        }
-        if self.calls == 0 {
-            return Ok(0);
+            return if self.fails {
+                Err(Error::from(ErrorKind::Other))
+            } else {
+                Ok(0)
+            };
         }
         self.calls -= 1;
         let most = self.most.min(buf.len());
