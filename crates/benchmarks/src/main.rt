@@ -19,8 +19,6 @@ mod load;
 mod loads;
 mod parts;
 mod scratch;
-#[cfg(test)]
-mod tests;
 mod turns;
 mod waves;
 mod workers;
