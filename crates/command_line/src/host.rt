@@ -56,6 +56,8 @@ pub fn program<H: Host, R: Read, W: Write>(rt: &H, reader: &mut R, writer: &mut 
 fn ended<H: Host>(rt: &H, stop: &Stop<'_>) -> ExitCode {
     let end = stop.end();
     let _ = match stop {
+        // What clap would say of the words is then that there is no memory.
+        Stop::Words(_) if matches!(end, End::CannotStart) => eprintln!(rt; "{end}"),
         Stop::Words(error) => error.print(rt),
         Stop::At(End::Ended | End::Words) => Ok(()),
         Stop::Refused(_, Some(place)) => eprintln!(rt; "{end}\nhotspot: {place}"),
