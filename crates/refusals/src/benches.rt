@@ -2,11 +2,11 @@
 use crate::again::again;
 use crate::projects::{EDITS, FILE, is_order, project_of};
 use bench_core::{Asked, Bench};
-use cell_table::{Cell, Done, Given, SettleFault};
-use machine_cells::{Rp3, from_scratch};
+use cell_table::{Cell, Claim, Done, Given, SettleFault};
+use machine_cells::{MachineState, Rp3, from_scratch};
 use monitor_sums::Counter;
 use omega_net::Net;
-use project_book::EditFault;
+use project_book::{Edit, EditFault};
 use run_queries::{Body, Query};
 use serial_order::Ordered;
 use std::alloc::Global;
@@ -69,10 +69,9 @@ pub(crate) fn bench_of(alloc: Global, file: &str) -> Option<Box<Bench>> {
 /// The same, with every cell computed.
 fn whole(alloc: Global) -> Option<Box<Bench>> {
     let mut bench = fresh(alloc)?;
-    if bench.settle().is_ok() || bench.settle().is_ok() {
-        Some(bench)
-    } else {
-        None
+    match settles(&mut bench) {
+        Some(_) => Some(bench),
+        None => None,
     }
 }
 
@@ -87,60 +86,79 @@ pub(crate) fn edited<R: Threads + Sync>(rt: &R, alloc: Global) -> bool {
     let Some(mut bench) = whole(alloc) else {
         return false;
     };
-    for edit in EDITS {
-        let before = look_at(rt, &mut bench);
-        let next = before.version.saturating_add(1);
-        let holds = match bench.edit(0, edit) {
-            Ok(version) => version == next,
-            Err(EditFault::Memory) => {
-                look_at(rt, &mut bench) == before && bench.edit(0, edit) == Ok(next)
-            }
-            Err(_) => false,
-        };
-        if !holds {
-            return false;
-        }
+    are_made(rt, &mut bench, &EDITS)
+}
+
+/// Whether each edit is made.
+pub(crate) fn are_made<R: Threads + Sync>(rt: &R, bench: &mut Bench, edits: &[Edit]) -> bool {
+    let mut all = true;
+    for edit in edits {
+        all &= is_made(rt, bench, *edit);
     }
-    true
+    all
+}
+
+/// Whether an edit is made; where memory is wanting the bench is as before, and the edit is made again.
+fn is_made<R: Threads + Sync>(rt: &R, bench: &mut Bench, edit: Edit) -> bool {
+    let before = look_at(rt, bench);
+    let next = before.version.saturating_add(1);
+    match bench.edit(0, edit) {
+        Ok(version) => version == next,
+        Err(EditFault::Memory) => {
+            look_at(rt, bench) == before && bench.edit(0, edit) == Ok(next)
+        }
+        Err(_) => false,
+    }
+}
+
+/// Settles, over again where memory is wanting: how many cells both calls computed.
+pub(crate) fn settles(bench: &mut Bench) -> Option<u64> {
+    match bench.settle() {
+        Ok(settled) => Some(settled.computed),
+        Err(SettleFault::Memory { computed }) => match bench.settle() {
+            Ok(settled) => Some(computed.saturating_add(settled.computed)),
+            Err(_) => None,
+        },
+        Err(SettleFault::ClockSpent { .. }) => None,
+    }
 }
 
 /// What was computed stays: the counts of the calls add up to all cells, and then each state is that of the simulation.
 pub(crate) fn settled<R: Threads + Sync>(rt: &R, alloc: Global) -> bool {
-    let Some(mut bench) = fresh(alloc) else {
-        return false;
-    };
-    let computed = match bench.settle() {
-        Ok(settled) => settled.computed,
-        Err(SettleFault::Memory { computed }) => match bench.settle() {
-            Ok(settled) => computed.saturating_add(settled.computed),
-            Err(_) => return false,
-        },
-        Err(_) => return false,
-    };
-    computed == 42 && is_simulated(rt, alloc, &mut bench)
+    match fresh(alloc) {
+        Some(mut bench) => settles(&mut bench) == Some(42) && is_simulated(rt, alloc, &mut bench),
+        None => false,
+    }
 }
 
 /// Whether each state that the bench answers is that of the plain simulation.
 pub(crate) fn is_simulated<R: Threads + Sync>(rt: &R, alloc: Global, bench: &mut Bench) -> bool {
-    let Some(rows) = again(|| from_scratch(alloc, bench.project())) else {
+    let Some(rows) = again!(from_scratch(alloc, bench.project())) else {
         return false;
     };
     let mut cycle = 0u32;
     for row in &rows {
-        let mut component = 0u32;
-        for state in row {
-            let query = Query::State { component, cycle };
-            let told = answer(rt, bench, query);
-            let same = match &told {
-                Some(Body::State(held)) => held.state().same(state),
-                _ => false,
-            };
-            if !same {
-                return false;
-            }
-            component = component.saturating_add(1);
+        if !is_row(rt, bench, cycle, row) {
+            return false;
         }
         cycle = cycle.saturating_add(1);
+    }
+    true
+}
+
+/// Whether the bench answers these states of a cycle.
+fn is_row<R: Threads + Sync>(rt: &R, bench: &mut Bench, cycle: u32, row: &[MachineState]) -> bool {
+    let mut component = 0u32;
+    for state in row {
+        let told = answer(rt, bench, Query::State { component, cycle });
+        let same = match &told {
+            Some(Body::State(held)) => held.state().same(state),
+            _ => false,
+        };
+        if !same {
+            return false;
+        }
+        component = component.saturating_add(1);
     }
     true
 }
@@ -167,22 +185,30 @@ pub(crate) fn given<R: Threads + Sync>(rt: &R, alloc: Global) -> bool {
         cycle: 0,
         component: 0,
     };
+    let mut all = true;
     for _ in 0..42 {
-        let Some(Some(claim)) = again(|| bench.claim(from)) else {
-            return false;
-        };
-        let done = match claim.compute() {
-            Ok(done) => done,
-            Err(claim) => match claim.compute() {
-                Ok(done) => done,
-                Err(_) => return false,
-            },
-        };
-        if !is_stored(rt, &mut bench, done) {
-            return false;
-        }
+        all &= is_done(rt, &mut bench, from);
     }
-    matches!(again(|| bench.claim(from)), Some(None)) && is_simulated(rt, alloc, &mut bench)
+    all && matches!(again!(bench.claim(from)), Some(None)) && is_simulated(rt, alloc, &mut bench)
+}
+
+/// Whether the result of the first claimable cell is stored.
+fn is_done<R: Threads + Sync>(rt: &R, bench: &mut Bench, from: Cell) -> bool {
+    match again!(bench.claim(from)) {
+        Some(Some(claim)) => match computed(claim) {
+            Some(done) => is_stored(rt, bench, done),
+            None => false,
+        },
+        _ => false,
+    }
+}
+
+/// The result of a claim. One that isn't computed comes back.
+pub(crate) fn computed(claim: Claim<Rp3>) -> Option<Done<Rp3>> {
+    match claim.compute() {
+        Ok(done) => Some(done),
+        Err(claim) => claim.compute().ok(),
+    }
 }
 
 /// Whether a result is stored; where memory is wanting it comes back, the bench is as before, and it is given again.
@@ -223,25 +249,29 @@ pub(crate) fn asked<R: Threads + Sync>(rt: &R, alloc: Global) -> bool {
         Query::Bound { a: 1, b: 10, p: 2 },
         Query::Place { address: 300 },
     ];
+    let mut all = true;
     for query in queries {
-        if answer(rt, &mut bench, query).is_none() {
-            return false;
-        }
+        all &= is_told(rt, &mut bench, query);
     }
-    true
+    all
+}
+
+/// Whether a query is answered, and answered again from what was kept of it.
+fn is_told<R: Threads + Sync>(rt: &R, bench: &mut Bench, query: Query) -> bool {
+    answer(rt, bench, query).is_some() && answer(rt, bench, query).is_some()
 }
 
 /// By the states that the bench holds, and, with cells due, by a simulation.
 pub(crate) fn ordered(alloc: Global) -> bool {
-    let (Some(whole), Some(fresh)) = (whole(alloc), fresh(alloc)) else {
-        return false;
-    };
-    is_ordered(&whole) && is_ordered(&fresh)
+    is_ordered(whole(alloc)) && is_ordered(fresh(alloc))
 }
 
-fn is_ordered(bench: &Bench) -> bool {
-    match bench.order(0) {
-        Ordered::Memory => is_order(&bench.order(0)),
-        ordered => is_order(&ordered),
+fn is_ordered(bench: Option<Box<Bench>>) -> bool {
+    match bench {
+        Some(bench) => match bench.order(0) {
+            Ordered::Memory => is_order(&bench.order(0)),
+            ordered => is_order(&ordered),
+        },
+        None => false,
     }
 }

@@ -42,11 +42,10 @@ fn starts(alloc: Global, project: &Project, c: u32, want: &MachineState) -> bool
     if c >= Rp3::components(project) {
         return false;
     }
-    let state = match Rp3::start(alloc, project, c) {
-        Ok(state) => Some(state),
-        Err(_) => Rp3::start(alloc, project, c).ok(),
-    };
-    matches!(state, Some(state) if Rp3::same(&state, want))
+    match again!(Rp3::start(alloc, project, c)) {
+        Some(state) => Rp3::same(&state, want),
+        None => false,
+    }
 }
 
 /// Whether a component steps so, from near states that are shared and from the same ones that are lent.
@@ -60,52 +59,92 @@ fn steps(
     if c >= Rp3::components(project) {
         return false;
     }
-    let Some(near) = again(|| near_states(alloc, project, row, c)) else {
+    let Some(near) = again!(near_states(alloc, project, row, c)) else {
         return false;
     };
-    let state = match Rp3::step(alloc, project, &near, c) {
-        Ok(state) => Some(state),
-        Err(_) => Rp3::step(alloc, project, &near, c).ok(),
+    let is_same = match again!(Rp3::step(alloc, project, &near, c)) {
+        Some(state) => Rp3::same(&state, want),
+        None => false,
     };
-    let Some(lent) = again(|| lent(&near, alloc)) else {
+    is_same && again!(goes_on_lent(alloc, project, &near, c, want)) == Some(true)
+}
+
+/// Whether a component's next state from near ones that are shared, and lent from there, is this.
+fn goes_on_lent(
+    alloc: Global,
+    project: &Project,
+    near: &[Arc<MachineState>],
+    c: u32,
+    want: &MachineState,
+) -> Result<bool, NoMemory> {
+    let lent = lent(near, alloc)?;
+    Ok(goes_on(alloc, project, &lent, c, want))
+}
+
+/// Whether a component's next state from near ones that are lent is this.
+fn goes_on(
+    alloc: Global,
+    project: &Project,
+    lent: &[&MachineState],
+    c: u32,
+    want: &MachineState,
+) -> bool {
+    if c >= Rp3::components(project) {
         return false;
-    };
-    let next = match Rp3::next(alloc, project, &lent, c) {
-        Ok(next) => Some(next),
-        Err(_) => Rp3::next(alloc, project, &lent, c).ok(),
-    };
-    let goes_on = match (&next, lent.first()) {
-        (Some(Some(next)), _) => Rp3::same(next, want),
-        (Some(None), Some(own)) => Rp3::same(*own, want),
-        _ => false,
-    };
-    matches!(&state, Some(state) if Rp3::same(state, want)) && goes_on
+    }
+    match again!(Rp3::next(alloc, project, lent, c)) {
+        Some(Some(next)) => Rp3::same(&next, want),
+        Some(None) => match lent.first() {
+            Some(own) => Rp3::same(*own, want),
+            None => false,
+        },
+        None => false,
+    }
 }
 
 /// Each start, and the steps of the first cycles, are those of the plain simulation.
 pub(crate) fn stepped(alloc: Global) -> bool {
-    let Some(project) = project(alloc) else {
+    let Some(project) = shared(alloc) else {
         return false;
     };
-    let Some(project) = again(|| Rp3::share(alloc, &project)) else {
-        return false;
-    };
-    let Some(rows) = again(|| from_scratch(alloc, &project)) else {
-        return false;
-    };
-    let Some(first) = rows.first() else {
-        return false;
-    };
+    match again!(from_scratch(alloc, &project)) {
+        Some(rows) => {
+            let first = rows.first();
+            matches!(first, Some(first) if all_start(alloc, &project, first))
+                && all_step(alloc, &project, &rows)
+        }
+        None => false,
+    }
+}
+
+/// The project with an owner more.
+fn shared(alloc: Global) -> Option<Project> {
+    let project = project(alloc)?;
+    again!(Rp3::share(alloc, &project))
+}
+
+/// Whether the components start so.
+fn all_start(alloc: Global, project: &Project, first: &[MachineState]) -> bool {
     let mut c = 0u32;
     for want in first {
-        if !starts(alloc, &project, c, want) {
+        if !starts(alloc, project, c, want) {
             return false;
         }
         c = c.saturating_add(1);
     }
-    rows.iter()
-        .zip(rows.iter().skip(1))
-        .all(|(row, next)| steps_to(alloc, &project, row, next))
+    true
+}
+
+/// Whether each row's components step to the next row.
+fn all_step(alloc: Global, project: &Project, rows: &[Vec<MachineState>]) -> bool {
+    for pair in rows.windows(2) {
+        if let [row, next] = pair {
+            if !steps_to(alloc, project, row, next) {
+                return false;
+            }
+        }
+    }
+    true
 }
 
 /// Whether each component steps from one row to the next.
@@ -125,18 +164,17 @@ pub(crate) fn listed(alloc: Global) -> bool {
     let Some(project) = project(alloc) else {
         return false;
     };
-    for (slot, count) in [
-        (Slot::Word(300), 2),
-        (Slot::Entry(0, 0), 1),
-        (Slot::Page(1), 4),
-        (Slot::Depth(Depths::ModuleQueue), 4),
-    ] {
-        match again(|| Rp3::readers(alloc, &project, &slot)) {
-            Some(readers) if readers.len() == count => {}
-            _ => return false,
-        }
+    has_readers(alloc, &project, Slot::Word(300), 2)
+        && has_readers(alloc, &project, Slot::Entry(0, 0), 1)
+        && has_readers(alloc, &project, Slot::Page(1), 4)
+        && has_readers(alloc, &project, Slot::Depth(Depths::ModuleQueue), 4)
+}
+
+fn has_readers(alloc: Global, project: &Project, slot: Slot, count: usize) -> bool {
+    match again!(Rp3::readers(alloc, project, &slot)) {
+        Some(readers) => readers.len() == count,
+        None => false,
     }
-    true
 }
 
 /// The states of each cycle, lent.
@@ -173,19 +211,33 @@ pub(crate) fn reported<R: Threads + Sync>(rt: &R, alloc: Global) -> bool {
     let Some(project) = project(alloc) else {
         return false;
     };
-    let Some(rows) = again(|| from_scratch(alloc, &project)) else {
+    let Some(rows) = again!(from_scratch(alloc, &project)) else {
         return false;
     };
-    let Some(rows) = again(|| lent_rows(alloc, &rows)) else {
-        return false;
-    };
-    let tree = match tree_of(rt, alloc, &project, &rows) {
-        Ok(tree) => Some(tree),
-        Err(_) => tree_of(rt, alloc, &project, &rows).ok(),
-    };
-    match tree {
+    again!(is_reported_lent(rt, alloc, &project, &rows)) == Some(true)
+}
+
+/// The same, of states that are lent.
+fn is_reported_lent<R: Threads + Sync>(
+    rt: &R,
+    alloc: Global,
+    project: &Project,
+    rows: &[Vec<MachineState>],
+) -> Result<bool, NoMemory> {
+    let rows = lent_rows(alloc, rows)?;
+    Ok(is_reported(rt, alloc, project, &rows))
+}
+
+/// Whether the tree has seven levels, none of which is full.
+fn is_reported<R: Threads + Sync>(
+    rt: &R,
+    alloc: Global,
+    project: &Project,
+    rows: &[Vec<&MachineState>],
+) -> bool {
+    match again!(tree_of(rt, alloc, project, rows)) {
         Some(tree) => {
-            tree.levels.as_slice() == [0, 0, 0, 0, 0, 0, 0].as_slice()
+            tree.levels.as_slice() == [0; 7].as_slice()
                 && tree.first.as_slice() == [None].as_slice()
         }
         None => false,

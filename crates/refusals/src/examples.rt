@@ -1,11 +1,9 @@
 //! Examples 12.1 to 12.3, at the base project.
-use crate::benches::{Looks, bench_of, is_simulated, look_at};
+use crate::benches::{are_made, bench_of, is_simulated, settles};
 use crate::runs::{holds, room};
-use bench_core::Bench;
 use bench_shell::{RunFault, run};
-use cell_table::SettleFault;
 use omega_net::ScriptEntry;
-use project_book::{Edit, EditFault};
+use project_book::Edit;
 use std::alloc::Global;
 use std::thread::Threads;
 
@@ -22,17 +20,6 @@ pub(crate) fn settled<R: Threads + Sync>(rt: &R, alloc: Global) -> bool {
     match bench_of(alloc, BASE) {
         Some(mut bench) => settles(&mut bench) == Some(66) && is_simulated(rt, alloc, &mut bench),
         None => false,
-    }
-}
-
-/// How many cells are computed, in two calls where memory is wanting.
-fn settles(bench: &mut Bench) -> Option<u64> {
-    match bench.settle() {
-        Ok(settled) => Some(settled.computed),
-        Err(SettleFault::Memory { computed }) => {
-            Some(computed.saturating_add(bench.settle().ok()?.computed))
-        }
-        Err(SettleFault::ClockSpent { .. }) => None,
     }
 }
 
@@ -55,28 +42,7 @@ pub(crate) fn edited<R: Threads + Sync>(rt: &R, alloc: Global) -> bool {
     let Some(mut bench) = bench_of(alloc, BASE) else {
         return false;
     };
-    if settles(&mut bench) != Some(66) {
-        return false;
-    }
-    for edit in EDITS {
-        if !is_made(rt, &mut bench, edit) {
-            return false;
-        }
-    }
-    true
-}
-
-/// Whether an edit is made, over again where memory is wanting.
-fn is_made<R: Threads + Sync>(rt: &R, bench: &mut Bench, edit: Edit) -> bool {
-    let before: Looks = look_at(rt, bench);
-    let next = before.version.saturating_add(1);
-    match bench.edit(0, edit) {
-        Ok(version) => version == next,
-        Err(EditFault::Memory) => {
-            look_at(rt, bench) == before && bench.edit(0, edit) == Ok(next)
-        }
-        Err(_) => false,
-    }
+    settles(&mut bench) == Some(66) && are_made(rt, &mut bench, &EDITS)
 }
 
 /// The lines of example 18, which begin with the horizon here.

@@ -6,19 +6,18 @@ use std::alloc::Global;
 
 /// Seeds 1, 2, 4, of which the first place adds 2. Its cycles 0 to 2 are 1 2 4, 3 7 6 and 5 7 13.
 fn numbers(alloc: Global) -> Option<Numbers> {
-    let places = again(|| {
-        vec![in alloc;
-            Number { seed: 1, add: 2 },
-            Number { seed: 2, add: 0 },
-            Number { seed: 4, add: 0 },
-        ]
-    })?;
+    let places = again!(vec![in alloc;
+        Number { seed: 1, add: 2 },
+        Number { seed: 2, add: 0 },
+        Number { seed: 4, add: 0 },
+    ])?;
     Numbers::new(places)
 }
 
 /// A table of it up to cycle 2. Where memory is wanting, the numbers come back.
 fn fresh(alloc: Global) -> Option<Table<Line>> {
-    match Table::new(alloc, numbers(alloc)?, 2, 0) {
+    let numbers = numbers(alloc)?;
+    match Table::new(alloc, numbers, 2, 0) {
         Ok(table) => Some(table),
         Err(numbers) if is_first(&numbers) => Table::new(alloc, numbers, 2, 0).ok(),
         Err(_) => None,
@@ -71,9 +70,10 @@ fn look_at(table: &Table<Line>) -> Looks {
 fn settled(table: &mut Table<Line>) -> Option<u64> {
     match table.settle() {
         Ok(settled) => Some(settled.computed),
-        Err(SettleFault::Memory { computed }) => {
-            Some(computed.saturating_add(table.settle().ok()?.computed))
-        }
+        Err(SettleFault::Memory { computed }) => match table.settle() {
+            Ok(settled) => Some(computed.saturating_add(settled.computed)),
+            Err(_) => None,
+        },
         Err(SettleFault::ClockSpent { .. }) => None,
     }
 }
@@ -133,7 +133,7 @@ fn cone(table: &Table<Line>) -> Option<u64> {
         cycle: 3,
         component: 1,
     };
-    again(|| table.due_cone(cell))
+    again!(table.due_cone(cell))
 }
 
 /// Every cell is claimed, computed and given, by hand.
@@ -141,17 +141,28 @@ pub(crate) fn given(alloc: Global) -> bool {
     let Some(mut table) = fresh(alloc) else {
         return false;
     };
+    let mut all = true;
     for _ in 0..9 {
-        match result(&table) {
-            Some(done) => {
-                if !is_stored(&mut table, done) {
-                    return false;
-                }
-            }
-            None => return false,
-        }
+        all &= is_done(&mut table);
     }
-    row(&table, 2) == [Some(5), Some(7), Some(13)]
+    all && row(&table, 2) == [Some(5), Some(7), Some(13)] && is_shared(&table)
+}
+
+/// Whether the result of the first claimable cell is stored.
+fn is_done(table: &mut Table<Line>) -> bool {
+    match result(table) {
+        Some(done) => is_stored(table, done),
+        None => false,
+    }
+}
+
+/// Whether the last state is given with an owner more.
+fn is_shared(table: &Table<Line>) -> bool {
+    let cell = Cell {
+        cycle: 2,
+        component: 2,
+    };
+    matches!(again!(table.shared(cell)), Some(Some(state)) if *state == 13)
 }
 
 /// The result of the first claimable cell. A claim that isn't computed comes back.
@@ -160,9 +171,12 @@ fn result(table: &Table<Line>) -> Option<Done<Line>> {
         cycle: 0,
         component: 0,
     };
-    match again(|| table.claim(from))??.compute() {
-        Ok(done) => Some(done),
-        Err(claim) => claim.compute().ok(),
+    match again!(table.claim(from)) {
+        Some(Some(claim)) => match claim.compute() {
+            Ok(done) => Some(done),
+            Err(claim) => claim.compute().ok(),
+        },
+        _ => None,
     }
 }
 
@@ -183,10 +197,17 @@ pub(crate) fn shared(alloc: Global) -> bool {
     let Some(numbers) = numbers(alloc) else {
         return false;
     };
-    let Some(again_numbers) = again(|| Line::share(alloc, &numbers)) else {
-        return false;
+    let is_shared = match again!(Line::share(alloc, &numbers)) {
+        Some(numbers) => is_first(&numbers),
+        None => false,
     };
-    let readers = again(|| Line::readers(alloc, &numbers, &LineSlot::Add(1)));
-    is_first(&again_numbers)
-        && matches!(readers, Some(readers) if matches!(readers.as_slice(), [reader] if reader.component == 1))
+    is_shared && is_read(alloc, &numbers)
+}
+
+/// Whether what place 1 adds is read by that place alone.
+fn is_read(alloc: Global, numbers: &Numbers) -> bool {
+    match again!(Line::readers(alloc, numbers, &LineSlot::Add(1))) {
+        Some(readers) => matches!(readers.as_slice(), [reader] if reader.component == 1),
+        None => false,
+    }
 }

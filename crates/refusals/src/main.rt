@@ -28,6 +28,7 @@ fn main(rt: HostRuntime) -> ExitCode {
     held &= tell(&rt, "Project::new, built_in, share", projects::made(alloc));
     held &= tell(&rt, "Project::apply", projects::edited(alloc));
     held &= tell(&rt, "read_project", projects::read(alloc));
+    held &= tell(&rt, "read_bytes", runs::read(alloc));
     held &= tell(&rt, "write_project", projects::written(alloc));
     held &= tell(&rt, "fault_place", projects::placed(alloc));
     held &= tell(&rt, "from_scratch", projects::simulated(alloc));
@@ -38,7 +39,11 @@ fn main(rt: HostRuntime) -> ExitCode {
         "Table::new, touch, settle, due_cone",
         lines::touched(alloc),
     );
-    held &= tell(&rt, "Table::claim, compute, give", lines::given(alloc));
+    held &= tell(
+        &rt,
+        "Table::claim, compute, give, shared",
+        lines::given(alloc),
+    );
     held &= tell(&rt, "Rp3::share, start, step, next", cells::stepped(alloc));
     held &= tell(&rt, "Rp3::readers", cells::listed(alloc));
     held &= tell(&rt, "tree", cells::reported(&rt, alloc));
@@ -64,6 +69,7 @@ fn main(rt: HostRuntime) -> ExitCode {
     held &= tell(&rt, "Pass::claim, give", passes::given(&rt, alloc));
     held &= tell(&rt, "run", runs::answered(&rt, alloc));
     held &= tell(&rt, "serve", runs::served(&rt, alloc, &["m.toml"]));
+    held &= tell(&rt, "settle_wave", workers::waved(&rt, alloc));
     held &= tell(&rt, "work", workers::works(&rt, alloc));
     held &= tell(
         &rt,

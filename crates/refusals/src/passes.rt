@@ -1,7 +1,9 @@
 //! Passes of a shared bench.
-use crate::benches::fresh;
+use crate::again::again;
+use crate::benches::{computed, fresh};
 use bench_core::{Asked, Told};
-use cell_table::{Cell, Given};
+use cell_table::{Cell, Done, Given};
+use machine_cells::Rp3;
 use project_book::{Edit, EditFault};
 use run_queries::{Body, Query};
 use shared_bench::{Pass, SplitFault, open};
@@ -16,7 +18,8 @@ const FIRST_WORD: Query = Query::Memory {
 
 /// The first pass of two seats.
 fn first(alloc: Global) -> Option<Pass> {
-    match open(alloc, Box::into_inner(fresh(alloc)?), 2) {
+    let bench = fresh(alloc)?;
+    match open(alloc, Box::into_inner(bench), 2) {
         Ok(pass) => Some(pass),
         Err(bench) => open(alloc, bench, 2).ok(),
     }
@@ -24,25 +27,35 @@ fn first(alloc: Global) -> Option<Pass> {
 
 /// A refused split leaves its seat free.
 pub(crate) fn opened(alloc: Global) -> bool {
-    let Some(mut pass) = first(alloc) else {
-        return false;
-    };
-    let second = match pass.split() {
-        Ok(second) => second,
-        Err(SplitFault::Memory) => match pass.split() {
-            Ok(second) => second,
-            Err(_) => return false,
-        },
-        Err(SplitFault::NoSeat) => return false,
-    };
-    drop(second);
-    matches!(pass.split(), Err(SplitFault::NoSeat))
+    match first(alloc) {
+        Some(mut pass) => { splits(&mut pass) && matches!(pass.split(), Err(SplitFault::NoSeat)) }
+        None => false,
+    }
+}
+
+/// Whether a pass is split.
+fn splits(pass: &mut Pass) -> bool {
+    match pass.split() {
+        Ok(_) => true,
+        Err(SplitFault::Memory) => pass.split().is_ok(),
+        Err(SplitFault::NoSeat) => false,
+    }
 }
 
 pub(crate) fn used<R: Threads + Wait + Sync>(rt: &R, alloc: Global) -> bool {
-    let Some(mut pass) = first(alloc) else {
-        return false;
-    };
+    match first(alloc) {
+        Some(mut pass) => {
+            edits(rt, &mut pass)
+                && asks(rt, &mut pass)
+                && looks(rt, &mut pass)
+                && shares(rt, &mut pass)
+        }
+        None => false,
+    }
+}
+
+/// Word 0 is set to 20 as the first edit: a refused one is none.
+fn edits<R: Threads + Wait + Sync>(rt: &R, pass: &mut Pass) -> bool {
     let edit = Edit::Word {
         address: 0,
         word: 20,
@@ -51,34 +64,42 @@ pub(crate) fn used<R: Threads + Wait + Sync>(rt: &R, alloc: Global) -> bool {
         Err(EditFault::Memory) if pass.length() == 0 => pass.edit(rt, edit),
         version => version,
     };
+    version == Ok(1)
+}
+
+fn asks<R: Threads + Wait + Sync>(rt: &R, pass: &mut Pass) -> bool {
     let told = match pass.ask(rt, FIRST_WORD) {
         Told::Memory => pass.ask(rt, FIRST_WORD),
         told => told,
     };
+    matches!(
+        told,
+        Told::Answer {
+            version: 1,
+            body: Body::Word(20)
+        }
+    )
+}
+
+fn looks<R: Threads + Wait + Sync>(rt: &R, pass: &mut Pass) -> bool {
     let asked = match pass.look(rt, FIRST_WORD) {
         Asked::Memory => pass.look(rt, FIRST_WORD),
         asked => asked,
     };
-    let project = match pass.project(rt) {
-        Ok(project) => Some(project),
-        Err(_) => pass.project(rt).ok(),
-    };
-    version == Ok(1)
-        && matches!(
-            told,
-            Told::Answer {
-                version: 1,
-                body: Body::Word(20)
-            }
-        )
-        && matches!(
-            asked,
-            Asked::Answer {
-                version: 1,
-                body: Body::Word(20)
-            }
-        )
-        && matches!(project, Some((1, project)) if project.word(0) == 20)
+    matches!(
+        asked,
+        Asked::Answer {
+            version: 1,
+            body: Body::Word(20)
+        }
+    )
+}
+
+fn shares<R: Threads + Wait + Sync>(rt: &R, pass: &mut Pass) -> bool {
+    match again!(pass.project(rt)) {
+        Some((version, project)) => version == 1 && project.word(0) == 20,
+        None => false,
+    }
 }
 
 /// A pass claims, computes and gives the first cell: a result that comes back is given again.
@@ -86,30 +107,23 @@ pub(crate) fn given<R: Threads + Wait + Sync>(rt: &R, alloc: Global) -> bool {
     let Some(mut pass) = first(alloc) else {
         return false;
     };
+    match result(rt, &mut pass) {
+        Some(done) => match pass.give(rt, done) {
+            Given::Stored { .. } => true,
+            Given::Memory(done) => matches!(pass.give(rt, done), Given::Stored { .. }),
+            _ => false,
+        },
+        None => false,
+    }
+}
+
+fn result<R: Threads + Wait + Sync>(rt: &R, pass: &mut Pass) -> Option<Done<Rp3>> {
     let from = Cell {
         cycle: 0,
         component: 0,
     };
-    let claim = match pass.claim(rt, from) {
-        Ok(claim) => claim,
-        Err(_) => match pass.claim(rt, from) {
-            Ok(claim) => claim,
-            Err(_) => return false,
-        },
-    };
-    let Some(claim) = claim else {
-        return false;
-    };
-    let done = match claim.compute() {
-        Ok(done) => done,
-        Err(claim) => match claim.compute() {
-            Ok(done) => done,
-            Err(_) => return false,
-        },
-    };
-    match pass.give(rt, done) {
-        Given::Stored { .. } => true,
-        Given::Memory(done) => matches!(pass.give(rt, done), Given::Stored { .. }),
-        _ => false,
+    match again!(pass.claim(rt, from)) {
+        Some(Some(claim)) => computed(claim),
+        _ => None,
     }
 }

@@ -44,7 +44,7 @@ pub(crate) fn project(alloc: Global) -> Option<Project> {
 
 /// The project of a file.
 pub(crate) fn project_of(alloc: Global, file: &str) -> Option<Project> {
-    again(|| read_project(alloc, file.as_bytes()))
+    again!(read_project(alloc, file.as_bytes()))
 }
 
 pub(crate) fn add(operand: u32) -> ScriptEntry {
@@ -90,18 +90,31 @@ pub(crate) const EDITS: [Edit; 9] = [
 ];
 
 pub(crate) fn made(alloc: Global) -> bool {
-    let Some(Some(new)) = again(|| Project::new(alloc, 2, 5)) else {
+    let Some(Some(new)) = again!(Project::new(alloc, 2, 5)) else {
         return false;
     };
-    let Some(built_in) = again(|| Project::built_in(alloc)) else {
-        return false;
-    };
-    let Some(shared) = again(|| new.share()) else {
-        return false;
-    };
-    (new.k(), new.horizon()) == (2, 5)
-        && (built_in.k(), built_in.horizon()) == (0, 8)
-        && (shared.k(), shared.horizon()) == (2, 5)
+    is_of(&Some(new), 2, 5) && is_of(&again!(Project::built_in(alloc)), 0, 8)
+}
+
+/// Whether it is a project of this size, and an owner more gives the same.
+fn is_of(project: &Option<Project>, k: u32, horizon: u32) -> bool {
+    match project {
+        Some(project) => match again!(project.share()) {
+            Some(shared) => shared.k() == k && shared.horizon() == horizon && shared.same(project),
+            None => false,
+        },
+        None => false,
+    }
+}
+
+/// The edited project, where something is changed.
+fn next(project: &Project, edit: Edit) -> Option<Project> {
+    match again!(project.apply(edit)) {
+        Some((next, changed)) if !changed.slots.is_empty() || changed.horizon.is_some() => {
+            Some(next)
+        }
+        _ => None,
+    }
 }
 
 pub(crate) fn edited(alloc: Global) -> bool {
@@ -109,13 +122,10 @@ pub(crate) fn edited(alloc: Global) -> bool {
         return false;
     };
     for edit in EDITS {
-        let Some((next, changed)) = again(|| project.apply(edit)) else {
-            return false;
-        };
-        if changed.slots.is_empty() && changed.horizon.is_none() {
-            return false;
+        match next(&project, edit) {
+            Some(next) => project = next,
+            None => return false,
         }
-        project = next;
     }
     project.length(0) == 2
         && project.length(1) == 0
@@ -136,20 +146,25 @@ pub(crate) fn read(alloc: Global) -> bool {
 
 /// What is written is read as the project.
 pub(crate) fn written(alloc: Global) -> bool {
-    let Some(project) = project(alloc) else {
-        return false;
-    };
-    let Some(bytes) = again(|| write_project(alloc, &project)) else {
-        return false;
-    };
-    match again(|| read_project(alloc, &bytes)) {
-        Some(back) => back.same(&project),
+    match project(alloc) {
+        Some(project) => match again!(write_project(alloc, &project)) {
+            Some(bytes) => is_file_of(alloc, &bytes, &project),
+            None => false,
+        },
+        None => false,
+    }
+}
+
+/// Whether a file is read as this project.
+fn is_file_of(alloc: Global, bytes: &[u8], project: &Project) -> bool {
+    match again!(read_project(alloc, bytes)) {
+        Some(back) => back.same(project),
         None => false,
     }
 }
 
 pub(crate) fn placed(alloc: Global) -> bool {
-    match again(|| fault_place(alloc, WRONG.as_bytes())) {
+    match again!(fault_place(alloc, WRONG.as_bytes())) {
         Some(Some(line)) => line.as_str() == "script 0, entries 1: no script entry: \"jump 3\"",
         _ => false,
     }
@@ -159,7 +174,7 @@ pub(crate) fn simulated(alloc: Global) -> bool {
     let Some(project) = project(alloc) else {
         return false;
     };
-    match again(|| from_scratch(alloc, &project)) {
+    match again!(from_scratch(alloc, &project)) {
         Some(rows) => rows.len() == 7 && rows.iter().all(|row| row.len() == 6),
         None => false,
     }
@@ -177,11 +192,11 @@ pub(crate) fn is_order(ordered: &Ordered) -> bool {
 }
 
 pub(crate) fn ordered(alloc: Global) -> bool {
-    let Some(project) = project(alloc) else {
-        return false;
-    };
-    match order(alloc, &project, 0) {
-        Ordered::Memory => is_order(&order(alloc, &project, 0)),
-        ordered => is_order(&ordered),
+    match project(alloc) {
+        Some(project) => match order(alloc, &project, 0) {
+            Ordered::Memory => is_order(&order(alloc, &project, 0)),
+            ordered => is_order(&ordered),
+        },
+        None => false,
     }
 }

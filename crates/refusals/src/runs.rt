@@ -2,7 +2,7 @@
 use crate::again::again;
 use crate::benches::fresh;
 use bench_shell::{Hall, RunFault, run};
-use command_line::{End, Folder, serve_words};
+use command_line::{End, Folder, read_bytes, serve_words};
 use project_file::ProjectFault;
 use std::alloc::Global;
 use std::io;
@@ -31,7 +31,15 @@ ok 1 order 0.0 1.0
 
 /// A list with room for all of the answers, so that no write is refused.
 pub(crate) fn room(alloc: Global) -> Option<Vec<u8>> {
-    again(|| Vec::with_capacity(alloc, 1_024))
+    again!(Vec::with_capacity(alloc, 1_024))
+}
+
+/// The bytes of a file.
+pub(crate) fn read(alloc: Global) -> bool {
+    match again!(read_bytes(alloc, TYPED.as_bytes())) {
+        Some(bytes) => bytes.as_slice() == TYPED.as_bytes(),
+        None => false,
+    }
 }
 
 /// All of the answers, or a beginning of them with want of memory told.

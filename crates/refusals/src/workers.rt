@@ -1,18 +1,54 @@
-//! Workers in threads of their own. Here threads are refused too: `work` then gives its pass back with `NoThread`, and a
-//! session can't start, or goes on without the worker.
+//! Workers in threads of their own. Here threads are refused too: `settle_wave` then computes the piece itself, `work` gives its
+//! pass back with `NoThread`, and a session can't start, or goes on without the worker.
 use crate::again::again;
-use crate::benches::{fresh, served as served_query};
-use bench_core::Asked;
+use crate::benches::{fresh, is_simulated, served as served_query};
+use bench_core::{Asked, Bench};
 use bench_shell::Hall;
+use cell_table::{SettleFault, Settled};
 use run_queries::Body;
 use shared_bench::{Pass, open};
 use std::alloc::Global;
-use wave_workers::{Ungated, WorkFault, Worked, work};
+use std::thread::Threads;
+use wave_workers::{Ungated, WorkFault, Worked, settle_wave, work};
+
+/// Waves of three gates: a growth that is refused in one of their threads is refused to the call, and what was stored stays;
+/// a piece whose thread isn't started is computed all the same.
+pub(crate) fn waved<R: Threads + Sync>(rt: &R, alloc: Global) -> bool {
+    match fresh(alloc) {
+        Some(mut bench) => {
+            waves(rt, alloc, &mut bench) == Some(42) && is_simulated(rt, alloc, &mut bench)
+        }
+        None => false,
+    }
+}
+
+/// How many cells are computed, in two calls where memory is wanting.
+fn waves<R: Threads + Sync>(rt: &R, alloc: Global, bench: &mut Bench) -> Option<u64> {
+    match wave(rt, alloc, bench) {
+        Some(Ok(settled)) => Some(settled.computed),
+        Some(Err(SettleFault::Memory { computed })) => match wave(rt, alloc, bench) {
+            Some(Ok(settled)) => Some(computed.saturating_add(settled.computed)),
+            _ => None,
+        },
+        _ => None,
+    }
+}
+
+fn wave<R: Threads + Sync>(
+    rt: &R,
+    alloc: Global,
+    bench: &mut Bench,
+) -> Option<Result<Settled, SettleFault>> {
+    match again!(vec![in alloc; Ungated, Ungated, Ungated]) {
+        Some(gates) => Some(settle_wave(rt, bench, gates)),
+        None => None,
+    }
+}
 
 /// A pass to a fresh bench, with seats for two workers more than are needed.
 fn opened(alloc: Global) -> Option<Pass> {
-    let bench = Box::into_inner(fresh(alloc)?);
-    match open(alloc, bench, 4) {
+    let bench = fresh(alloc)?;
+    match open(alloc, Box::into_inner(bench), 4) {
         Ok(pass) => Some(pass),
         Err(bench) => open(alloc, bench, 4).ok(),
     }
@@ -20,8 +56,10 @@ fn opened(alloc: Global) -> Option<Pass> {
 
 /// What comes of one worker.
 fn with_worker<H: Hall>(rt: &H, alloc: Global, pass: Pass) -> Option<Worked> {
-    let gates = again(|| vec![in alloc; Ungated])?;
-    Some(work(rt, pass, gates, 100))
+    match again!(vec![in alloc; Ungated]) {
+        Some(gates) => Some(work(rt, pass, gates, 100)),
+        None => None,
+    }
 }
 
 /// One worker computes all cells: a growth that is refused in a turn ends the turn alone. Where it can't be started, the pass
