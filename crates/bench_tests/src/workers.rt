@@ -1,5 +1,6 @@
 //! Workers whose gates hold them.
 
+mod answers;
 mod benches;
 mod gates;
 mod waves;

@@ -1,6 +1,6 @@
-//! The gates of two workers that meet, or of two pieces of a wave.
+//! The gates of two workers that meet, or of two pieces of a wave; gates that count.
 use cell_table::Cell;
-use std::alloc::Global;
+use std::alloc::{AllocError, Global};
 use std::sync::Arc;
 use std::sync::atomic::{AtomicU64, Ordering};
 use std::thread;
@@ -109,5 +109,40 @@ impl Gate for Meeting {
         if !self.is_first || self.sees_second() {
             self.own().computed.store(1, Ordering::SeqCst);
         }
+    }
+}
+
+/// A gate that counts what its piece has computed.
+#[derive(Drop)]
+pub(super) struct Counting {
+    turns: Arc<AtomicU64, Global>,
+}
+
+impl Counting {
+    pub(super) fn new(alloc: Global) -> Result<Counting, AllocError> {
+        let turns = Arc::new(alloc, AtomicU64::new(0))?;
+        Ok(Counting { turns })
+    }
+
+    /// Another gate with the same count.
+    pub(super) fn again(&self) -> Result<Counting, AllocError> {
+        let turns = Arc::try_clone(&self.turns)?;
+        Ok(Counting { turns })
+    }
+
+    pub(super) fn turns(&self) -> u64 {
+        self.turns.load(Ordering::SeqCst)
+    }
+}
+
+impl Gate for Counting {
+    fn go_on(&mut self, _turn: u64) -> bool {
+        true
+    }
+
+    fn claimed(&mut self, _cell: Cell) {}
+
+    fn computed(&mut self, _cell: Cell) {
+        self.turns.fetch_add(1, Ordering::SeqCst);
     }
 }

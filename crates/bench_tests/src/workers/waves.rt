@@ -1,10 +1,11 @@
 //! Waves: benches that are settled by several threads.
-use super::benches::fresh;
-use super::gates::{Board, Meeting};
+use super::answers::answer_the_same;
+use super::benches::{contended, fresh};
+use super::gates::{Board, Counting, Meeting};
 use bench_core::Bench;
 use cell_table::Settled;
 use omega_net::ScriptEntry;
-use project_book::Edit;
+use project_book::{Depths, Edit};
 use std::sync::Arc;
 use std::test::*;
 use std::thread::Threads;
@@ -60,5 +61,66 @@ fn example_9_by_waves(rt: HostRuntime) -> Result<(), Fail> {
         bench.edit(0, then)?;
         assert_eq!(rt; (first, waved(&rt, &mut bench)?), cells);
     }
+    Ok(())
+}
+
+/// Settles a bench by waves of three pieces, and another one by itself: how many cells were computed, the same number, and
+/// how many by each piece so far.
+fn settled_beside<R: AllocGlobal + Threads + Sync>(
+    rt: &R,
+    bench: &mut Bench,
+    alone: &mut Bench,
+    counts: &[Counting; 3],
+) -> Result<(u64, [u64; 3]), Fail> {
+    let [first, second, third] = counts;
+    let gates = vec![in rt.alloc(); first.again()?, second.again()?, third.again()?]?;
+    let waved = settle_wave(rt, bench, gates);
+    if waved != alone.settle() {
+        return Err(Fail::from("not settled the same"));
+    }
+    match waved {
+        Ok(settled) => Ok((
+            settled.computed,
+            [first.turns(), second.turns(), third.turns()],
+        )),
+        Err(_) => Err(Fail::from("not settled")),
+    }
+}
+
+/// What example 15's bench answers first.
+const SATURATED: &str = "\
+0 first 4 6
+0 24 0 1 3 0 0 0 0 0 0 0 0 0 0 0 0 0
+0 18 7 1 2 0 0 0 0 0 0 0 0 0 0 0 0 0
+0 6
+0 2
+";
+
+/// 15: a bench that is settled by waves of three pieces, fresh and again after an edit, answers what one does that settles
+/// by itself: the trees, profiles, counters, replies and states. Each of the 7 cycles has 16 new cells, in pieces of 6, 5
+/// and 5.
+#[test]
+fn example_15_by_waves(rt: HostRuntime) -> Result<(), Fail> {
+    let alloc = rt.alloc();
+    let counts = [
+        Counting::new(alloc)?,
+        Counting::new(alloc)?,
+        Counting::new(alloc)?,
+    ];
+    let mut bench = contended(alloc)?;
+    let mut alone = contended(alloc)?;
+    let fresh = settled_beside(&rt, &mut bench, &mut alone, &counts)?;
+    assert_eq!(rt; fresh, (112, [42, 35, 35]));
+    assert!(rt; answer_the_same(&rt, &mut bench, &mut alone, SATURATED)?);
+    let narrow = Edit::Depth {
+        queue: Depths::LowForward,
+        depth: 2,
+    };
+    bench.edit(0, narrow)?;
+    alone.edit(0, narrow)?;
+    let (cells, [first, second, third]) = settled_beside(&rt, &mut bench, &mut alone, &counts)?;
+    let turns = first.saturating_add(second).saturating_add(third);
+    assert_eq!(rt; turns, cells.saturating_add(112));
+    assert!(rt; answer_the_same(&rt, &mut bench, &mut alone, "1 first 3 4\n")?);
     Ok(())
 }
