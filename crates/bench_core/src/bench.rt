@@ -50,6 +50,10 @@ impl Model for Bench {
 impl Bench {
     /// A bench at version 0, with an empty journal: all cells up to the horizon are due. The clock counts the edits and
     /// the stores that changed a state, from `clock` on. Where memory is wanting, the project comes back.
+    ///
+    /// # Errors
+    ///
+    /// Where a growth was refused: the project, as it was handed over.
     #[tactic(auto, using(crate::proofs::Standing::stands_new))]
     pub fn new(alloc: Global, project: Project, clock: u64) -> Result<Bench, Project>
         ensures project { IfOk result (λ b. project_of b ≡ project) }

@@ -69,6 +69,10 @@ impl<G: Gate> Gate for Attending<G> {
 }
 
 /// The gates, each so that its worker stops at the session's end too.
+///
+/// # Errors
+///
+/// Where a growth was refused. The gates are dropped.
 pub fn with_session<G: Gate + Drop>(
     alloc: Global,
     gates: Vec<G>,

@@ -32,6 +32,10 @@ pub trait Desk {
         ensures small { result.0 ≤ MAX_K };
 
     /// Makes an edit: the new version, or why it was refused. Then project and journal are as before.
+    ///
+    /// # Errors
+    ///
+    /// Why the edit is refused. Project and journal are as before.
     fn edit(&mut self, edit: Edit) -> Result<u32, EditFault>
         ensures earlier { is_alone self.new → is_alone self.old }
         ensures gives { is_alone self.new → EditGives (store self.old) edit result (store self.new) }

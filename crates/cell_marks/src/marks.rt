@@ -133,6 +133,10 @@ impl Marks {
     }
 
     /// Adds m rows in which all is marked, or nothing.
+    ///
+    /// # Errors
+    ///
+    /// Where a growth was refused. There are as many rows as before.
     #[tactic(auto, using(crate::proofs::Totals::marked_grown))]
     pub fn grow(&mut self, alloc: Global, m: u32, is_marked: bool) -> Result<(), AllocError>
         requires { length self.old.rows + m < 2 ^ 32 }

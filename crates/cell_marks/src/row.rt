@@ -29,6 +29,10 @@ impl Model for Row {
 
 impl Row {
     /// A row of n components, all of which are marked, or none.
+    ///
+    /// # Errors
+    ///
+    /// Where a growth was refused. What was taken is given back.
     #[tactic(auto, using(crate::proofs::Bits::bits_of_one, crate::proofs::Bits::count_one))]
     pub fn new(alloc: Global, n: u32, is_marked: bool) -> Result<Row, AllocError>
         ensures { IfOk result (λ r. r ≡ replicate n is_marked) }

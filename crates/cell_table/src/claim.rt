@@ -108,6 +108,10 @@ impl<G: Grid> Claim<G> {
 
     /// Computes the cell's state: the start at cycle 0, a step later. Where memory is wanting, the
     /// claim comes back.
+    ///
+    /// # Errors
+    ///
+    /// Where a growth was refused: the claim, which can be computed again.
     pub fn compute(self) -> Result<Done<G>, Claim<G>>
         ensures claim { IfOk result (λ done. done.claim ≡ self) }
         ensures model_compute { IfOk result (λ done. done.state ≡ result_for G.rules self) }

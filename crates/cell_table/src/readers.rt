@@ -60,6 +60,10 @@ fn lists_of<G: Grid>(alloc: Global, slots: &G::Slots) -> Result<Vec<Components>,
 
 impl Readers {
     /// One look at each component's near ones.
+    ///
+    /// # Errors
+    ///
+    /// Where a growth was refused. What was taken is given back.
     pub fn new<G: Grid>(alloc: Global, slots: &G::Slots) -> Result<Readers, NoMemory>
         ensures { IfOk result (λ lists. IsIndex G.rules slots.now lists) }
     {

@@ -89,6 +89,10 @@ impl<G: Grid> Table<G> {
     /// A table whose cells are all new and due, with `clock` as their version. Where memory is
     /// wanting, the slots come back; so they do at the horizon 2^32 - 1, whose cycles are more than
     /// are counted.
+    ///
+    /// # Errors
+    ///
+    /// Where a growth was refused, or the horizon is 2^32 - 1: the slots, as they were handed over.
     pub fn new(
         alloc: Global,
         slots: G::Slots,
@@ -136,6 +140,10 @@ impl<G: Grid> Table<G> {
     /// One more owner of the state that the cell holds, up to date or not; none for a cell that
     /// isn't there. Nothing is copied: the state lives on with this owner once the table has
     /// another one. NoMemory where it has as many owners as can be counted.
+    ///
+    /// # Errors
+    ///
+    /// Where the state has as many owners as can be counted. Nothing is changed.
     pub fn shared(&self, cell: Cell) -> Result<Option<Arc<G::State>>, NoMemory>
         ensures { IfOk result (λ o. option_map arc_value o ≡ (held_at self.now.rows cell.cycle cell.component).state) }
     {

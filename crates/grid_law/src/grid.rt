@@ -57,15 +57,27 @@ pub trait Grid {
     /// The components that may read `slot`, at cycle 0 or at a later one: every one for which `reads`
     /// says yes at some near states is listed with such a cycle. By component from the lowest on, cycle
     /// 0 before the later ones, each once.
+    ///
+    /// # Errors
+    ///
+    /// Where a growth was refused. What was taken is given back.
     fn readers(alloc: Global, s: &Self::Slots, slot: &Self::Slot) -> Result<Vec<Reader>, NoMemory>
         ensures { IfOk result (λ readers. readers.items ≡ rules.readers s.now slot.now) };
 
     /// The state of `c` at cycle 0.
+    ///
+    /// # Errors
+    ///
+    /// Where a growth was refused. What was taken is given back.
     fn start(alloc: Global, s: &Self::Slots, c: u32) -> Result<Self::State, NoMemory>
         requires { c < rules.components s.now }
         ensures { IfOk result (λ x. x ≡ rules.start s.now c) };
 
     /// The state of `c` one cycle after these near states.
+    ///
+    /// # Errors
+    ///
+    /// Where a growth was refused. The near states are as before.
     fn step(
         alloc: Global,
         s: &Self::Slots,
@@ -77,6 +89,10 @@ pub trait Grid {
 
     /// As `step`, from near states that are lent; nothing where the next state is the component's own
     /// one, the first of them.
+    ///
+    /// # Errors
+    ///
+    /// Where a growth was refused. The near states are as before.
     fn next(
         alloc: Global,
         s: &Self::Slots,
@@ -97,6 +113,10 @@ pub trait Grid {
         ensures { IsTrue result ↔ Agrees rules a.now b.now (map arc_value near.now) c };
 
     /// An equal value, to be taken along.
+    ///
+    /// # Errors
+    ///
+    /// Where a growth was refused, or the value has as many owners as can be counted. It is as before.
     fn share(alloc: Global, s: &Self::Slots) -> Result<Self::Slots, NoMemory>
         ensures { IfOk result (λ t. t ≡ s.now) };
 }

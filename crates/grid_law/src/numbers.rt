@@ -128,6 +128,11 @@ impl Numbers {
 
     /// The line with this value in one slot, and the slots whose values differ: that one, or none
     /// where it had the value already. NoSuchSlot where the line has no such place.
+    ///
+    /// # Errors
+    ///
+    /// NoSuchSlot where the line has no such place, Memory where a growth was refused. The line is as
+    /// before.
     pub fn with(
         &self,
         alloc: Global,

@@ -18,6 +18,10 @@ use std::alloc::Global;
 /// Each cycle is computed whole from the one before. A module or a switch in which nothing moves shares
 /// its state with the cycle before, so a cell takes some 100 bytes, and one in which something moves up
 /// to 1.5 KB more. It is what ways that keep what an edit leaves alone are compared with.
+///
+/// # Errors
+///
+/// Where a growth was refused. What was taken is given back.
 pub fn from_scratch(alloc: Global, project: &Project) -> Result<Vec<Vec<MachineState>>, NoMemory>
     ensures { IfOk result (λ rows. map (λ row. row.items) rows.items ≡ run project.now) }
 {
@@ -45,6 +49,10 @@ fn push_next(
 }
 
 /// The states of cycle 0, by component.
+///
+/// # Errors
+///
+/// Where a growth was refused. What was taken is given back.
 pub fn first_row(alloc: Global, project: &Project) -> Result<Vec<MachineState>, NoMemory>
     ensures { IfOk result (λ row. row.items ≡ first_states project.now) }
 {
@@ -57,6 +65,10 @@ pub fn first_row(alloc: Global, project: &Project) -> Result<Vec<MachineState>, 
 }
 
 /// The states one cycle after these, which are those of all components. What doesn't change is shared with them.
+///
+/// # Errors
+///
+/// Where a growth was refused. The row is as before.
 pub fn next_row(
     alloc: Global,
     project: &Project,

@@ -24,6 +24,10 @@ impl<T: Drop> Model for Shared<T> {
 
 impl<T: Drop> Shared<T> {
     /// This state, to be shared.
+    ///
+    /// # Errors
+    ///
+    /// Where the growth was refused. The state is dropped.
     pub fn new(alloc: Global, state: T) -> Result<Shared<T>, NoMemory>
         ensures { IfOk result (λ shared. shared ≡ state) }
     {
@@ -33,6 +37,10 @@ impl<T: Drop> Shared<T> {
     }
 
     /// One more owner of the same state. NoMemory comes only at 2^63 - 1 owners.
+    ///
+    /// # Errors
+    ///
+    /// At 2^63 - 1 owners. Nothing is changed.
     pub fn share(&self) -> Result<Shared<T>, NoMemory>
         ensures { IfOk result (λ shared. shared ≡ self.now) }
     {

@@ -22,6 +22,10 @@ pub enum MachineState {
 
 impl MachineState {
     /// The same state, with one more owner of what it shares. NoMemory comes only at 2^63 - 1 owners.
+    ///
+    /// # Errors
+    ///
+    /// At 2^63 - 1 owners. Nothing is changed.
     pub fn share(&self) -> Result<MachineState, NoMemory>
         ensures { IfOk result (λ state. state ≡ self.now) }
     {

@@ -28,6 +28,10 @@ impl Model for SharedWords {
 
 impl SharedWords {
     /// These words, to be shared.
+    ///
+    /// # Errors
+    ///
+    /// Where the growth was refused. The words are dropped.
     pub fn new(alloc: Global, words: Words) -> Result<SharedWords, NoMemory>
         ensures { IfOk result (λ shared. shared ≡ words) }
     {
@@ -51,6 +55,10 @@ impl SharedWords {
     }
 
     /// One more owner of the same words. NoMemory comes only at 2^63 - 1 owners.
+    ///
+    /// # Errors
+    ///
+    /// At 2^63 - 1 owners. Nothing is changed.
     pub fn share(&self) -> Result<SharedWords, NoMemory>
         ensures { IfOk result (λ shared. shared ≡ self.now) }
     {
@@ -61,6 +69,10 @@ impl SharedWords {
 
     /// Does a fetch-and-op on a row, indivisibly: the old word, and the words with the new one. It copies them where
     /// the new word is another.
+    ///
+    /// # Errors
+    ///
+    /// Where a growth was refused. The words are as before.
     pub fn fetch_and_op(
         &self,
         alloc: Global,

@@ -25,6 +25,10 @@ pub struct ModuleState {
 
 impl ModuleState {
     /// A module with these words, in which nothing waits.
+    ///
+    /// # Errors
+    ///
+    /// Where the growth was refused. The words are dropped.
     pub fn start(alloc: Global, words: Words) -> Result<ModuleState, NoMemory>
         ensures { IfOk result (λ first. first ≡ module_start words) }
     {

@@ -19,6 +19,10 @@ pub struct ModuleTraffic {
 impl ModuleState {
     /// The state one cycle later, at this depth of its four queues: heads leave, at most one request is served, and
     /// requests arrive. It copies the words where the request that is served leaves another word.
+    ///
+    /// # Errors
+    ///
+    /// Where a growth was refused. The state is as before.
     pub fn step(
         &self,
         alloc: Global,

@@ -30,6 +30,10 @@ impl Model for Counts {
 
 impl Counts {
     /// A component that counts nothing.
+    ///
+    /// # Errors
+    ///
+    /// Where a growth was refused. What was taken is given back.
     pub fn new(alloc: Global) -> Result<Counts, NoMemory>
         ensures { IfOk result (λ counts. counts ≡ []) }
     {

@@ -58,6 +58,10 @@ impl Model for Sums {
 impl Sums {
     /// The counters of a machine where no cell holds a state yet. It takes the memory for every cell
     /// up to the greatest horizon, a few bytes each.
+    ///
+    /// # Errors
+    ///
+    /// Where a growth was refused. What was taken is given back.
     #[tactic(auto, using(crate::proofs::Starting::blank_stands))]
     pub fn new(alloc: Global, shape: Shape) -> Result<Sums, NoMemory>
         ensures shape { IfOk result (λ sums. sums.k ≡ shape) }

@@ -31,6 +31,10 @@ pub struct Parts {
 impl Project {
     /// The project of these parts: in place of one edit for each word and entry, which would each
     /// copy what stands already. Takes two owners, and no other memory.
+    ///
+    /// # Errors
+    ///
+    /// Where an owner was refused. The parts are dropped.
     pub fn from_parts(alloc: Global, parts: Parts) -> Result<Project, NoMemory>
         requires { IsProject (project_of parts) }
         ensures { IfOk result (λ p. p ≡ project_of parts) }

@@ -52,6 +52,10 @@ impl Project {
     /// The project of this size that says nothing else: window 1, no combining, every depth 4 but 8
     /// in the reverse queues of combining switches, every page spread over all modules, first words
     /// of 0, and no script entries. None exactly where k is above 6 or the horizon above 2,000.
+    ///
+    /// # Errors
+    ///
+    /// Where a growth was refused. What was taken is given back.
     pub fn new(alloc: Global, k: u32, horizon: u32) -> Result<Option<Project>, NoMemory>
         ensures refused { (nat_le k max_k && nat_le horizon max_horizon) ≡ false → result ≡ Ok None }
         ensures made { IfOk result (λ o. o ≡ (if nat_le k max_k && nat_le horizon max_horizon then Some (blank k horizon) else None)) }
@@ -63,6 +67,10 @@ impl Project {
     }
 
     /// The project with one processor, one module and the horizon 8 that says nothing else.
+    ///
+    /// # Errors
+    ///
+    /// Where a growth was refused. What was taken is given back.
     pub fn built_in(alloc: Global) -> Result<Project, NoMemory>
         ensures { IfOk result (λ p. p ≡ blank 0 8) }
     {
@@ -91,6 +99,10 @@ impl Project {
     }
 
     /// An equal project. Takes two more owners of what both share, and no other memory.
+    ///
+    /// # Errors
+    ///
+    /// At 2^63 - 1 owners. Nothing is changed.
     pub fn share(&self) -> Result<Project, NoMemory>
         ensures { IfOk result (λ p. p ≡ self.now) }
     {

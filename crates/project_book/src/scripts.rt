@@ -80,6 +80,10 @@ impl Script {
     }
 
     /// The script with this entry at an index, which is within it or at its end. Copies the script.
+    ///
+    /// # Errors
+    ///
+    /// Where a growth was refused. The script is as before.
     pub fn with_entry(
         &self,
         alloc: Global,
@@ -102,6 +106,10 @@ impl Script {
     }
 
     /// The first entries of the script. Copies them.
+    ///
+    /// # Errors
+    ///
+    /// Where a growth was refused. The script is as before.
     pub fn cut(&self, alloc: Global, count: u32) -> Result<Script, NoMemory>
         requires { count ≤ length self.now }
         ensures { IfOk result (λ s. s ≡ take count self.now) }
@@ -113,6 +121,10 @@ impl Script {
 
 impl Scripts {
     /// As many scripts with no entries.
+    ///
+    /// # Errors
+    ///
+    /// Where a growth was refused. What was taken is given back.
     pub fn new(alloc: Global, count: u32) -> Result<Scripts, NoMemory>
         ensures { IfOk result (λ s. s ≡ replicate count []) }
     {
@@ -140,6 +152,11 @@ impl Scripts {
     }
 
     /// The scripts where a processor's is another one. Takes another owner of each that stays.
+    ///
+    /// # Errors
+    ///
+    /// Where a growth was refused, or a script has as many owners as can be counted. The scripts are as
+    /// before.
     pub fn with_script(&self, alloc: Global, proc: u32, script: Script) -> Result<Scripts, NoMemory>
         requires { proc < length self.now }
         ensures { IfOk result (λ s. s ≡ slice_set self.now proc script) }
@@ -151,6 +168,10 @@ impl Scripts {
     }
 
     /// Gives a processor this script. The scripts are as before where memory is refused.
+    ///
+    /// # Errors
+    ///
+    /// Where a growth was refused. The scripts are as before, and the entries are dropped.
     pub fn set(
         &mut self,
         alloc: Global,

@@ -75,6 +75,10 @@ impl FirstWords {
     }
 
     /// The words where this address has this word. Copies the list.
+    ///
+    /// # Errors
+    ///
+    /// Where a growth was refused. The words are as before.
     pub fn with_word(&self, alloc: Global, address: u32, word: u32) -> Result<FirstWords, NoMemory>
         requires { address < address_count }
         ensures { IfOk result (λ w. w ≡ with_word self.now address word) }

@@ -60,6 +60,10 @@ impl SharedState {
     }
 
     /// One more owner of the same state. NoMemory comes only at 2^63 - 1 owners.
+    ///
+    /// # Errors
+    ///
+    /// At 2^63 - 1 owners. Nothing is changed.
     pub fn share(&self) -> Result<SharedState, NoMemory>
         ensures { IfOk result (λ shared. shared ≡ self.now) }
     {
@@ -89,6 +93,11 @@ pub enum Body {
 
 impl Body {
     /// The same answer once more: a state gets one more owner and is not copied, a tree's levels are copied.
+    ///
+    /// # Errors
+    ///
+    /// Where a growth was refused, or the state has as many owners as can be counted. The answer is as
+    /// before.
     pub fn share(&self) -> Result<Body, NoMemory>
         ensures { IfOk result (λ body. body ≡ self.now) }
     {

@@ -45,6 +45,10 @@ impl Levels {
     }
 
     /// The same levels once more.
+    ///
+    /// # Errors
+    ///
+    /// Where a growth was refused. Nothing is changed.
     pub fn copied(&self) -> Result<Levels, NoMemory>
         ensures { IfOk result (λ levels. levels ≡ self.now) }
     {
@@ -63,6 +67,10 @@ pub struct Tree {
 
 impl Tree {
     /// The same report once more, with levels of its own.
+    ///
+    /// # Errors
+    ///
+    /// Where a growth was refused. Nothing is changed.
     pub fn copied(&self) -> Result<Tree, NoMemory>
         ensures { IfOk result (λ tree. tree ≡ self.now) }
     {

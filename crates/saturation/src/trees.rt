@@ -24,6 +24,10 @@ use std::thread::Threads;
 /// It takes memory for a byte a cycle, and looks at fewer than 2^k queues a cycle. The rows are mapped by `rayon`, which
 /// starts no thread for fewer than 2,048 of them, and a run has 2,001 at most. The conditions are that the module
 /// exists, and that there is a row for each cycle.
+///
+/// # Errors
+///
+/// Where a growth was refused. Nothing is changed.
 pub fn tree(
     rt: &(impl Threads + Sync),
     alloc: Global,

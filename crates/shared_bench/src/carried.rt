@@ -83,6 +83,10 @@ impl Carried {
     }
 
     /// A claim of the first cell at or after `from`.
+    ///
+    /// # Errors
+    ///
+    /// Where a growth was refused. The bench is as before.
     pub fn claim(&self, from: Cell) -> Result<Option<Claim<Rp3>>, NoMemory>
         ensures { ClaimsAs self.now from result }
     {
@@ -104,6 +108,10 @@ impl Carried {
     }
 
     /// Edits in the author's name.
+    ///
+    /// # Errors
+    ///
+    /// Why the edit is refused. The bench is as before.
     pub fn edit(&mut self, author: u32, edit: Edit) -> Result<u32, EditFault>
         ensures journal { IfOk result (λ v. self.new.journal ≡ self.old.journal ++ noted author edit ∷ []) }
         ensures project { IfOk result (λ v. project_of self.new ≡ edited (project_of self.old) edit) }
@@ -122,6 +130,10 @@ impl Carried {
     }
 
     /// Its version, and its project with further owners.
+    ///
+    /// # Errors
+    ///
+    /// At 2^63 - 1 owners. Nothing is changed.
     pub fn project(&self) -> Result<(u32, Project), NoMemory>
         ensures { IfOk result (λ r. (r.0 ≡ version_of self.now) × (r.1 ≡ project_of self.now)) }
     {

@@ -56,6 +56,10 @@ impl Model for Pass {
 
 /// Opens a bench to as many passes as there are seats, 1 to 64: the first pass, with number 0. Where memory is wanting,
 /// the bench comes back.
+///
+/// # Errors
+///
+/// Where a growth was refused: the bench, as it was handed over.
 pub fn open(alloc: Global, bench: Bench, seats: u32) -> Result<Pass, Bench>
     requires { (0 < seats) × (seats ≤ 64) }
     ensures ok { IfOk result (λ p. (p.project ≡ project_of bench) × (p.opened ≡ bench.journal) × (p.seen ≡ bench.journal) × (p.seats ≡ seats) × (p.number ≡ 0) × (p.numbers ≡ 0 ∷ []) × (p.receipts ≡ []) × SomeIsLegal p) }

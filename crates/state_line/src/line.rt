@@ -49,6 +49,10 @@ fn nothing<S: Drop>(alloc: Global, n: u32) -> Result<Stack<S>, AllocError>
 
 impl<S: Drop> Line<S> {
     /// n cycles of nothing.
+    ///
+    /// # Errors
+    ///
+    /// Where a growth was refused. What was taken is given back.
     #[tactic(auto, using(crate::proofs::States::nothing_covers, crate::proofs::States::states_of_nothing))]
     pub fn new(alloc: Global, n: u32) -> Result<Line<S>, AllocError>
         ensures states { IfOk result (λ l. l.states ≡ replicate n None) }
@@ -143,6 +147,10 @@ impl<S: Drop> Line<S> {
     }
 
     /// One more owner of the state at a cycle.
+    ///
+    /// # Errors
+    ///
+    /// At 2^63 - 1 owners. Nothing is changed.
     pub fn shared(&self, t: u32) -> Result<Option<Arc<S>>, AllocError>
         ensures { IfOk result (λ o. option_map arc_value o ≡ slice_index_or self.now.states t None) }
     {
@@ -201,6 +209,10 @@ impl<S: Drop> Line<S> {
     }
 
     /// Gets the memory for two stretches more; the place stays.
+    ///
+    /// # Errors
+    ///
+    /// Where a growth was refused. The states are as before.
     pub fn make_room(&mut self) -> Result<(), AllocError>
         ensures states { self.new.states ≡ self.old.states }
         ensures place { self.new.place ≡ self.old.place }

@@ -50,6 +50,10 @@ impl<S> Stretch<S> {
     }
 
     /// One more owner of the state.
+    ///
+    /// # Errors
+    ///
+    /// At 2^63 - 1 owners. Nothing is changed.
     pub fn shared(&self) -> Result<Option<Arc<S>>, AllocError>
         ensures { IfOk result (λ o. option_map arc_value o ≡ self.now.state) }
     {
@@ -60,6 +64,10 @@ impl<S> Stretch<S> {
     }
 
     /// The same stretch once more.
+    ///
+    /// # Errors
+    ///
+    /// At 2^63 - 1 owners. Nothing is changed.
     pub fn again(&self) -> Result<Stretch<S>, AllocError>
         ensures { IfOk result (λ s. s ≡ self.now) }
     {

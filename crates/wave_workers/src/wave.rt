@@ -185,6 +185,10 @@ const LEAST_DUE: u32 = 1024;
 /// states in place, and have ended before the results are stored, in the order of components. At the first that is refused
 /// those before it are stored, and those after it are dropped. A piece whose thread can't be started is computed by the
 /// thread that wanted to start it, behind its own.
+///
+/// # Errors
+///
+/// As `Bench::settle`: the cells computed until then stay stored, and `computed` is their number.
 pub fn settle_wave<R: Threads + Sync, G: Gate + Send + Drop>(
     rt: &R,
     bench: &mut Bench,
@@ -219,6 +223,10 @@ fn components(bench: &Bench) -> u32 {
 
 /// Settles a bench as `Bench::settle` does, with the same contract: by waves of four gates where the machine's cycles have as
 /// many cells as make a wave pay, which none has today, and else by `Bench::settle` itself.
+///
+/// # Errors
+///
+/// As `Bench::settle`: the cells computed until then stay stored, and `computed` is their number.
 pub fn settle_where_it_pays<R: Threads + Sync>(
     rt: &R,
     alloc: Global,

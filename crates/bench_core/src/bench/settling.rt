@@ -25,6 +25,11 @@ use machine_cells::Rp3;
 impl Bench {
     /// A claim of the first cell at or after `from`, by cycle and then component, that is due and whose near cells one
     /// cycle earlier all hold a state, wrapping round once; none exactly where no cell is due. Nothing is changed.
+    ///
+    /// # Errors
+    ///
+    /// Where a growth was refused, or a state has as many owners as can be counted. The bench is as
+    /// before.
     pub fn claim(&self, from: Cell) -> Result<Option<Claim<Rp3>>, NoMemory>
         ensures none { IfOk result (λ r. IfNone r (NoneDue rp3_rules self.now.table)) }
         ensures next { IfOk result (λ r. IfSome r (λ claim. IsNextRound rp3_rules self.now.table from.cycle from.component claim.cell)) }
@@ -63,6 +68,11 @@ impl Bench {
     /// that were due, or that had a near cell one cycle earlier with another state than that of the run; each is stored
     /// once, and `computed` is their number. Afterwards every cell holds the run, and no query is answered Pending. After
     /// a fault the cells computed stay stored and the rest stays due, and a further call goes on. The clock never falls.
+    ///
+    /// # Errors
+    ///
+    /// ClockSpent where a store would change a state and the clock is 2^64 - 1, Memory where a growth
+    /// was refused; each with the number of cells that were computed and stay stored.
     pub fn settle(&mut self) -> Result<Settled, SettleFault>
         ensures headline_settles { IfOk result (λ s. (done : List (TableEvent CellState ProjectValue ReadSlot)) × ((o : Opening) (h : List Event) → Stands o self.old h
             → Settles o h self.new done s.computed)) }

@@ -20,6 +20,10 @@ impl Bench {
 
     /// The due cells of the first cycle that has any at or after `from`, in the order of components, where none before
     /// `from` is due. They may be computed on any threads, by `Work::compute`, from the cells as they are.
+    ///
+    /// # Errors
+    ///
+    /// Where a growth was refused. Nothing is changed.
     pub fn next_works(&self, from: Cell) -> Result<Vec<Work<Rp3>>, NoMemory>
         requires { NoneDueBefore rp3_rules self.now.table from.cycle from.component }
         ensures { IfOk result (λ works. All (λ w. IsReady rp3_rules self.now.table w.cell.cycle w.cell.component) works.items) }
@@ -30,6 +34,11 @@ impl Bench {
     /// Stores the state of the first due cell at or after `from`, where none before `from` is due, and tells the cell, or
     /// none where no cell is due. The state is what the work found, where it is of that cell; else it is computed here.
     /// After a fault nothing is changed: Memory also where the work met want of memory.
+    ///
+    /// # Errors
+    ///
+    /// ClockSpent where the store would change a state and the clock is 2^64 - 1, Memory where a growth
+    /// was refused, here or in the work. Nothing is changed.
     pub fn settle_work(
         &mut self,
         from: Cell,

@@ -141,6 +141,11 @@ impl<G: Grid> Table<G> {
     /// earlier all hold a state, wrapping round once; none exactly where no cell is due. Nothing
     /// is changed. A cycle with nothing due is passed in one step, and each cell is looked at once
     /// at most.
+    ///
+    /// # Errors
+    ///
+    /// Where a growth was refused, or a state has as many owners as can be counted. The table is as
+    /// before.
     pub fn claim(&self, from: Cell) -> Result<Option<Claim<G>>, NoMemory>
         ensures none { IfOk result (λ r. IfNone r (NoneDue G.rules self.now)) }
         ensures next { IfOk result (λ r. IfSome r (λ claim. IsNextRound G.rules self.now from.cycle from.component claim.cell)) }

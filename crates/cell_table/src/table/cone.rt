@@ -20,6 +20,10 @@ impl<G: Grid> Table<G> {
     ///
     /// The components near those of the cone are looked up until they grow no more; each of them is
     /// looked at once a cycle, and none at a cycle with nothing due.
+    ///
+    /// # Errors
+    ///
+    /// Where a growth was refused. Nothing is changed.
     pub fn due_cone(&self, cell: Cell) -> Result<u64, NoMemory>
         ensures count { IfOk result (λ n. n ≡ count_cone G.rules self.now.slots self.now.horizon (due_at self.now.rows) cell.cycle cell.component) }
         ensures headline_due { IfOk result (λ n. (o : Start G.Slots) (h : List (Event G.State G.Slots G.Slot)) → Stands G.rules o self.now h

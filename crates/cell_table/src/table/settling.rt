@@ -264,6 +264,10 @@ impl<G: Grid> Table<G> {
     }
 
     /// `settle`, where `watcher` is told of what is stored as soon as it is.
+    ///
+    /// # Errors
+    ///
+    /// As `settle`. The watcher was told of just those cells that stay stored.
     pub fn settle_watched<W: Watcher<G>>(&mut self, watcher: &mut W) -> Result<Settled, SettleFault>
         requires { W.keeps watcher.old self.old }
         ensures watched { W.keeps watcher.new self.new }
@@ -291,6 +295,11 @@ impl<G: Grid> Table<G> {
     /// Afterwards every cell holds the run. After a fault the cells computed stay stored and the
     /// rest stays due, and a further call goes on. The clock never falls. The cells are passed once
     /// in all, and a cycle with nothing due in one step.
+    ///
+    /// # Errors
+    ///
+    /// ClockSpent where a store would change a state and the clock is 2^64 - 1, Memory where a growth
+    /// was refused; each with the number of cells that were computed and stay stored.
     pub fn settle(&mut self) -> Result<Settled, SettleFault>
         ensures headline_settles { IfOk result (λ s. (done : List (Event G.State G.Slots G.Slot)) × ((o : Start G.Slots) (h : List (Event G.State G.Slots G.Slot)) → Stands G.rules o self.old h
             → Settles G.rules o h self.new done s.computed)) }

@@ -246,6 +246,11 @@ impl<G: Grid> Table<G> {
     /// nothing is changed. Of each slot listed its readers are asked, and no other component: at
     /// cycle 0, or later once for each stretch of cycles in which its own state is the same. Where no
     /// cell is due, nothing else is looked at; else the near states of the cells that read the slot.
+    ///
+    /// # Errors
+    ///
+    /// ClockSpent where the clock is 2^64 - 1, Memory where a growth was refused. The table is as
+    /// before.
     pub fn touch(&mut self, next: G::Slots, changed: Changed<G::Slot>) -> Result<(), TouchFault>
         requires { Differ G.rules self.old.slots next changed.slots.items }
         ensures ok { OnOk result

@@ -84,6 +84,10 @@ impl<G: Grid> Table<G> {
 
     /// The due cells of the first cycle that has any at or after `from`, in the order of components,
     /// where none before `from` is due. They may be computed on any threads, by `Work::compute`.
+    ///
+    /// # Errors
+    ///
+    /// Where a growth was refused. Nothing is changed.
     pub fn next_works(&self, from: Cell) -> Result<Vec<Work<G>>, NoMemory>
         requires { NoneDueBefore G.rules self.now from.cycle from.component }
         ensures { IfOk result (λ works. All (λ w. IsReady G.rules self.now w.cell.cycle w.cell.component) works.items) }
@@ -98,6 +102,11 @@ impl<G: Grid> Table<G> {
     /// tells the cell, or none where no cell is due. The state is what the work found, where it is of
     /// that cell; else it is computed here. After a fault nothing is changed: Memory also where the
     /// work met want of memory.
+    ///
+    /// # Errors
+    ///
+    /// ClockSpent where the store would change a state and the clock is 2^64 - 1, Memory where a growth
+    /// was refused, here or in the work. Nothing is changed.
     pub fn settle_work(
         &mut self,
         from: Cell,

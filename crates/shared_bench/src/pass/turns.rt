@@ -68,6 +68,11 @@ impl Pass {
 
     /// A claim of the first cell at or after `from` that is due and can be computed, as `Bench::claim`, in one turn. Its
     /// result is computed outside of any turn. Nothing of the bench is changed, whatever it answers.
+    ///
+    /// # Errors
+    ///
+    /// Where a growth was refused, or a state has as many owners as can be counted. The turn was taken,
+    /// and the pass has seen what stood then.
     pub fn claim<R: Wait>(&mut self, rt: &R, from: Cell) -> Result<Option<Claim<Rp3>>, NoMemory>
         ensures project { IfOk result (λ r. IfSome r (λ claim. claim.slots ≡ project_seen self.new)) }
         ensures later { IsLater self.old self.new }
@@ -125,6 +130,11 @@ impl Pass {
 
     /// The length of the journal that the pass has then seen, and the project of that journal, in one turn. The project has
     /// two more owners of what it shares with the bench's, and takes no other memory.
+    ///
+    /// # Errors
+    ///
+    /// Where what is shared has 2^63 - 1 owners. The turn was taken, and the pass has seen what stood
+    /// then.
     pub fn project<R: Wait>(&mut self, rt: &R) -> Result<(u32, Project), NoMemory>
         ensures threads_project { IfOk result (λ r. (r.0 ≡ length self.new.seen) × (r.1 ≡ project_seen self.new)) }
         ensures later { IsLater self.old self.new }
