@@ -4,7 +4,7 @@ use Rattle.std.specs.Prelude.{nat_le, find, ◌==◌}
 use Rattle.std.proofs.lemmas.Bool.Decides.{nat_tests}
 use Rattle.project_book.specs.Project.{Project}
 use Rattle.project_book.specs.Edits.{accepts, applies, verdict}
-use Rattle.project_book.specs.declared.limits.TheConstants.{MAX_EDITS}
+use Rattle.project_book.specs.Limits.{max_edits}
 use Rattle.project_book.specs.declared.edit.Edit.{Edit}
 use Rattle.project_book.specs.declared.fault.EditFault.{EditFault}
 use Rattle.project_book.specs.declared.fault.EditFault.TheVariants.{JournalFull, BadProcessor, BadEntry, ScriptFull, BadAddress, BadPage, BadInterleave, BadStage, BadDepth, BadWindow, BadTimes, BadHorizon, ClockSpent}
@@ -18,35 +18,35 @@ others = BadProcessor ∷ BadEntry ∷ ScriptFull ∷ BadAddress ∷ BadPage ∷
 by_length : Project → Edit → Bool → Result (Unit {0}) EditFault
 by_length P e full = verdict (cond full (Some JournalFull) (find (applies P 0 e) others))
 
-pub accepts_full : (P : Project) (v : ℕ) (e : Edit) → MAX_EDITS ≤ v → accepts P v e ≡ Err JournalFull
+pub accepts_full : (P : Project) (v : ℕ) (e : Edit) → max_edits ≤ v → accepts P v e ≡ Err JournalFull
 accepts_full P v e h =
-    let t : nat_le MAX_EDITS v ≡ true = grind (arith, nat_tests) in
+    let t : nat_le max_edits v ≡ true = grind (arith, nat_tests) in
     ap (λ full. verdict (cond full (Some JournalFull) (find (applies P v e) others))) t
 
-pub accepts_counted : (P : Project) (v : ℕ) (e : Edit) → v < MAX_EDITS → accepts P v e ≡ accepts P 0 e
+pub accepts_counted : (P : Project) (v : ℕ) (e : Edit) → v < max_edits → accepts P v e ≡ accepts P 0 e
 accepts_counted P v e h =
-    let t : nat_le MAX_EDITS v ≡ false = grind (arith, nat_tests) in
+    let t : nat_le max_edits v ≡ false = grind (arith, nat_tests) in
     ap (λ full. verdict (cond full (Some JournalFull) (find (applies P v e) others))) t
 
 ok_and_err : (fault : EditFault) → verdict (Some fault) ≡ verdict None → ⊥
 ok_and_err fault h = cc
 
 -- an accepted edit finds room in the journal
-pub accepted_room : (P : Project) (v : ℕ) (e : Edit) → accepts P v e ≡ Ok tt → v < MAX_EDITS
-accepted_room P v e h = by_test (nat_le MAX_EDITS v) refl
+pub accepted_room : (P : Project) (v : ℕ) (e : Edit) → accepts P v e ≡ Ok tt → v < max_edits
+accepted_room P v e h = by_test (nat_le max_edits v) refl
   where
-    by_test : (t : Bool) → nat_le MAX_EDITS v ≡ t → v < MAX_EDITS
+    by_test : (t : Bool) → nat_le max_edits v ≡ t → v < max_edits
     by_test true t =
-        let full : MAX_EDITS ≤ v = grind (arith, nat_tests) in
+        let full : max_edits ≤ v = grind (arith, nat_tests) in
         absurd (ok_and_err JournalFull (sym (accepts_full P v e full) ∙ h))
     by_test false t = grind (arith, nat_tests)
 
 -- the verdict on an edit of a bench
-pub admits_full : (b : Shown) (e : Edit) → MAX_EDITS ≤ version_of b → admits b e ≡ Err JournalFull
+pub admits_full : (b : Shown) (e : Edit) → max_edits ≤ version_of b → admits b e ≡ Err JournalFull
 admits_full b e h = ap (unless_spent b.table.clock) (accepts_full (project_of b) (version_of b) e h)
 
 -- with room in the journal: while the clock is at its last value, a fault of the project or ClockSpent; before, the project's verdict
-module _ (b : Shown) (e : Edit) (r : Result (Unit {0}) EditFault) (room : version_of b < MAX_EDITS) (checked : r ≡ accepts (project_of b) 0 e) where
+module _ (b : Shown) (e : Edit) (r : Result (Unit {0}) EditFault) (room : version_of b < max_edits) (checked : r ≡ accepts (project_of b) 0 e) where
   counted : admits b e ≡ unless_spent b.table.clock r
   counted = ap (unless_spent b.table.clock) (accepts_counted (project_of b) (version_of b) e room ∙ sym checked)
 
@@ -58,7 +58,7 @@ module _ (b : Shown) (e : Edit) (r : Result (Unit {0}) EditFault) (room : versio
       let t : (b.table.clock == 2 ^ 64 - 1) ≡ true = grind (arith, nat_tests) in
       counted ∙ ap (unless_spent b.table.clock) is ∙ ap (λ spent. cond spent (Err ClockSpent) (Ok tt)) t
 
-pub admits_earlier : (b : Shown) (e : Edit) → version_of b < MAX_EDITS → (b.table.clock ≡ 2 ^ 64 - 1 → ⊥) → admits b e ≡ accepts (project_of b) 0 e
+pub admits_earlier : (b : Shown) (e : Edit) → version_of b < max_edits → (b.table.clock ≡ 2 ^ 64 - 1 → ⊥) → admits b e ≡ accepts (project_of b) 0 e
 admits_earlier b e room earlier = counted b e (accepts (project_of b) 0 e) room refl ∙ by_verdict (accepts (project_of b) 0 e)
   where
     by_verdict : (r : Result (Unit {0}) EditFault) → unless_spent b.table.clock r ≡ r
@@ -82,5 +82,5 @@ admitted b e h = by_verdict (accepts (project_of b) (version_of b) e) refl
     by_verdict (Err fault) k = absurd (ok_and_err fault (sym (ap (unless_spent b.table.clock) k) ∙ h))
     by_verdict (Ok u) k = k
 
-pub admitted_room : (b : Shown) (e : Edit) → admits b e ≡ Ok tt → version_of b < MAX_EDITS
+pub admitted_room : (b : Shown) (e : Edit) → admits b e ≡ Ok tt → version_of b < max_edits
 admitted_room b e h = accepted_room (project_of b) (version_of b) e (admitted b e h)

@@ -22,7 +22,7 @@ use Rattle.monitor_sums.specs.Kept.{Kept, StandsFor, counted}
 use Rattle.monitor_sums.specs.Sums.{States, sum_of, in_profile, pairs_of, profile_of, changed, cleared, NonePast}
 use Rattle.project_book.specs.Project.{Project}
 use Rattle.project_book.specs.declared.slot.Slot.{Slot}
-use Rattle.project_book.specs.declared.limits.TheConstants.{MAX_HORIZON}
+use Rattle.project_book.specs.Limits.{max_horizon}
 use Rattle.bench_core.specs.Shown.{Shown, IsBench, IsCounted, project_of, held, present}
 use Rattle.bench_core.specs.Asks.{HoldsRunTo}
 use Rattle.monitor_sums.proofs.Over.{same_over}
@@ -52,7 +52,7 @@ present_past v t c lt = let e : nat_le t v.horizon ≡ false = grind (arith, nat
 
 -- counters that stand for a map stand for one that is the same at each cell
 pub stands_along : (sums : Kept) (at other : States) → StandsFor sums at
-    → ((t c : ℕ) → t ≤ MAX_HORIZON → c < components sums.k → at t c ≡ other t c) → StandsFor sums other
+    → ((t c : ℕ) → t ≤ max_horizon → c < components sums.k → at t c ≡ other t c) → StandsFor sums other
 stands_along sums at other stands same t c le lt = stands t c le lt ∙ ap counted (same t c le lt)
 
 -- where no cycle is past the horizon, nothing is cleared

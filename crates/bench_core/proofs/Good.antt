@@ -3,7 +3,7 @@ use Rattle.std.proofs.Common.{◌≡◌, ℕ, ◌<◌, ◌≤◌, refl, subst, a
 use Rattle.std.specs.Prelude.{nat_lt, nat_le, ◌&&◌}
 use Rattle.std.specs.Option.{ForSome}
 use Rattle.std.proofs.lemmas.Bool.Decides.{nat_tests}
-use Rattle.page_map.specs.declared.map.TheConstants.{ADDRESSES}
+use Rattle.page_map.specs.Limits.{address_count}
 use Rattle.omega_net.specs.Numbers.{lines, components}
 use Rattle.omega_net.specs.declared.component.Net.{Net}
 use Rattle.monitor_sums.specs.declared.counter.Counter.{Counter as WhichCounter}
@@ -17,7 +17,7 @@ pub record GoodState (P : Project) (c t : ℕ) : Type 0 where
 
 pub record GoodMemory (P : Project) (a t : ℕ) : Type 0 where
   pub cycle : t ≤ P.horizon
-  pub address : a < ADDRESSES
+  pub address : a < address_count
 
 pub record GoodCounter (P : Project) (who : Option ℕ) (from to : ℕ) : Type 0 where
   pub asked : ForSome who (λ c. c < components P.k)
@@ -40,17 +40,17 @@ good_state P c t h = by_tests (nat_lt c (components P.k)) (nat_le t P.horizon) r
     by_tests false y e f k = absurd (some_none 1 k)
 
 pub good_memory : (P : Project) (a t : ℕ) → bad_query P (Memory a t) ≡ None → GoodMemory P a t
-good_memory P a t h = by_tests (nat_le t P.horizon) (nat_lt a ADDRESSES) refl refl h
+good_memory P a t h = by_tests (nat_le t P.horizon) (nat_lt a address_count) refl refl h
   where
-    by_tests : (x y : Bool) → nat_le t P.horizon ≡ x → nat_lt a ADDRESSES ≡ y → cond {A = Option ℕ} x (cond {A = Option ℕ} y None (Some 3)) (Some 2) ≡ None → GoodMemory P a t
+    by_tests : (x y : Bool) → nat_le t P.horizon ≡ x → nat_lt a address_count ≡ y → cond {A = Option ℕ} x (cond {A = Option ℕ} y None (Some 3)) (Some 2) ≡ None → GoodMemory P a t
     by_tests true true e f k = record { cycle = grind (arith, nat_tests); address = grind (arith, nat_tests) }
     by_tests true false e f k = absurd (some_none 3 k)
     by_tests false y e f k = absurd (some_none 2 k)
 
-pub good_place : (P : Project) (a : ℕ) → bad_query P (Place a) ≡ None → a < ADDRESSES
-good_place P a h = by_test (nat_lt a ADDRESSES) refl h
+pub good_place : (P : Project) (a : ℕ) → bad_query P (Place a) ≡ None → a < address_count
+good_place P a h = by_test (nat_lt a address_count) refl h
   where
-    by_test : (x : Bool) → nat_lt a ADDRESSES ≡ x → cond {A = Option ℕ} x None (Some 3) ≡ None → a < ADDRESSES
+    by_test : (x : Bool) → nat_lt a address_count ≡ x → cond {A = Option ℕ} x None (Some 3) ≡ None → a < address_count
     by_test true e k = grind (arith, nat_tests)
     by_test false e k = absurd (some_none 3 k)
 

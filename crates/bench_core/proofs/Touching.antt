@@ -12,7 +12,7 @@ use Rattle.machine_cells.specs.GridRules.{rp3_rules}
 use Rattle.project_book.specs.Project.{Project}
 use Rattle.project_book.specs.Slots.{Touches}
 use Rattle.project_book.specs.Edits.{edited, new_horizon}
-use Rattle.project_book.specs.declared.limits.TheConstants.{MAX_EDITS, MAX_HORIZON}
+use Rattle.project_book.specs.Limits.{max_edits, max_horizon}
 use Rattle.project_book.specs.declared.edit.Edit.{Edit}
 use Rattle.project_book.specs.declared.slot.Slot.{Slot}
 use Rattle.bench_core.specs.declared.noted.Noted.{Noted}
@@ -43,7 +43,7 @@ module _ (old new : Seen MachineState Project) (journal : List Noted) (author : 
     table = subst (λ Q. IsAfterTouch rp3_rules old new Q listed Q.horizon) is (subst (λ n. IsAfterTouch rp3_rules old new next listed n) to touched);
   }
 
-  pub bench_edited : next.horizon ≤ MAX_HORIZON → length journal < MAX_EDITS → IsBench new (journal ++ record { author = author; edit = e } ∷ [])
+  pub bench_edited : next.horizon ≤ max_horizon → length journal < max_edits → IsBench new (journal ++ record { author = author; edit = e } ∷ [])
   bench_edited short room = record {
     horizon = touched.horizon ∙ to ∙ sym (ap (λ (Q : Project). Q.horizon) touched.slots);
     short = omega (arith, short, touched.horizon, to);

@@ -4,7 +4,7 @@ use Rattle.cell_table.specs.Seen.{Seen, held_at}
 use Rattle.machine_cells.specs.declared.state.MachineState.{MachineState}
 use Rattle.monitor_sums.specs.Kept.{Kept, StandsFor}
 use Rattle.project_book.specs.Project.{Project}
-use Rattle.project_book.specs.declared.limits.TheConstants.{MAX_EDITS, MAX_HORIZON}
+use Rattle.project_book.specs.Limits.{max_edits, max_horizon}
 use Rattle.bench_core.specs.declared.noted.Noted.{Noted}
 
 -- its table of cells, and the edits that it accepted, the oldest first
@@ -31,8 +31,8 @@ present v t c = if nat_le t v.horizon then held v t c else None
 -- overfull
 pub record IsBench (table : Seen MachineState Project) (journal : List Noted) : Type 0 where
   pub horizon : table.horizon ≡ table.slots.horizon
-  pub short : table.horizon ≤ MAX_HORIZON
-  pub few : length journal ≤ MAX_EDITS
+  pub short : table.horizon ≤ max_horizon
+  pub few : length journal ≤ max_edits
 
 -- and its counters count the states that are held now
 pub record IsCounted (sums : Kept) (table : Seen MachineState Project) : Type 0 where

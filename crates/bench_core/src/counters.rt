@@ -5,7 +5,7 @@ ghost use Rattle.bench_core.specs.Shown.{held};
 ghost use Rattle.bench_core.specs.Filling.{filled_in, filled_to};
 ghost use Rattle.monitor_sums.specs.Kept.{StandsFor};
 ghost use Rattle.monitor_sums.specs.Sums.{States, cleared};
-ghost use Rattle.project_book.specs.declared.limits.TheConstants.{MAX_HORIZON};
+ghost use Rattle.project_book.specs.Limits.{max_horizon};
 
 use cell_table::{Cell, Table, Watcher};
 use grid_law::NoMemory;
@@ -48,7 +48,7 @@ impl Counters {
     /// Counts no more what the cells past a horizon held, where those up to another were counted.
     #[tactic(auto, using(crate::proofs::Counting::none_cleared))]
     pub(crate) fn forget(&mut self, to: u32, before: u32)
-        requires { before ≤ MAX_HORIZON }
+        requires { before ≤ max_horizon }
         ensures shape { self.new.k ≡ self.old.k }
         ensures stands { (at : States) → StandsFor self.old at → StandsFor self.new (cleared at (to + 1) before) }
     {
@@ -64,7 +64,7 @@ fn count_filled(sums: &mut Sums, table: &Table<Rp3>, component: u32, from: u32, 
     requires component { component < components sums.old.k }
     requires same { sums.old.k ≡ table.now.slots.k }
     requires later { from ≤ to }
-    requires within { to ≤ MAX_HORIZON + 1 }
+    requires within { to ≤ max_horizon + 1 }
     requires there { to ≤ table.now.horizon + 1 }
     ensures shape { sums.new.k ≡ sums.old.k }
     ensures stands { (at : States) → StandsFor sums.old at → StandsFor sums.new (filled_in at (held table.now) component from to) }
@@ -84,7 +84,7 @@ fn count_filled(sums: &mut Sums, table: &Table<Rp3>, component: u32, from: u32, 
 fn count_all_filled(sums: &mut Sums, table: &Table<Rp3>, from: u32, to: u32)
     requires same { sums.old.k ≡ table.now.slots.k }
     requires later { from ≤ to }
-    requires within { to ≤ MAX_HORIZON + 1 }
+    requires within { to ≤ max_horizon + 1 }
     requires there { to ≤ table.now.horizon + 1 }
     ensures shape { sums.new.k ≡ sums.old.k }
     ensures stands { (at : States) → StandsFor sums.old at → StandsFor sums.new (filled_to at (held table.now) (components sums.old.k) from to) }
@@ -97,7 +97,7 @@ fn count_all_filled(sums: &mut Sums, table: &Table<Rp3>, from: u32, to: u32)
 impl Watcher<Rp3> for Counters {
     ghost use Rattle.bench_core.specs.Shown.{IsCounted};
 
-    ghost keeps = { λ counters table. (table.horizon ≤ MAX_HORIZON) × IsCounted counters table };
+    ghost keeps = { λ counters table. (table.horizon ≤ max_horizon) × IsCounted counters table };
 
     fn stored(&mut self, table: &Table<Rp3>, cell: Cell) {
         self.sums

@@ -1,6 +1,6 @@
 //! What a run drives.
 ghost use Rattle.std.specs.Prelude.{◌≡◌, ℕ, ◌+◌, ◌≤◌, IfOk, OnErr, Err};
-ghost use Rattle.page_map.specs.declared.map.TheConstants.{MAX_K};
+ghost use Rattle.page_map.specs.Limits.{max_k};
 
 use bench_core::Told;
 use grid_law::NoMemory;
@@ -29,7 +29,7 @@ pub trait Desk {
     /// The k of the machine, and the version at the opening.
     fn opened(&self) -> (u32, u32)
         ensures both { result ≡ ((store self.now).project.k, opening self.now) }
-        ensures small { result.0 ≤ MAX_K };
+        ensures small { result.0 ≤ max_k };
 
     /// Makes an edit: the new version, or why it was refused. Then project and journal are as before.
     ///

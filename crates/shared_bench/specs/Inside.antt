@@ -1,7 +1,7 @@
 -- What is true of every pass, and what it knows by its seat. Nothing here has to be believed.
 use Rattle.std.specs.Prelude.{◌≡◌, ℕ, ◌<◌, ◌≤◌, true, false, [], length, Option}
 use Rattle.atomic_table.specs.Seated.{TableId}
-use Rattle.page_map.specs.declared.map.TheConstants.{MAX_K}
+use Rattle.page_map.specs.Limits.{max_k}
 use Rattle.shared_bench.specs.Legal.{has}
 use Rattle.shared_bench.specs.Known.{Known}
 use Rattle.shared_bench.specs.Turn.{AtSeat, HasLegal, Fresh, TicketFits}
@@ -23,6 +23,6 @@ pub record IsPass (table seat : TableId) (m : AtSeat) (number seats base k : ℕ
   pub few : seats ≤ 64
   pub base_is : base ≡ length m.0.opened
   pub k_is : k ≡ m.0.project.k
-  pub k_small : k ≤ MAX_K
+  pub k_small : k ≤ max_k
   pub legal : HasLegal m.0
   pub ticket_is : TicketFits ticket m.0.stage

@@ -1,6 +1,6 @@
 //! A pass to a shared bench.
 ghost use Rattle.std.specs.Prelude.{◌≡◌, ◌-◌, ◌^◌, ◌<◌, ◌≤◌, true, [], ◌∷◌, length, IfOk, IfErr};
-ghost use Rattle.page_map.specs.declared.map.TheConstants.{MAX_K};
+ghost use Rattle.page_map.specs.Limits.{max_k};
 ghost use Rattle.bench_core.specs.Shown.{project_of};
 ghost use Rattle.shared_bench.specs.Known.{SomeIsLegal, IsLater, IsSplit, IsJoined, IsLegalFor, HasAllNumbers, IsAllItsOwn};
 ghost use Rattle.shared_bench.specs.Answers.{project_at};
@@ -107,7 +107,7 @@ impl Pass {
     /// The k of the project, of which there are 2^k processors. No edit changes it.
     pub fn k(&self) -> u32
         ensures k { result ≡ self.now.project.k }
-        ensures small { result ≤ MAX_K }
+        ensures small { result ≤ max_k }
         ensures legal { SomeIsLegal self.now }
     {
         self.k

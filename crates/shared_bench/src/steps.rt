@@ -12,7 +12,12 @@ use crate::plays::{
     Comes, Counts, Draws, Fills, LENGTH, Leaves, Looks, NUMBERS, SERVING, SharedTurns, TICKETS,
     Takes, TurnSeat,
 };
+use std::hint::spin_loop;
 use std::sync::Wait;
+
+/// How often a waiting thread looks whether its ticket is served before it sleeps. A turn mostly takes less than falling
+/// asleep and being woken, which are some 15 microseconds; so many looks take a few.
+const LOOKS: u32 = 100;
 
 /// A ticket, modulo 2^64.
 pub fn take_ticket(turns: &SharedTurns, seat: &mut TurnSeat) -> u64
@@ -39,10 +44,26 @@ pub fn enter(turns: &SharedTurns, seat: &mut TurnSeat, ticket: u64) -> Option<Ca
     }
 }
 
+/// Looks so many times whether a ticket is served, until it is.
+fn watch(turns: &SharedTurns, ticket: u64) -> bool
+    requires { Fresh turns.now.table_id }
+{
+    for _ in 0..LOOKS {
+        if turns.peek(SERVING) == ticket {
+            return true;
+        }
+        spin_loop();
+    }
+    false
+}
+
 /// Sleeps while another ticket is served. Where the turn was passed since, the word is another one, and it doesn't sleep.
 fn sleep<R: Wait>(rt: &R, turns: &SharedTurns, ticket: u64)
     requires { Fresh turns.now.table_id }
 {
+    if watch(turns, ticket) {
+        return;
+    }
     let serving = turns.peek(SERVING);
     if serving != ticket {
         turns.park(rt, SERVING, (serving % (1 << 32)) as u32);

@@ -5,7 +5,7 @@ ghost use Rattle.cell_table.specs.Seen.{due_at};
 ghost use Rattle.grid_law.specs.Run.{run};
 ghost use Rattle.omega_net.specs.Numbers.{components};
 ghost use Rattle.machine_cells.specs.GridRules.{rp3_rules};
-ghost use Rattle.page_map.specs.declared.map.TheConstants.{ADDRESSES};
+ghost use Rattle.page_map.specs.Limits.{address_count};
 ghost use Rattle.project_book.specs.Project.{place_in};
 ghost use Rattle.run_queries.specs.Bad.{bad_query};
 ghost use Rattle.bench_core.specs.Shown.{project_of, version_of, held};
@@ -28,7 +28,7 @@ use std::thread::Threads;
 impl Bench {
     /// Where an address stands.
     pub(super) fn place(&self, address: u32) -> Place
-        requires { address < ADDRESSES }
+        requires { address < address_count }
         ensures place { result ≡ place_in (project_of self.now) address }
         ensures within { result.«module» < 2 ^ (project_of self.now).k }
     {
@@ -37,7 +37,7 @@ impl Bench {
 
     /// The cell of the module in which an address stands.
     pub(super) fn module_cell(&self, address: u32, cycle: u32) -> Cell
-        requires { address < ADDRESSES }
+        requires { address < address_count }
         ensures cell { result ≡ record { cycle = cycle; component = module_of (project_of self.now) address } }
         ensures within { result.component < components (project_of self.now).k }
     {

@@ -4,7 +4,7 @@ ghost use Rattle.cell_table.specs.Cells.{IsThere};
 ghost use Rattle.cell_table.specs.Cost.{CostsAnEdit};
 ghost use Rattle.cell_table.specs.Settling.{IsSettled};
 ghost use Rattle.machine_cells.specs.GridRules.{rp3_rules};
-ghost use Rattle.project_book.specs.declared.limits.TheConstants.{MAX_EDITS};
+ghost use Rattle.project_book.specs.Limits.{max_edits};
 ghost use Rattle.project_book.specs.declared.slot.Slot.{Slot as TouchedSlot};
 ghost use Rattle.project_book.specs.Edits.{edited, new_horizon};
 ghost use Rattle.project_book.specs.Slots.{Touches};
@@ -23,7 +23,7 @@ impl Bench {
     /// Why no edit is accepted while the clock is at its last value.
     #[tactic(auto, using(crate::proofs::Admitting::admits_fault, crate::proofs::Admitting::admits_last))]
     fn refusal(&self, edit: Edit) -> EditFault
-        requires room { version_of self.now < MAX_EDITS }
+        requires room { version_of self.now < max_edits }
         requires last { self.now.table.clock ≡ 2 ^ 64 - 1 }
         ensures { admits self.now edit ≡ Err result }
     {

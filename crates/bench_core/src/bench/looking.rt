@@ -2,7 +2,7 @@
 ghost use Rattle.std.specs.Prelude.{◌≡◌, ◌<◌, ◌*◌, suc, is_some, true, nat_lt, if◌then◌else◌};
 ghost use Rattle.std.specs.Option.{option_copied};
 ghost use Rattle.omega_net.specs.Numbers.{components};
-ghost use Rattle.page_map.specs.declared.map.TheConstants.{ADDRESSES};
+ghost use Rattle.page_map.specs.Limits.{address_count};
 ghost use Rattle.run_queries.specs.Answers.{has_sent, issued, first_reply, found_in};
 ghost use Rattle.run_queries.specs.declared.query.Query.TheVariants.{Reply as ReplyTo, State as StateOf, Memory as MemoryAt};
 ghost use Rattle.bench_core.specs.Shown.{project_of, version_of, held};
@@ -91,7 +91,7 @@ impl Bench {
 
     /// What the module's state that is held says to a query of a word.
     pub(super) fn word(&self, address: u32, cycle: u32) -> Asked
-        requires { address < ADDRESSES }
+        requires { address < address_count }
         ensures { TellsAs (version_of self.now) (found_in (held self.now.table) (project_of self.now) (MemoryAt address cycle)) result }
     {
         let state = self.table.state(self.module_cell(address, cycle));

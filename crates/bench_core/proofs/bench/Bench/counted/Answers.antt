@@ -1,6 +1,6 @@
 use Rattle.std.proofs.Common.{◌≡◌, ◌≤◌, ◌∙◌, ap, arith}
 use Rattle.project_book.specs.Project.{Project}
-use Rattle.project_book.specs.declared.limits.TheConstants.{MAX_HORIZON}
+use Rattle.project_book.specs.Limits.{max_horizon}
 use Rattle.monitor_sums.specs.Sums.{sum_of}
 use Rattle.bench_core.specs.Shown.{IsBench, IsCounted, project_of, present}
 use Rattle.bench_core.proofs.Counting.{none_past, sum_is_run}
@@ -19,7 +19,7 @@ returns-then-to-horizon c =
     let counts : IsCounted sums b.table = rw (c.sums.ensures, ← c.self.view_is) c.self.invariant.1 in
     let end : c.horizon-horizon.result ≡ (project_of b).horizon = c.horizon-horizon.ensures.horizon ∙ ap (λ (p : Project). p.horizon) c.project.ensures in
     let to_end : c.args.to ≡ (project_of b).horizon = c.if-to-horizon.true ∙ end in
-    let short : (project_of b).horizon ≤ MAX_HORIZON = omega (arith, bench.horizon, bench.short) in
+    let short : (project_of b).horizon ≤ max_horizon = omega (arith, bench.horizon, bench.short) in
     let total : c.total.result ≡ sum_of sums.k c.args.counter (present b.table) c.args.who 0 (project_of b).horizon =
     c.total.ensures.up_to (present b.table) (project_of b).horizon counts.counts (none_past b sums bench counts) short in
     let is : c.total.result ≡ sum_of sums.k c.args.counter (present b.table) c.args.who c.args.from c.args.to = rw (c.if-from-eq0.true, to_end) total in
