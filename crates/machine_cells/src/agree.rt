@@ -9,7 +9,7 @@ ghost use Rattle.machine_cells.specs.Reads.{SameAtAll, SameMemory, index_reads, 
 use crate::MachineState;
 use omega_net::{Component, Net, ScriptEntry};
 use page_map::{PAGE_WORDS, PAGES};
-use project_book::{Depths, FirstWord, Project, SCRIPT_ENTRIES, Slot};
+use project_book::{Depths, Project, SCRIPT_ENTRIES, Slot};
 use ref_proc::{Outgoing, ProcState};
 
 /// Whether two projects have the same pages and first words.
@@ -33,13 +33,7 @@ fn same_pages(a: &Project, b: &Project) -> bool
 fn same_words(a: &Project, b: &Project) -> bool
     ensures { IsTrue result ↔ ((w : ℕ) → w < address_count → word_of a.now w ≡ word_of b.now w) }
 {
-    same_listed(a.words(), b.words())
-}
-
-fn same_listed(a: &[FirstWord], b: &[FirstWord]) -> bool
-    ensures { IsTrue result ↔ (a.now ≡ b.now) }
-{
-    a == b
+    a.words().same(b.words())
 }
 
 /// Whether two projects agree in what a component reads after cycle 0, beside the shape, where its own

@@ -1,12 +1,13 @@
 -- What a search finds among ascending rows, and what an edit at that place leaves.
-use Rattle.std.proofs.Common.{◌≡◌, ℕ, zero, suc, ◌+◌, ◌<◌, ◌≤◌, ◌==◌, true, false, List, [], ◌∷◌, ◌++◌, length, take, drop, find, get_or, set, Some, None, Result, Ok, Err, IfOk, IfErr, sym, ap, refl, arith, append-nil, append_assoc, Bool, inl, inr}
+use Rattle.std.proofs.Common.{◌≡◌, ℕ, zero, suc, ◌+◌, ◌-◌, ◌<◌, ◌≤◌, ◌==◌, true, false, List, [], ◌∷◌, ◌++◌, length, take, drop, find, get_or, slice_get, nat_lt, set, Some, None, Result, Ok, Err, IfOk, IfErr, sym, ap, refl, arith, append-nil, append_assoc, Bool, inl, inr, ◌⊎◌, subst}
 use Rattle.std.specs.List.{insert, remove}
 use Rattle.std.specs.List.Sorted.{IsSearchInRange, IsBinarySearchResult, IsNonDecreasingBy}
 use Rattle.std.specs.Ordering.{nat_cmp, ordering_index}
 use Rattle.std.proofs.lemmas.Cmp.{ranked}
 use Rattle.std.proofs.lemmas.List.{take-append-drop}
 use Rattle.std.proofs.lemmas.List.Sorted.{IsNonDecreasingBy-from_default}
-use Rattle.std.proofs.lemmas.Bool.{cases_lt, cases_order, lt-ltb, le-ltb, ne_eqb}
+use Rattle.std.proofs.lemmas.Option.{get_or_from_slice_get}
+use Rattle.std.proofs.lemmas.Bool.{ltb-true, cases_lt, cases_order, lt-ltb, le-ltb, ne_eqb}
 use Rattle.std.proofs.lemmas.Bool.Decides.{nat_tests}
 use Rattle.mem_module.specs.declared.words.Stored.{Stored}
 use Rattle.mem_module.specs.Memory.{word_at, with_word, stored, rows_below, rows_above, AscendsFrom, IsAscending, row_at, IsAt, IsGapFor}
@@ -187,3 +188,19 @@ module _ (ws : List Stored) (rise : IsAscending ws) (row : ℕ) where
       higher_after = λ j le lt. ranked _ row _ (sym ((parted comparisons_rise).1 j blank le lt));
     };
   }
+
+-- a row above the last one goes behind all of them
+pub past_last : (ws : List Stored) (row : ℕ) → IsAscending ws → (0 < length ws → row_at ws (length ws - 1) < row) → IsGapFor ws row (length ws)
+past_last ws row rise over = record {
+  in_range = omega arith;
+  lower_before = λ j h. by_place j h (cases_lt j (length ws - 1)) (over (omega (arith, h)));
+  higher_after = λ j h l. absurd (omega (arith, h, l));
+}
+  where
+    by_place : (j : ℕ) → j < length ws → (j < length ws - 1) ⊎ (length ws - 1 ≤ j) → row_at ws (length ws - 1) < row → row_at ws j < row
+    by_place j h (inl lt) last = let x = rows_rise 0 ws j (length ws - 1) rise lt (omega (arith, h)) in omega (arith, x, last)
+    by_place j h (inr ge) last = let e : length ws - 1 ≡ j = omega (arith, h, ge) in subst (λ i. row_at ws i < row) e last
+
+pub past_last_read : (ws : List Stored) (row : ℕ) (last : Stored) → IsAscending ws → Some last ≡ slice_get ws (length ws - 1) → nat_lt last.row row ≡ true → IsGapFor ws row (length ws)
+past_last_read ws row last rise read over =
+    past_last ws row rise (λ some. let e : get_or ws (length ws - 1) blank ≡ last = get_or_from_slice_get ws (length ws - 1) last blank (sym read) in let r : row_at ws (length ws - 1) ≡ last.row = ap (λ (w : Stored). w.row) e in let l = ltb-true last.row row over in omega (arith, r, l))

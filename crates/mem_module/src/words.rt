@@ -1,5 +1,5 @@
 //! The words of a module that aren't 0, by rows.
-ghost use Rattle.std.specs.Prelude.{◌≡◌, ◌≢◌, [], IsOk, IfOk, IfErr, OnOk, OnErr};
+ghost use Rattle.std.specs.Prelude.{◌≡◌, ◌≢◌, [], IsTrue, IsOk, IfOk, IfErr, OnOk, OnErr, length};
 ghost use Rattle.std.specs.Option.{option_to_list};
 ghost use Rattle.mem_module.specs.Memory.{word_at, stored, with_word, IsAscending, IsAt, IsGapFor};
 
@@ -42,8 +42,8 @@ impl Words {
         }
     }
 
-    /// The word of a row, 0 where none is kept. It looks at no more rows than the binary logarithm of their number.
-    /// Left in the row again, it changes nothing.
+    /// The word of a row, 0 where none is kept. It looks at the last row, and then at no more than the binary
+    /// logarithm of their number. Left in the row again, it changes nothing.
     pub fn word(&self, row: u16) -> u32
         ensures value { result ≡ word_at self.now row }
         ensures kept { with_word self.now row result ≡ self.now }
@@ -54,7 +54,7 @@ impl Words {
         }
     }
 
-    /// Leaves a word in a row. It takes memory only where the row had the word 0 and gets another.
+    /// Leaves a word in a row, above all others without a search. It takes memory only where the row had the word 0 and gets another.
     ///
     /// # Errors
     ///
@@ -98,7 +98,20 @@ impl Words {
         ensures found { IfOk result (IsAt self.now row) }
         ensures absent { IfErr result (IsGapFor self.now row) }
     {
+        if self.is_past(row) {
+            return Err(self.stored.len());
+        }
         self.stored.binary_search_by_key(&row, |stored| stored.row)
+    }
+
+    /// Whether a row is above all that are kept.
+    fn is_past(&self, row: u16) -> bool
+        ensures { IsTrue result → IsGapFor self.now row (length self.now) }
+    {
+        match self.stored.last() {
+            Some(last) => last.row < row,
+            None => true,
+        }
     }
 }
 

@@ -1,10 +1,10 @@
 -- What a search by halves finds in a list of first words.
-use Rattle.std.proofs.Common.{◌≡◌, ℕ, zero, suc, ◌+◌, ◌-◌, ◌<◌, ◌≤◌, ◌==◌, ◌∙◌, nat_lt, sym, ap, subst, refl, arith, Bool, true, false, ◌⊎◌, inl, inr, Option, None, Some, List, [], ◌∷◌, ◌++◌, length, get_or, take, drop}
-use Rattle.std.specs.Prelude.{AllPairs, filter, find}
+use Rattle.std.proofs.Common.{◌≡◌, ℕ, zero, suc, ◌+◌, ◌-◌, ◌<◌, ◌≤◌, ◌==◌, nat_lt, sym, ap, subst, refl, arith, Bool, true, false, ◌⊎◌, inl, inr, None, Some, List, [], ◌∷◌, length, get_or, take, drop}
+use Rattle.std.specs.Prelude.{filter, find}
 use Rattle.std.proofs.lemmas.Bool.{cases_lt, cases_eq, ne_eqb}
 use Rattle.std.proofs.lemmas.Bool.Decides.{nat_tests}
 use Rattle.project_book.specs.declared.words.FirstWord.{FirstWord}
-use Rattle.project_book.specs.FirstWords.{IsListing, IsSplit, word_at, words_below, words_above}
+use Rattle.project_book.specs.FirstWords.{IsListing, IsSplit, words_below, words_above}
 
 module _ {X : Type 0} (p : X → Bool) where
   -- the first n pass and the others don't

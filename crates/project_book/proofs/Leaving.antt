@@ -54,7 +54,7 @@ find_left test p leaves (x ∷ xs) = by_tests (test x) (p x) refl (leaves x) (fi
     by_tests false false e leave rest = rest
 
 -- a search for an address among the words of another one
-find_listed : (a word b : ℕ) → b ≢ a → find (λ w. w.address == b) (listed a word) ≡ None
+pub find_listed : (a word b : ℕ) → b ≢ a → find (λ w. w.address == b) (listed a word) ≡ None
 find_listed a word b ne = by_word (word == 0)
   where
     by_word : (zero : Bool) → find (λ (w : FirstWord). w.address == b) (cond zero [] (record { address = a; word = word } ∷ [])) ≡ None

@@ -4,4 +4,6 @@ pub mod Accepting
 pub mod Leaving
 pub mod Touching
 pub mod Texts
+pub mod Paging
+pub mod Sharing
 mod Same

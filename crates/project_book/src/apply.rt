@@ -22,8 +22,9 @@ impl Project {
     /// another one. The copy shares with this project what the edit leaves alone.
     ///
     /// Takes another owner of the words and of the scripts. Besides, an entry or a cut copies one
-    /// script, at most 256 entries, and takes another owner of each other one; a word copies the list
-    /// of words that aren't 0, at most 16,384; a cut lists each entry that it removes.
+    /// script, at most 256 entries, and takes another owner of each other one; a word copies the page
+    /// of its address, 256 words, and takes another owner of each other one; a cut lists each entry
+    /// that it removes.
     ///
     /// # Errors
     ///

@@ -21,6 +21,7 @@ mod edit;
 mod entry_text;
 mod fault;
 mod limits;
+mod pages;
 mod parts;
 mod project;
 mod scripts;
@@ -36,6 +37,7 @@ pub use limits::{
     MIN_WAIT, SCRIPT_ENTRIES, STAGES, constants_are_limits,
 };
 pub use omega_net::ScriptEntry;
+pub use pages::PageWords;
 pub use parts::Parts;
 pub use project::Project;
 pub use scripts::Scripts;

@@ -10,7 +10,7 @@ use crate::depths::{QueueDepths, USUAL_WAIT};
 use crate::edit::Depths;
 use crate::limits::{MAX_HORIZON, SCRIPT_ENTRIES, STAGES};
 use crate::scripts::Scripts;
-use crate::words::{FirstWord, FirstWords};
+use crate::words::FirstWords;
 use grid_law::NoMemory;
 use omega_net::{ScriptEntry, Shape};
 use page_map::{ADDRESSES, MAX_K, PageMap, Place};
@@ -224,14 +224,15 @@ impl Project {
     }
 
     /// The first words that aren't 0, by address upwards.
-    pub fn words(&self) -> &[FirstWord]
+    pub fn words(&self) -> &FirstWords
         ensures words { result.now ≡ self.now.words }
         ensures listing { IsListing self.now.words }
     {
-        self.words.as_slice()
+        self.words.is_listing();
+        &self.words
     }
 
-    /// The first word of an address, 0 from 16,384 on. The list of words is searched by halves.
+    /// The first word of an address, 0 from 16,384 on.
     pub fn word(&self, address: u32) -> u32
         ensures { result ≡ word_of self.now address }
     {

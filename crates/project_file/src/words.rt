@@ -84,7 +84,8 @@ fn first_words(alloc: Global, memory: &[Option<u32>]) -> Result<FirstWords, NoMe
     requires { length memory.now ≤ address_count }
     ensures { IfOk result (λ w. w ≡ words_from 0 memory.now) }
 {
-    Ok(FirstWords::from_listing(listing(alloc, memory)?))
+    let listing = listing(alloc, memory)?;
+    FirstWords::from_listing(alloc, listing)
 }
 
 fn listing(alloc: Global, memory: &[Option<u32>]) -> Result<Vec<FirstWord>, NoMemory>

@@ -5,7 +5,7 @@ ghost use Rattle.project_file.specs.Filed.{filed};
 use crate::fault::ProjectFault;
 use crate::reading::{MAX_BYTES, read_project};
 use crate::write_fault::WriteFault;
-use page_map::PAGES;
+use page_map::{ADDRESSES, PAGES};
 use project_book::{Depths, EntryText, FirstWord, Project};
 use std::alloc::Global;
 use toml::ser::Error;
@@ -130,8 +130,11 @@ fn page_of(alloc: Global, page: u32, amount: u32, base: u32) -> Result<Value, Wr
 /// The key `word`: the first words that aren't 0.
 fn words_of(alloc: Global, project: &Project) -> Result<Vec<Value>, WriteFault> {
     let mut words = Vec::new(alloc);
-    for first in project.words() {
-        words.push(word_of(alloc, *first)?)?;
+    for address in 0..ADDRESSES {
+        let word = project.word(address);
+        if word != 0 {
+            words.push(word_of(alloc, FirstWord { address, word })?)?;
+        }
     }
     Ok(words)
 }

@@ -1,5 +1,6 @@
 //! Worked examples, printed texts, and growths that are refused.
 
+use crate::words::has_words;
 use omega_net::Net;
 use page_map::Place;
 use project_book::{
@@ -87,7 +88,7 @@ fn blank_projects(rt: HostRuntime) -> Result<(), Fail> {
     assert_eq!(rt; project.place(255), Some(last));
     assert_eq!(rt; project.place(16_384), None);
     assert_eq!(rt; project.pages().page(63), Some((6, 0)));
-    assert!(rt; project.words().is_empty());
+    assert!(rt; has_words(&project, &[]));
     assert_eq!(rt; (project.word(0), project.length(63)), (0, 0));
     assert_eq!(rt; project.entry(0, 0), None);
     assert!(rt; Project::new(alloc, 7, 0)?.is_none());
@@ -213,7 +214,17 @@ fn changes(rt: HostRuntime) -> Result<(), Fail> {
             word: 5,
         },
     ];
-    assert_eq!(rt; next.words(), listed.as_slice());
+    assert!(rt; has_words(&next, &listed));
+    // the last page, and then an earlier one again: no other page changes, nor does the given project
+    let far = after(&next, word(16_383, 9))?;
+    let back = after(&far, word(300, 0))?;
+    let last = FirstWord {
+        address: 16_383,
+        word: 9,
+    };
+    assert!(rt; has_words(&far, &[listed[0], listed[1], last]));
+    assert!(rt; has_words(&back, &[listed[0], last]) && has_words(&next, &listed));
+    assert!(rt; after(&back, word(16_383, 0))?.same(&project) && !back.same(&project));
     // an edited page takes its first words with it
     let (moved, changed) = next.apply(page(1, 1, 0))?;
     assert_eq!(rt; changed.slots.as_slice(), [Slot::Page(1)].as_slice());

@@ -1,5 +1,6 @@
 //! Worked rows, a file of every fault, and a whole project.
 
+use crate::words::has_words;
 use omega_net::ScriptEntry;
 use project_book::{Depths, FirstWord, Project};
 use project_file::{ProjectFault, WriteFault, fault_place, read_project, write_project};
@@ -224,7 +225,7 @@ fn is_full(project: &Project) -> bool {
         && project.depth(Depths::ModuleQueue) == 10
         && project.pages().page(0) == Some((1, 0))
         && project.pages().page(1) == Some((0, 1))
-        && project.words() == words.as_slice()
+        && has_words(project, &words)
         && project.length(0) == 0
         && project.entry(1, 0) == Some(add)
         && project.entry(1, 1) == Some(ScriptEntry::Fence)

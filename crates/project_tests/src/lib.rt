@@ -6,3 +6,5 @@
 mod books;
 #[cfg(test)]
 mod files;
+#[cfg(test)]
+mod words;

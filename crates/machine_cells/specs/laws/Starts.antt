@@ -290,7 +290,7 @@ first_word P m row a (f ∷ fs) h = by_tests (stands_in P m f) (f.address == a) 
     by_tests false false es et ih = ih
 
 -- a row holds 0, or an address stands there
-held_or_none : (P : Project) (m row : ℕ) (fs : List FirstWord) → ((a : ℕ) × Stands P m row a) ⊎ (word_at (words_in P m fs) row ≡ 0)
+pub held_or_none : (P : Project) (m row : ℕ) (fs : List FirstWord) → ((a : ℕ) × Stands P m row a) ⊎ (word_at (words_in P m fs) row ≡ 0)
 held_or_none P m row [] = inr refl
 held_or_none P m row (f ∷ fs) = by_tests (stands_in P m f) ((place_in P f.address).row == row) refl refl (held_or_none P m row fs)
   where

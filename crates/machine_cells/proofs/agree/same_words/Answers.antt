@@ -6,6 +6,6 @@ pub returns : goal.returns
 returns c =
     let a = c.args.a.now in
     let b = c.args.b.now in (
-      λ t. words_along a b (sym c.words.ensures.words ∙ c.same_listed.ensures.0 t ∙ c.words-2.ensures.words),
-      λ h. c.same_listed.ensures.1 (c.words.ensures.words ∙ same_first_words a b c.words.ensures.listing c.words-2.ensures.listing h ∙ sym c.words-2.ensures.words),
+      λ t. words_along a b (sym c.words.ensures.words ∙ c.same.ensures.0 t ∙ c.words-2.ensures.words),
+      λ h. c.same.ensures.1 (c.words.ensures.words ∙ same_first_words a b c.words.ensures.listing c.words-2.ensures.listing h ∙ sym c.words-2.ensures.words),
     )

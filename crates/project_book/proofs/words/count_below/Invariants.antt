@@ -1,4 +1,4 @@
-use Rattle.std.proofs.Common.{◌≡◌, ◌-◌, ◌<◌, ◌≤◌, length, slice_index_or}
+use Rattle.std.proofs.Common.{◌-◌, ◌<◌, ◌≤◌, length, slice_index_or}
 use Rattle.project_book.specs.declared.words.FirstWord.{FirstWord}
 use Rattle.project_book.proofs.words.count_below.Given as goal
 
