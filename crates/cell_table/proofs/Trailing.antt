@@ -5,7 +5,7 @@ use Rattle.std.proofs.Math.ListN.{set, length-set}
 use Rattle.std.proofs.lemmas.Bool.{cases_lt, cases_eq, ne_eqb, eq-eqb}
 use Rattle.std.proofs.lemmas.List.Elements.{recursion_from_All}
 use Rattle.std.proofs.lemmas.List.{get_or-set_same, get_or-set_other}
-use Rattle.state_line.specs.Lined.{Lined}
+use Rattle.state_line.specs.Lined.{Lined, GoesOn}
 use Rattle.grid_law.specs.Rules.{Rules, Laws, IsNext}
 use Rattle.grid_law.specs.Run.{run}
 use Rattle.cell_table.specs.Readers.{has}
@@ -78,26 +78,26 @@ module _ {State Slots Slot : Type 0} (R : Rules State Slots Slot) (s : Slots) wh
             let at : min u (line.place - 1) ≡ min (t - 1) (line.place - 1) = omega (arith, trails.place, h, k, b.0) in
             (b.0, ap (λ i. get_or line.states i None) at ∙ b.1 ∙ ap Some (sym stays.1) ∙ ap (λ i. Some (run R s i c)) (sym same))
 
-    module _ (line1 : Lined State) (within : line.place < n) (moved : line1.place ≡ line.place + 1) where
-      -- the last state goes on by one cycle
-      pub trails_extended : line.place < t → line1.states ≡ set line.states line.place (get_or line.states (line.place - 1) None) → Trails R s n t c line1
-      trails_extended behind put = record {
-        cycles = ap length put ∙ length-set line.states line.place _ ∙ trails.cycles;
-        place = omega (arith, moved, behind);
-        known = λ u h. (omega (arith, moved), by_place u h (cases_lt u line.place));
-        rest = λ u h. ap (λ xs. get_or xs u None) put ∙ get_or-set_other line.states line.place u _ None (λ e. absurd (omega (arith, moved, h, e))) ∙ trails.rest u (omega (arith, moved, h));
-      }
-        where
-          by_place : (u : ℕ) → u < t → (u < line.place) ⊎ (line.place ≤ u) → get_or line1.states (min u (line1.place - 1)) None ≡ Some (run R s u c)
-          by_place u h (inl k) =
-              let at : min u (line1.place - 1) ≡ u = omega (arith, moved, k) in
-              let was : u ≡ min u (line.place - 1) = omega (arith, k) in
-              ap (λ i. get_or line1.states i None) at ∙ ap (λ xs. get_or xs u None) put ∙ get_or-set_other line.states line.place u _ None (λ e. absurd (omega (arith, k, e))) ∙ ap (λ i. get_or line.states i None) was ∙ (trails.known u h).1
-          by_place u h (inr k) =
-              let at : min u (line1.place - 1) ≡ line.place = omega (arith, moved, k) in
-              let was : line.place - 1 ≡ min u (line.place - 1) = omega (arith, k) in
-              ap (λ i. get_or line1.states i None) at ∙ ap (λ xs. get_or xs line.place None) put ∙ get_or-set_same line.states line.place _ None (omega (arith, within, trails.cycles)) ∙ ap (λ i. get_or line.states i None) was ∙ (trails.known u h).1
+    -- the last state goes on to before the cycle
+    pub trails_gone_on : (line1 : Lined State) → line.place < t → GoesOn line line1 → line1.place ≡ t → Trails R s n t c line1
+    trails_gone_on line1 behind on here = record {
+      cycles = on.cycles ∙ trails.cycles;
+      place = omega (arith, here);
+      known = λ u h. (omega (arith, here, h), by_place u h (cases_lt u line.place));
+      rest = λ u h. on.rest u h ∙ trails.rest u (omega (arith, here, h, behind));
+    }
+      where
+        by_place : (u : ℕ) → u < t → (u < line.place) ⊎ (line.place ≤ u) → get_or line1.states (min u (line1.place - 1)) None ≡ Some (run R s u c)
+        by_place u h (inl k) =
+            let at : min u (line1.place - 1) ≡ u = omega (arith, here, h) in
+            let was : u ≡ min u (line.place - 1) = omega (arith, k) in
+            ap (λ i. get_or line1.states i None) at ∙ on.before u k ∙ ap (λ i. get_or line.states i None) was ∙ (trails.known u h).1
+        by_place u h (inr k) =
+            let at : min u (line1.place - 1) ≡ u = omega (arith, here, h) in
+            let was : line.place - 1 ≡ min u (line.place - 1) = omega (arith, k) in
+            ap (λ i. get_or line1.states i None) at ∙ on.run u k (omega (arith, here, h)) ∙ ap (λ i. get_or line.states i None) was ∙ (trails.known u h).1
 
+    module _ (line1 : Lined State) (within : line.place < n) (moved : line1.place ≡ line.place + 1) where
       -- the state of the cycle is put
       pub trails_put : (x : State) → line.place ≡ t → x ≡ run R s t c → line1.states ≡ set line.states line.place (Some x) → Trails R s n (t + 1) c line1
       trails_put x here is put = record {

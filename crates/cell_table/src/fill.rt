@@ -127,6 +127,7 @@ fn next_of<G: Grid>(
 }
 
 /// Lets the last state of a component go on to before a cycle.
+#[tactic(auto, using(crate::proofs::Trailing::trails_gone_on))]
 fn go_on<G: Grid>(line: &mut Line<G::State>, slots: &G::Slots, cycle: u32, component: u32)
     requires within { cycle ≤ length line.old.states }
     requires trails { Trails G.rules slots.now (length line.old.states) cycle component line.old }
@@ -136,8 +137,8 @@ fn go_on<G: Grid>(line: &mut Line<G::State>, slots: &G::Slots, cycle: u32, compo
 {
     let _ = slots;
     let _ = component;
-    while line.place() < cycle {
-        line.extend();
+    if line.place() < cycle {
+        line.extend_to(cycle);
     }
 }
 

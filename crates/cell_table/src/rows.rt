@@ -198,6 +198,10 @@ pub(crate) fn repeat_in<G: Grid>(
         → Stores G.rules slots.now cells.old cells.new cell x changed version) }
     ensures err { OnErr result (cells.new ≡ cells.old) }
 {
+    if !changed && cells.stays(cell) {
+        cells.keep(cell);
+        return Ok(());
+    }
     match cells.repeat(cell) {
         Ok(()) => {
             if changed {

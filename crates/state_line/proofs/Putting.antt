@@ -115,7 +115,7 @@ module _ {State : Type 0} where
       }
 
   -- the last stretch before the place covers the place too, where it goes on
-  top_covers : (past : List (Span State)) (at t : ℕ) → Falls past at → 0 < at → at ≤ t + 1 → covering past t ≡ covering past (at - 1)
+  pub top_covers : (past : List (Span State)) (at t : ℕ) → Falls past at → 0 < at → at ≤ t + 1 → covering past t ≡ covering past (at - 1)
   top_covers [] at t h k m = absurd (let e : at ≡ 0 = h in omega arith)
   top_covers (s ∷ past) at t h k m = rw (le_yes s.from t (omega (arith, h.0)), le_yes s.from (at - 1) (omega (arith, h.0))) refl
 

@@ -1,5 +1,5 @@
 -- What a contract sees of a line.
-use Rattle.std.specs.Prelude.{◌≡◌, ℕ, ◌+◌, ◌-◌, ◌<◌, ◌≤◌, min, zero, suc, Option, None, List, [], ◌∷◌, map, length, slice_set, replicate, ◌++◌}
+use Rattle.std.specs.Prelude.{◌≡◌, ℕ, ◌+◌, ◌-◌, ◌<◌, ◌≤◌, min, zero, suc, Option, None, List, [], ◌∷◌, map, length, slice_set, slice_index_or, replicate, ◌++◌}
 use Rattle.std.specs.List.{range_with_len}
 use Rattle.state_line.specs.Spans.{Span, Pile, covering, span_of, state_of, Falls, Covers}
 
@@ -51,6 +51,21 @@ module _ {State : Type 0} where
     pub caps : past1.capacity ≡ past.capacity
     pub caps_next : next1.capacity ≡ next.capacity
     pub few : length past1.spans + length next1.spans ≤ length past.spans + length next.spans + 1
+
+  -- the state before the place is that of each cycle from there on and before `to` too, where the place goes
+  pub record IsExtended (n at : ℕ) (past next : Pile State) (to : ℕ) (next1 : Pile State) : Type 0 where
+    pub line : IsLine n to past next1
+    pub later : at < to
+    pub before : (u : ℕ) → u < at → state_of past.spans next1.spans u ≡ state_of past.spans next.spans u
+    pub run : (u : ℕ) → at ≤ u → u < to → state_of past.spans next1.spans u ≡ state_of past.spans next.spans (at - 1)
+    pub rest : (u : ℕ) → to ≤ u → u < n → state_of past.spans next1.spans u ≡ state_of past.spans next.spans u
+
+  -- the state before the place goes on to before the new place, and all other states stay
+  pub record GoesOn (old new : Lined State) : Type 0 where
+    pub cycles : length new.states ≡ length old.states
+    pub before : (u : ℕ) → u < old.place → slice_index_or new.states u None ≡ slice_index_or old.states u None
+    pub run : (u : ℕ) → old.place ≤ u → u < new.place → slice_index_or new.states u None ≡ slice_index_or old.states (old.place - 1) None
+    pub rest : (u : ℕ) → new.place ≤ u → slice_index_or new.states u None ≡ slice_index_or old.states u None
 
   -- m cycles of nothing more, behind the last
   pub record IsGrown (n m : ℕ) (past next next1 : Pile State) : Type 0 where

@@ -2,11 +2,13 @@
 ghost use Rattle.std.specs.Prelude.{◌≡◌, ℕ, ◌<◌, ◌≤◌, ◌+◌, ◌-◌, ◌++◌, ◌^◌, IfOk, OnOk, MatchResult, Some, None, length, replicate, slice_set, slice_index_or, take, true, option_map};
 ghost use Rattle.std.specs.Arc.{arc_value};
 ghost use Rattle.std.specs.Option.{option_copied};
-ghost use Rattle.state_line.specs.Lined.{nothing_for};
+ghost use Rattle.state_line.specs.Lined.{nothing_for, GoesOn};
 
 mod standing;
 
-use crate::moves::{back, drop_from, extend_at, forward, grow_at, pass, put_at, stretch_at};
+use crate::moves::{
+    back, drop_from, extend_at, extend_run, forward, grow_at, pass, put_at, stretch_at,
+};
 use crate::stack::{Stack, Stretch};
 pub use standing::Standing;
 use std::alloc::{AllocError, Global};
@@ -266,6 +268,36 @@ impl<S: Drop> Line<S> {
     {
         extend_at(&self.past, &mut self.next, self.len, self.at);
         self.at += 1;
+    }
+
+    /// As `extend` for each cycle to before t, or to before the end of the stretch at the place where
+    /// that is earlier.
+    fn extend_on(&mut self, t: u32)
+        requires before { 0 < self.old.place }
+        requires later { self.old.place < t }
+        requires within { t ≤ length self.old.states }
+        ensures states { GoesOn self.old self.new }
+        ensures later { self.old.place < self.new.place }
+        ensures place { self.new.place ≤ t }
+    {
+        let to = extend_run(&self.past, &mut self.next, self.len, self.at, t);
+        self.at = to;
+    }
+
+    /// Puts the state of the cycle before the place at each cycle from the place on to before t, where
+    /// the place goes. They have one stretch then, and nothing is added. It costs a step for each
+    /// stretch that was there.
+    #[tactic(auto, using(crate::proofs::Extending::goes_on_none, crate::proofs::Extending::goes_on_more))]
+    pub fn extend_to(&mut self, t: u32)
+        requires before { 0 < self.old.place }
+        requires later { self.old.place ≤ t }
+        requires within { t ≤ length self.old.states }
+        ensures states { GoesOn self.old self.new }
+        ensures place { self.new.place ≡ t }
+    {
+        while self.place() < t {
+            self.extend_on(t);
+        }
     }
 
     /// Moves the place behind the stretch that begins there.

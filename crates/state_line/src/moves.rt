@@ -3,7 +3,7 @@ ghost use Rattle.std.specs.Prelude.{◌≡◌, ◌<◌, ◌≤◌, ◌+◌, ◌-
 ghost use Rattle.std.specs.Arc.{arc_value};
 ghost use Rattle.std.specs.Option.{option_copied};
 ghost use Rattle.state_line.specs.Spans.{Falls, span_of, state_of};
-ghost use Rattle.state_line.specs.Lined.{IsLine, IsMoved, IsCut, IsPut, IsGrown};
+ghost use Rattle.state_line.specs.Lined.{IsLine, IsMoved, IsCut, IsPut, IsExtended, IsGrown};
 
 use crate::stack::{Stack, Stretch};
 use std::alloc::AllocError;
@@ -163,6 +163,42 @@ pub(crate) fn extend_at<S: Drop>(past: &Stack<S>, next: &mut Stack<S>, len: u32,
     }
 }
 
+/// Puts the state before the place at the cycles from the place `at` on to before `to`, or to before
+/// the end of the stretch there where that is earlier: to before which cycle. The stretch before the
+/// place grows longer, and no owner is added.
+pub(crate) fn extend_run<S: Drop>(
+    past: &Stack<S>,
+    next: &mut Stack<S>,
+    len: u32,
+    at: u32,
+    to: u32,
+) -> u32
+    requires line { IsLine len at past.now next.old }
+    requires before { 0 < at }
+    requires later { at < to }
+    requires within { to ≤ len }
+    ensures extended { IsExtended len at past.now next.old result next.new }
+    ensures to { result ≤ to }
+{
+    let _ = past;
+    match next.pop() {
+        Some(mut first) => {
+            let end = next.top_or(len);
+            if end <= to {
+                return end;
+            }
+            if first.from() < at {
+                next.push(first);
+                return to;
+            }
+            first.begin(to);
+            next.push(first);
+            to
+        }
+        None => unreachable!(),
+    }
+}
+
 /// Puts a state at the place `at`, which goes on by one.
 pub(crate) fn put_at<S: Drop>(
     past: &mut Stack<S>,
@@ -203,7 +239,11 @@ pub(crate) fn stretch_at<'a, S>(
     ensures { option_copied result ≡ span_of past.now.spans next.now.spans t }
 {
     if t >= at {
-        return next.lasting(at, len, t);
+        let top = next.len().saturating_sub(1);
+        return match next.lasting_from(at, len, t, top) {
+            Some(found) => Some(found.stretch),
+            None => None,
+        };
     }
     match past.top() {
         Some(last) if last.from() <= t => Some(last),

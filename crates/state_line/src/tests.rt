@@ -56,6 +56,15 @@ fn extend(line: &mut Line<u32>, t: u32) -> Result<(), Fail> {
     Ok(())
 }
 
+fn extend_to(line: &mut Line<u32>, t: u32, to: u32) -> Result<(), Fail> {
+    if t == 0 || t > to || to > line.len() {
+        return Err(Fail::from("no such cycles"));
+    }
+    line.reserve(t)?;
+    line.extend_to(to);
+    Ok(())
+}
+
 // A state that is put in the middle of a stretch splits it; one that goes on joins the next cycle
 // to it.
 #[test]
@@ -84,4 +93,17 @@ fn states_of_a_line(rt: HostRuntime) -> Result<(), Fail> {
     shows(&line, &[NO, Some(10), NO, Some(30), NO, NO])?;
     line.truncate(1);
     shows(&line, &[NO])
+}
+
+// A state goes on over all of one stretch and into the next ones.
+#[test]
+fn a_state_goes_on(rt: HostRuntime) -> Result<(), Fail> {
+    let alloc = rt.alloc();
+    let mut line = Line::new(alloc, 6)?;
+    put(alloc, &mut line, 0, 10)?;
+    put(alloc, &mut line, 1, 20)?;
+    put(alloc, &mut line, 3, 30)?;
+    extend_to(&mut line, 1, 5)?;
+    let ten = Some(10);
+    shows(&line, &[ten, ten, ten, ten, ten, NO])
 }
