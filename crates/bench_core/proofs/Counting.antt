@@ -10,7 +10,7 @@ use Rattle.omega_net.specs.declared.component.Net.{Net}
 use Rattle.cell_table.specs.Seen.{Held, Seen, held_at, fresh, marked, stored}
 use Rattle.cell_table.specs.Readers.{has}
 use Rattle.cell_table.specs.Cells.{IsThere}
-use Rattle.cell_table.specs.Gives.{IsAfterStore}
+use Rattle.cell_table.specs.Gives.{IsAfterStore, HoldsSame}
 use Rattle.cell_table.specs.Touches.{cell_reads, IsAfterTouch}
 use Rattle.machine_cells.specs.declared.state.MachineState.{MachineState}
 use Rattle.machine_cells.specs.GridRules.{rp3_rules}
@@ -168,3 +168,16 @@ module _ (b : Shown) (sums : Kept) (bench : IsBench b.table b.journal) (counts :
       each : (ms : List ℕ) → map (pairs_of (project_of b).k (present b.table) net stage (project_of b).horizon) ms ≡ map (pairs_of (project_of b).k (state_in (run (project_of b))) net stage (project_of b).horizon) ms
       each [] = refl
       each (m ∷ ms) = rw (pairs m, each ms) refl
+
+-- where no state changes, they go on counting what is held
+module _ (sums : Kept) (old new : Seen MachineState Project) (counts : IsCounted sums old) (same : HoldsSame rp3_rules old new) where
+  pub counted_kept : IsCounted sums new
+  counted_kept = record {
+    shape = counts.shape ∙ ap (λ (P : Project). P.k) (sym same.slots);
+    counts = stands_along sums (present old) (present new) counts.counts (λ u d le lt. by_horizon u d lt (cases_le u old.horizon));
+  }
+    where
+      by_horizon : (u d : ℕ) → d < components sums.k → (u ≤ old.horizon) ⊎ (old.horizon < u) → present old u d ≡ present new u d
+      by_horizon u d lt (inr past) = present_past old u d past ∙ sym (present_past new u d (omega (arith, same.horizon)))
+      by_horizon u d lt (inl le) =
+          present_at old u d le ∙ (sym (same.states u d (record { cycle = le; component = subst (λ k. d < components k) counts.shape lt })) ∙ sym (present_at new u d (omega (arith, le, same.horizon))))

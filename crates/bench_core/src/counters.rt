@@ -104,6 +104,11 @@ impl Watcher<Rp3> for Counters {
             .change(cell.component, cell.cycle, table.state(cell));
     }
 
+    fn kept(&mut self, table: &Table<Rp3>, cell: Cell) {
+        let _ = table;
+        let _ = cell;
+    }
+
     fn filled(&mut self, table: &Table<Rp3>, from: u32, cycles: u32) {
         count_all_filled(&mut self.sums, table, from, from + cycles);
     }

@@ -6,7 +6,7 @@ use Rattle.std.proofs.lemmas.List.{length-set, get_or-set_same, get_or-set_other
 use Rattle.std.proofs.lemmas.List.Elements.{All-append}
 use Rattle.std.proofs.lemmas.List.Folds.{list_any-append, list_any_more}
 use Rattle.grid_law.specs.Rules.{Rules, Laws}
-use Rattle.cell_table.specs.Readers.{has, readers_at, IsIndex}
+use Rattle.cell_table.specs.Readers.{has, readers_at, IsIndex, AreNear}
 
 or_true : (b : Bool) → (b || true) ≡ true
 or_true true = refl
@@ -74,6 +74,11 @@ module _ (olds lists : List (List ℕ)) (near : List ℕ) (i k : ℕ) (h : i < l
           subst (λ ms. All (λ j. j < n) ms) (sym (at_other c g)) (added.within n l c all)
 
 -- the lists stay those of slots of the same shape
+pub near_along : {State Slots Slot : Type 0} (R : Rules State Slots Slot) (laws : Laws R) (s next : Slots) (lists : List (List ℕ)) → R.SameShape s next → AreNear R s lists → AreNear R next lists
+near_along R laws s next lists shape near c h =
+    let n : R.components s ≡ R.components next = laws.shape_components s next shape in
+    near c (omega arith) ∙ laws.shape_near s next c shape
+
 pub index_along : {State Slots Slot : Type 0} (R : Rules State Slots Slot) (laws : Laws R) (s next : Slots) (lists : List (List ℕ)) → R.SameShape s next → IsIndex R s lists → IsIndex R next lists
 index_along R laws s next lists shape index =
     let n : R.components s ≡ R.components next = laws.shape_components s next shape in

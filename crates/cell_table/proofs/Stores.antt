@@ -9,7 +9,7 @@ use Rattle.cell_table.specs.Inputs.{inputs_of}
 use Rattle.cell_table.specs.Consistent.{IsTable, IsCurrent, IsCurrentState, current_of}
 use Rattle.cell_table.specs.Readers.{has}
 use Rattle.cell_table.specs.Claims.{Claimed, result_for}
-use Rattle.cell_table.specs.Gives.{held_after, IsPresent}
+use Rattle.cell_table.specs.Gives.{held_after, IsPresent, IsAfterStore, HoldsSame}
 use Rattle.cell_table.proofs.States.{states_same, none_has}
 use Rattle.cell_table.proofs.Tables.{inputs_first, inputs_later}
 
@@ -111,4 +111,13 @@ module _ {State Slots Slot : Type 0} (R : Rules State Slots Slot) where
     inputs = unwrap_or (inputs_of R s rows t c) [];
     are_held = parts_there (inputs_of R s rows t c) h;
     computed = refl;
+  }
+
+-- where a store changes nothing, each cell holds what it held
+module _ {State Slots Slot : Type 0} (R : Rules State Slots Slot) where
+  pub holds_same : (old new : Seen State Slots) (t c : ℕ) (x : State) (changed : Bool) → IsAfterStore R old new t c x changed → changed ≡ false → HoldsSame R old new
+  holds_same old new t c x changed after same = record {
+    slots = after.slots;
+    horizon = after.horizon;
+    states = λ t1 c1 there. ap (λ (r : Held State). r.state) (after.cells t1 c1 there) ∙ state_after ((eqb t1 t) && (eqb c1 c)) _ (held_at old.rows t1 c1) x new.clock (λ e. let p = and_parts (eqb t1 t) (eqb c1 c) e in rw (eqb-true t1 t p.0, eqb-true c1 c p.1) (after.changes.0 same));
   }

@@ -37,6 +37,12 @@ module _ {State Slots Slot : Type 0} (R : Rules State Slots Slot) where
     pub changed : Bool
     pub after : IsAfterStore old new t c state changed
 
+  -- the slots and the horizon stay, and each cell holds the state that it held
+  pub record HoldsSame (old new : Seen State Slots) : Type 0 where
+    pub slots : new.slots ≡ old.slots
+    pub horizon : new.horizon ≡ old.horizon
+    pub states : (t c : ℕ) → IsThere R old t c → (held_at new.rows t c).state ≡ (held_at old.rows t c).state
+
   -- what the claim was computed from is what is there now
   pub record IsPresent (v : Seen State Slots) (claim : Claimed State Slots) : Type 0 where
     pub inputs : inputs_of R v.slots v.rows claim.cell.cycle claim.cell.component ≡ Some claim.near

@@ -13,6 +13,10 @@ has ms c = list_any (λ m. m == c) ms
 abbrev pub readers_at : List (List ℕ) → ℕ → List ℕ
 readers_at lists c = slice_index_or lists c []
 
+-- the list of the components near one
+abbrev pub near_at : List (List ℕ) → ℕ → List ℕ
+near_at lists c = slice_index_or lists c []
+
 module _ {State Slots Slot : Type 0} (R : Rules State Slots Slot) where
   -- for each component, the list has the components that have it among their near ones, and no others
   pub record IsIndex (s : Slots) (lists : List (List ℕ)) : Type 0 where
@@ -20,7 +24,12 @@ module _ {State Slots Slot : Type 0} (R : Rules State Slots Slot) where
     pub readers : (c k : ℕ) → c < R.components s → k < R.components s → has (readers_at lists c) k ≡ has (R.near s k) c
     pub within : (c : ℕ) → c < R.components s → All (λ k. k < R.components s) (readers_at lists c)
 
+  -- for each component, the list has its near ones
+  abbrev pub AreNear : Slots → List (List ℕ) → Type 0
+  AreNear s lists = (c : ℕ) → c < R.components s → near_at lists c ≡ R.near s c
+
   -- what is true of a table's fields
-  pub record IsKept (s : Slots) (horizon : ℕ) (rows : List (List (Held State))) (lists : List (List ℕ)) : Type 0 where
+  pub record IsKept (s : Slots) (horizon : ℕ) (rows : List (List (Held State))) (readers neighbours : List (List ℕ)) : Type 0 where
     pub table : IsTable R s horizon rows
-    pub index : IsIndex s lists
+    pub index : IsIndex s readers
+    pub near : AreNear s neighbours

@@ -4,7 +4,7 @@ ghost use Rattle.std.specs.Option.{option_copied};
 ghost use Rattle.std.specs.Arc.{arc_value};
 ghost use Rattle.cell_table.specs.Seen.{fresh, stored, marked, held_at, row_at, due_in_row, due_up_to};
 ghost use Rattle.cell_table.specs.Inputs.{states_of};
-ghost use Rattle.cell_table.specs.Readers.{IsIndex};
+ghost use Rattle.cell_table.specs.Readers.{IsIndex, AreNear};
 ghost use Rattle.grid_law.specs.Run.{run};
 ghost use Rattle.cell_table.specs.Settling.{IsNextDueInRow};
 ghost use Rattle.cell_table.specs.Layout.{cleared, IsOtherCell};
@@ -17,6 +17,7 @@ use crate::lines::{
     are_empty_from, cut_ends, grow_ends, lines_of, put_state, repeat_state, reserve_ends,
     shared_in, state_in, stays_in,
 };
+use crate::neighbours::Neighbours;
 use crate::readers::Readers;
 use crate::versions::{Versions, grow_rows, rows_of, set_version, version_in};
 use cell_marks::Marks;
@@ -342,9 +343,11 @@ fn clear_rows(due: &mut Marks, from: u32, to: u32)
 pub(crate) fn fill_cells<G: Grid>(
     cells: &mut Cells<G::State>,
     slots: &G::Slots,
+    neighbours: &Neighbours,
     readers: &Readers,
     from: u32,
 ) -> u32
+    requires near { AreNear G.rules slots.now neighbours.now }
     requires from { from < length cells.old }
     requires whole { (t : ℕ) → t < length cells.old → length (row_at cells.old t) ≡ G.rules.components slots.now }
     requires index { IsIndex G.rules slots.now readers.now }
@@ -360,7 +363,7 @@ pub(crate) fn fill_cells<G: Grid>(
     ensures rest { (t c : ℕ) → c < G.rules.components slots.now → result ≤ t → t < length cells.old → held_at cells.new t c ≡ held_at cells.old t c }
 {
     let end = cells.due.len();
-    let to = fill_lines::<G>(&mut cells.lines, slots, readers, from, end);
+    let to = fill_lines::<G>(&mut cells.lines, slots, neighbours, readers, from, end);
     clear_rows(&mut cells.due, from, to);
     to
 }

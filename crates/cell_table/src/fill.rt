@@ -5,11 +5,12 @@ ghost use Rattle.std.specs.Option.{option_copied};
 ghost use Rattle.std.specs.Arc.{arc_value};
 ghost use Rattle.grid_law.specs.Run.{run};
 ghost use Rattle.cell_table.specs.Layout.{line_at, state_at, IsSameStates};
-ghost use Rattle.cell_table.specs.Readers.{has, readers_at, IsIndex};
+ghost use Rattle.cell_table.specs.Readers.{has, readers_at, IsIndex, AreNear};
 ghost use Rattle.cell_table.specs.Filling.{last_of, is_awake, Stays, Trails, IsComputed, OthersStay, NearStay};
 
 use crate::lines::reserve_ends;
 use crate::near::first;
+use crate::neighbours::Neighbours;
 use crate::readers::Readers;
 use grid_law::{Grid, NoMemory};
 use state_line::Line;
@@ -82,9 +83,11 @@ fn five_last<'a, G: Grid>(
 fn stepped<G: Grid>(
     lines: &Vec<Line<G::State>>,
     slots: &G::Slots,
+    neighbours: &Neighbours,
     cycle: u32,
     component: u32,
 ) -> Result<Option<G::State>, NoMemory>
+    requires near { AreNear G.rules slots.now neighbours.now }
     requires component { component < G.rules.components slots.now }
     requires later { 0 < cycle }
     requires count { length lines.now.items ≡ G.rules.components slots.now }
@@ -92,10 +95,10 @@ fn stepped<G: Grid>(
     ensures { IfOk result (λ o. MatchOption o (Stays G.rules slots.now cycle component) (λ x. x ≡ run G.rules slots.now cycle component)) }
 {
     let alloc = *lines.allocator();
-    let near = G::near(slots, component);
+    let near = neighbours.of(component);
     match last_in(lines, component) {
         Some(own) => {
-            let five = five_last::<G>(lines, slots, near.as_slice(), cycle, own);
+            let five = five_last::<G>(lines, slots, near, cycle, own);
             let lent = first(&five, near.len());
             G::next(alloc, slots, lent, component)
         }
@@ -107,9 +110,11 @@ fn stepped<G: Grid>(
 fn next_of<G: Grid>(
     lines: &Vec<Line<G::State>>,
     slots: &G::Slots,
+    neighbours: &Neighbours,
     cycle: u32,
     component: u32,
 ) -> Result<Option<Arc<G::State>>, NoMemory>
+    requires near { AreNear G.rules slots.now neighbours.now }
     requires component { component < G.rules.components slots.now }
     requires count { length lines.now.items ≡ G.rules.components slots.now }
     requires trails { (c : ℕ) → c < length lines.now.items → Trails G.rules slots.now (length (line_at lines.now.items c).states) cycle c (line_at lines.now.items c) }
@@ -120,7 +125,7 @@ fn next_of<G: Grid>(
         let start = G::start(alloc, slots, component)?;
         return Ok(Some(Arc::new(alloc, start)?));
     }
-    match stepped::<G>(lines, slots, cycle, component)? {
+    match stepped::<G>(lines, slots, neighbours, cycle, component)? {
         Some(state) => Ok(Some(Arc::new(alloc, state)?)),
         None => Ok(None),
     }
@@ -146,10 +151,12 @@ fn go_on<G: Grid>(line: &mut Line<G::State>, slots: &G::Slots, cycle: u32, compo
 fn compute<G: Grid>(
     lines: &mut Vec<Line<G::State>>,
     slots: &G::Slots,
+    neighbours: &Neighbours,
     news: &mut Vec<Option<Arc<G::State>>>,
     cycle: u32,
     component: u32,
 ) -> Result<(), NoMemory>
+    requires near { AreNear G.rules slots.now neighbours.now }
     requires component { component < G.rules.components slots.now }
     requires count { length lines.old.items ≡ G.rules.components slots.now }
     requires news { length news.old.items ≡ G.rules.components slots.now }
@@ -164,7 +171,7 @@ fn compute<G: Grid>(
     ensures other_news { (c : ℕ) → (c ≡ component → ⊥) → option_map arc_value (slice_index_or news.new.items c None) ≡ option_map arc_value (slice_index_or news.old.items c None) }
     ensures computed { OnOk result (IsComputed G.rules slots.now cycle component (line_at lines.new.items component) (option_map arc_value (slice_index_or news.new.items component None))) }
 {
-    match next_of::<G>(lines, slots, cycle, component)? {
+    match next_of::<G>(lines, slots, neighbours, cycle, component)? {
         Some(state) => {
             let line = &mut lines[component as usize];
             go_on::<G>(line, slots, cycle, component);
@@ -230,10 +237,12 @@ fn commit<G: Grid>(
 fn compute_all<G: Grid>(
     lines: &mut Vec<Line<G::State>>,
     slots: &G::Slots,
+    neighbours: &Neighbours,
     marks: &Vec<bool>,
     news: &mut Vec<Option<Arc<G::State>>>,
     cycle: u32,
 ) -> Result<(), NoMemory>
+    requires near { AreNear G.rules slots.now neighbours.now }
     requires count { length lines.old.items ≡ G.rules.components slots.now }
     requires news { length news.old.items ≡ G.rules.components slots.now }
     requires marks { length marks.now.items ≡ G.rules.components slots.now }
@@ -249,7 +258,7 @@ fn compute_all<G: Grid>(
 {
     for c in 0..G::components(slots) {
         if marks[c as usize] {
-            compute::<G>(lines, slots, news, cycle, c)?;
+            compute::<G>(lines, slots, neighbours, news, cycle, c)?;
         }
     }
     Ok(())
@@ -309,12 +318,14 @@ fn unmark(marks: &mut Vec<bool>)
 fn fill_cycle<G: Grid>(
     lines: &mut Vec<Line<G::State>>,
     slots: &G::Slots,
+    neighbours: &Neighbours,
     readers: &Readers,
     marks: &Vec<bool>,
     later: &mut Vec<bool>,
     news: &mut Vec<Option<Arc<G::State>>>,
     cycle: u32,
 ) -> Result<(), NoMemory>
+    requires near { AreNear G.rules slots.now neighbours.now }
     requires count { length lines.old.items ≡ G.rules.components slots.now }
     requires news { length news.old.items ≡ G.rules.components slots.now }
     requires marks { length marks.now.items ≡ G.rules.components slots.now }
@@ -333,7 +344,7 @@ fn fill_cycle<G: Grid>(
     ensures others { OnOk result (OthersStay G.rules slots.now (cycle + 1) later.new.items) }
     ensures err { OnErr result ((c : ℕ) → c < length lines.old.items → Trails G.rules slots.now (length (line_at lines.old.items c).states) cycle c (line_at lines.new.items c)) }
 {
-    compute_all::<G>(lines, slots, marks, news, cycle)?;
+    compute_all::<G>(lines, slots, neighbours, marks, news, cycle)?;
     commit_all::<G>(lines, slots, readers, news, later, cycle);
     Ok(())
 }
@@ -342,6 +353,7 @@ fn fill_cycle<G: Grid>(
 fn fill_cycles<G: Grid>(
     lines: &mut Vec<Line<G::State>>,
     slots: &G::Slots,
+    neighbours: &Neighbours,
     readers: &Readers,
     marks: &mut Vec<bool>,
     later: &mut Vec<bool>,
@@ -349,6 +361,7 @@ fn fill_cycles<G: Grid>(
     from: u32,
     end: u32,
 ) -> u32
+    requires near { AreNear G.rules slots.now neighbours.now }
     requires count { length lines.old.items ≡ G.rules.components slots.now }
     requires news { length news.old.items ≡ G.rules.components slots.now }
     requires marks { length marks.old.items ≡ G.rules.components slots.now }
@@ -367,7 +380,7 @@ fn fill_cycles<G: Grid>(
 {
     let mut cycle = from;
     while cycle < end {
-        match fill_cycle::<G>(lines, slots, readers, marks, later, news, cycle) {
+        match fill_cycle::<G>(lines, slots, neighbours, readers, marks, later, news, cycle) {
             Ok(()) => {}
             Err(_) => return cycle,
         }
@@ -398,10 +411,12 @@ fn catch_up<G: Grid>(lines: &mut Vec<Line<G::State>>, slots: &G::Slots, cycle: u
 fn try_fill<G: Grid>(
     lines: &mut Vec<Line<G::State>>,
     slots: &G::Slots,
+    neighbours: &Neighbours,
     readers: &Readers,
     from: u32,
     end: u32,
 ) -> Result<u32, NoMemory>
+    requires near { AreNear G.rules slots.now neighbours.now }
     requires count { length lines.old.items ≡ G.rules.components slots.now }
     requires index { IsIndex G.rules slots.now readers.now }
     requires from { from ≤ end }
@@ -423,7 +438,7 @@ fn try_fill<G: Grid>(
     let mut news = no_news(alloc, count)?;
     reserve_ends(lines, from)?;
     let to = fill_cycles::<G>(
-        lines, slots, readers, &mut marks, &mut later, &mut news, from, end,
+        lines, slots, neighbours, readers, &mut marks, &mut later, &mut news, from, end,
     );
     catch_up::<G>(lines, slots, to);
     Ok(to)
@@ -435,10 +450,12 @@ fn try_fill<G: Grid>(
 pub(crate) fn fill_lines<G: Grid>(
     lines: &mut Vec<Line<G::State>>,
     slots: &G::Slots,
+    neighbours: &Neighbours,
     readers: &Readers,
     from: u32,
     end: u32,
 ) -> u32
+    requires near { AreNear G.rules slots.now neighbours.now }
     requires count { length lines.old.items ≡ G.rules.components slots.now }
     requires index { IsIndex G.rules slots.now readers.now }
     requires from { from ≤ end }
@@ -452,7 +469,7 @@ pub(crate) fn fill_lines<G: Grid>(
     ensures known { (t c : ℕ) → c < length lines.old.items → t < result → state_at lines.new.items t c ≡ Some (run G.rules slots.now t c) }
     ensures rest { (t c : ℕ) → c < length lines.old.items → result ≤ t → state_at lines.new.items t c ≡ None }
 {
-    match try_fill::<G>(lines, slots, readers, from, end) {
+    match try_fill::<G>(lines, slots, neighbours, readers, from, end) {
         Ok(to) => to,
         Err(_) => from,
     }

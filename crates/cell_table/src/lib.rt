@@ -64,6 +64,7 @@ mod given;
 mod lines;
 mod marks;
 mod near;
+mod neighbours;
 mod readers;
 mod rows;
 mod table;

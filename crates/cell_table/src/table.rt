@@ -23,6 +23,7 @@ mod wave;
 
 use crate::Cell;
 use crate::cells::Cells;
+use crate::neighbours::Neighbours;
 use crate::readers::Readers;
 use grid_law::{Grid, NoMemory};
 use std::alloc::Global;
@@ -38,6 +39,7 @@ pub struct Table<G: Grid> {
     clock: u64,
     cells: Cells<G::State>,
     readers: Readers,
+    neighbours: Neighbours,
 }
 
 impl<G: Grid> Model for Table<G> {
@@ -48,7 +50,7 @@ impl<G: Grid> Model for Table<G> {
 
     ghost view = { λ t. record { slots = t.slots; horizon = t.horizon; clock = t.clock; rows = t.cells } };
 
-    ghost invariant = { λ t. IsKept G.rules t.slots t.horizon t.cells t.readers };
+    ghost invariant = { λ t. IsKept G.rules t.slots t.horizon t.cells t.readers t.neighbours };
 }
 
 impl<G: Grid> Table<G> {
@@ -71,19 +73,26 @@ impl<G: Grid> Table<G> {
         if horizon == u32::MAX {
             return Err(slots);
         }
-        match Cells::new(alloc, count, horizon + 1, clock) {
-            Ok(cells) => match Readers::new::<G>(alloc, &slots) {
-                Ok(readers) => Ok(Table {
-                    slots,
-                    horizon,
-                    clock,
-                    cells,
-                    readers,
-                }),
-                Err(_) => Err(slots),
-            },
-            Err(_) => Err(slots),
-        }
+        let cells = match Cells::new(alloc, count, horizon + 1, clock) {
+            Ok(cells) => cells,
+            Err(_) => return Err(slots),
+        };
+        let readers = match Readers::new::<G>(alloc, &slots) {
+            Ok(readers) => readers,
+            Err(_) => return Err(slots),
+        };
+        let neighbours = match Neighbours::new::<G>(alloc, &slots) {
+            Ok(neighbours) => neighbours,
+            Err(_) => return Err(slots),
+        };
+        Ok(Table {
+            slots,
+            horizon,
+            clock,
+            cells,
+            readers,
+            neighbours,
+        })
     }
 
     /// A table whose cells are all new and due, with `clock` as their version. Where memory is
@@ -167,6 +176,14 @@ impl<G: Grid> Table<G> {
         ensures run { result ≡ 0 → (t1 c : ℕ) → t1 ≤ t → IsThere G.rules self.now t1 c → (held_at self.now.rows t1 c).state ≡ Some (run G.rules self.now.slots t1 c) }
     {
         self.cells.due_to(t)
+    }
+
+    /// The components near one.
+    fn near(&self, component: u32) -> &[u32]
+        requires { component < G.rules.components self.now.slots }
+        ensures { result.now ≡ G.rules.near self.now.slots component }
+    {
+        self.neighbours.of(component)
     }
 
     fn has(&self, cell: Cell) -> bool

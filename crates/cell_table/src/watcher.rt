@@ -3,19 +3,25 @@
 use crate::{Cell, Table};
 use grid_law::Grid;
 
-/// Who is told of each state that is stored, right afterwards: `Table::settle_watched` tells it,
-/// and so may whoever calls `Table::give`. Of cycles that are new it is told at once.
+/// Who is told of each state that is stored, right afterwards, and whether it is another one than the
+/// cell held: `Table::settle_watched` tells it, and so may whoever calls `Table::give`. Of cycles that
+/// are new it is told at once.
 pub trait Watcher<G: Grid> {
     ghost use Rattle.cell_table.specs.Seen.{Seen};
-    ghost use Rattle.cell_table.specs.Gives.{IsStored};
+    ghost use Rattle.cell_table.specs.Gives.{IsStored, HoldsSame};
     ghost use Rattle.cell_table.specs.Filling.{IsFilled};
 
     /// What a watcher keeps of the table that it watches.
     ghost keeps: { Self → Seen G.State G.Slots → Type 0 };
 
-    /// A state was stored for the cell.
+    /// A state was stored for the cell, which may be the one that it held.
     fn stored(&mut self, table: &Table<G>, cell: Cell)
         requires { (before : Seen G.State G.Slots) × keeps self.old before × IsStored G.rules before table.now cell.cycle cell.component }
+        ensures { keeps self.new table.now };
+
+    /// The state that the cell held was stored for it: no state of the table has changed.
+    fn kept(&mut self, table: &Table<G>, cell: Cell)
+        requires { (before : Seen G.State G.Slots) × keeps self.old before × HoldsSame G.rules before table.now }
         ensures { keeps self.new table.now };
 
     /// States were stored for all cells of so many cycles from one on, which held none.
@@ -32,6 +38,11 @@ impl<G: Grid> Watcher<G> for Nobody {
     ghost keeps = { λ watcher table. Unit {0} };
 
     fn stored(&mut self, table: &Table<G>, cell: Cell) {
+        let _ = table;
+        let _ = cell;
+    }
+
+    fn kept(&mut self, table: &Table<G>, cell: Cell) {
         let _ = table;
         let _ = cell;
     }

@@ -24,8 +24,8 @@ impl<G: Grid> Table<G> {
         if cell.cycle == 0 {
             return true;
         }
-        let near = G::near(&self.slots, cell.component);
-        self.cells.has_states(cell.cycle - 1, near.as_slice())
+        let near = self.near(cell.component);
+        self.cells.has_states(cell.cycle - 1, near)
     }
 
     fn is_claimable(&self, cell: Cell) -> bool
@@ -112,9 +112,9 @@ impl<G: Grid> Table<G> {
             near.clear();
             return Ok(true);
         }
-        let components = G::near(&self.slots, cell.component);
+        let components = self.near(cell.component);
         self.cells
-            .share_states(cell.cycle - 1, components.as_slice(), near)
+            .share_states(cell.cycle - 1, components, near)
     }
 
     fn claim_plain(&self, from: Cell) -> Result<Option<Claim<G>>, NoMemory>

@@ -28,8 +28,8 @@ impl<G: Grid> Table<G> {
         if cell.cycle == 0 {
             return near.is_empty();
         }
-        let components = G::near(&self.slots, cell.component);
-        are_held::<G>(&self.cells, cell.cycle - 1, components.as_slice(), near)
+        let components = self.near(cell.component);
+        are_held::<G>(&self.cells, cell.cycle - 1, components, near)
     }
 
     /// Whether what the claim was computed from is what is there now.

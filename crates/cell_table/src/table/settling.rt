@@ -1,11 +1,11 @@
 //! Settling: computing the due cells, by cycle and then component, until none is left.
 ghost use Rattle.std.specs.Prelude.{◌≡◌, ◌≢◌, ℕ, ◌+◌, ◌-◌, ◌^◌, ◌<◌, ◌≤◌, ◌↔◌, IsTrue, IfOk, IfErr, OnOk, OnErr, IfNone, IfSome, MatchOption, is_some, true, false, Some, List};
 ghost use Rattle.std.specs.Arc.{arc_value};
-ghost use Rattle.cell_table.specs.Seen.{held_at, row_at};
+ghost use Rattle.cell_table.specs.Seen.{Seen, held_at, row_at};
 ghost use Rattle.cell_table.specs.Cells.{IsThere};
 ghost use Rattle.cell_table.specs.Inputs.{inputs_of};
 ghost use Rattle.cell_table.specs.Consistent.{current_of};
-ghost use Rattle.cell_table.specs.Gives.{IsAfterStore};
+ghost use Rattle.cell_table.specs.Gives.{IsAfterStore, IsStored, HoldsSame};
 ghost use Rattle.cell_table.specs.Events.{Event, Start};
 ghost use Rattle.cell_table.specs.Stands.{Stands};
 ghost use Rattle.cell_table.specs.Settling.{IsAsBefore, IsNextDueInRow, NoneDueBefore, NoneDueFrom, IsNextDue, IsSettled, SettlesNext, IsSpent, computed_of, IsClockSpent};
@@ -17,6 +17,13 @@ use crate::watcher::{Nobody, Watcher};
 use crate::{Cell, SettleFault, Settled, StoreFault};
 use grid_law::{Grid, NoMemory};
 use std::sync::Arc;
+
+/// A cell that was settled, and whether it held no state or another one before.
+#[derive(Clone, Copy)]
+struct SettledCell {
+    cell: Cell,
+    changed: bool,
+}
 
 impl<G: Grid> Table<G> {
     /// The first due cell of a cycle, from a component on.
@@ -70,8 +77,8 @@ impl<G: Grid> Table<G> {
             cycle: cell.cycle - 1,
             component: cell.component,
         };
-        let near = G::near(&self.slots, cell.component);
-        !self.due(before) && self.cells.all_stay(before.cycle, near.as_slice())
+        let near = self.near(cell.component);
+        !self.due(before) && self.cells.all_stay(before.cycle, near)
     }
 
     /// The state that the present slots and near states give a cell, or none where it is that of
@@ -84,14 +91,14 @@ impl<G: Grid> Table<G> {
             (λ x. x ≡ current_of G.rules self.now.slots self.now.rows cell.cycle cell.component)) }
     {
         let alloc = self.cells.allocator();
-        let near = G::near(&self.slots, cell.component);
+        let near = self.near(cell.component);
         let before = Cell {
             cycle: cell.cycle - 1,
             component: cell.component,
         };
         match self.cells.state(before) {
             Some(own) => {
-                let five = five_lent(&self.cells, before.cycle, near.as_slice(), own);
+                let five = five_lent(&self.cells, before.cycle, near, own);
                 let lent = first(&five, near.len());
                 G::next(alloc, &self.slots, lent, cell.component)
             }
@@ -206,11 +213,13 @@ impl<G: Grid> Table<G> {
 
     /// Computes the first due cell at or after `from` and stores its state, which is that of the
     /// run; the cell is told, or none where no cell is due. After a fault nothing is changed.
-    fn settle_next(&mut self, from: Cell) -> Result<Option<Cell>, StoreFault>
+    #[tactic(auto, using(crate::proofs::Stores::holds_same))]
+    fn settle_next(&mut self, from: Cell) -> Result<Option<SettledCell>, StoreFault>
         requires { NoneDueBefore G.rules self.old from.cycle from.component }
         ensures none { IfOk result (λ o. IfNone o (IsSettled G.rules self.old × (self.new ≡ self.old))) }
-        ensures some { IfOk result (λ o. IfSome o (SettlesNext G.rules self.old self.new from.cycle from.component)) }
-        ensures fits { IfOk result (λ o. IfSome o (λ cell. (cell.cycle < 2 ^ 32) × (cell.component + 1 < 2 ^ 32))) }
+        ensures some { IfOk result (λ o. IfSome o (λ s. SettlesNext G.rules self.old self.new from.cycle from.component s.cell)) }
+        ensures kept { IfOk result (λ o. IfSome o (λ s. s.changed ≡ false → HoldsSame G.rules self.old self.new)) }
+        ensures fits { IfOk result (λ o. IfSome o (λ s. (s.cell.cycle < 2 ^ 32) × (s.cell.component + 1 < 2 ^ 32))) }
         ensures err { OnErr result (self.new ≡ self.old) }
         ensures spent { result ≡ Err StoreFault.ClockSpent → IsSpent G.rules self.old from.cycle from.component }
     {
@@ -218,10 +227,22 @@ impl<G: Grid> Table<G> {
         let _count = G::components(&self.slots);
         match self.next_due(from) {
             Some(cell) => match self.settle_cell(cell) {
-                Ok(_changed) => Ok(Some(cell)),
+                Ok(changed) => Ok(Some(SettledCell { cell, changed })),
                 Err(fault) => Err(fault),
             },
             None => Ok(None),
+        }
+    }
+
+    /// Tells a watcher of a cell that was settled.
+    fn tell<W: Watcher<G>>(&self, watcher: &mut W, settled: SettledCell)
+        requires { (before : Seen G.State G.Slots) × W.keeps watcher.old before × IsStored G.rules before self.now settled.cell.cycle settled.cell.component × (settled.changed ≡ false → HoldsSame G.rules before self.now) }
+        ensures { W.keeps watcher.new self.now }
+    {
+        if settled.changed {
+            watcher.stored(self, settled.cell);
+        } else {
+            watcher.kept(self, settled.cell);
         }
     }
 
@@ -248,12 +269,12 @@ impl<G: Grid> Table<G> {
         };
         loop {
             match self.settle_next(from) {
-                Ok(Some(cell)) => {
-                    watcher.stored(self, cell);
+                Ok(Some(settled)) => {
+                    self.tell(watcher, settled);
                     computed += 1;
                     from = Cell {
-                        cycle: cell.cycle,
-                        component: cell.component + 1,
+                        cycle: settled.cell.cycle,
+                        component: settled.cell.component + 1,
                     };
                 }
                 Ok(None) => return Ok(Settled { computed }),

@@ -16,12 +16,13 @@ returns g c =
     let d = c.args.component in
     let R = g.G.Grid.rules in
     let s = c.args.slots.now in
-    let near = c.as_slice.ensures.value ∙ c.near-near.ensures in
+    let near = c.of-near.ensures ∙ c.requires.near d c.requires.component in
     let few : length (R.near s d) ≤ 5 = g.G.Grid.laws.near_few s d in
-    let count : c.len.result ≡ length (R.near s d) = c.len.ensures.value ∙ ap length c.near-near.ensures in
+    let n = length c.of-near.result.now in
+    let count : n ≡ length (R.near s d) = ap length near in
     let lent = map (λ (r : Bor g.row.G-State.Denot). r.now) c.first-lent.result.now in
     let xs = map (run R s (t - 1)) (R.near s d) in
     let all : lent ≡ xs = c.first-lent.ensures
-    ∙ ap (take c.len.result) (c.five_last-five.ensures xs (ap (map (run R s (t - 1))) near))
-    ∙ first_five xs c.len.result c.in-Some.own.now (length-map (R.near s d) (run R s (t - 1)) ∙ sym count) (omega (arith, count, few)) in
+    ∙ ap (take n) (c.five_last-five.ensures xs (ap (map (run R s (t - 1))) near))
+    ∙ first_five xs n c.in-Some.own.now (length-map (R.near s d) (run R s (t - 1)) ∙ sym count) (omega (arith, count, few)) in
     ok_along (next_runs R s g.G.Grid.laws t d c.requires.later lent all) c.next.result c.next.ensures

@@ -71,6 +71,7 @@ invariant_of-self g c =
     record {
       table = filled_table R g.G.Grid.laws v table from there none news small (to - from) new is (room_for i.clock (to - from) (i.horizon - from + 1) n few room) whole;
       index = c.self.invariant.index;
+      near = c.self.invariant.near;
     }
 
 pub clock_filled-clock-requires : goal.clock_filled-clock-requires

@@ -1,7 +1,7 @@
 use Rattle.std.proofs.Common.{◌∙◌}
 use Rattle.cell_table.specs.Seen.{Seen}
 use Rattle.grid_law.specs.Rules.{Differ}
-use Rattle.cell_table.proofs.Reading.{index_along}
+use Rattle.cell_table.proofs.Reading.{index_along, near_along}
 use Rattle.cell_table.proofs.Touched.{is_table_touched, touched_from_marks}
 use Rattle.cell_table.proofs.table.Table.follow.Goals as goal
 
@@ -15,4 +15,5 @@ invariant_of-self g c =
     record {
       table = is_table_touched R g.G.Grid.laws v c.self.invariant.table c.args.next c.args.listed.now differ c.args.horizon c.retouch.new.cells (λ t k h m. c.in-Ok.ensures.at t k h (rw count m) ∙ touched_from_marks R v c.args.listed.now c.args.marks.now c.args.horizon c.self.invariant.table.whole.cycles (rw (← c.self.view_is) at c.requires.at) t k h m) c.in-Ok.ensures.len (λ t h. c.in-Ok.ensures.whole t h ∙ count);
       index = index_along R g.G.Grid.laws v.slots c.args.next i.readers differ.shape c.self.invariant.index;
+      near = near_along R g.G.Grid.laws v.slots c.args.next i.neighbours differ.shape c.self.invariant.near;
     }

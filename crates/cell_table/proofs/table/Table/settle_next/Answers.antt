@@ -9,7 +9,7 @@ settle_cell-requires-clause-ready g c =
 
 pub returns-in-Ok-clause-some : goal.returns-in-Ok-clause-some
 returns-in-Ok-clause-some g c =
-    settles_next g.G.Grid.rules g.G.Grid.laws c.args.self.now (rw (← c.self.view_is) c.self.invariant.table) c.args.from.cycle c.args.from.component c.requires c.in-Some.cell c.in-Some.ensures c.settle_cell.new.self c.in-Ok._changed c.in-Ok.ensures.ok c.in-Ok.ensures.room
+    settles_next g.G.Grid.rules g.G.Grid.laws c.args.self.now (rw (← c.self.view_is) c.self.invariant.table) c.args.from.cycle c.args.from.component c.requires c.in-Some.cell c.in-Some.ensures c.settle_cell.new.self c.in-Ok.changed c.in-Ok.ensures.ok c.in-Ok.ensures.room
 
 pub returns-in-Err-clause-spent : goal.returns-in-Err-clause-spent
 returns-in-Err-clause-spent g c =

@@ -18,12 +18,13 @@ returns g c =
     let d = c.args.cell.component in
     let R = g.G.Grid.rules in
     let v : Seen g.row.G-State.Denot g.row.G-Slots.Denot = record { slots = i.slots; horizon = i.horizon; clock = i.clock; rows = i.cells } in
-    let near = c.as_slice.ensures.value ∙ c.near-near.ensures in
+    let near = rw (← c.self.view_is) at c.near-near.ensures in
     let few : length (R.near i.slots d) ≤ 5 = g.G.Grid.laws.near_few i.slots d in
-    let count : c.len.result ≡ length (R.near i.slots d) = c.len.ensures.value ∙ ap length c.near-near.ensures in
+    let n = length c.near-near.result.now in
+    let count : n ≡ length (R.near i.slots d) = ap length near in
     let lent = map (λ (r : Bor g.row.G-State.Denot). r.now) c.first-lent.result.now in
     let is = λ (xs : List g.row.G-State.Denot) (e : states_of (row_at i.cells (t - 1)) (R.near i.slots d) ≡ Some xs).
     c.first-lent.ensures
-    ∙ ap (take c.len.result) (c.five_lent-five.ensures xs (ap (states_of (row_at i.cells (t - 1))) near ∙ e))
-    ∙ first_five xs c.len.result c.in-Some.own.now (length_states_of (row_at i.cells (t - 1)) (R.near i.slots d) xs e ∙ sym count) (omega (arith, count, few)) in
+    ∙ ap (take n) (c.five_lent-five.ensures xs (ap (states_of (row_at i.cells (t - 1))) near ∙ e))
+    ∙ first_five xs n c.in-Some.own.now (length_states_of (row_at i.cells (t - 1)) (R.near i.slots d) xs e ∙ sym count) (omega (arith, count, few)) in
     rw (← c.self.view_is) (ok_along (stepped_as R v t d g.G.Grid.laws c.requires.later (rw (← c.self.view_is) at c.requires.ready) lent is) c.next.result c.next.ensures)
