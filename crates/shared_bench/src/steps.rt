@@ -17,7 +17,7 @@ use std::sync::Wait;
 
 /// How often a waiting thread looks whether its ticket is served before it sleeps. A turn mostly takes less than falling
 /// asleep and being woken, which are some 15 microseconds; so many looks take a few.
-const LOOKS: u32 = 100;
+const LOOKS: u32 = 1_000;
 
 /// A ticket, modulo 2^64.
 pub fn take_ticket(turns: &SharedTurns, seat: &mut TurnSeat) -> u64
