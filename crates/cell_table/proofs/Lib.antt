@@ -7,6 +7,7 @@ pub mod Stores
 pub mod Trailing
 pub mod Filled
 pub mod FilledRows
+pub mod Woken
 pub mod MarkedCycle
 pub mod Touched
 pub mod Asking

@@ -1,5 +1,5 @@
 -- What is computed for a cell where none of an earlier cycle is due.
-use Rattle.std.proofs.Common.{◌≡◌, ℕ, ◌+◌, ◌-◌, ◌<◌, ◌∙◌, sym, ap, refl, arith, true, false, Option, None, Some, MatchOption, IfOk, is_some, option_map, Result, Ok, Err, List, [], ◌∷◌}
+use Rattle.std.proofs.Common.{◌≡◌, ℕ, ◌+◌, ◌-◌, ◌<◌, ◌∙◌, sym, ap, refl, arith, true, false, Option, None, Some, MatchOption, IfOk, is_some, option_map, Result, List, [], ◌∷◌}
 use Rattle.cell_table.specs.declared.cell.Cell.{Cell}
 use Rattle.cell_table.specs.Events.{Event, Stores, Start}
 use Rattle.cell_table.specs.Stands.{Stands}

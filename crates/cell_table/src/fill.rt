@@ -12,6 +12,7 @@ use crate::lines::reserve_ends;
 use crate::near::first;
 use crate::neighbours::Neighbours;
 use crate::readers::Readers;
+use cell_marks::Row;
 use grid_law::{Grid, NoMemory};
 use state_line::Line;
 use std::alloc::Global;
@@ -184,13 +185,13 @@ fn compute<G: Grid>(
 }
 
 /// Marks these components.
-fn wake(marks: &mut Vec<bool>, components: &[u32])
-    requires { All (λ k. k < length marks.old.items) components.now }
-    ensures len { length marks.new.items ≡ length marks.old.items }
-    ensures at { (c : ℕ) → is_awake marks.new.items c ≡ (is_awake marks.old.items c || has components.now c) }
+fn wake(marks: &mut Row, components: &[u32])
+    requires { All (λ k. k < length marks.old) components.now }
+    ensures len { length marks.new ≡ length marks.old }
+    ensures at { (c : ℕ) → is_awake marks.new c ≡ (is_awake marks.old c || has components.now c) }
 {
     for component in components {
-        marks[*component as usize] = true;
+        marks.set(*component);
     }
 }
 
@@ -200,14 +201,14 @@ fn commit<G: Grid>(
     slots: &G::Slots,
     readers: &Readers,
     news: &mut Vec<Option<Arc<G::State>>>,
-    marks: &mut Vec<bool>,
+    marks: &mut Row,
     cycle: u32,
     component: u32,
 )
     requires component { component < G.rules.components slots.now }
     requires count { length lines.old.items ≡ G.rules.components slots.now }
     requires news { length news.old.items ≡ G.rules.components slots.now }
-    requires marks { length marks.old.items ≡ G.rules.components slots.now }
+    requires marks { length marks.old ≡ G.rules.components slots.now }
     requires index { IsIndex G.rules slots.now readers.now }
     requires within { cycle < length (line_at lines.old.items component).states }
     requires trails { Trails G.rules slots.now (length (line_at lines.old.items component).states) cycle component (line_at lines.old.items component) }
@@ -219,8 +220,8 @@ fn commit<G: Grid>(
     ensures len_news { length news.new.items ≡ length news.old.items }
     ensures other_news { (c : ℕ) → (c ≡ component → ⊥) → option_map arc_value (slice_index_or news.new.items c None) ≡ option_map arc_value (slice_index_or news.old.items c None) }
     ensures taken { option_map arc_value (slice_index_or news.new.items component None) ≡ None }
-    ensures len_marks { length marks.new.items ≡ length marks.old.items }
-    ensures marks { NearStay G.rules slots.now cycle marks.old.items component → NearStay G.rules slots.now cycle marks.new.items (component + 1) }
+    ensures len_marks { length marks.new ≡ length marks.old }
+    ensures marks { NearStay G.rules slots.now cycle marks.old component → NearStay G.rules slots.now cycle marks.new (component + 1) }
 {
     let _ = slots;
     match news[component as usize].take() {
@@ -238,58 +239,69 @@ fn compute_all<G: Grid>(
     lines: &mut Vec<Line<G::State>>,
     slots: &G::Slots,
     neighbours: &Neighbours,
-    marks: &Vec<bool>,
+    marks: &Row,
     news: &mut Vec<Option<Arc<G::State>>>,
     cycle: u32,
 ) -> Result<(), NoMemory>
     requires near { AreNear G.rules slots.now neighbours.now }
     requires count { length lines.old.items ≡ G.rules.components slots.now }
     requires news { length news.old.items ≡ G.rules.components slots.now }
-    requires marks { length marks.now.items ≡ G.rules.components slots.now }
+    requires marks { length marks.now ≡ G.rules.components slots.now }
     requires none { (c : ℕ) → option_map arc_value (slice_index_or news.old.items c None) ≡ None }
     requires within { (c : ℕ) → c < length lines.old.items → cycle ≤ length (line_at lines.old.items c).states }
     requires trails { (c : ℕ) → c < length lines.old.items → Trails G.rules slots.now (length (line_at lines.old.items c).states) cycle c (line_at lines.old.items c) }
-    requires others { OthersStay G.rules slots.now cycle marks.now.items }
+    requires others { OthersStay G.rules slots.now cycle marks.now }
     ensures len { length lines.new.items ≡ length lines.old.items }
     ensures lens { (c : ℕ) → length (line_at lines.new.items c).states ≡ length (line_at lines.old.items c).states }
     ensures len_news { length news.new.items ≡ length news.old.items }
     ensures trails { (c : ℕ) → c < length lines.old.items → Trails G.rules slots.now (length (line_at lines.old.items c).states) cycle c (line_at lines.new.items c) }
     ensures computed { OnOk result ((c : ℕ) → c < length lines.old.items → IsComputed G.rules slots.now cycle c (line_at lines.new.items c) (option_map arc_value (slice_index_or news.new.items c None))) }
+    ensures unmarked { OnOk result ((c : ℕ) → is_awake marks.now c ≡ false → option_map arc_value (slice_index_or news.new.items c None) ≡ None) }
 {
-    for c in 0..G::components(slots) {
-        if marks[c as usize] {
-            compute::<G>(lines, slots, neighbours, news, cycle, c)?;
-        }
+    // The number of a component is below this one, so that of the next fits.
+    let _count = marks.len();
+    let mut from = 0;
+    while let Some(c) = marks.first_from(from) {
+        compute::<G>(lines, slots, neighbours, news, cycle, c)?;
+        from = c + 1;
     }
     Ok(())
 }
 
-/// Puts what was computed for a cycle, and marks what may change at the next one.
+/// Puts what was computed for a cycle, where only what is marked may have changed, and marks what may
+/// change at the next one.
 fn commit_all<G: Grid>(
     lines: &mut Vec<Line<G::State>>,
     slots: &G::Slots,
     readers: &Readers,
     news: &mut Vec<Option<Arc<G::State>>>,
-    marks: &mut Vec<bool>,
+    marks: &Row,
+    later: &mut Row,
     cycle: u32,
 )
     requires count { length lines.old.items ≡ G.rules.components slots.now }
     requires news { length news.old.items ≡ G.rules.components slots.now }
-    requires marks { length marks.old.items ≡ G.rules.components slots.now }
+    requires marks { length marks.now ≡ G.rules.components slots.now }
+    requires later { length later.old ≡ G.rules.components slots.now }
     requires index { IsIndex G.rules slots.now readers.now }
     requires within { (c : ℕ) → c < length lines.old.items → cycle < length (line_at lines.old.items c).states }
     requires trails { (c : ℕ) → c < length lines.old.items → Trails G.rules slots.now (length (line_at lines.old.items c).states) cycle c (line_at lines.old.items c) }
     requires computed { (c : ℕ) → c < length lines.old.items → IsComputed G.rules slots.now cycle c (line_at lines.old.items c) (option_map arc_value (slice_index_or news.old.items c None)) }
+    requires unmarked { (c : ℕ) → is_awake marks.now c ≡ false → option_map arc_value (slice_index_or news.old.items c None) ≡ None }
     ensures len { length lines.new.items ≡ length lines.old.items }
     ensures lens { (c : ℕ) → length (line_at lines.new.items c).states ≡ length (line_at lines.old.items c).states }
     ensures len_news { length news.new.items ≡ length news.old.items }
     ensures none { (c : ℕ) → option_map arc_value (slice_index_or news.new.items c None) ≡ None }
-    ensures len_marks { length marks.new.items ≡ length marks.old.items }
+    ensures len_later { length later.new ≡ length later.old }
     ensures trails { (c : ℕ) → c < length lines.old.items → Trails G.rules slots.now (length (line_at lines.old.items c).states) (cycle + 1) c (line_at lines.new.items c) }
-    ensures others { OthersStay G.rules slots.now (cycle + 1) marks.new.items }
+    ensures others { OthersStay G.rules slots.now (cycle + 1) later.new }
 {
-    for c in 0..G::components(slots) {
-        commit::<G>(lines, slots, readers, news, marks, cycle, c);
+    // The number of a component is below this one, so that of the next fits.
+    let _count = marks.len();
+    let mut from = 0;
+    while let Some(c) = marks.first_from(from) {
+        commit::<G>(lines, slots, readers, news, later, cycle, c);
+        from = c + 1;
     }
 }
 
@@ -305,47 +317,38 @@ fn no_news<S: Drop>(alloc: Global, count: usize) -> Result<Vec<Option<Arc<S>>>, 
     Ok(news)
 }
 
-/// Takes all marks away.
-fn unmark(marks: &mut Vec<bool>)
-    ensures { length marks.new.items ≡ length marks.old.items }
-{
-    for c in 0..marks.len() {
-        marks[c] = false;
-    }
-}
-
 /// Fills one cycle. Where memory is wanting, it is left as it was.
 fn fill_cycle<G: Grid>(
     lines: &mut Vec<Line<G::State>>,
     slots: &G::Slots,
     neighbours: &Neighbours,
     readers: &Readers,
-    marks: &Vec<bool>,
-    later: &mut Vec<bool>,
+    marks: &Row,
+    later: &mut Row,
     news: &mut Vec<Option<Arc<G::State>>>,
     cycle: u32,
 ) -> Result<(), NoMemory>
     requires near { AreNear G.rules slots.now neighbours.now }
     requires count { length lines.old.items ≡ G.rules.components slots.now }
     requires news { length news.old.items ≡ G.rules.components slots.now }
-    requires marks { length marks.now.items ≡ G.rules.components slots.now }
-    requires later { length later.old.items ≡ G.rules.components slots.now }
+    requires marks { length marks.now ≡ G.rules.components slots.now }
+    requires later { length later.old ≡ G.rules.components slots.now }
     requires index { IsIndex G.rules slots.now readers.now }
     requires none { (c : ℕ) → option_map arc_value (slice_index_or news.old.items c None) ≡ None }
     requires within { (c : ℕ) → c < length lines.old.items → cycle < length (line_at lines.old.items c).states }
     requires trails { (c : ℕ) → c < length lines.old.items → Trails G.rules slots.now (length (line_at lines.old.items c).states) cycle c (line_at lines.old.items c) }
-    requires others { OthersStay G.rules slots.now cycle marks.now.items }
+    requires others { OthersStay G.rules slots.now cycle marks.now }
     ensures len { length lines.new.items ≡ length lines.old.items }
     ensures lens { (c : ℕ) → length (line_at lines.new.items c).states ≡ length (line_at lines.old.items c).states }
     ensures len_news { length news.new.items ≡ length news.old.items }
     ensures none { OnOk result ((c : ℕ) → option_map arc_value (slice_index_or news.new.items c None) ≡ None) }
-    ensures len_later { length later.new.items ≡ length later.old.items }
+    ensures len_later { length later.new ≡ length later.old }
     ensures trails { OnOk result ((c : ℕ) → c < length lines.old.items → Trails G.rules slots.now (length (line_at lines.old.items c).states) (cycle + 1) c (line_at lines.new.items c)) }
-    ensures others { OnOk result (OthersStay G.rules slots.now (cycle + 1) later.new.items) }
+    ensures others { OnOk result (OthersStay G.rules slots.now (cycle + 1) later.new) }
     ensures err { OnErr result ((c : ℕ) → c < length lines.old.items → Trails G.rules slots.now (length (line_at lines.old.items c).states) cycle c (line_at lines.new.items c)) }
 {
     compute_all::<G>(lines, slots, neighbours, marks, news, cycle)?;
-    commit_all::<G>(lines, slots, readers, news, later, cycle);
+    commit_all::<G>(lines, slots, readers, news, marks, later, cycle);
     Ok(())
 }
 
@@ -355,8 +358,8 @@ fn fill_cycles<G: Grid>(
     slots: &G::Slots,
     neighbours: &Neighbours,
     readers: &Readers,
-    marks: &mut Vec<bool>,
-    later: &mut Vec<bool>,
+    marks: &mut Row,
+    later: &mut Row,
     news: &mut Vec<Option<Arc<G::State>>>,
     from: u32,
     end: u32,
@@ -364,14 +367,14 @@ fn fill_cycles<G: Grid>(
     requires near { AreNear G.rules slots.now neighbours.now }
     requires count { length lines.old.items ≡ G.rules.components slots.now }
     requires news { length news.old.items ≡ G.rules.components slots.now }
-    requires marks { length marks.old.items ≡ G.rules.components slots.now }
-    requires later { length later.old.items ≡ G.rules.components slots.now }
+    requires marks { length marks.old ≡ G.rules.components slots.now }
+    requires later { length later.old ≡ G.rules.components slots.now }
     requires index { IsIndex G.rules slots.now readers.now }
     requires none { (c : ℕ) → option_map arc_value (slice_index_or news.old.items c None) ≡ None }
     requires from { from ≤ end }
     requires lens { (c : ℕ) → c < length lines.old.items → length (line_at lines.old.items c).states ≡ end }
     requires trails { (c : ℕ) → c < length lines.old.items → Trails G.rules slots.now end from c (line_at lines.old.items c) }
-    requires others { OthersStay G.rules slots.now from marks.old.items }
+    requires others { OthersStay G.rules slots.now from marks.old }
     ensures len { length lines.new.items ≡ length lines.old.items }
     ensures lens { (c : ℕ) → length (line_at lines.new.items c).states ≡ length (line_at lines.old.items c).states }
     ensures from { from ≤ result }
@@ -385,7 +388,7 @@ fn fill_cycles<G: Grid>(
             Err(_) => return cycle,
         }
         mem::swap(marks, later);
-        unmark(later);
+        later.clear_all();
         cycle += 1;
     }
     cycle
@@ -432,10 +435,10 @@ fn try_fill<G: Grid>(
     ensures err { OnErr result (IsSameStates lines.old.items lines.new.items) }
 {
     let alloc = *lines.allocator();
-    let count = lines.len();
-    let mut marks = vec![in alloc; true; count]?;
-    let mut later = vec![in alloc; false; count]?;
-    let mut news = no_news(alloc, count)?;
+    let count = G::components(slots);
+    let mut marks = Row::new(alloc, count, true)?;
+    let mut later = Row::new(alloc, count, false)?;
+    let mut news = no_news(alloc, count as usize)?;
     reserve_ends(lines, from)?;
     let to = fill_cycles::<G>(
         lines, slots, neighbours, readers, &mut marks, &mut later, &mut news, from, end,

@@ -113,8 +113,7 @@ impl<G: Grid> Table<G> {
             return Ok(true);
         }
         let components = self.near(cell.component);
-        self.cells
-            .share_states(cell.cycle - 1, components, near)
+        self.cells.share_states(cell.cycle - 1, components, near)
     }
 
     fn claim_plain(&self, from: Cell) -> Result<Option<Claim<G>>, NoMemory>

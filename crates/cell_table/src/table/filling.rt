@@ -83,7 +83,13 @@ impl<G: Grid> Table<G> {
             → SettlesFirst G.rules o h self.new done (result * G.rules.components self.old.slots)) }
         ensures settled { self.old.horizon < from + result → IsSettled G.rules self.new }
     {
-        let to = fill_cells::<G>(&mut self.cells, &self.slots, &self.neighbours, &self.readers, from);
+        let to = fill_cells::<G>(
+            &mut self.cells,
+            &self.slots,
+            &self.neighbours,
+            &self.readers,
+            from,
+        );
         let cycles = to - from;
         let count = G::components(&self.slots);
         mark_filled::<G>(

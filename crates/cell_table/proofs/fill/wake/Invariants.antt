@@ -5,6 +5,6 @@ use Rattle.cell_table.proofs.fill.wake.Given as goal
 
 abbrev pub invariant-loop-component : goal.invariant-loop-component
 invariant-loop-component l = record {
-  len : length l.marks.items ≡ length l.initial.marks.items;
-  at : (c : ℕ) → is_awake l.marks.items c ≡ (is_awake l.initial.marks.items c || has (take l.component-index l.components) c);
+  len : length l.marks ≡ length l.initial.marks;
+  at : (c : ℕ) → is_awake l.marks c ≡ (is_awake l.initial.marks c || has (take l.component-index l.components) c);
 }
