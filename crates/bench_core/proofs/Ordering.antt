@@ -1,6 +1,5 @@
 -- Cells that hold the run are states of the run.
-use Rattle.std.proofs.Common.{◌≡◌, ℕ, ◌<◌, ◌≤◌, arith}
-use Rattle.omega_net.specs.Numbers.{components}
+use Rattle.std.proofs.Common.{arith}
 use Rattle.serial_order.specs.Answers.{HoldsRun}
 use Rattle.bench_core.specs.Shown.{Shown, project_of, held}
 use Rattle.bench_core.specs.Asks.{HoldsRunTo}

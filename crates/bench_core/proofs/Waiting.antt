@@ -1,5 +1,5 @@
 -- The due cells that a query waits for, by the events; where no cell is due, there are none.
-use Rattle.std.proofs.Common.{◌≡◌, ℕ, zero, suc, ◌<◌, ◌≤◌, ◌∙◌, inl, inr, sym, ap, subst, refl, arith, Bool, false, List, [], ◌∷◌, Result, Ok, Err}
+use Rattle.std.proofs.Common.{◌≡◌, ℕ, zero, suc, ◌<◌, ◌≤◌, ◌∙◌, inl, inr, sym, ap, subst, refl, arith, Bool, false, List, Result, Ok, Err}
 use Rattle.std.specs.Prelude.{OnOk, min}
 use Rattle.std.proofs.Math.Nat.{min-eq_left}
 use Rattle.std.proofs.lemmas.Bool.{cases_lt}
@@ -7,7 +7,6 @@ use Rattle.omega_net.specs.Numbers.{components}
 use Rattle.cell_table.specs.Cones.{count_below, count_to, count_cone}
 use Rattle.cell_table.specs.Seen.{due_at}
 use Rattle.cell_table.specs.Due.{due}
-use Rattle.cell_table.specs.Events.{horizon_of}
 use Rattle.cell_table.specs.Settling.{IsSettled}
 use Rattle.cell_table.proofs.ConeRuns.{none_counted}
 use Rattle.cell_table.proofs.Counted.{count_to_same, count_cone_same, count_to_none, count_cone_none, marks_stand}
@@ -18,7 +17,7 @@ use Rattle.run_queries.specs.declared.query.Query.TheVariants.{Reply, State, Mem
 use Rattle.bench_core.specs.declared.asked.Asked.{Asked}
 use Rattle.bench_core.specs.Shown.{Shown, IsBench, project_of, version_of}
 use Rattle.bench_core.specs.Asks.{module_of, waits, pending, asked, asked_at, IsOrWants, AsksAs}
-use Rattle.bench_core.specs.Events.{Event, Edited, Claimed, Stored, Opening, version_after, project_after, on_table, table_start}
+use Rattle.bench_core.specs.Events.{Event, Opening, version_after, project_after, on_table, table_start}
 use Rattle.bench_core.specs.Stands.{Stands}
 use Rattle.bench_core.specs.Answers.{pending_after, AsksRun}
 use Rattle.bench_core.proofs.Standing.{project_is, horizon_now, version_is}

@@ -1,8 +1,8 @@
 -- The state before the place goes on for several cycles.
-use Rattle.std.proofs.Common.{◌≡◌, ℕ, suc, ◌+◌, ◌-◌, ◌<◌, ◌≤◌, ◌∙◌, sym, ap, subst, refl, arith, ◌⊎◌, inl, inr, Option, None, List, [], ◌∷◌, length, get_or}
+use Rattle.std.proofs.Common.{◌≡◌, ℕ, suc, ◌-◌, ◌<◌, ◌≤◌, ◌∙◌, sym, ap, refl, arith, ◌⊎◌, inl, inr, None, List, [], ◌∷◌, length, get_or}
 use Rattle.std.proofs.lemmas.Bool.{cases_lt}
 use Rattle.std.proofs.lemmas.List.{get_or_past}
-use Rattle.state_line.specs.Spans.{Span, Pile, state_in, state_of, Falls, Rises, Covers, end_of}
+use Rattle.state_line.specs.Spans.{Span, Pile, state_in, state_of, Falls, Covers, end_of}
 use Rattle.state_line.specs.Lined.{Lined, IsLine, IsExtended, GoesOn, states_of, room_of}
 use Rattle.state_line.proofs.Spans.{le_yes, before_place, from_place, lasting_same}
 use Rattle.state_line.proofs.Moving.{rises_later, end_within, end_later, covers_rest}

@@ -1,4 +1,4 @@
-use Rattle.std.proofs.Common.{◌<◌, ◌≤◌, sym, subst}
+use Rattle.std.proofs.Common.{◌<◌, sym, subst}
 use Rattle.state_line.specs.Lined.{IsExtended}
 use Rattle.state_line.proofs.Extending.{extend_over, extend_within, extend_begin}
 use Rattle.state_line.proofs.moves.extend_run.Goals as goal

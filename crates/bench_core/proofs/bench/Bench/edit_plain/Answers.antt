@@ -5,7 +5,6 @@ use Rattle.cell_table.specs.Touches.{IsAfterTouch}
 use Rattle.machine_cells.specs.GridRules.{rp3_rules}
 use Rattle.monitor_sums.specs.Kept.{StandsFor}
 use Rattle.monitor_sums.specs.Sums.{States, cleared}
-use Rattle.project_book.specs.Project.{Project}
 use Rattle.project_book.specs.Slots.{Touches}
 use Rattle.project_book.specs.Edits.{edited, new_horizon}
 use Rattle.bench_core.specs.Shown.{IsBench}

@@ -1,4 +1,4 @@
-use Rattle.std.proofs.Common.{rules, ◌≡◌, ◌+◌, ◌<◌, ◌^◌, ◌∙◌, refl, ap, sym, arith, length, Err, [], ◌∷◌}
+use Rattle.std.proofs.Common.{rules, ◌≡◌, ◌∙◌, refl, ap, sym, arith, length, Err, [], ◌∷◌}
 use Rattle.cell_table.specs.declared.given.SettleFault.TheVariants.{Memory}
 use Rattle.cell_table.specs.Settling.{SettlesNext}
 use Rattle.cell_table.specs.Events.{Stores}

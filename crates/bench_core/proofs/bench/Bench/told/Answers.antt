@@ -1,5 +1,4 @@
 use Rattle.std.proofs.Common.{◌≡◌, ◌∙◌, sym, ap, subst, length, None, Ok}
-use Rattle.run_queries.specs.declared.body.Body.{Body}
 use Rattle.run_queries.specs.Answers.{answer}
 use Rattle.run_queries.specs.Bad.{bad_query}
 use Rattle.bench_core.specs.Shown.{Shown, project_of, version_of}

@@ -1,4 +1,4 @@
-use Rattle.std.proofs.Common.{◌≡◌, ◌∙◌, sym, ap, Some}
+use Rattle.std.proofs.Common.{◌∙◌, sym, ap}
 use Rattle.std.specs.Option.{option_copied}
 use Rattle.bench_core.proofs.Keeping.{shared_kept, looked_up}
 use Rattle.bench_core.proofs.recent.Recent.answer.Goals as goal
