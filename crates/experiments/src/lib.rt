@@ -6,7 +6,7 @@
 //!   Norton 1985).
 //! - [`served`], [`served_each`]: how many references are served in a window of cycles, for many loads at once.
 //! - [`cold_waits`], [`waited_each`]: how long the references that aren't hot wait for their replies.
-//! - [`told`], [`sweep_row`]: what a bench is told after one edit more.
+//! - [`told`], [`told_each`], [`sweep_row`]: what a bench is told after one edit more.
 //!
 //! The crate stands on `machine_cells` for runs, on `bench_core` and `run_queries` for questions and their answers, on
 //! `saturation` for levels, on `project_book` for projects, on `rand_pcg` for drawing, and on `rayon` for threads. It
@@ -31,4 +31,4 @@ pub use load::{HOT_ADDRESS, Load, MOST_CYCLES, SPREAD_ADDRESS, drawn, project_of
 pub use map::{SaturationMap, StageLengths, Window, saturation_map};
 pub use rates::{served, served_each};
 pub use series::{Matrix, Series};
-pub use sweep::{sweep_row, told};
+pub use sweep::{sweep_row, told, told_each};

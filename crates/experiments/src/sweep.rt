@@ -1,5 +1,5 @@
 //! One edit after another on one bench.
-ghost use Rattle.std.specs.Prelude.{◌≡◌, IfOk, IfErr, OnOk, Ok};
+ghost use Rattle.std.specs.Prelude.{◌≡◌, IfOk, IfErr, OnOk, Ok, map};
 ghost use Rattle.project_book.specs.Edits.{edited};
 ghost use Rattle.run_queries.specs.Answers.{answer};
 ghost use Rattle.bench_core.specs.Shown.{project_of};
@@ -35,7 +35,33 @@ pub fn told<T: Threads + Sync>(rt: &T, bench: &mut Bench, query: Query) -> Resul
     }
 }
 
+/// What the run of the bench's project says to each query, in turn.
+///
+/// # Errors
+///
+/// Those of [`told`], of the first query that has one. The bench's project stays.
+pub fn told_each<T: Threads + Sync>(
+    rt: &T,
+    alloc: Global,
+    bench: &mut Bench,
+    queries: &[Query],
+) -> Result<Vec<Body>, Fault>
+    ensures answers { IfOk result (λ row. map (answer (project_of bench.old)) queries.now ≡ map Ok row.items) }
+    ensures project { project_of bench.new ≡ project_of bench.old }
+{
+    let mut row = Vec::new(alloc);
+    for query in queries {
+        let body = told(rt, bench, *query)?;
+        row.push(body)?;
+    }
+    Ok(row)
+}
+
 /// A row of a sweep: the edit, then what the run of the edited project says to each query.
+///
+/// # Errors
+///
+/// Edit where the edit is refused: the bench's project stays. Those of [`told_each`]: it is the edited one.
 pub fn sweep_row<T: Threads + Sync>(
     rt: &T,
     alloc: Global,
@@ -43,15 +69,12 @@ pub fn sweep_row<T: Threads + Sync>(
     edit: Edit,
     queries: &[Query],
 ) -> Result<Vec<Body>, Fault>
-    ensures { OnOk result (project_of bench.new ≡ edited (project_of bench.old) edit) }
+    ensures project { OnOk result (project_of bench.new ≡ edited (project_of bench.old) edit) }
+    ensures answers { IfOk result (λ row. map (answer (edited (project_of bench.old) edit)) queries.now ≡ map Ok row.items) }
 {
     match bench.edit(0, edit) {
         Ok(_) => {}
         Err(fault) => return Err(Fault::Edit(fault)),
     }
-    let mut row = Vec::new(alloc);
-    for query in queries {
-        row.push(told(rt, bench, *query)?)?;
-    }
-    Ok(row)
+    told_each(rt, alloc, bench, queries)
 }
