@@ -1,1 +1,4 @@
+pub mod Hot
 pub mod Listing
+pub mod Lists
+pub mod Rows

@@ -1,5 +1,5 @@
 -- What a summary counts.
-use Rattle.std.specs.Prelude.{ℕ, ◌^◌, ◌==◌, if◌then◌else◌, sum_by, Option, None, Some}
+use Rattle.std.specs.Prelude.{◌≡◌, ◌≤◌, ◌<◌, ℕ, ◌^◌, List, map, length, All, AllPairs, Contains, slice_index, ◌⊎◌, ◌==◌, if◌then◌else◌, sum_by, Option, None, Some}
 use Rattle.omega_net.specs.declared.script.ScriptEntry.{ScriptEntry}
 use Rattle.omega_net.specs.declared.script.ScriptEntry.TheVariants.{Reference, Until}
 use Rattle.omega_net.specs.Wires.{below}
@@ -22,3 +22,18 @@ times_of P word p = sum_by (λ i. times_in (entry_at P p i) word) (below (length
 
 abbrev pub references : Project → Option ℕ → ℕ
 references P word = sum_by (times_of P word) (below (2 ^ P.k))
+
+-- a word comes before another one by the number of references: more of them, or as many and a lower address
+abbrev pub Before : (ℕ → ℕ) → ℕ → ℕ → Type 0
+Before count a b = (count b < count a) ⊎ ((count a ≡ count b) × (a < b))
+
+-- the place of the greatest of counts, and the first of several
+abbrev pub IsMost : List ℕ → ℕ → Type 0
+IsMost counts a = (a < length counts) × (0 < slice_index counts a) × ((b : ℕ) → 0 < slice_index counts b → (b ≡ a) ⊎ Before (slice_index counts) a b)
+
+-- the words, with their counts, that are referred to most: eight of them, or all that are referred to
+pub record AreHot (count : ℕ → ℕ) (words : List (ℕ × ℕ)) : Type 0 where
+  pub few : length words ≤ 8
+  pub numbers : All (λ w. (w.1 ≡ count w.0) × (0 < w.1)) words
+  pub ordered : AllPairs (λ v w. Before count v.0 w.0) words
+  pub others : (a : ℕ) → 0 < count a → Contains (map (λ w. w.0) words) a ⊎ ((length words ≡ 8) × All (λ w. Before count w.0 a) words)

@@ -1,5 +1,7 @@
 -- How the program ends.
-use Rattle.std.specs.Prelude.{ℕ, List, [], ◌++◌, codes, decimal}
+use Rattle.std.specs.Prelude.{◌≡◌, ℕ, List, [], ◌++◌, codes, decimal}
+use Rattle.clap.specs.declared.error.kind.ErrorKind.{ErrorKind}
+use Rattle.clap.specs.declared.error.kind.ErrorKind.TheVariants.{DisplayHelp, DisplayVersion, OutOfMemory}
 use Rattle.project_file.specs.Faults.{number_of}
 use Rattle.lab_tasks.specs.declared.end.Reason.{Reason}
 use Rattle.lab_tasks.specs.declared.end.Reason.TheVariants.{Form, Within, Backwards, Refused}
@@ -21,6 +23,13 @@ status_of (Project fault) = 4
 status_of Memory = 5
 status_of Output = 5
 
+-- the end after words that are no command line
+abbrev pub end_of : ErrorKind → End
+end_of DisplayHelp = Done
+end_of DisplayVersion = Done
+end_of OutOfMemory = Memory
+end_of kind = Words
+
 abbrev pub reason_text : Reason → List ℕ
 reason_text (Form wanted) = codes "is not " ++ wanted.now
 reason_text (Within least most) = codes "is not within " ++ decimal least ++ codes " to " ++ decimal most
@@ -37,3 +46,18 @@ end_text (NotWritten name) = codes "lab: cannot write " ++ name.now
 end_text (Project fault) = codes "lab: project refused: " ++ decimal (number_of fault)
 end_text Memory = codes "lab: no memory"
 end_text Output = codes "lab: cannot write to standard output"
+
+-- an end that refuses the word at an option, with this status and the reason that is printed
+abbrev pub Refuses : List ℕ → List ℕ → ℕ → List ℕ → End → Type 0
+Refuses option word status reason (Word o w r) = (o.now ≡ option) × (w.now ≡ word) × (status_for r ≡ status) × (reason_text r ≡ reason)
+Refuses option word status reason _ = ⊥
+
+-- for a word that isn't written so, and for one with a number that isn't within two others
+abbrev pub RefusesForm : List ℕ → List ℕ → List ℕ → End → Type 0
+RefusesForm option word wanted end = Refuses option word 2 (codes "is not " ++ wanted) end
+
+abbrev pub RefusesRange : List ℕ → List ℕ → ℕ → ℕ → End → Type 0
+RefusesRange option word least most end = Refuses option word 7 (codes "is not within " ++ decimal least ++ codes " to " ++ decimal most) end
+
+abbrev pub RefusesBackwards : List ℕ → List ℕ → End → Type 0
+RefusesBackwards option word end = Refuses option word 7 (codes "ends before it begins") end

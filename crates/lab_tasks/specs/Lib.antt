@@ -1,5 +1,9 @@
 pub mod Counts
 pub mod Ends
 pub mod Numbers
+pub mod Outcomes
+pub mod Plans
 pub mod Points
+pub mod Sweeps
 pub mod Tables
+pub mod Words

@@ -1,5 +1,6 @@
 -- What tables say.
-use Rattle.std.specs.Prelude.{ℕ, ◌+◌, ◌-◌, ◌*◌, ◌/◌, ◌%◌, ◌^◌, min, max, Bool, if◌then◌else◌, List, ◌++◌, codes, decimal}
+use Rattle.std.specs.Prelude.{ℕ, ◌+◌, ◌-◌, ◌*◌, ◌/◌, ◌%◌, ◌^◌, min, max, Bool, if◌then◌else◌, List, [], ◌∷◌, ◌++◌, codes, decimal}
+use Rattle.std.specs.List.{flat_map}
 use Rattle.experiments.specs.declared.load.Load.{Load}
 use Rattle.lab_tasks.specs.declared.tables.RatePoint.{RatePoint}
 use Rattle.lab_tasks.specs.declared.tables.DelayPoint.{DelayPoint}
@@ -30,6 +31,14 @@ machine_text load = decimal (processors_of load.k) ++ codes "," ++ switch_text l
 abbrev pub bound_text : Load → List ℕ
 bound_text load = thousandths_text (bound_of (processors_of load.k) load.hot)
 
+-- what was served: requests, cycles, requests in a cycle
+abbrev pub served_text : RatePoint → List ℕ
+served_text p = decimal p.served ++ codes "," ++ decimal p.cycles ++ codes "," ++ thousandths_text (rate_of p)
+
+-- a row of the table of `rates`
+abbrev pub rate_row : RatePoint → List ℕ
+rate_row p = machine_text p.load ++ codes "," ++ served_text p ++ codes "," ++ bound_text p.load
+
 -- the mean number of cycles in thousandths
 abbrev pub mean_of : DelayPoint → ℕ
 mean_of p = p.waited * 1000 / max p.replies 1
@@ -42,3 +51,7 @@ abbrev pub delay_row : DelayPoint → List ℕ
 delay_row p =
     network_text p.load.sync ++ codes "," ++ machine_text p.load ++ codes "," ++ decimal p.replies ++ codes "," ++ decimal p.waited
     ++ codes "," ++ thousandths_text (mean_of p)
+
+-- a table: its first row, then a row for each point, each with a LF behind it
+abbrev pub table_text : {T : Type 0} → List ℕ → (T → List ℕ) → List T → List ℕ
+table_text first row points = first ++ flat_map (λ point. row point ++ 10 ∷ []) points

@@ -1,4 +1,7 @@
 //! Mean delays of the references that aren't hot against the share of hot ones.
+ghost use Rattle.std.specs.Prelude.{◌≡◌, IfOk, string_bytes};
+ghost use Rattle.lab_tasks.specs.Tables.{delay_row, table_text};
+
 use crate::curves::{even_ticks, mark_of, stroke_of};
 use crate::end::End;
 use crate::plan::CurvePlan;
@@ -55,7 +58,9 @@ fn add_points<'a, T: Threads + Sync>(
 }
 
 /// The table of the points.
-pub(crate) fn delay_table(alloc: Global, points: &[DelayPoint]) -> Result<String, AllocError> {
+pub(crate) fn delay_table(alloc: Global, points: &[DelayPoint]) -> Result<String, AllocError>
+    ensures { IfOk result (λ text. string_bytes text ≡ table_text DELAY_HEADER.now delay_row points.now) }
+{
     let mut text = String::from_str(alloc, DELAY_HEADER)?;
     for point in points {
         writeln!(text, "{point}")?;

@@ -1,7 +1,10 @@
 //! Why there is no outcome, and how the program ends.
 ghost use Rattle.std.specs.Prelude.{◌≡◌};
-ghost use Rattle.lab_tasks.specs.Ends.{status_of};
+ghost use Rattle.clap.specs.Words.{kind_of};
+ghost use Rattle.lab_tasks.specs.Ends.{end_of, status_of};
 
+use clap::Error;
+use clap::error::ErrorKind;
 use experiments::Fault;
 use grid_law::NoMemory;
 use project_file::{ProjectFault, WriteFault};
@@ -64,6 +67,18 @@ pub fn status(end: &End<'_>) -> u8
     }
 }
 
+/// How the program ends where the words are no command line: help and the version were asked for, want of memory is no fault
+/// of the words.
+pub fn refusal(error: &Error) -> End<'static>
+    ensures { result ≡ end_of (kind_of error.now) }
+{
+    match error.kind() {
+        ErrorKind::DisplayHelp | ErrorKind::DisplayVersion => End::Done,
+        ErrorKind::OutOfMemory => End::Memory,
+        _ => End::Words,
+    }
+}
+
 impl fmt::Display for Reason {
     ghost use Rattle.lab_tasks.specs.Ends.{reason_text};
     ghost use Rattle.std.specs.Prelude.{Some};
@@ -104,30 +119,50 @@ impl fmt::Display for End<'_> {
 }
 
 impl From<AllocError> for End<'_> {
+    ghost use Rattle.lab_tasks.specs.declared.end.End.TheVariants.{Memory};
+
+    ghost from_gives = { λ _ e. e ≡ Memory };
+
     fn from(_fault: AllocError) -> Self {
         End::Memory
     }
 }
 
 impl<T: Drop> From<AllocFailed<T>> for End<'_> {
+    ghost use Rattle.lab_tasks.specs.declared.end.End.TheVariants.{Memory};
+
+    ghost from_gives = { λ _ e. e ≡ Memory };
+
     fn from(_fault: AllocFailed<T>) -> Self {
         End::Memory
     }
 }
 
 impl From<NoMemory> for End<'_> {
+    ghost use Rattle.lab_tasks.specs.declared.end.End.TheVariants.{Memory};
+
+    ghost from_gives = { λ _ e. e ≡ Memory };
+
     fn from(_fault: NoMemory) -> Self {
         End::Memory
     }
 }
 
 impl From<Fault> for End<'_> {
+    ghost use Rattle.lab_tasks.specs.declared.end.End.TheVariants.{Memory};
+
+    ghost from_gives = { λ _ e. e ≡ Memory };
+
     fn from(_fault: Fault) -> Self {
         End::Memory
     }
 }
 
 impl From<WriteFault> for End<'_> {
+    ghost use Rattle.lab_tasks.specs.declared.end.End.TheVariants.{Memory};
+
+    ghost from_gives = { λ _ e. e ≡ Memory };
+
     fn from(_fault: WriteFault) -> Self {
         End::Memory
     }

@@ -1,11 +1,10 @@
 //! The program at a terminal.
-use crate::end::{End, status};
+use crate::end::{End, refusal, status};
 use crate::outcome::{OutFile, Outcome};
 use crate::progress::Progress;
 use crate::task::perform;
 use crate::words::{Asked, read_words};
 use clap::Error;
-use clap::error::ErrorKind;
 use project_file::{MAX_BYTES, fault_place};
 use std::alloc::Global;
 use std::io::{Eprint, Print, Read, Write};
@@ -128,12 +127,13 @@ fn ended<R: Eprint>(rt: &R, end: &End<'_>) -> u8 {
 
 /// The status after words that are no command line, or ask for help or the version.
 fn refused<R: Print + Eprint>(rt: &R, error: &Error) -> u8 {
-    let _ = error.print(rt);
-    match error.kind() {
-        ErrorKind::DisplayHelp | ErrorKind::DisplayVersion => status(&End::Done),
-        ErrorKind::OutOfMemory => status(&End::Memory),
-        _ => status(&End::Words),
+    let end = refusal(error);
+    // What clap would say of the words is then that there is no memory.
+    if let End::Memory = end {
+        return ended(rt, &end);
     }
+    let _ = error.print(rt);
+    status(&end)
 }
 
 /// The bytes of the file that is to be read, or none.
@@ -196,11 +196,17 @@ fn done<R: Host>(rt: &R, asked: &Asked<'_>, terminal: bool) -> u8 {
 
 /// The program, from the host's arguments to its status. On a terminal it tells how far it is.
 pub fn program<R: Host>(rt: &R, terminal: bool) -> ExitCode {
-    let Ok(words) = env::args(rt) else {
-        let _ = eprintln!(rt; "lab: the command line is not UTF-8");
-        return ExitCode::from(status(&End::Words));
+    let words = match env::args(rt) {
+        Ok(words) => words.collect::<Vec<String>>(rt.alloc()),
+        Err(fault) if fault.kind() == io::ErrorKind::OutOfMemory => {
+            return ExitCode::from(ended(rt, &End::Memory));
+        }
+        Err(_) => {
+            let _ = eprintln!(rt; "lab: the command line is not UTF-8");
+            return ExitCode::from(ended(rt, &End::Words));
+        }
     };
-    let status = match words.collect::<Vec<String>>(rt.alloc()) {
+    let status = match words {
         Ok(words) => told(rt, words.as_slice(), terminal),
         Err(_) => ended(rt, &End::Memory),
     };

@@ -25,11 +25,12 @@ mod points;
 mod progress;
 mod rates;
 mod sweep;
+mod swept;
 mod tables;
 mod task;
 mod words;
 
-pub use end::{End, Reason, status};
+pub use end::{End, Reason, refusal, status};
 pub use host::program;
 pub use outcome::{OutFile, Outcome};
 pub use progress::{Progress, Silent};

@@ -1,7 +1,7 @@
 //! Numbers, lists and ranges among the words.
 ghost use Rattle.std.specs.Prelude.{◌≡◌, ◌<◌, ◌==◌, IfOk, IfSome, length, option_map, position};
 ghost use Rattle.line_words.specs.Numbers.{number_of};
-ghost use Rattle.lab_tasks.specs.Numbers.{parts_at, range_of};
+ghost use Rattle.lab_tasks.specs.Numbers.{list_of, parts_at, range_of};
 
 use line_words::number;
 use std::alloc::{AllocError, Global};
@@ -38,14 +38,13 @@ pub(crate) fn range_in(text: &[u8]) -> Option<(u32, u32)>
     Some((from, to))
 }
 
-/// The numbers of a text `N,N,..`; no more than the text has bytes, and one.
-pub(crate) fn list_in(alloc: Global, text: &[u8]) -> Result<Option<Vec<u32>>, AllocError> {
+/// The numbers of a text `N,N,..`, where each part between commas is one.
+pub(crate) fn list_in(alloc: Global, text: &[u8]) -> Result<Option<Vec<u32>>, AllocError>
+    ensures { IfOk result (λ list. option_map (λ v. v.items) list ≡ list_of text.now) }
+{
     let mut numbers = Vec::new(alloc);
     let mut rest = text;
-    for _ in 0..text.len() {
-        let Some((first, behind)) = parts_at(rest, b',') else {
-            break;
-        };
+    'parts: while let Some((first, behind)) = parts_at(rest, b',') {
         match number(first) {
             Some(value) => numbers.push(value)?,
             None => return Ok(None),

@@ -1,8 +1,10 @@
 //! The numbers that the words of `map`, `rates` and `delays` give.
-ghost use Rattle.std.specs.Prelude.{◌≡◌, ◌<◌, ◌≤◌, ◌-◌, IfOk, option_map};
+ghost use Rattle.std.specs.Prelude.{◌≡◌, ◌<◌, ◌≤◌, ◌-◌, IfErr, IfOk, Some};
 ghost use Rattle.omega_net.specs.Numbers.{lines};
 ghost use Rattle.page_map.specs.Limits.{max_k};
-ghost use Rattle.lab_tasks.specs.Numbers.{IsTold};
+ghost use Rattle.lab_tasks.specs.Numbers.{AreNoShares, AreShares, are_hundredths, IsTold, IsUntold};
+ghost use Rattle.lab_tasks.specs.Plans.{net_of, IsNoNet};
+ghost use Rattle.lab_tasks.specs.Words.{text_of};
 
 use crate::end::{End, Reason};
 use crate::numbers::list_in;
@@ -22,7 +24,8 @@ fn number_at<'a>(
     least: u32,
     most: u32,
 ) -> Result<u32, End<'a>>
-    ensures told { IfOk result (IsTold (option_map (λ w. w.now) word.entry) usual least most) }
+    ensures told { IfOk result (IsTold (text_of word.entry) usual least most) }
+    ensures untold { IfErr result (IsUntold option.now (text_of word.entry) least most) }
     ensures most { usual ≤ most → IfOk result (λ n. n ≤ most) }
 {
     let Some(word) = word else {
@@ -51,7 +54,11 @@ pub(crate) struct MapPlan {
     pub window: Window,
 }
 
-fn net_at<'a>(word: Option<&'a str>) -> Result<Net, End<'a>> {
+/// The network at `--net`.
+fn net_at<'a>(word: Option<&'a str>) -> Result<Net, End<'a>>
+    ensures net { IfOk result (λ net. net_of (text_of word.entry) ≡ Some net) }
+    ensures none { IfErr result (IsNoNet (text_of word.entry)) }
+{
     match word {
         None | Some("low") => Ok(Net::Low),
         Some("comb") => Ok(Net::Comb),
@@ -65,6 +72,10 @@ fn net_at<'a>(word: Option<&'a str>) -> Result<Net, End<'a>> {
 
 /// What is to be drawn of a project: a module that it has, and cycles up to its horizon.
 pub(crate) fn map_plan<'a>(words: &MapWords<'a>, project: &Project) -> Result<MapPlan, End<'a>>
+    ensures net { IfOk result (λ plan. net_of (text_of words.now.net) ≡ Some plan.net) }
+    ensures number { IfOk result (λ plan. IsTold (text_of words.now.«module») 0 0 (lines project.now.k - 1) plan.«module») }
+    ensures from { IfOk result (λ plan. IsTold (text_of words.now.from) 0 0 project.now.horizon plan.window.from) }
+    ensures to { IfOk result (λ plan. IsTold (text_of words.now.to) project.now.horizon 0 project.now.horizon plan.window.to) }
     ensures there { IfOk result (λ plan. plan.«module» < lines project.now.k) }
     ensures window { IfOk result (λ plan. plan.window.from ≤ plan.window.to) }
     ensures within { IfOk result (λ plan. plan.window.to ≤ project.now.horizon) }
@@ -103,7 +114,18 @@ pub(crate) struct CurvePlan {
 /// The shares that are measured where none are given.
 const USUAL_SHARES: [u32; 7] = [0, 1, 2, 4, 8, 16, 32];
 
-fn shares_at<'a>(alloc: Global, word: Option<&'a str>) -> Result<Vec<u32>, End<'a>> {
+/// Whether no share is more than the whole.
+fn are_hundredths(shares: &[u32]) -> bool
+    ensures { result ≡ are_hundredths shares.now }
+{
+    shares.iter().all(|share| *share <= 100)
+}
+
+/// The shares at `--hot`.
+fn shares_at<'a>(alloc: Global, word: Option<&'a str>) -> Result<Vec<u32>, End<'a>>
+    ensures shares { IfOk result (λ v. AreShares (text_of word.entry) v.items) }
+    ensures none { IfErr result (AreNoShares (text_of word.entry)) }
+{
     let Some(word) = word else {
         return Ok(USUAL_SHARES.to_vec(alloc)?);
     };
@@ -118,17 +140,19 @@ fn shares_at<'a>(alloc: Global, word: Option<&'a str>) -> Result<Vec<u32>, End<'
     if shares.len() > USUAL_SHARES.len() {
         return Err(refused(Reason::Form("up to seven numbers")));
     }
-    for share in shares.as_slice() {
-        if *share > 100 {
-            return Err(refused(Reason::Within(0, 100)));
-        }
+    if !are_hundredths(shares.as_slice()) {
+        return Err(refused(Reason::Within(0, 100)));
     }
     Ok(shares)
 }
 
 /// What is to be measured.
 pub(crate) fn curve_plan<'a>(alloc: Global, words: &CurveWords<'a>) -> Result<CurvePlan, End<'a>>
-    ensures { IfOk result (λ plan. plan.k ≤ max_k) }
+    ensures k { IfOk result (λ plan. IsTold (text_of words.now.k) max_k 1 max_k plan.k) }
+    ensures hot { IfOk result (λ plan. AreShares (text_of words.now.hot) plan.hot.items) }
+    ensures cycles { IfOk result (λ plan. IsTold (text_of words.now.cycles) 256 2 256 plan.cycles) }
+    ensures seed { IfOk result (λ plan. IsTold (text_of words.now.seed) 1 0 4294967295 plan.seed) }
+    ensures small { IfOk result (λ plan. plan.k ≤ max_k) }
 {
     let k = number_at("--k", words.k, MAX_K, 1, MAX_K)?;
     let hot = shares_at(alloc, words.hot)?;

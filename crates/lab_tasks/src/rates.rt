@@ -1,6 +1,7 @@
 //! Served references per cycle against the number of processors.
-ghost use Rattle.std.specs.Prelude.{◌≡◌, ◌≤◌, ◌+◌, ◌-◌, ◌/◌};
+ghost use Rattle.std.specs.Prelude.{◌≡◌, ◌≤◌, ◌+◌, ◌-◌, ◌/◌, IfOk, string_bytes};
 ghost use Rattle.page_map.specs.Limits.{max_k};
+ghost use Rattle.lab_tasks.specs.Tables.{rate_row, table_text};
 
 use crate::curves::{doublings, mark_of, stroke_of};
 use crate::end::End;
@@ -18,7 +19,8 @@ use svg_plots::{Axis, Curve, Curves, Panel, Tick, draw_curves, log2_hundredths};
 pub(crate) fn first_measured(cycles: u32) -> u32
     ensures { result ≡ cycles / 2 + 1 }
 {
-    cycles / 2 + 1
+    let left_out = cycles / 2;
+    left_out + 1
 }
 
 /// How many cycles are measured.
@@ -72,7 +74,9 @@ fn add_points<'a, T: Threads + Sync>(
 }
 
 /// The table of the points.
-pub(crate) fn rate_table(alloc: Global, points: &[RatePoint]) -> Result<String, AllocError> {
+pub(crate) fn rate_table(alloc: Global, points: &[RatePoint]) -> Result<String, AllocError>
+    ensures { IfOk result (λ text. string_bytes text ≡ table_text RATE_HEADER.now rate_row points.now) }
+{
     let mut text = String::from_str(alloc, RATE_HEADER)?;
     for point in points {
         writeln!(text, "{point}")?;

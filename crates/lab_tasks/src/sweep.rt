@@ -1,27 +1,31 @@
 //! One depth after another on one bench.
+ghost use Rattle.std.specs.Prelude.{◌≡◌, ◌+◌, ◌-◌, ◌<◌, ◌≤◌, [], ◌∷◌, ◌++◌, IfErr, IfOk, Ok, OnOk, Some, map};
+ghost use Rattle.std.specs.List.{flat_map};
+ghost use Rattle.line_words.specs.Words.{words_of};
+ghost use Rattle.run_queries.specs.Answers.{answer};
+ghost use Rattle.bench_core.specs.Shown.{project_of};
+ghost use Rattle.commands.specs.Queues.{queue_named};
+ghost use Rattle.commands.specs.Commands.{command_of};
+ghost use Rattle.commands.specs.declared.command.Command.TheVariants.{Query as Asks};
+ghost use Rattle.lab_tasks.specs.Sweeps.{queue_text, depths_in, IsSwept, RefusesDepths, rows_of, settings_of, with_settings, IsAsked, RefusesAsk};
+
 use crate::end::{End, Reason};
 use crate::numbers::{parts_at, range_in};
+use crate::swept::{Setting, Swept};
 use crate::tables::Field;
 use bench_core::Bench;
 use commands::Command;
-use experiments::{Fault, sweep_row};
-use omega_net::Shape;
+use experiments::{Fault, sweep_row, told_each};
 use project_book::{Depths, Edit, MAX_DEPTH, Project};
 use run_queries::{Body, Query};
 use std::alloc::{AllocError, Global};
 use std::fmt::Write;
 use std::thread::Threads;
 
-/// The depths of some queues that are gone through.
-#[derive(Clone, Copy)]
-pub(crate) struct Swept {
-    pub queue: Depths,
-    pub from: u32,
-    pub to: u32,
-}
-
 /// The word of some queues in the command language.
-fn queue_name(queue: Depths) -> &'static str {
+fn queue_name(queue: Depths) -> &'static str
+    ensures { result.now ≡ queue_text queue }
+{
     match queue {
         Depths::LowForward => "low-forward",
         Depths::LowReverse => "low-reverse",
@@ -32,37 +36,47 @@ fn queue_name(queue: Depths) -> &'static str {
 }
 
 /// The queues of a word.
-fn queue_in(word: &[u8]) -> Option<Depths> {
-    for queue in [
-        Depths::LowForward,
-        Depths::LowReverse,
-        Depths::CombForward,
-        Depths::CombReverse,
-        Depths::ModuleQueue,
-    ] {
-        if queue_name(queue).as_bytes() == word {
-            return Some(queue);
-        }
+fn queue_in(word: &[u8]) -> Option<Depths>
+    ensures { result ≡ queue_named word.now }
+{
+    if word == b"low-forward".as_slice() {
+        Some(Depths::LowForward)
+    } else if word == b"low-reverse".as_slice() {
+        Some(Depths::LowReverse)
+    } else if word == b"comb-forward".as_slice() {
+        Some(Depths::CombForward)
+    } else if word == b"comb-reverse".as_slice() {
+        Some(Depths::CombReverse)
+    } else if word == b"module".as_slice() {
+        Some(Depths::ModuleQueue)
+    } else {
+        None
     }
-    None
+}
+
+/// The queues and the two depths of a word.
+fn parts_in(word: &str) -> Option<(Depths, (u32, u32))>
+    ensures { result ≡ depths_in word.now }
+{
+    let (name, range) = parts_at(word.as_bytes(), b'=')?;
+    let queue = queue_in(name)?;
+    let depths = range_in(range)?;
+    Some((queue, depths))
 }
 
 const WANTED: &str = "QUEUES=FROM..TO, as low-forward=2..16";
 
 /// The queues and the depths of a word.
-fn swept_in<'a>(word: &'a str) -> Result<Swept, End<'a>> {
+fn swept_in<'a>(word: &'a str) -> Result<Swept, End<'a>>
+    ensures swept { IfOk result (IsSwept word.entry.now) }
+    ensures refused { IfErr result (RefusesDepths word.entry.now (depths_in word.entry.now)) }
+{
     let refused = |reason: Reason| End::Word {
         option: "--depth",
         word,
         reason,
     };
-    let Some((name, range)) = parts_at(word.as_bytes(), b'=') else {
-        return Err(refused(Reason::Form(WANTED)));
-    };
-    let Some(queue) = queue_in(name) else {
-        return Err(refused(Reason::Form(WANTED)));
-    };
-    let Some((from, to)) = range_in(range) else {
+    let Some((queue, (from, to))) = parts_in(word) else {
         return Err(refused(Reason::Form(WANTED)));
     };
     if !queue.allows(from) || !queue.allows(to) {
@@ -74,16 +88,23 @@ fn swept_in<'a>(word: &'a str) -> Result<Swept, End<'a>> {
     Ok(Swept { queue, from, to })
 }
 
-pub(crate) fn all_swept<'a>(alloc: Global, words: &[&'a str]) -> Result<Vec<Swept>, End<'a>> {
+/// What the words sweep, in turn.
+fn all_swept<'a>(alloc: Global, words: &[&'a str]) -> Result<Vec<Swept>, End<'a>>
+    ensures { IfOk result (λ all. map (λ word. depths_in word.now) words.entry.now ≡ map (λ swept. Some (swept.queue, (swept.from, swept.to))) all.items) }
+{
     let mut all = Vec::new(alloc);
     for word in words {
-        all.push(swept_in(word)?)?;
+        let swept = swept_in(word)?;
+        all.push(swept)?;
     }
     Ok(all)
 }
 
-/// The question of a word for a machine of this shape, which the project has to answer.
-fn query_in<'a>(project: &Project, word: &'a str) -> Result<Query, End<'a>> {
+/// The question of a word, which the project has to answer.
+fn query_in<'a>(project: &Project, word: &'a str) -> Result<Query, End<'a>>
+    ensures asked { IfOk result (IsAsked project.now word.entry.now) }
+    ensures refused { IfErr result (RefusesAsk project.now word.entry.now (command_of project.now.k (words_of word.entry.now))) }
+{
     let refused = |reason: Reason| End::Word {
         option: "--ask",
         word,
@@ -98,14 +119,18 @@ fn query_in<'a>(project: &Project, word: &'a str) -> Result<Query, End<'a>> {
     }
 }
 
-pub(crate) fn all_queries<'a>(
+/// The questions of the words, in turn.
+fn all_queries<'a>(
     alloc: Global,
     project: &Project,
     words: &[&'a str],
-) -> Result<Vec<Query>, End<'a>> {
+) -> Result<Vec<Query>, End<'a>>
+    ensures { IfOk result (λ all. map (λ word. command_of project.now.k (words_of word.now)) words.entry.now ≡ map (λ query. Some (Asks query)) all.items) }
+{
     let mut all = Vec::new(alloc);
     for word in words {
-        all.push(query_in(project, word)?)?;
+        let query = query_in(project, word)?;
+        all.push(query)?;
     }
     Ok(all)
 }
@@ -114,12 +139,15 @@ pub(crate) fn all_queries<'a>(
 const MOST_ROWS: u32 = 10_000;
 
 /// How many depths some queues go through.
-fn count_of(swept: Swept) -> u32 {
-    swept.to.saturating_sub(swept.from).saturating_add(1)
+fn count_of(swept: Swept) -> u32
+    ensures count { result ≡ swept.to + 1 - swept.from }
+    ensures few { result ≤ 17 }
+{
+    swept.to - swept.from + 1
 }
 
-/// How many rows there are: each depth with each.
-fn rows_of(all: &[Swept]) -> u32 {
+/// How many rows there are: each depth with each. From 2^32 on it is the number before.
+fn count_rows(all: &[Swept]) -> u32 {
     let mut rows: u32 = 1;
     for swept in all {
         rows = rows.saturating_mul(count_of(*swept));
@@ -127,16 +155,55 @@ fn rows_of(all: &[Swept]) -> u32 {
     rows
 }
 
-/// The depths of a row: the last queues go through theirs first.
-fn depths_at(alloc: Global, all: &[Swept], row: u32) -> Result<Vec<u32>, AllocError> {
-    let mut depths = Vec::new(alloc);
-    let mut below = rows_of(all);
-    for swept in all {
-        let count = count_of(*swept).max(1);
-        below = (below / count).max(1);
-        depths.push(swept.from.saturating_add(row / below % count))?;
+/// Adds each of some rows with a setting before it.
+fn add_behind(
+    alloc: Global,
+    rows: &mut Vec<Vec<Setting>>,
+    setting: Setting,
+    others: &[Vec<Setting>],
+) -> Result<(), AllocError>
+    ensures { OnOk result (map (λ row. row.items) rows.new.items ≡ map (λ row. row.items) rows.old.items ++ map (λ row. setting ∷ row.items) others.now) }
+{
+    for other in others {
+        let mut row = Vec::new(alloc);
+        row.push(setting)?;
+        row.extend_from_slice(other.as_slice())?;
+        rows.push(row)?;
     }
-    Ok(depths)
+    Ok(())
+}
+
+/// The rows of some queues, by those of the queues behind them.
+fn rows_before(
+    alloc: Global,
+    swept: Swept,
+    others: &[Vec<Setting>],
+) -> Result<Vec<Vec<Setting>>, AllocError>
+    ensures { IfOk result (λ rows. map (λ row. row.items) rows.items ≡ flat_map (λ setting. map (λ row. setting ∷ row.items) others.now) (settings_of swept)) }
+{
+    let mut rows = Vec::new(alloc);
+    for more in 0..count_of(swept) {
+        let setting = Setting {
+            queue: swept.queue,
+            depth: swept.from + more,
+        };
+        add_behind(alloc, &mut rows, setting, others)?;
+    }
+    Ok(rows)
+}
+
+/// The rows of a table.
+fn all_rows(alloc: Global, all: &[Swept]) -> Result<Vec<Vec<Setting>>, AllocError>
+    ensures { IfOk result (λ rows. map (λ row. row.items) rows.items ≡ rows_of all.now) }
+{
+    let Some((first, others)) = all.split_first() else {
+        let mut rows = Vec::new(alloc);
+        rows.push(Vec::new(alloc))?;
+        return Ok(rows);
+    };
+    let below = all_rows(alloc, others)?;
+    let rows = rows_before(alloc, *first, below.as_slice())?;
+    Ok(rows)
 }
 
 /// The header of the table: the queues, then the questions.
@@ -162,10 +229,11 @@ fn header(alloc: Global, all: &[Swept], asks: &[&str]) -> Result<String, AllocEr
 fn add_row(
     alloc: Global,
     text: &mut String,
-    depths: &[u32],
+    row: &[Setting],
     bodies: &[Body],
 ) -> Result<(), AllocError> {
-    for depth in depths {
+    for setting in row {
+        let depth = setting.depth;
         write!(text, "{depth},")?;
     }
     for (place, body) in bodies.iter().enumerate() {
@@ -180,25 +248,37 @@ fn add_row(
     writeln!(text, "")
 }
 
-/// What the project with these depths is told.
+/// Gives the queues of a row their depths.
+fn set_row<T: Threads + Sync>(
+    rt: &T,
+    alloc: Global,
+    bench: &mut Bench,
+    row: &[Setting],
+) -> Result<(), Fault>
+    ensures { OnOk result (project_of bench.new ≡ with_settings (project_of bench.old) row.now) }
+{
+    for setting in row {
+        let edit = Edit::Depth {
+            queue: setting.queue,
+            depth: setting.depth,
+        };
+        sweep_row(rt, alloc, bench, edit, &[])?;
+    }
+    Ok(())
+}
+
+/// What the project with the depths of a row is told.
 fn row_at<T: Threads + Sync>(
     rt: &T,
     alloc: Global,
     bench: &mut Bench,
-    all: &[Swept],
-    depths: &[u32],
+    row: &[Setting],
     queries: &[Query],
-) -> Result<Vec<Body>, Fault> {
-    let mut bodies = Vec::new(alloc);
-    for (place, (swept, depth)) in all.iter().zip(depths).enumerate() {
-        let edit = Edit::Depth {
-            queue: swept.queue,
-            depth: *depth,
-        };
-        let asked = if place + 1 == all.len() { queries } else { &[] };
-        bodies = sweep_row(rt, alloc, bench, edit, asked)?;
-    }
-    Ok(bodies)
+) -> Result<Vec<Body>, Fault>
+    ensures { IfOk result (λ bodies. map (answer (with_settings (project_of bench.old) row.now)) queries.now ≡ map Ok bodies.items) }
+{
+    set_row(rt, alloc, bench, row)?;
+    told_each(rt, alloc, bench, queries)
 }
 
 /// The table of a sweep over a project.
@@ -211,8 +291,7 @@ pub(crate) fn sweep_table<'a, T: Threads + Sync>(
 ) -> Result<String, End<'a>> {
     let all = all_swept(alloc, depths)?;
     let queries = all_queries(alloc, &project, asks)?;
-    let rows = rows_of(all.as_slice());
-    if rows > MOST_ROWS {
+    if count_rows(all.as_slice()) > MOST_ROWS {
         return Err(End::Word {
             option: "--depth",
             word: "each with each",
@@ -220,20 +299,13 @@ pub(crate) fn sweep_table<'a, T: Threads + Sync>(
         });
     }
     let mut text = header(alloc, all.as_slice(), asks)?;
+    let rows = all_rows(alloc, all.as_slice())?;
     let Ok(mut bench) = Bench::new(alloc, project, 0) else {
         return Err(End::Memory);
     };
-    for row in 0..rows {
-        let depths = depths_at(alloc, all.as_slice(), row)?;
-        let bodies = row_at(
-            rt,
-            alloc,
-            &mut bench,
-            all.as_slice(),
-            depths.as_slice(),
-            queries.as_slice(),
-        )?;
-        add_row(alloc, &mut text, depths.as_slice(), bodies.as_slice())?;
+    for row in rows.as_slice() {
+        let bodies = row_at(rt, alloc, &mut bench, row.as_slice(), queries.as_slice())?;
+        add_row(alloc, &mut text, row.as_slice(), bodies.as_slice())?;
     }
     Ok(text)
 }

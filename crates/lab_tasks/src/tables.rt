@@ -105,14 +105,33 @@ impl fmt::Display for Bound {
     }
 }
 
+/// What was served of a load: requests, cycles, requests in a cycle.
+#[derive(Clone, Copy)]
+struct ServedIn(RatePoint);
+
+impl fmt::Display for ServedIn {
+    ghost use Rattle.lab_tasks.specs.Tables.{served_text};
+
+    ghost output = { λ s. Some (served_text s.0) };
+
+    fn fmt<W: fmt::Write>(&self, f: &mut fmt::Formatter<W>) -> fmt::Result {
+        let served = self.0.served;
+        let cycles = self.0.cycles;
+        let rate = Thousandths(self.0.rate());
+        write!(f, "{served},{cycles},{rate}")
+    }
+}
+
 impl fmt::Display for RatePoint {
+    ghost use Rattle.lab_tasks.specs.Tables.{rate_row};
+
+    ghost output = { λ p. Some (rate_row p) };
+
     fn fmt<W: fmt::Write>(&self, f: &mut fmt::Formatter<W>) -> fmt::Result {
         let machine = Machine(self.load);
-        let served = self.served;
-        let cycles = self.cycles;
-        let rate = Thousandths(self.rate());
+        let served = ServedIn(*self);
         let bound = Bound(self.load);
-        write!(f, "{machine},{served},{cycles},{rate},{bound}")
+        write!(f, "{machine},{served},{bound}")
     }
 }
 

@@ -1,4 +1,9 @@
 //! What is asked for is done.
+ghost use Rattle.std.specs.Prelude.{◌≡◌, [], ◌∷◌, ◌++◌, IfOk, None, Ok, OnOk, string_bytes};
+ghost use Rattle.project_file.specs.Filed.{filed};
+ghost use Rattle.lab_tasks.specs.Outcomes.{files_of, AreGiven, IsGiven};
+ghost use Rattle.lab_tasks.specs.Words.{text_of};
+
 use crate::check::summary;
 use crate::delays::{delay_picture, delay_points, delay_table};
 use crate::end::End;
@@ -19,7 +24,10 @@ use std::alloc::{AllocError, Global};
 use std::thread::Threads;
 
 /// Nothing printed, and no file.
-fn nothing(alloc: Global) -> Outcome {
+fn nothing(alloc: Global) -> Outcome
+    ensures printed { result.printed.items ≡ [] }
+    ensures files { result.files.items ≡ [] }
+{
     Outcome {
         printed: Vec::new(alloc),
         files: Vec::new(alloc),
@@ -33,7 +41,10 @@ fn add_file(
     outcome: &mut Outcome,
     name: &str,
     bytes: Vec<u8>,
-) -> Result<(), AllocError> {
+) -> Result<(), AllocError>
+    ensures printed { OnOk result (outcome.new.printed.items ≡ outcome.old.printed.items) }
+    ensures files { OnOk result (files_of outcome.new ≡ files_of outcome.old ++ (name.now, bytes.items) ∷ []) }
+{
     let name = String::from_str(alloc, name)?;
     outcome.files.push(OutFile { name, bytes })?;
     Ok(())
@@ -44,7 +55,9 @@ fn to_file_or_output(
     alloc: Global,
     name: Option<&str>,
     bytes: Vec<u8>,
-) -> Result<Outcome, AllocError> {
+) -> Result<Outcome, AllocError>
+    ensures { IfOk result (IsGiven (text_of name.entry) bytes.items) }
+{
     let mut outcome = nothing(alloc);
     match name {
         Some(name) => add_file(alloc, &mut outcome, name, bytes)?,
@@ -53,7 +66,10 @@ fn to_file_or_output(
     Ok(outcome)
 }
 
-fn project_in<'a>(alloc: Global, bytes: &[u8]) -> Result<Project, End<'a>> {
+/// The project that a file's bytes are.
+fn project_in<'a>(alloc: Global, bytes: &[u8]) -> Result<Project, End<'a>>
+    ensures { IfOk result (λ project. filed bytes.now ≡ Ok project) }
+{
     match read_project(alloc, bytes) {
         Ok(project) => Ok(project),
         Err(fault) => Err(End::Project(fault)),
@@ -123,7 +139,9 @@ fn curves<'a>(
     words: &CurveWords<'a>,
     table: String,
     picture: String,
-) -> Result<Outcome, AllocError> {
+) -> Result<Outcome, AllocError>
+    ensures { IfOk result (AreGiven (text_of words.now.csv) (text_of words.now.out) (string_bytes table) (string_bytes picture)) }
+{
     let mut outcome = nothing(alloc);
     if let Some(name) = words.out {
         add_file(alloc, &mut outcome, name, picture.into_bytes())?;

@@ -1,4 +1,7 @@
 //! The words behind the program's name.
+ghost use Rattle.std.specs.Prelude.{◌≡◌, IfOk, codes, map};
+ghost use Rattle.lab_tasks.specs.Words.{file_at, text_at, text_of, texts_at};
+
 use clap::error::ErrorKind;
 use clap::{Arg, ArgAction, ArgMatches, Command, Error};
 use std::alloc::{AllocError, Global};
@@ -47,8 +50,12 @@ pub enum Asked<'a> {
 }
 
 impl<'a> Asked<'a> {
+    ghost use Rattle.lab_tasks.specs.Words.{file_of};
+
     /// The project file that is to be read, where there is one.
-    pub fn file(&self) -> Option<&'a str> {
+    pub fn file(&self) -> Option<&'a str>
+        ensures { text_of result ≡ file_of self.now }
+    {
         match self {
             Asked::Map(words) => Some(words.file),
             Asked::Rates(_) | Asked::Delays(_) => None,
@@ -213,27 +220,30 @@ fn lab_command<'a>(alloc: Global) -> Result<Command<'a>, AllocError> {
         .subcommand(convert_command(alloc)?)
 }
 
-fn all_of<'a>(
-    alloc: Global,
-    matches: &ArgMatches<'a>,
-    id: &str,
-) -> Result<Vec<&'a str>, AllocError> {
-    let mut all = Vec::new(alloc);
-    let texts = match matches.get_strs(id) {
-        Some(texts) => texts,
-        None => return Ok(all),
-    };
-    for text in texts {
-        all.push(*text)?;
+/// The texts of all uses of an option.
+fn all_of<'a>(alloc: Global, matches: &ArgMatches<'a>, id: &str) -> Result<Vec<&'a str>, AllocError>
+    ensures { IfOk result (λ v. map (λ w. w.now) v.items ≡ texts_at matches.now id.now) }
+{
+    match matches.get_strs(id) {
+        Some(texts) => texts.to_vec(alloc),
+        None => Ok(Vec::new(alloc)),
     }
-    Ok(all)
 }
 
-fn file_in<'a>(matches: &ArgMatches<'a>) -> &'a str {
+fn file_in<'a>(matches: &ArgMatches<'a>) -> &'a str
+    ensures { result.now ≡ file_at matches.now }
+{
     matches.get_str("FILE").unwrap_or("")
 }
 
-fn map_words<'a>(matches: &ArgMatches<'a>) -> MapWords<'a> {
+fn map_words<'a>(matches: &ArgMatches<'a>) -> MapWords<'a>
+    ensures file { result.file.now ≡ file_at matches.now }
+    ensures net { text_of result.net ≡ text_at matches.now (codes "net") }
+    ensures number { text_of result.«module» ≡ text_at matches.now (codes "module") }
+    ensures from { text_of result.from ≡ text_at matches.now (codes "from") }
+    ensures to { text_of result.to ≡ text_at matches.now (codes "to") }
+    ensures out { text_of result.out ≡ text_at matches.now (codes "out") }
+{
     MapWords {
         file: file_in(matches),
         net: matches.get_str("net"),
@@ -244,7 +254,15 @@ fn map_words<'a>(matches: &ArgMatches<'a>) -> MapWords<'a> {
     }
 }
 
-fn curve_words<'a>(matches: &ArgMatches<'a>) -> CurveWords<'a> {
+fn curve_words<'a>(matches: &ArgMatches<'a>) -> CurveWords<'a>
+    ensures k { text_of result.k ≡ text_at matches.now (codes "k") }
+    ensures hot { text_of result.hot ≡ text_at matches.now (codes "hot") }
+    ensures cycles { text_of result.cycles ≡ text_at matches.now (codes "cycles") }
+    ensures seed { text_of result.seed ≡ text_at matches.now (codes "seed") }
+    ensures csv { text_of result.csv ≡ text_at matches.now (codes "csv") }
+    ensures out { text_of result.out ≡ text_at matches.now (codes "out") }
+    ensures keep { text_of result.keep ≡ text_at matches.now (codes "keep") }
+{
     CurveWords {
         k: matches.get_str("k"),
         hot: matches.get_str("hot"),
@@ -256,11 +274,18 @@ fn curve_words<'a>(matches: &ArgMatches<'a>) -> CurveWords<'a> {
     }
 }
 
-fn sweep_words<'a>(alloc: Global, matches: &ArgMatches<'a>) -> Result<SweepWords<'a>, AllocError> {
+fn sweep_words<'a>(alloc: Global, matches: &ArgMatches<'a>) -> Result<SweepWords<'a>, AllocError>
+    ensures file { IfOk result (λ words. words.file.now ≡ file_at matches.now) }
+    ensures depths { IfOk result (λ words. map (λ w. w.now) words.depths.items ≡ texts_at matches.now (codes "depth")) }
+    ensures asks { IfOk result (λ words. map (λ w. w.now) words.asks.items ≡ texts_at matches.now (codes "ask")) }
+    ensures csv { IfOk result (λ words. text_of words.csv ≡ text_at matches.now (codes "csv")) }
+{
+    let depths = all_of(alloc, matches, "depth")?;
+    let asks = all_of(alloc, matches, "ask")?;
     Ok(SweepWords {
         file: file_in(matches),
-        depths: all_of(alloc, matches, "depth")?,
-        asks: all_of(alloc, matches, "ask")?,
+        depths,
+        asks,
         csv: matches.get_str("csv"),
     })
 }
