@@ -133,6 +133,10 @@ fn waits_of(
 /// How many cycles each reply took that came in a window to a reference that isn't hot, in the run of the project: by
 /// processor, then by cycle. The time is that from the state in which the reference was issued to the state in which its
 /// reply was received. It simulates the project from cycle 0. The window isn't empty, and is within the horizon.
+///
+/// # Errors
+///
+/// Where a growth was refused. What was taken is given back.
 pub fn cold_waits(alloc: Global, project: &Project, window: Window) -> Result<Vec<u32>, NoMemory>
     requires window { window.from ≤ window.to }
     requires within { window.to ≤ project.now.horizon }
@@ -189,6 +193,11 @@ fn waited_by(alloc: Global, load: Load, from: u32) -> Result<ColdWaits, Fault>
 
 /// For each load the waits from a cycle to its last one. The loads are run by as many threads as there are processors; what
 /// is answered for each hangs on that load alone.
+///
+/// # Errors
+///
+/// Where a growth for the list was refused. A load whose own run found no memory has its fault in the
+/// list.
 pub fn waited_each<T: Threads + Sync>(
     rt: &T,
     alloc: Global,

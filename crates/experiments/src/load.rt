@@ -103,6 +103,10 @@ fn scripts(alloc: Global, load: Load) -> Result<Scripts, NoMemory>
 
 /// The project of a load: its scripts, a window of 8 references, the usual depths, and combining at each stage or none.
 /// The conditions are that there is such a machine, and that the cycles are within the limit of a horizon.
+///
+/// # Errors
+///
+/// Where a growth was refused. What was taken is given back.
 pub fn project_of(alloc: Global, load: Load) -> Result<Project, NoMemory>
     requires k { load.k ≤ max_k }
     requires cycles { load.cycles ≤ max_horizon }

@@ -205,6 +205,10 @@ fn served_over(
 /// The lengths of the queues of a network that lead to a module, the level, and the module's served requests, at each cycle
 /// of a window, in the run of the project. It simulates the project from cycle 0. The conditions are that the module
 /// exists, and that the window isn't empty and is within the horizon.
+///
+/// # Errors
+///
+/// Where a growth was refused. What was taken is given back.
 pub fn saturation_map(
     alloc: Global,
     project: &Project,

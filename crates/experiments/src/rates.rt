@@ -29,6 +29,11 @@ fn count_in(body: Body) -> Option<u64>
 
 /// How many requests all modules serve in a window of cycles, in the run of the project: what `counter served all` is
 /// answered.
+///
+/// # Errors
+///
+/// Query where the window isn't one of the run, with the number of the reason, Memory where a growth was refused. The
+/// project is dropped.
 pub fn served<T: Threads + Sync>(
     rt: &T,
     alloc: Global,
@@ -77,6 +82,11 @@ fn served_by<T: Threads + Sync>(rt: &T, alloc: Global, load: Load, from: u32) ->
 
 /// For each load how many requests all modules serve from a cycle to its last one. The loads are run by as many threads as
 /// there are processors; what is answered for each hangs on that load alone.
+///
+/// # Errors
+///
+/// Where a growth for the list was refused. A load whose own run found no memory has its fault in the
+/// list.
 pub fn served_each<T: Threads + Sync>(
     rt: &T,
     alloc: Global,

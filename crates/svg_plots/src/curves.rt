@@ -349,6 +349,10 @@ fn named(curves: &[Curve<'_>]) -> u32
 }
 
 /// The picture, with lines of text under it, as an SVG document.
+///
+/// # Errors
+///
+/// Where a growth was refused. What was taken is given back.
 pub fn draw_curves(
     alloc: Global,
     curves: &Curves<'_>,

@@ -442,6 +442,10 @@ fn draw_shades(
 }
 
 /// The picture as an SVG document.
+///
+/// # Errors
+///
+/// Where a growth was refused. What was taken is given back.
 pub fn draw_map(alloc: Global, map: &CellMap<'_>) -> Result<String, AllocError> {
     let heights = heights_of(map);
     let columns = map.levels.len().min(100_000) as u32;

@@ -109,6 +109,10 @@ pub struct Picture {
 
 impl Picture {
     /// A white picture of so many pixels, with a title that readers of the screen are told.
+    ///
+    /// # Errors
+    ///
+    /// Where a growth was refused. What was taken is given back.
     pub fn new(alloc: Global, width: u16, height: u16, title: &str) -> Result<Picture, AllocError> {
         let mut text = String::new(alloc);
         writeln!(
@@ -125,6 +129,10 @@ impl Picture {
     }
 
     /// A straight line.
+    ///
+    /// # Errors
+    ///
+    /// Where a growth was refused. The document may have a part of it then, and is to be dropped.
     pub fn line(&mut self, from: Spot, to: Spot, stroke: Stroke) -> Result<(), AllocError> {
         let (x, y) = (Tenths(from.x), Tenths(from.y));
         let (to_x, to_y) = (Tenths(to.x), Tenths(to.y));
@@ -135,6 +143,10 @@ impl Picture {
     }
 
     /// A filled rectangle, by its left upper corner and its size.
+    ///
+    /// # Errors
+    ///
+    /// Where a growth was refused. The document may have a part of it then, and is to be dropped.
     pub fn cell(
         &mut self,
         at: Spot,
@@ -151,6 +163,10 @@ impl Picture {
     }
 
     /// The outline of a rectangle, by its left upper and right lower corners.
+    ///
+    /// # Errors
+    ///
+    /// Where a growth was refused. The document may have a part of it then, and is to be dropped.
     pub fn frame(&mut self, from: Spot, to: Spot, stroke: Stroke) -> Result<(), AllocError> {
         let (x, y) = (Tenths(from.x), Tenths(from.y));
         let width = Tenths(to.x.saturating_sub(from.x));
@@ -162,6 +178,10 @@ impl Picture {
     }
 
     /// A text, whose characters are replaced where they can't stand in a document.
+    ///
+    /// # Errors
+    ///
+    /// Where a growth was refused. The document may have a part of it then, and is to be dropped.
     pub fn words(&mut self, at: Spot, how: Writing, words: &str) -> Result<(), AllocError> {
         let (x, y) = (Tenths(at.x), Tenths(at.y));
         let Writing { anchor, size, bold } = how;
@@ -174,6 +194,10 @@ impl Picture {
     }
 
     /// A line through these places, none where there are fewer than two.
+    ///
+    /// # Errors
+    ///
+    /// Where a growth was refused. The document may have a part of it then, and is to be dropped.
     pub fn path(&mut self, spots: &[Spot], stroke: Stroke) -> Result<(), AllocError> {
         if spots.len() < 2 {
             return Ok(());
@@ -190,6 +214,10 @@ impl Picture {
     }
 
     /// A mark with its middle at a place.
+    ///
+    /// # Errors
+    ///
+    /// Where a growth was refused. The document may have a part of it then, and is to be dropped.
     pub fn mark(&mut self, at: Spot, mark: Mark, colour: &'static str) -> Result<(), AllocError> {
         let (x, y) = (Tenths(at.x), Tenths(at.y));
         writeln!(
@@ -199,6 +227,10 @@ impl Picture {
     }
 
     /// The whole document.
+    ///
+    /// # Errors
+    ///
+    /// Where a growth was refused. The picture is dropped.
     pub fn close(self) -> Result<String, AllocError> {
         let Picture { mut text } = self;
         writeln!(text, "</svg>")?;

@@ -7,10 +7,9 @@ use Rattle.experiments.proofs.sweep.told_each.Goals as goal
 pub loop-query-preserved : goal.loop-query-preserved
 loop-query-preserved g c =
     let same = c.loop-query.invariant.0 in
-    let within : c.loop-query.query-index < length c.args.queries.now = omega arith in
-    (
+    let within : c.loop-query.query-index < length c.args.queries.now = omega arith in (
       c.told.ensures.project ∙ same,
       rw c.in_ok-push.ensures.items
-      (map-next-at answer (λ x. Ok x) c.args.queries.now c.loop-query.row.items c.loop-query.query-index _ c.in_ok-body.body (project_of c.args.bench.now)
-      (project_of c.loop-query.bench) within same c.loop-query.invariant.1 c.in_ok-body.ensures.answer)
+          (map-next-at answer (λ x. Ok x) c.args.queries.now c.loop-query.row.items c.loop-query.query-index _ c.in_ok-body.body (project_of c.args.bench.now)
+          (project_of c.loop-query.bench) within same c.loop-query.invariant.1 c.in_ok-body.ensures.answer),
     )
