@@ -1,0 +1,154 @@
+//! What tasks print, and which files they write.
+use lab_tasks::{Outcome, Silent, perform, read_words};
+use std::test::Fail;
+use std::thread::Threads;
+
+/// Two processors: the first refers three times to word 5 and once to word 260, the second five times to word 260 at most.
+const TWO: &[u8] = b"format = 2
+k = 1
+horizon = 8
+window = 2
+
+[[script]]
+processor = 0
+entries = [\"plain add 5 1 3\", \"plain load 260 0\", \"fence\"]
+
+[[script]]
+processor = 1
+entries = [\"until plain load 260 0 9 5\"]
+";
+
+fn made<R: AllocGlobal + Threads + Sync>(
+    rt: &R,
+    words: &[&str],
+    bytes: &[u8],
+) -> Result<Outcome, Fail> {
+    let asked = read_words(rt.alloc(), words)?;
+    match perform(rt, rt.alloc(), &asked, bytes, &mut Silent) {
+        Ok(outcome) => Ok(outcome),
+        Err(_) => Err(Fail::from("an outcome")),
+    }
+}
+
+const SUMMARY: &str = "\
+2 processors, 2 modules, 1 stages; cycles 0 to 8; at most 2 unanswered
+places: low-forward 4, low-reverse 4, comb-forward 4, comb-reverse 8, module 4, wait 4
+combining: off
+scripts: 2, with 4 entries, 9 references at most
+hot words: 260 (6) 5 (3)
+";
+
+#[test]
+fn a_project_is_summed_up(rt: HostRuntime) -> Result<(), Fail> {
+    let outcome = made(&rt, &["check", "two.toml"], TWO)?;
+    assert_eq!(rt; outcome.printed.as_slice(), SUMMARY.as_bytes());
+    assert_eq!(rt; outcome.files.len(), 0);
+    Ok(())
+}
+
+// Ten words with as many references: the first eight are named.
+#[test]
+fn eight_words_are_named(rt: HostRuntime) -> Result<(), Fail> {
+    let mut bytes = String::from_str(
+        rt.alloc(),
+        "format = 2\nk = 0\nhorizon = 8\n[[script]]\nprocessor = 0\nentries = [",
+    )?;
+    for word in ["19", "18", "17", "16", "15", "14", "13", "12", "11", "10"] {
+        bytes.push_str("\"plain load ")?;
+        bytes.push_str(word)?;
+        bytes.push_str(" 0\", ")?;
+    }
+    bytes.push_str("]\n")?;
+    let outcome = made(&rt, &["check", "ten.toml"], bytes.as_bytes())?;
+    let text = std::str::from_utf8(outcome.printed.as_slice())?;
+    assert!(rt;
+        text.ends_with("hot words: 10 (1) 11 (1) 12 (1) 13 (1) 14 (1) 15 (1) 16 (1) 17 (1)\n")
+    );
+    Ok(())
+}
+
+// A word stands at its address of 256 a page, on the module of its page; whatever the depths are.
+#[test]
+fn depths_are_gone_through(rt: HostRuntime) -> Result<(), Fail> {
+    let words = [
+        "sweep",
+        "two.toml",
+        "--depth",
+        "low-forward=2..3",
+        "--depth",
+        "module=4..5",
+        "--ask",
+        "counter issued p1 0 0",
+        "--ask",
+        "memory 7 8",
+    ];
+    let outcome = made(&rt, &words, TWO)?;
+    let table = b"low-forward,module,counter issued p1 0 0,memory 7 8
+2,4,0,0
+2,5,0,0
+3,4,0,0
+3,5,0,0
+";
+    assert_eq!(rt; outcome.printed.as_slice(), table.as_slice());
+    Ok(())
+}
+
+#[test]
+fn a_project_is_converted(rt: HostRuntime) -> Result<(), Fail> {
+    let old = b"format = 1\nk = 1\nhorizon = 8\npage = [{number = 0, amount = 0, base = 1}]\n";
+    let first = made(&rt, &["convert", "old.toml", "--out", "new.toml"], old)?;
+    assert_eq!(rt; first.printed.len(), 0);
+    let file = first.files.first().ok_or("a file")?;
+    assert_eq!(rt; file.name.as_str(), "new.toml");
+    let text = std::str::from_utf8(file.bytes.as_slice())?;
+    assert!(rt; text.contains("format = 2"));
+    let again = made(&rt, &["convert", "new.toml"], file.bytes.as_slice())?;
+    assert_eq!(rt; again.printed.as_slice(), file.bytes.as_slice());
+    Ok(())
+}
+
+// The file's name stands in the note, the level's first cycle beside its line.
+#[test]
+fn a_map_is_drawn(rt: HostRuntime) -> Result<(), Fail> {
+    let outcome = made(&rt, &["map", "there/two.toml", "--out", "two.svg"], TWO)?;
+    let file = outcome.files.first().ok_or("a file")?;
+    assert_eq!(rt; file.name.as_str(), "two.svg");
+    let text = std::str::from_utf8(file.bytes.as_slice())?;
+    assert!(rt; text.starts_with("<svg "));
+    assert!(rt; text.ends_with("</svg>\n"));
+    assert!(rt; text.contains("two.toml, cycles 0 to 8."));
+    Ok(())
+}
+
+// One processor whose references are all cold, its module alone: no queue delays it, and the bound of one is one.
+#[test]
+fn rates_are_tabled(rt: HostRuntime) -> Result<(), Fail> {
+    let words = [
+        "rates", "--k", "1", "--hot", "0", "--cycles", "16", "--csv", "a.csv", "--out", "a.svg",
+        "--keep", "kept",
+    ];
+    let outcome = made(&rt, &words, b"")?;
+    assert_eq!(rt; outcome.printed.len(), 0);
+    assert_eq!(rt; outcome.folder.ok_or("a folder")?.as_str(), "kept");
+    let mut names = Vec::new(rt.alloc());
+    for file in &outcome.files {
+        names.push(file.name.as_str())?;
+    }
+    let all = [
+        "a.svg",
+        "a.csv",
+        "kept/k0-hot0-off.toml",
+        "kept/k0-hot0-on.toml",
+        "kept/k1-hot0-off.toml",
+        "kept/k1-hot0-on.toml",
+    ];
+    assert_eq!(rt; names.as_slice(), all.as_slice());
+    let table = outcome.files.get(1).ok_or("a table")?;
+    let text = std::str::from_utf8(table.bytes.as_slice())?;
+    assert!(rt;
+        text.starts_with(
+            "processors,combining,hot_percent,served,cycles,served_per_cycle,bound\n1,off,0,8,8,1.000,1.000\n1,on,0,8,8,1.000,1.000\n2,off,0,"
+        )
+    );
+    Ok(())
+}

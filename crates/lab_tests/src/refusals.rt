@@ -1,0 +1,186 @@
+//! Words that no task takes: how the program ends, and what it says.
+use lab_tasks::{Silent, perform, read_words, status};
+use std::test::Fail;
+use std::thread::Threads;
+
+/// Two processors, cycles 0 to 8.
+const TWO: &[u8] = b"format = 2\nk = 1\nhorizon = 8\n";
+
+/// How a run ends over a project: its status and its line; status 0 and no line where it has an outcome.
+fn ending<R: AllocGlobal + Threads + Sync>(
+    rt: &R,
+    words: &[&str],
+    bytes: &[u8],
+) -> Result<(u8, String), Fail> {
+    let asked = read_words(rt.alloc(), words)?;
+    match perform(rt, rt.alloc(), &asked, bytes, &mut Silent) {
+        Ok(_) => Ok((0, String::new(rt.alloc()))),
+        Err(end) => Ok((status(&end), format!(in rt.alloc(); "{end}")?)),
+    }
+}
+
+#[test]
+fn maps_are_refused(rt: HostRuntime) -> Result<(), Fail> {
+    let refused: [(&[&str], u8, &str); 6] = [
+        (&["--net", "high"], 2, "lab: --net: high is not low or comb"),
+        (&["--module", "1x"], 2, "lab: --module: 1x is not a number"),
+        (
+            &["--module", "2"],
+            7,
+            "lab: --module: 2 is not within 0 to 1",
+        ),
+        (&["--from", "9"], 7, "lab: --from: 9 is not within 0 to 8"),
+        (&["--to", "9"], 7, "lab: --to: 9 is not within 0 to 8"),
+        (
+            &["--to", "3", "--from", "4"],
+            7,
+            "lab: --to: 3 ends before it begins",
+        ),
+    ];
+    for (more, number, line) in refused {
+        let mut words = Vec::new(rt.alloc());
+        words.push("map")?;
+        words.push("two.toml")?;
+        words.extend_from_slice(more)?;
+        let (told, text) = ending(&rt, words.as_slice(), TWO)?;
+        assert_eq!(rt; told, number);
+        assert_eq!(rt; text.as_str(), line);
+    }
+    Ok(())
+}
+
+#[test]
+fn curves_are_refused(rt: HostRuntime) -> Result<(), Fail> {
+    let refused: [(&[&str], u8, &str); 8] = [
+        (
+            &["rates", "--k", "0"],
+            7,
+            "lab: --k: 0 is not within 1 to 6",
+        ),
+        (
+            &["delays", "--k", "7"],
+            7,
+            "lab: --k: 7 is not within 1 to 6",
+        ),
+        (
+            &["rates", "--hot", "1,,2"],
+            2,
+            "lab: --hot: 1,,2 is not numbers with commas between",
+        ),
+        (
+            &["rates", "--hot", "0,1,2,3,4,5,6,7"],
+            2,
+            "lab: --hot: 0,1,2,3,4,5,6,7 is not up to seven numbers",
+        ),
+        (
+            &["delays", "--hot", "0,101"],
+            7,
+            "lab: --hot: 0,101 is not within 0 to 100",
+        ),
+        (
+            &["rates", "--cycles", "1"],
+            7,
+            "lab: --cycles: 1 is not within 2 to 256",
+        ),
+        (
+            &["rates", "--cycles", "257"],
+            7,
+            "lab: --cycles: 257 is not within 2 to 256",
+        ),
+        (
+            &["rates", "--seed", "4294967296"],
+            2,
+            "lab: --seed: 4294967296 is not a number",
+        ),
+    ];
+    for (words, number, line) in refused {
+        let (told, text) = ending(&rt, words, b"")?;
+        assert_eq!(rt; told, number);
+        assert_eq!(rt; text.as_str(), line);
+    }
+    Ok(())
+}
+
+#[test]
+fn sweeps_are_refused(rt: HostRuntime) -> Result<(), Fail> {
+    let wanted = "is not QUEUES=FROM..TO, as low-forward=2..16";
+    let refused = [
+        ("module", "tree low 0", 2, "--depth: module", wanted),
+        ("all=2..3", "tree low 0", 2, "--depth: all=2..3", wanted),
+        ("module=2.3", "tree low 0", 2, "--depth: module=2.3", wanted),
+        (
+            "comb-reverse=3..8",
+            "tree low 0",
+            7,
+            "--depth: comb-reverse=3..8",
+            "is not within 4 to 16",
+        ),
+        (
+            "module=3..2",
+            "tree low 0",
+            7,
+            "--depth: module=3..2",
+            "ends before it begins",
+        ),
+        (
+            "module=2..3",
+            "horizon 5",
+            2,
+            "--ask: horizon 5",
+            "is not a question, as 'tree low 0'",
+        ),
+        (
+            "module=2..3",
+            "tree low 2",
+            7,
+            "--ask: tree low 2",
+            "is answered bad 1",
+        ),
+    ];
+    for (depth, ask, number, at, reason) in refused {
+        let words = ["sweep", "two.toml", "--depth", depth, "--ask", ask];
+        let (told, text) = ending(&rt, &words, TWO)?;
+        assert_eq!(rt; told, number);
+        assert_eq!(rt;
+            text.as_str(),
+            format!(in rt.alloc(); "lab: {at} {reason}")?.as_str()
+        );
+    }
+    Ok(())
+}
+
+// 15 depths of each of four queues are 50,625 rows.
+#[test]
+fn a_table_has_at_most_ten_thousand_rows(rt: HostRuntime) -> Result<(), Fail> {
+    let words = [
+        "sweep",
+        "two.toml",
+        "--depth",
+        "low-forward=2..16",
+        "--depth",
+        "low-reverse=2..16",
+        "--depth",
+        "comb-forward=2..16",
+        "--depth",
+        "module=2..16",
+        "--ask",
+        "place 0",
+    ];
+    let (told, text) = ending(&rt, &words, TWO)?;
+    assert_eq!(rt; told, 7);
+    assert_eq!(rt;
+        text.as_str(),
+        "lab: --depth: each with each is not within 1 to 10000"
+    );
+    Ok(())
+}
+
+#[test]
+fn projects_are_refused(rt: HostRuntime) -> Result<(), Fail> {
+    for task in ["map", "check", "convert"] {
+        let (told, text) = ending(&rt, &[task, "a.toml"], b"format = 2\nhorizon = 8\n")?;
+        assert_eq!(rt; told, 4);
+        assert_eq!(rt; text.as_str(), "lab: project refused: 5");
+    }
+    Ok(())
+}

@@ -1,0 +1,153 @@
+//! Which words are a command line, and what they say.
+use lab_tasks::{Asked, End, read_words, refusal, status};
+use std::process::Abort;
+use std::test::Fail;
+
+/// Compares what was told at some options, nothing where nothing was.
+fn compare<R: Abort>(rt: &R, told: &[Option<&str>], texts: &[&str]) {
+    assert_eq!(rt; told.len(), texts.len());
+    for (word, text) in told.iter().zip(texts) {
+        let word = word.unwrap_or("-");
+        assert!(rt; word == *text);
+    }
+}
+
+#[test]
+fn words_of_a_map_are_taken(rt: HostRuntime) -> Result<(), Fail> {
+    let words = [
+        "map",
+        "a.toml",
+        "--net=comb",
+        "--module",
+        "3",
+        "--from",
+        "4",
+        "--to",
+        "9",
+        "--out",
+        "b.svg",
+    ];
+    let asked = read_words(rt.alloc(), &words)?;
+    let Asked::Map(map) = &asked else {
+        return Err(Fail::from("a map"));
+    };
+    let told = [asked.file(), map.net, map.module, map.from, map.to, map.out];
+    compare(&rt, &told, &["a.toml", "comb", "3", "4", "9", "b.svg"]);
+    Ok(())
+}
+
+#[test]
+fn words_of_curves_are_taken(rt: HostRuntime) -> Result<(), Fail> {
+    let words = [
+        "rates", "--k", "3", "--hot", "0,8", "--cycles", "64", "--seed", "5", "--csv", "a.csv",
+        "--out", "a.svg", "--keep", "kept",
+    ];
+    let asked = read_words(rt.alloc(), &words)?;
+    let Asked::Rates(rates) = &asked else {
+        return Err(Fail::from("rates"));
+    };
+    let first = [asked.file(), rates.k, rates.hot, rates.cycles, rates.seed];
+    compare(&rt, &first, &["-", "3", "0,8", "64", "5"]);
+    let last = [rates.csv, rates.out, rates.keep];
+    compare(&rt, &last, &["a.csv", "a.svg", "kept"]);
+    Ok(())
+}
+
+#[test]
+fn curves_need_no_words(rt: HostRuntime) -> Result<(), Fail> {
+    let asked = read_words(rt.alloc(), &["delays"])?;
+    let Asked::Delays(delays) = &asked else {
+        return Err(Fail::from("delays"));
+    };
+    let told = [delays.k, delays.hot, delays.csv, delays.out, delays.keep];
+    compare(&rt, &told, &["-", "-", "-", "-", "-"]);
+    Ok(())
+}
+
+#[test]
+fn words_of_a_sweep_are_taken(rt: HostRuntime) -> Result<(), Fail> {
+    let words = [
+        "sweep",
+        "--depth",
+        "module=2..3",
+        "a.toml",
+        "--ask",
+        "place 0",
+        "--depth=low-forward=2..4",
+        "--ask",
+        "tree low 0",
+    ];
+    let asked = read_words(rt.alloc(), &words)?;
+    let Asked::Sweep(sweep) = &asked else {
+        return Err(Fail::from("a sweep"));
+    };
+    compare(&rt, &[asked.file(), sweep.csv], &["a.toml", "-"]);
+    let depths = ["module=2..3", "low-forward=2..4"];
+    assert!(rt; sweep.depths.as_slice() == depths.as_slice());
+    let asks = ["place 0", "tree low 0"];
+    assert!(rt; sweep.asks.as_slice() == asks.as_slice());
+    Ok(())
+}
+
+#[test]
+fn words_of_a_file_are_taken(rt: HostRuntime) -> Result<(), Fail> {
+    let asked = read_words(rt.alloc(), &["check", "a.toml"])?;
+    compare(&rt, &[asked.file()], &["a.toml"]);
+    let asked = read_words(rt.alloc(), &["convert", "a.toml", "--out", "b.toml"])?;
+    let Asked::Convert { out, .. } = &asked else {
+        return Err(Fail::from("a file"));
+    };
+    compare(&rt, &[asked.file(), *out], &["a.toml", "b.toml"]);
+    Ok(())
+}
+
+// Help and the version are no fault; a number that begins with a minus is an option that isn't known.
+const REFUSED: [(&[&str], u8); 12] = [
+    (&[], 2),
+    (&["draw"], 2),
+    (&["map"], 2),
+    (&["map", "a.toml", "b.toml"], 2),
+    (&["map", "a.toml", "--depth", "module=2..3"], 2),
+    (&["rates", "a.toml"], 2),
+    (&["rates", "--k", "-1"], 2),
+    (&["rates", "--k", "1", "--k", "2"], 2),
+    (&["sweep", "a.toml", "--ask", "place 0"], 2),
+    (&["sweep", "a.toml", "--depth", "module=2..3"], 2),
+    (&["--version"], 0),
+    (&["sweep", "--help"], 0),
+];
+
+#[test]
+fn words_are_refused(rt: HostRuntime) -> Result<(), Fail> {
+    for (words, number) in &REFUSED {
+        let error = read_words(rt.alloc(), words).err().ok_or("a refusal")?;
+        assert_eq!(rt; status(&refusal(&error)), *number);
+    }
+    Ok(())
+}
+
+#[test]
+fn the_version_is_told(rt: HostRuntime) -> Result<(), Fail> {
+    let error = read_words(rt.alloc(), &["--version"])
+        .err()
+        .ok_or("a text")?;
+    assert_eq!(rt; format!(in rt.alloc(); "{error}")?.as_str(), "lab 1.0.0\n");
+    Ok(())
+}
+
+const ENDS: [(End<'static>, u8, &str); 4] = [
+    (End::NotRead("a.toml"), 3, "lab: cannot read a.toml"),
+    (End::NotWritten("a.svg"), 3, "lab: cannot write a.svg"),
+    (End::Memory, 5, "lab: no memory"),
+    (End::Output, 5, "lab: cannot write to standard output"),
+];
+
+#[test]
+fn ends_have_statuses_and_lines(rt: HostRuntime) -> Result<(), Fail> {
+    for (end, number, line) in &ENDS {
+        assert_eq!(rt; status(end), *number);
+        let text = format!(in rt.alloc(); "{end}")?;
+        assert!(rt; text.as_str() == *line);
+    }
+    Ok(())
+}
