@@ -87,16 +87,29 @@ fn rename_part<R: Files + AllocGlobal>(rt: &R, file: &OutFile) -> io::Result<()>
     }
 }
 
+/// How it ends where a file failed: for want of memory, or as said.
+fn failed<'a>(fault: &io::Error, end: End<'a>) -> End<'a> {
+    if fault.kind() == io::ErrorKind::OutOfMemory {
+        End::Memory
+    } else {
+        end
+    }
+}
+
 /// The first file that can't be written; none is half written.
 fn save<'a, R: Files + AllocGlobal>(rt: &R, outcome: &'a Outcome) -> Result<(), End<'a>> {
     if let Some(folder) = &outcome.folder {
-        if fs::create_dir_all(rt, folder.as_str()).is_err() {
-            return Err(End::NotWritten(folder.as_str()));
+        if let Err(fault) = fs::create_dir_all(rt, folder.as_str()) {
+            return Err(failed(&fault, End::NotWritten(folder.as_str())));
         }
     }
     for file in &outcome.files {
-        if write_beside(rt, file).is_err() || rename_part(rt, file).is_err() {
-            return Err(End::NotWritten(file.name.as_str()));
+        let end = End::NotWritten(file.name.as_str());
+        if let Err(fault) = write_beside(rt, file) {
+            return Err(failed(&fault, end));
+        }
+        if let Err(fault) = rename_part(rt, file) {
+            return Err(failed(&fault, end));
         }
     }
     Ok(())
@@ -142,7 +155,7 @@ fn bytes_for<'a, R: Files + AllocGlobal>(rt: &R, asked: &Asked<'a>) -> Result<Ve
         None => Ok(Vec::new(rt.alloc())),
         Some(name) => match file_bytes(rt, name) {
             Ok(bytes) => Ok(bytes),
-            Err(_) => Err(End::NotRead(name)),
+            Err(fault) => Err(failed(&fault, End::NotRead(name))),
         },
     }
 }
