@@ -63,22 +63,16 @@ fn beside(alloc: Global, name: &str) -> io::Result<String> {
     Ok(format!(in alloc; "{name}.part")?)
 }
 
-/// Writes a file under another name, which is taken away again where that fails.
-fn write_beside<R: Files + AllocGlobal>(rt: &R, file: &OutFile) -> io::Result<()> {
-    let part = beside(rt.alloc(), file.name.as_str())?;
-    match fs::write(rt, part.as_str(), file.bytes.as_slice()) {
-        Ok(()) => Ok(()),
-        Err(fault) => {
-            let _ = fs::remove_file(rt, part.as_str());
-            Err(fault)
-        }
-    }
+/// Writes a file as `part`, and then gives it its name.
+fn write_as<R: Files>(rt: &R, part: &str, file: &OutFile) -> io::Result<()> {
+    fs::write(rt, part, file.bytes.as_slice())?;
+    fs::rename(rt, part, file.name.as_str())
 }
 
-/// Gives a file its name; its part is taken away where that fails.
-fn rename_part<R: Files + AllocGlobal>(rt: &R, file: &OutFile) -> io::Result<()> {
+/// Writes a file beside its name first, so that it is never half written there; where that fails the part is taken away.
+fn save_file<R: Files + AllocGlobal>(rt: &R, file: &OutFile) -> io::Result<()> {
     let part = beside(rt.alloc(), file.name.as_str())?;
-    match fs::rename(rt, part.as_str(), file.name.as_str()) {
+    match write_as(rt, part.as_str(), file) {
         Ok(()) => Ok(()),
         Err(fault) => {
             let _ = fs::remove_file(rt, part.as_str());
@@ -104,12 +98,8 @@ fn save<'a, R: Files + AllocGlobal>(rt: &R, outcome: &'a Outcome) -> Result<(), 
         }
     }
     for file in &outcome.files {
-        let end = End::NotWritten(file.name.as_str());
-        if let Err(fault) = write_beside(rt, file) {
-            return Err(failed(&fault, end));
-        }
-        if let Err(fault) = rename_part(rt, file) {
-            return Err(failed(&fault, end));
+        if let Err(fault) = save_file(rt, file) {
+            return Err(failed(&fault, End::NotWritten(file.name.as_str())));
         }
     }
     Ok(())
