@@ -15,8 +15,8 @@ use crate::plays::{
 use std::hint::spin_loop;
 use std::sync::Wait;
 
-/// How often a waiting thread looks whether its ticket is served before it sleeps. A turn mostly takes less than falling
-/// asleep and being woken, which are some 15 microseconds; so many looks take a few.
+/// How often a waiting thread looks whether its ticket is served before it sleeps: about as long as falling asleep and being
+/// woken take, and longer than most turns. With fewer looks threads that sleep between turns wait for each other's waking.
 const LOOKS: u32 = 1_000;
 
 /// A ticket, modulo 2^64.
