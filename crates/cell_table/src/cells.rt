@@ -82,6 +82,7 @@ impl<S: Drop> Cells<S> {
     }
 
     /// The state that a cell holds.
+    #[inline(always)]
     pub(crate) fn state(&self, cell: Cell) -> Option<&S>
         ensures { option_copied result ≡ (held_at self.now cell.cycle cell.component).state }
     {
@@ -97,6 +98,7 @@ impl<S: Drop> Cells<S> {
 
     /// Whether a cell holds the state of the cell one cycle earlier, known without a look at
     /// either; there may be such cells besides.
+    #[inline(always)]
     pub(crate) fn stays(&self, cell: Cell) -> bool
         ensures { result ≡ true → (0 < cell.cycle) × ((held_at self.now (cell.cycle - 1) cell.component).state ≡ (held_at self.now cell.cycle cell.component).state) }
     {
@@ -284,6 +286,7 @@ impl<S: Drop> Cells<S> {
 
     /// Whether each of these components holds at a cycle the state of the cycle before, known
     /// without a look at any state.
+    #[inline(always)]
     pub(crate) fn all_stay(&self, cycle: u32, near: &[u32]) -> bool
         ensures { result ≡ true → All (λ c. (held_at self.now (cycle - 1) c).state ≡ (held_at self.now cycle c).state) near.now }
     {

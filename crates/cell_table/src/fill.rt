@@ -24,13 +24,7 @@ fn last_in<S: Drop>(lines: &Vec<Line<S>>, c: u32) -> Option<&S>
     requires { c < length lines.now.items }
     ensures { option_copied result ≡ last_of (line_at lines.now.items c) }
 {
-    let line = &lines[c as usize];
-    let place = line.place();
-    if place == 0 {
-        None
-    } else {
-        line.state(place - 1)
-    }
+    lines[c as usize].last()
 }
 
 /// The last state of the component at one place of the list, or `own` where there is none.

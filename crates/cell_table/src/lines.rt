@@ -26,6 +26,7 @@ pub(crate) fn lines_of<S: Drop>(alloc: Global, count: u32, n: u32) -> Result<Vec
 }
 
 /// The state of a cell.
+#[inline(always)]
 pub(crate) fn state_in<S: Drop>(lines: &Vec<Line<S>>, cell: Cell) -> Option<&S>
     ensures { option_copied result ≡ state_at lines.now.items cell.cycle cell.component }
 {
@@ -49,6 +50,7 @@ pub(crate) fn shared_in<S: Drop>(
 }
 
 /// Whether one stretch covers a cell and the one a cycle before.
+#[inline(always)]
 pub(crate) fn stays_in<S: Drop>(lines: &Vec<Line<S>>, cell: Cell) -> bool
     ensures { result ≡ true → (0 < cell.cycle) × (state_at lines.now.items (cell.cycle - 1) cell.component ≡ state_at lines.now.items cell.cycle cell.component) }
 {
@@ -101,6 +103,10 @@ pub(crate) fn repeat_state<S: Drop>(lines: &mut Vec<Line<S>>, cell: Cell) -> Res
     ensures err { OnErr result (IsSameStates lines.old.items lines.new.items) }
 {
     let line = &mut lines[cell.component as usize];
+    if line.place() == cell.cycle {
+        line.extend();
+        return Ok(());
+    }
     match line.reserve(cell.cycle) {
         Ok(()) => {
             line.extend();

@@ -179,13 +179,15 @@ pub(crate) fn store_in<G: Grid>(
     }
 }
 
-/// Stores the state of the cell one cycle earlier; where it changed, marks the cells one cycle
-/// later that read it. Where memory is wanting, nothing is changed.
+/// Stores the state of the cell one cycle earlier, which it may be known to hold already; where it
+/// changed, marks the cells one cycle later that read it. Where memory is wanting, nothing is
+/// changed.
 pub(crate) fn repeat_in<G: Grid>(
     cells: &mut Cells<G::State>,
     slots: &G::Slots,
     readers: &Readers,
     cell: Cell,
+    stays: bool,
     changed: bool,
     version: u64,
 ) -> Result<(), NoMemory>
@@ -194,11 +196,13 @@ pub(crate) fn repeat_in<G: Grid>(
     requires component { cell.component < G.rules.components slots.now }
     requires whole { (t : ℕ) → t < length cells.old → length (row_at cells.old t) ≡ G.rules.components slots.now }
     requires index { IsIndex G.rules slots.now readers.now }
+    requires stays { stays ≡ true → (held_at cells.old (cell.cycle - 1) cell.component).state ≡ (held_at cells.old cell.cycle cell.component).state }
+    requires kept { stays ≡ true → changed ≡ false }
     ensures ok { OnOk result ((x : G.State) → (held_at cells.old (cell.cycle - 1) cell.component).state ≡ Some x
         → Stores G.rules slots.now cells.old cells.new cell x changed version) }
     ensures err { OnErr result (cells.new ≡ cells.old) }
 {
-    if !changed && cells.stays(cell) {
+    if stays {
         cells.keep(cell);
         return Ok(());
     }

@@ -140,6 +140,7 @@ impl<G: Grid> Table<G> {
     }
 
     /// The state that the cell holds, up to date or not; a cell that isn't there has none.
+    #[inline(always)]
     pub fn state(&self, cell: Cell) -> Option<&G::State>
         ensures { option_copied result ≡ (held_at self.now.rows cell.cycle cell.component).state }
     {
@@ -160,6 +161,7 @@ impl<G: Grid> Table<G> {
     }
 
     /// Whether the cell is due; one that isn't there isn't.
+    #[inline(always)]
     pub fn due(&self, cell: Cell) -> bool
         ensures { result ≡ (held_at self.now.rows cell.cycle cell.component).is_due }
     {

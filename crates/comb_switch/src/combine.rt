@@ -12,6 +12,7 @@ use page_map::Place;
 use word_ops::Op;
 
 /// A request arrives in its output queue.
+#[inline(always)]
 pub(crate) fn arrives(settings: &CombSettings, request: Option<Request>, next: &mut CombState)
     requires few { next.old.combined < 2 }
     ensures after { next.new ≡ arrives settings.now request next.old }

@@ -8,6 +8,7 @@ use crate::{CombSettings, CombState};
 use omega_net::{Reply, bit_of, join};
 
 /// A reply takes out the first entry that waits for its tag and becomes two, or goes back as it is.
+#[inline(always)]
 pub(crate) fn returns_to(settings: &CombSettings, reply: Option<Reply>, next: &mut CombState)
     ensures { next.new ≡ returns_to settings.now reply next.old }
 {

@@ -69,6 +69,7 @@ fn shows_no_reply(shape: Shape, wire: Wire, state: &MachineState) -> bool
 }
 
 /// Whether the component at a wire's memory side takes this request from it.
+#[inline(always)]
 fn takes_request(
     project: &Project,
     shape: Shape,
@@ -111,6 +112,7 @@ fn takes_request(
 }
 
 /// Whether the component at a wire's processor side takes this reply from it.
+#[inline(always)]
 fn takes_reply(
     project: &Project,
     shape: Shape,
@@ -143,6 +145,7 @@ fn takes_reply(
 }
 
 /// The request that goes over a wire between the near states at these two places.
+#[inline(always)]
 pub(crate) fn request_pulled<S: NearState>(
     project: &Project,
     shape: Shape,
@@ -169,6 +172,7 @@ pub(crate) fn request_pulled<S: NearState>(
 }
 
 /// The reply that goes over a wire between the near states at these two places.
+#[inline(always)]
 pub(crate) fn reply_pulled<S: NearState>(
     project: &Project,
     shape: Shape,

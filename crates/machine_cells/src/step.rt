@@ -87,6 +87,7 @@ fn module_pulls<S: NearState>(
 }
 
 /// What the near states are to a switch.
+#[inline(always)]
 fn switch_pulls<S: NearState>(
     project: &Project,
     shape: Shape,

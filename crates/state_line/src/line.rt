@@ -1,5 +1,5 @@
 //! One component's states over the cycles.
-ghost use Rattle.std.specs.Prelude.{◌≡◌, ℕ, ◌<◌, ◌≤◌, ◌+◌, ◌-◌, ◌++◌, ◌^◌, IfOk, OnOk, MatchResult, Some, None, length, replicate, slice_set, slice_index_or, take, true, option_map};
+ghost use Rattle.std.specs.Prelude.{◌≡◌, ℕ, ◌<◌, ◌≤◌, ◌+◌, ◌-◌, ◌++◌, ◌^◌, IfOk, OnOk, MatchResult, Some, None, length, replicate, slice_set, slice_index_or, take, true, option_map, ◌==◌, if◌then◌else◌};
 ghost use Rattle.std.specs.Arc.{arc_value};
 ghost use Rattle.std.specs.Option.{option_copied};
 ghost use Rattle.state_line.specs.Lined.{nothing_for, GoesOn};
@@ -136,6 +136,7 @@ impl<S: Drop> Line<S> {
     }
 
     /// The state at a cycle.
+    #[inline(always)]
     pub fn state(&self, t: u32) -> Option<&S>
         ensures { option_copied result ≡ slice_index_or self.now.states t None }
     {
@@ -143,6 +144,19 @@ impl<S: Drop> Line<S> {
             return None;
         }
         match stretch_at(&self.past, &self.next, self.len, self.at, t) {
+            Some(stretch) => stretch.state(),
+            None => None,
+        }
+    }
+
+    /// The state of the cycle before the place, known by one look.
+    pub fn last(&self) -> Option<&S>
+        ensures { option_copied result ≡ (if self.now.place == 0 then None else slice_index_or self.now.states (self.now.place - 1) None) }
+    {
+        if self.at == 0 {
+            return None;
+        }
+        match self.past.top() {
             Some(stretch) => stretch.state(),
             None => None,
         }
@@ -166,6 +180,7 @@ impl<S: Drop> Line<S> {
     }
 
     /// Whether one stretch covers this cycle and the one before. Two stretches may have equal states.
+    #[inline(always)]
     pub fn same_as_before(&self, t: u32) -> bool
         ensures { result ≡ true → (0 < t) × (slice_index_or self.now.states (t - 1) None ≡ slice_index_or self.now.states t None) }
     {
@@ -215,6 +230,7 @@ impl<S: Drop> Line<S> {
     /// # Errors
     ///
     /// Where a growth was refused. The states are as before.
+    #[inline(always)]
     pub fn make_room(&mut self) -> Result<(), AllocError>
         ensures states { self.new.states ≡ self.old.states }
         ensures place { self.new.place ≡ self.old.place }
@@ -228,6 +244,7 @@ impl<S: Drop> Line<S> {
     }
 
     /// Puts a state at the place, which goes on by one.
+    #[inline(always)]
     pub fn put(&mut self, state: Arc<S>)
         requires within { self.old.place < length self.old.states }
         requires room { 0 < self.old.room }

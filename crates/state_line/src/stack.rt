@@ -191,27 +191,4 @@ impl<S> Stack<S> {
             Some(&self.items[low - 1])
         }
     }
-
-    /// The last from the top that begins at t or before. The first begins at `at` or before, and
-    /// then each later than the one above it.
-    pub fn lasting(&self, at: u32, end: u32, t: u32) -> Option<&Stretch<S>>
-        requires { Climbs at self.now.spans end }
-        ensures { option_copied result ≡ lasting self.now.spans t None }
-    {
-        let mut low = 0;
-        let mut high = self.items.len();
-        while low < high {
-            let middle = low + (high - low) / 2;
-            if self.items[middle].from() > t {
-                low = middle + 1;
-            } else {
-                high = middle;
-            }
-        }
-        if low == self.items.len() {
-            None
-        } else {
-            Some(&self.items[low])
-        }
-    }
 }

@@ -41,6 +41,7 @@ impl<G: Grid> Table<G> {
     }
 
     /// Whether the cell holds this state, the whole of it.
+    #[inline(always)]
     pub(super) fn holds(&self, cell: Cell, state: &G::State) -> bool
         ensures { IsTrue result ↔ ((held_at self.now.rows cell.cycle cell.component).state ≡ Some state.now) }
     {
@@ -85,10 +86,18 @@ impl<G: Grid> Table<G> {
     }
 
     /// Stores the state that the cell one cycle earlier holds, where it is what is computed from
-    /// what is there now. Where memory is wanting, nothing is changed.
-    pub(super) fn store_again(&mut self, cell: Cell, changed: bool) -> Result<(), NoMemory>
+    /// what is there now; it may be known that the cell holds it already. Where memory is wanting,
+    /// nothing is changed.
+    pub(super) fn store_again(
+        &mut self,
+        cell: Cell,
+        stays: bool,
+        changed: bool,
+    ) -> Result<(), NoMemory>
         requires there { IsThere G.rules self.old cell.cycle cell.component }
         requires later { 0 < cell.cycle }
+        requires stays { stays ≡ true → (held_at self.old.rows (cell.cycle - 1) cell.component).state ≡ (held_at self.old.rows cell.cycle cell.component).state }
+        requires kept { stays ≡ true → changed ≡ false }
         requires room { changed ≡ true → self.old.clock < 2 ^ 64 - 1 }
         requires repeats { (held_at self.old.rows (cell.cycle - 1) cell.component).state ≡ Some (current_of G.rules self.old.slots self.old.rows cell.cycle cell.component) }
         requires changes { (changed ≡ false) ↔ ((held_at self.old.rows cell.cycle cell.component).state ≡ Some (current_of G.rules self.old.slots self.old.rows cell.cycle cell.component)) }
@@ -102,6 +111,7 @@ impl<G: Grid> Table<G> {
             &self.slots,
             &self.readers,
             cell,
+            stays,
             changed,
             clock,
         ) {

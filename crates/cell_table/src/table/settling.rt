@@ -128,13 +128,15 @@ impl<G: Grid> Table<G> {
         }
     }
 
-    /// Whether a cell holds the state of the cell before it.
-    fn holds_as_before(&self, cell: Cell) -> bool
-        requires { 0 < cell.cycle }
-        ensures { (x : G.State) → (held_at self.now.rows (cell.cycle - 1) cell.component).state ≡ Some x
+    /// Whether a cell holds the state of the cell before it, where it may be known that it does.
+    fn holds_as_before(&self, cell: Cell, stays: bool) -> bool
+        requires later { 0 < cell.cycle }
+        requires stays { stays ≡ true → (held_at self.now.rows (cell.cycle - 1) cell.component).state ≡ (held_at self.now.rows cell.cycle cell.component).state }
+        ensures known { stays ≡ true → result ≡ true }
+        ensures holds { (x : G.State) → (held_at self.now.rows (cell.cycle - 1) cell.component).state ≡ Some x
             → IsTrue result ↔ ((held_at self.now.rows cell.cycle cell.component).state ≡ Some x) }
     {
-        if self.cells.stays(cell) {
+        if stays {
             return true;
         }
         let before = Cell {
@@ -183,11 +185,12 @@ impl<G: Grid> Table<G> {
         ensures spent { result ≡ Err StoreFault.ClockSpent → (self.old.clock ≡ 2 ^ 64 - 1)
             × ((held_at self.old.rows cell.cycle cell.component).state ≢ Some (current_of G.rules self.old.slots self.old.rows cell.cycle cell.component)) }
     {
-        let changed = !self.holds_as_before(cell);
+        let stays = self.cells.stays(cell);
+        let changed = !self.holds_as_before(cell, stays);
         if changed && self.clock == u64::MAX {
             return Err(StoreFault::ClockSpent);
         }
-        match self.store_again(cell, changed) {
+        match self.store_again(cell, stays, changed) {
             Ok(()) => Ok(changed),
             Err(_) => Err(StoreFault::Memory),
         }
