@@ -1,38 +1,33 @@
 -- What an answer of a bench says of the run of its project.
-use Rattle.std.proofs.Common.{◌≡◌, ℕ, zero, suc, refl, Option, Some, None, Ok}
+use Rattle.std.proofs.Common.{◌≡◌, ℕ, zero, refl, Option, None, Ok}
 use Rattle.std.specs.Prelude.{Result, Err}
 use Rattle.run_queries.specs.declared.query.Query.{Query}
 use Rattle.run_queries.specs.declared.body.Body.{Body}
 use Rattle.run_queries.specs.Bad.{bad_query}
 use Rattle.run_queries.specs.Answers.{answer, unless}
+use Rattle.bench_core.specs.declared.asked.Asked.{Asked}
 use Rattle.bench_core.specs.declared.asked.Asked.TheVariants as asked
 use Rattle.bench_core.specs.Shown.{Shown, project_of, version_of}
-use Rattle.bench_core.specs.Asks.{asked as asked_of, asked_unless, told_unless, told, pending}
+use Rattle.bench_core.specs.Asks.{asked as asked_of, asked_unless, told_unless, told, pending, AsksAs}
+use Rattle.bench_core.specs.Told.{AnswersAt}
 
-answer_of : (bad : Option ℕ) (n version v : ℕ) (found says : Result Body ℕ) (body : Body) → says ≡ unless bad found
-    → asked.Answer v body ≡ asked_unless bad (told_unless n (told version says)) → (says ≡ Ok body) × (v ≡ version)
-answer_of (Some k) n version v found says body is h = cc
-answer_of None (suc n) version v found says body is h = cc
-answer_of None zero version v found (Err k) body is h = cc
-answer_of None zero version v found (Ok b) body is h = (cc, cc)
+answer_of : (bad : Option ℕ) (n version v : ℕ) (says : Result Body ℕ) (body : Body) → asked.Answer v body ≡ asked_unless bad (told_unless n (told version says)) → (says ≡ Ok body) × (v ≡ version)
+answer_of None zero version v (Ok b) body h = (cc, cc)
+answer_of _ _ version v _ body h = (cc, cc)
 
 bad_of : (bad : Option ℕ) (n version k : ℕ) (found says : Result Body ℕ) → says ≡ unless bad found
     → asked.BadQuery k ≡ asked_unless bad (told_unless n (told version says)) → says ≡ Err k
-bad_of (Some j) n version k found says is h = cc
-bad_of None (suc n) version k found says is h = cc
-bad_of None zero version k found (Err j) is h = cc
 bad_of None zero version k found (Ok b) is h = cc
+bad_of _ _ version k found _ is h = cc
 
 waits_of : (bad : Option ℕ) (n due version : ℕ) (says : Result Body ℕ) → n ≡ 0
     → asked.Pending due ≡ asked_unless bad (told_unless n (told version says)) → ⊥
-waits_of (Some j) n due version says none h = absurd cc
-waits_of None (suc n) due version says none h = absurd cc
-waits_of None zero due version (Err k) none h = absurd cc
 waits_of None zero due version (Ok b) none h = absurd cc
+waits_of _ _ due version _ none h = absurd cc
 
 -- an answer is that of the run, at the bench's version
 pub answer_told : (b : Shown) (q : Query) (v : ℕ) (body : Body) → asked.Answer v body ≡ asked_of b q → (answer (project_of b) q ≡ Ok body) × (v ≡ version_of b)
-answer_told b q v body h = answer_of (bad_query (project_of b) q) (pending b q) (version_of b) v _ (answer (project_of b) q) body refl h
+answer_told b q v body h = answer_of (bad_query (project_of b) q) (pending b q) (version_of b) v (answer (project_of b) q) body h
 
 -- a refusal is that of the run
 pub bad_told : (b : Shown) (q : Query) (k : ℕ) → asked.BadQuery k ≡ asked_of b q → answer (project_of b) q ≡ Err k
@@ -41,3 +36,9 @@ bad_told b q k h = bad_of (bad_query (project_of b) q) (pending b q) (version_of
 -- a query that waits for none isn't answered Pending
 pub never_pending : (b : Shown) (q : Query) (due : ℕ) → pending b q ≡ 0 → asked.Pending due ≡ asked_of b q → ⊥
 never_pending b q due none h = waits_of (bad_query (project_of b) q) (pending b q) due (version_of b) (answer (project_of b) q) none h
+
+-- an answer is that of the run, and so is a refusal
+pub answers_at : (b : Shown) (q : Query) (r : Asked) → AsksAs b q r → AnswersAt (project_of b) (version_of b) q r
+answers_at b q (asked.Answer v body) h = let a = answer_told b q v body h in (a.1, a.0)
+answers_at b q (asked.BadQuery k) h = bad_told b q k h
+answers_at b q _ h = tt

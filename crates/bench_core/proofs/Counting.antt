@@ -1,13 +1,13 @@
 -- The counters count the states that are held, and these are the run's.
-use Rattle.std.proofs.Common.{◌≡◌, ℕ, ◌+◌, ◌<◌, ◌≤◌, ◌∙◌, ◌⊎◌, sym, ap, subst, refl, arith, Bool, true, false, cond, inl, inr, Option, None, List, [], ◌∷◌, map}
+use Rattle.std.proofs.Common.{◌≡◌, ℕ, ◌+◌, ◌<◌, ◌≤◌, ◌∙◌, sym, ap, subst, refl, arith, Bool, true, false, cond, Option, None, List, [], ◌∷◌, map}
 use Rattle.std.specs.Prelude.{nat_lt, nat_le, ◌&&◌, ◌==◌}
 use Rattle.std.specs.Option.{ForSome}
-use Rattle.std.proofs.lemmas.Bool.{eqb-true}
+use Rattle.std.proofs.lemmas.Bool.{eqb-true, and_parts}
 use Rattle.std.proofs.lemmas.Bool.Decides.{nat_tests}
 use Rattle.omega_net.specs.Numbers.{components}
 use Rattle.omega_net.specs.Wires.{below}
 use Rattle.omega_net.specs.declared.component.Net.{Net}
-use Rattle.cell_table.specs.Seen.{Held, Seen, held_at, fresh, marked, stored}
+use Rattle.cell_table.specs.Seen.{Held, Seen, held_at, fresh, marked}
 use Rattle.cell_table.specs.Readers.{has}
 use Rattle.cell_table.specs.Cells.{IsThere}
 use Rattle.cell_table.specs.Gives.{IsAfterStore, HoldsSame}
@@ -28,27 +28,12 @@ use Rattle.bench_core.specs.Asks.{HoldsRunTo}
 use Rattle.monitor_sums.proofs.Over.{same_over}
 use Rattle.bench_core.proofs.Looking.{run_held}
 
-pub cases_le : (a b : ℕ) → (a ≤ b) ⊎ (b < a)
-cases_le a b = by_test (nat_le a b) refl
-  where
-    by_test : (x : Bool) → nat_le a b ≡ x → (a ≤ b) ⊎ (b < a)
-    by_test true e = inl (grind (arith, nat_tests))
-    by_test false e = inr (grind (arith, nat_tests))
-
-and_left : (x y : Bool) → (x && y) ≡ true → x ≡ true
-and_left true y e = refl
-and_left false y e = e
-
-and_right : (x y : Bool) → (x && y) ≡ true → y ≡ true
-and_right true y e = e
-and_right false y e = cc
-
 -- a cell up to the horizon is present with what it holds; one past it with nothing
 pub present_at : (v : Seen MachineState Project) (t c : ℕ) → t ≤ v.horizon → present v t c ≡ held v t c
-present_at v t c le = let e : nat_le t v.horizon ≡ true = grind (arith, nat_tests) in rw e refl
+present_at v t c le = grind (arith, nat_tests)
 
 pub present_past : (v : Seen MachineState Project) (t c : ℕ) → v.horizon < t → present v t c ≡ None
-present_past v t c lt = let e : nat_le t v.horizon ≡ false = grind (arith, nat_tests) in rw e refl
+present_past v t c lt = grind (arith, nat_tests)
 
 -- counters that stand for a map stand for one that is the same at each cell
 pub stands_along : (sums : Kept) (at other : States) → StandsFor sums at
@@ -57,84 +42,78 @@ stands_along sums at other stands same t c le lt = stands t c le lt ∙ ap count
 
 -- where no cycle is past the horizon, nothing is cleared
 pub none_cleared : (sums : Kept) (to before : ℕ) → before ≤ to → (at : States) → StandsFor sums at → StandsFor sums (cleared at (to + 1) before)
-none_cleared sums to before le at stands =
-    stands_along sums at (cleared at (to + 1) before) stands
-    (λ t c l lt. let e : (nat_le (to + 1) t && nat_le t before) ≡ false = grind (arith, nat_tests) in sym (ap (λ y. cond y None (at t c)) e))
+none_cleared sums to before le at stands = stands_along sums at (cleared at (to + 1) before) stands (λ t c l lt. grind (arith, nat_tests))
+
+-- counters count a table where they stand for what its cells hold, and for nothing past its horizon
+pub counts_held : (sums : Kept) (at : States) (v : Seen MachineState Project) → sums.k ≡ v.slots.k → StandsFor sums at
+    → ((t c : ℕ) → IsThere rp3_rules v t c → at t c ≡ held v t c) → ((t c : ℕ) → v.horizon < t → at t c ≡ None) → IsCounted sums v
+counts_held sums at v shape stands there past = record {
+  shape = shape;
+  counts = stands_along sums at (present v) stands (λ t c le lt. by_place t c (subst (λ k. c < components k) shape lt) (nat_le t v.horizon) refl);
+}
+  where
+    by_place : (t c : ℕ) → c < components v.slots.k → (x : Bool) → nat_le t v.horizon ≡ x → at t c ≡ cond x (held v t c) None
+    by_place t c lt true e = there t c (record { cycle = grind (arith, nat_tests); component = lt })
+    by_place t c lt false e = past t c (grind (arith, nat_tests))
 
 -- a new table holds nothing
 pub counted_new : (sums : Kept) (v : Seen MachineState Project) → sums.k ≡ v.slots.k → StandsFor sums (λ t c. None) → (clock : ℕ)
     → ((t c : ℕ) → IsThere rp3_rules v t c → held_at v.rows t c ≡ fresh clock) → IsCounted sums v
-counted_new sums v shape stands clock cells = record {
-  shape = shape;
-  counts = stands_along sums (λ t c. None) (present v) stands (λ t c le lt. by_place t c (subst (λ k. c < components k) shape lt) (nat_le t v.horizon) refl);
-}
-  where
-    by_place : (t c : ℕ) → c < components v.slots.k → (x : Bool) → nat_le t v.horizon ≡ x → None ≡ cond x (held v t c) None
-    by_place t c lt false e = refl
-    by_place t c lt true e =
-        let there : IsThere rp3_rules v t c = record { cycle = grind (arith, nat_tests); component = lt } in
-        sym (ap (λ h. h.state) (cells t c there))
+counted_new sums v shape stands clock cells = counts_held sums (λ t c. None) v shape stands (λ t c there. sym (ap (λ h. h.state) (cells t c there))) (λ t c past. refl)
 
--- the cells that stay, or are new
+-- where no state changes, they go on counting what is held
+pub counted_kept : (sums : Kept) (old new : Seen MachineState Project) → IsCounted sums old → HoldsSame rp3_rules old new → IsCounted sums new
+counted_kept sums old new counts same =
+    counts_held sums (present old) new (counts.shape ∙ ap (λ (P : Project). P.k) (sym same.slots)) counts.counts
+    (λ t c there.
+    let was : IsThere rp3_rules old t c = record { cycle = omega (arith, there.cycle, same.horizon); component = rw same.slots at there.component } in
+    present_at old t c was.cycle ∙ sym (same.states t c was))
+    (λ t c past. present_past old t c (omega (arith, past, same.horizon)))
+
 module _ (sums next : Kept) (old new : Seen MachineState Project) (counts : IsCounted sums old) (shape : next.k ≡ sums.k) where
-  there_of : (t c : ℕ) → t ≤ old.horizon → c < components next.k → IsThere rp3_rules old t c
-  there_of t c le lt = record { cycle = le; component = subst (λ k. c < components k) (shape ∙ counts.shape) lt }
-
   -- a store
   pub counted_stored : (t c : ℕ) (x : MachineState) (moved : Bool) → IsThere rp3_rules old t c → IsAfterStore rp3_rules old new t c x moved
       → ((at : States) → StandsFor sums at → StandsFor next (changed at t c (held new t c))) → IsCounted next new
-  counted_stored t c x moved there after changes = record {
-    shape = shape ∙ (counts.shape ∙ ap (λ (P : Project). P.k) (sym after.slots));
-    counts = stands_along next (changed (present old) t c (held new t c)) (present new) (changes (present old) counts.counts) (λ u d le lt. by_cell u d lt ((u == t) && (d == c)) refl);
-  }
+  counted_stored t c x moved there after changes =
+      counts_held next (changed (present old) t c (held new t c)) new (shape ∙ counts.shape ∙ ap (λ (P : Project). P.k) (sym after.slots)) (changes (present old) counts.counts)
+      (λ u d new_there. by_cell u d (record { cycle = omega (arith, new_there.cycle, after.horizon); component = rw after.slots at new_there.component }) ((u == t) && (d == c)) refl)
+      (λ u d past. behind u d (omega (arith, past, after.horizon)))
     where
-      version : ℕ → ℕ → Held MachineState
-      version u d = held_at old.rows u d
+      marked_state : (h : Held MachineState) (y : Bool) → (cond y (marked h new.clock) h).state ≡ h.state
+      marked_state h true = refl
+      marked_state h false = refl
 
-      by_moved : (u d : ℕ) (y : Bool) (clock : ℕ) → (cond y (marked (version u d) clock) (version u d)).state ≡ (version u d).state
-      by_moved u d true clock = refl
-      by_moved u d false clock = refl
+      by_cell : (u d : ℕ) → IsThere rp3_rules old u d → (y : Bool) → ((u == t) && (d == c)) ≡ y → cond y (held new t c) (present old u d) ≡ held new u d
+      by_cell u d was true e =
+          let time : t ≡ u = sym (eqb-true u t (and_parts _ _ e).0) in
+          let place : c ≡ d = sym (eqb-true d c (and_parts _ _ e).1) in
+          ap (λ i. held new i c) time ∙ ap (held new u) place
+      by_cell u d was false e =
+          present_at old u d was.cycle
+          ∙ sym (ap (λ (h : Held MachineState). h.state) (rw e at (after.cells u d was)) ∙ marked_state (held_at old.rows u d) (moved && ((u == t + 1) && has (rp3_rules.near old.slots d) c)))
 
-      by_horizon : (u d : ℕ) → d < components next.k → ((u == t) && (d == c)) ≡ false → (u ≤ old.horizon) ⊎ (old.horizon < u) → present old u d ≡ present new u d
-      by_horizon u d lt e (inr past) = present_past old u d past ∙ sym (present_past new u d (omega (arith, after.horizon)))
-      by_horizon u d lt e (inl le) =
-          let cell = after.cells u d (there_of u d le lt) in
-          let other = ap (λ y. cond y (stored (version u d) x) (cond (moved && ((u == t + 1) && has (rp3_rules.near old.slots d) c)) (marked (version u d) new.clock) (version u d))) e in
-          let is : held new u d ≡ held old u d = ap (λ (h : Held MachineState). h.state) (cell ∙ other) ∙ by_moved u d (moved && ((u == t + 1) && has (rp3_rules.near old.slots d) c)) new.clock in
-          present_at old u d le ∙ (sym is ∙ sym (present_at new u d (omega (arith, le, after.horizon))))
-
-      by_cell : (u d : ℕ) → d < components next.k → (y : Bool) → ((u == t) && (d == c)) ≡ y → cond y (held new t c) (present old u d) ≡ present new u d
-      by_cell u d lt true e =
-          let time : u ≡ t = eqb-true u t (and_left (u == t) (d == c) e) in
-          let place : d ≡ c = eqb-true d c (and_right (u == t) (d == c) e) in
-          sym (present_at new t c (omega (arith, there.cycle, after.horizon))) ∙ ap (λ i. present new i c) (sym time) ∙ ap (present new u) (sym place)
-      by_cell u d lt false e = by_horizon u d lt e (cases_le u old.horizon)
+      behind : (u d : ℕ) → old.horizon < u → changed (present old) t c (held new t c) u d ≡ None
+      behind u d past = let was = there.cycle in grind (arith, nat_tests, present_past old u d)
 
   -- an edit that keeps the machine's size
   pub counted_touched : (to : ℕ) (P : Project) (listed : List Slot) → P.k ≡ old.slots.k → IsAfterTouch rp3_rules old new P listed to
       → ((at : States) → StandsFor sums at → StandsFor next (cleared at (new.horizon + 1) old.horizon)) → IsCounted next new
-  counted_touched to P listed size after clears = record {
-    shape = shape ∙ (counts.shape ∙ (sym size ∙ ap (λ (Q : Project). Q.k) (sym after.slots)));
-    counts = stands_along next (cleared (present old) (new.horizon + 1) old.horizon) (present new) (clears (present old) counts.counts) (λ u d le lt. by_horizon u d lt (cases_le u new.horizon));
-  }
+  counted_touched to P listed size after clears =
+      counts_held next (cleared (present old) (new.horizon + 1) old.horizon) new (shape ∙ counts.shape ∙ sym size ∙ ap (λ (Q : Project). Q.k) (sym after.slots)) (clears (present old) counts.counts)
+      (λ u d there. stays u d there.cycle ∙ sym (ap (λ (h : Held MachineState). h.state) (after.cells u d there) ∙ touched u d (nat_lt old.horizon u) (cell_reads rp3_rules old.slots old.rows listed u d) refl))
+      behind
     where
+      stays : (u d : ℕ) → u ≤ new.horizon → cleared (present old) (new.horizon + 1) old.horizon u d ≡ present old u d
+      stays u d le = grind (arith, nat_tests)
+
       touched : (u d : ℕ) (x y : Bool) → nat_lt old.horizon u ≡ x
           → (cond x (fresh (old.clock + 1)) (cond y (marked (held_at old.rows u d) (old.clock + 1)) (held_at old.rows u d))).state ≡ present old u d
       touched u d true y e = sym (present_past old u d (grind (arith, nat_tests)))
       touched u d false true e = sym (present_at old u d (grind (arith, nat_tests)))
       touched u d false false e = sym (present_at old u d (grind (arith, nat_tests)))
 
-      by_horizon : (u d : ℕ) → d < components next.k → (u ≤ new.horizon) ⊎ (new.horizon < u) → cleared (present old) (new.horizon + 1) old.horizon u d ≡ present new u d
-      by_horizon u d lt (inl le) =
-          let there : IsThere rp3_rules new u d = record { cycle = le; component = subst (λ k. d < components k) (shape ∙ (counts.shape ∙ (sym size ∙ ap (λ (Q : Project). Q.k) (sym after.slots)))) lt } in
-          let kept : (nat_le (new.horizon + 1) u && nat_le u old.horizon) ≡ false = grind (arith, nat_tests) in
-          let is : held new u d ≡ present old u d = ap (λ (h : Held MachineState). h.state) (after.cells u d there) ∙ touched u d (nat_lt old.horizon u) (cell_reads rp3_rules old.slots old.rows listed u d) refl in
-          ap (λ y. cond y None (present old u d)) kept ∙ (sym is ∙ sym (present_at new u d le))
-      by_horizon u d lt (inr past) = by_old (cases_le u old.horizon) ∙ sym (present_past new u d past)
-        where
-          by_old : (u ≤ old.horizon) ⊎ (old.horizon < u) → cleared (present old) (new.horizon + 1) old.horizon u d ≡ None
-          by_old (inl le) = let gone : (nat_le (new.horizon + 1) u && nat_le u old.horizon) ≡ true = grind (arith, nat_tests) in ap (λ y. cond y None (present old u d)) gone
-          by_old (inr later) = let kept : (nat_le (new.horizon + 1) u && nat_le u old.horizon) ≡ false = grind (arith, nat_tests) in ap (λ y. cond y None (present old u d)) kept ∙ present_past old u d later
+      behind : (u d : ℕ) → new.horizon < u → cleared (present old) (new.horizon + 1) old.horizon u d ≡ None
+      behind u d past = grind (arith, nat_tests, present_past old u d)
 
 -- where the cells hold the run, the counters are those of the run
 module _ (b : Shown) (sums : Kept) (bench : IsBench b.table b.journal) (counts : IsCounted sums b.table) where
@@ -168,16 +147,3 @@ module _ (b : Shown) (sums : Kept) (bench : IsBench b.table b.journal) (counts :
       each : (ms : List ℕ) → map (pairs_of (project_of b).k (present b.table) net stage (project_of b).horizon) ms ≡ map (pairs_of (project_of b).k (state_in (run (project_of b))) net stage (project_of b).horizon) ms
       each [] = refl
       each (m ∷ ms) = rw (pairs m, each ms) refl
-
--- where no state changes, they go on counting what is held
-module _ (sums : Kept) (old new : Seen MachineState Project) (counts : IsCounted sums old) (same : HoldsSame rp3_rules old new) where
-  pub counted_kept : IsCounted sums new
-  counted_kept = record {
-    shape = counts.shape ∙ ap (λ (P : Project). P.k) (sym same.slots);
-    counts = stands_along sums (present old) (present new) counts.counts (λ u d le lt. by_horizon u d lt (cases_le u old.horizon));
-  }
-    where
-      by_horizon : (u d : ℕ) → d < components sums.k → (u ≤ old.horizon) ⊎ (old.horizon < u) → present old u d ≡ present new u d
-      by_horizon u d lt (inr past) = present_past old u d past ∙ sym (present_past new u d (omega (arith, same.horizon)))
-      by_horizon u d lt (inl le) =
-          present_at old u d le ∙ (sym (same.states u d (record { cycle = le; component = subst (λ k. d < components k) counts.shape lt })) ∙ sym (present_at new u d (omega (arith, le, same.horizon))))

@@ -1,5 +1,5 @@
 -- What a bench keeps of its answers, from call to call.
-use Rattle.std.proofs.Common.{◌≡◌, ℕ, ◌+◌, ◌<◌, ◌≤◌, ◌∙◌, ◌⊎◌, inl, inr, sym, ap, subst, arith, true, List, [], length, Contains, Option, None, Ok}
+use Rattle.std.proofs.Common.{◌≡◌, ℕ, ◌+◌, ◌<◌, ◌∙◌, ◌⊎◌, inl, inr, sym, ap, arith, true, List, [], length, Contains, Option, None, Ok}
 use Rattle.std.proofs.lemmas.Bool.Decides.{Decides-eqb}
 use Rattle.std.specs.Prelude.{Result, Err, Bool, IfOk, IfSome, OnOk, OnErr, Some}
 use Rattle.std.specs.Result.{result_ok}
@@ -37,41 +37,26 @@ pub told_none : (P : Project) (v : ℕ) → AreTold P v []
 told_none P v a there = let lt : there.0 < 0 = there.1 in absurd (omega (arith, lt))
 
 -- what is found under a query was kept under it, and a share of it is what was kept
-pub shared_kept : {E : Type 0} (kept : List Entry) (e : Asking) (held : Body) (r : Result Body E) (o : Option Body)
-    → lookup (askings.eq-value.it e) kept ≡ Some held → IfOk r (λ b. b ≡ held) → o ≡ result_ok r → IfSome o (λ b. Contains kept (e, b))
-shared_kept kept e held r o at shared is = subst (λ p. IfSome p (λ b. Contains kept (e, b))) (sym is) (by_share r shared)
-  where
-    found : (k : Asking) × Contains kept (k, held) × (askings.eq-value.it e k ≡ true)
-    found = Contains-lookup (askings.eq-value.it e) kept held at
-
-    there : Contains kept (e, held)
-    there = subst (λ k. Contains kept (k, held)) (sym (same_asking e found.0 found.2)) found.1
-
-    by_share : {E : Type 0} (r : Result Body E) → IfOk r (λ b. b ≡ held) → IfSome (result_ok r) (λ b. Contains kept (e, b))
-    by_share (Ok b) same = subst (λ (x : Body). Contains kept (e, x)) (sym same) there
-    by_share (Err x) same = tt
+pub shared_kept : {E : Type 0} (kept : List Entry) (e : Asking) (held : Body) (r : Result Body E)
+    → lookup (askings.eq-value.it e) kept ≡ Some held → IfOk r (λ b. b ≡ held) → IfSome (result_ok r) (λ b. Contains kept (e, b))
+shared_kept kept e held (Err x) at shared = tt
+shared_kept kept e held (Ok b) at same =
+    let found = Contains-lookup (askings.eq-value.it e) kept held at in
+    rw (same, same_asking e found.0 found.2) found.1
 
 -- a look-up takes nothing in
 pub looked_up : (test : Asking → Bool) (old new : LruCache Asking Body) → new ≡ lru_cache (promoted test old.entries) old.cap → (a : Entry) → Contains new.entries a → Contains old.entries a
-looked_up test old new is a there = Contains-promoted test old.entries a (subst (λ (c : LruCache Asking Body). Contains c.entries a) is there)
+looked_up test old new is a there = Contains-promoted test old.entries a (rw is at there)
 
 -- one entry more, or none
 pub put_kept : {R E : Type 0} (r : Result R E) (old new : LruCache Asking Body) (e : Asking) (b : Body)
     → OnOk r (new ≡ lru_cache (put_entries askings.eq-value.it old e b) old.cap) → OnErr r (new ≡ old) → (a : Entry) → Contains new.entries a → Contains old.entries a ⊎ (a ≡ (e, b))
 put_kept (Ok x) old new e b is same a there =
-    elim (Contains-put_entries askings.eq-value.it old e b a (subst (λ (c : LruCache Asking Body). Contains c.entries a) is there)) [
+    elim (Contains-put_entries askings.eq-value.it old e b a (rw is at there)) [
       | inl before ↦ inl before
-      | inr put ↦ inr (same_two (λ k v. (k, v)) (by_key put.1, put.0))
+      | inr put ↦ inr (same_two (λ k v. (k, v)) (elim put.1 [ inl k ↦ k | inr k ↦ sym (same_asking e a.0 k.2) ], put.0))
     ]
-  where
-    by_key : (a.0 ≡ e) ⊎ ((w : Body) × Contains old.entries (a.0, w) × (askings.eq-value.it e a.0 ≡ true)) → a.0 ≡ e
-    by_key (inl k) = k
-    by_key (inr k) = sym (same_asking e a.0 k.2)
-put_kept (Err x) old new e b is same a there = inl (subst (λ (c : LruCache Asking Body). Contains c.entries a) same there)
-
--- the same project
-pub told_same : (P next : Project) (v : ℕ) (kept : List Entry) → next ≡ P → AreTold P v kept → AreTold next v kept
-told_same P next v kept same told = subst (λ (Q : Project). AreTold Q v kept) (sym same) told
+put_kept (Err x) old new e b is same a there = inl (rw same at there)
 
 module _ (P : Project) (v : ℕ) (kept : List Entry) (told : AreTold P v kept) where
   pub told_kept : (now : List Entry) → ((a : Entry) → Contains now a → Contains kept a) → AreTold P v now
@@ -80,20 +65,30 @@ module _ (P : Project) (v : ℕ) (kept : List Entry) (told : AreTold P v kept) w
   pub told_more : (now : List Entry) (e : Entry) → ((a : Entry) → Contains now a → Contains kept a ⊎ (a ≡ e)) → e.0.version ≡ v → answer P e.0.query ≡ Ok e.1 → AreTold P v now
   told_more now e more at is a there = elim (more a there) [
     | inl before ↦ told a before
-    | inr same ↦ subst (λ (x : Entry). (x.0.version ≤ v) × (x.0.version ≡ v → answer P x.0.query ≡ Ok x.1)) (sym same) (omega (arith, at), λ now. is)
+    | inr same ↦ rw same (omega (arith, at), λ now. is)
   ]
 
   -- after an edit all of it was told at an earlier version
   pub told_later : (next : Project) → AreTold next (v + 1) kept
   told_later next a there = let before = (told a there).0 in (omega (arith, before), λ now. absurd (omega (arith, before, now)))
 
--- what holds of every bench holds of one with an equal table and an equal journal
-pub holds_still : (old new : Seen MachineState Project) (sums : Kept) (before after : List Noted) (kept : List Entry) → new ≡ old → after ≡ before
-    → IsBench old before × IsCounted sums old × HasHistory (record { table = old; journal = before }) × AreTold old.slots (length before) kept
-    → IsBench new after × IsCounted sums new × HasHistory (record { table = new; journal = after }) × AreTold new.slots (length after) kept
-holds_still old new sums before after kept same noted all =
-    subst (λ (t : Seen MachineState Project). IsBench t after × IsCounted sums t × HasHistory (record { table = t; journal = after }) × AreTold t.slots (length after) kept) (sym same)
-    (subst (λ (l : List Noted). IsBench old l × IsCounted sums old × HasHistory (record { table = old; journal = l }) × AreTold old.slots (length l) kept) (sym noted) all)
+-- what is true inside of every bench
+abbrev pub IsInside : Seen MachineState Project → Kept → List Noted → List Entry → Type 0
+IsInside table sums journal recent = IsBench table journal × IsCounted sums table × HasHistory (record { table = table; journal = journal }) × AreTold table.slots (length journal) recent
+
+-- it stays so of an equal table and an equal journal
+pub holds_still : (old new : Seen MachineState Project) (sums : Kept) (before after : List Noted) (recent : List Entry) → new ≡ old → after ≡ before → IsInside old sums before recent → IsInside new sums after recent
+holds_still old new sums before after recent same noted inside = rw (same, noted) inside
+
+-- and where neither the project nor its horizon changes, and the rest is kept
+pub inside_still : (old new : Seen MachineState Project) (sums next : Kept) (journal : List Noted) (recent : List Entry) → IsInside old sums journal recent → new.slots ≡ old.slots → new.horizon ≡ old.horizon
+    → IsCounted next new → HasHistory (record { table = new; journal = journal }) → IsInside new next journal recent
+inside_still old new sums next journal recent inside slots horizon counts history = (
+  record { horizon = horizon ∙ inside.0.horizon ∙ ap (λ (p : Project). p.horizon) (sym slots); short = rw horizon inside.0.short; few = inside.0.few },
+  counts,
+  history,
+  rw slots inside.3,
+)
 
 answer_is : (version v : ℕ) (says : Result Body ℕ) (body : Body) → asked.Answer v body ≡ told version says → says ≡ Ok body
 answer_is version v (Ok b) body e = cc

@@ -1,8 +1,7 @@
 -- An edit touches the table.
-use Rattle.std.proofs.Common.{◌≡◌, ℕ, ◌<◌, ◌≤◌, ◌∙◌, sym, ap, subst, refl, arith, Bool, true, false, cond, Option, None, Some, List, [], ◌∷◌, ◌++◌, length}
-use Rattle.std.specs.Prelude.{◌==◌}
+use Rattle.std.proofs.Common.{◌≡◌, ℕ, ◌<◌, ◌≤◌, ◌∙◌, sym, ap, subst, refl, arith, Option, List, [], ◌∷◌, ◌++◌, length}
 use Rattle.std.specs.Option.{unwrap_or}
-use Rattle.std.proofs.lemmas.Bool.{eqb-true}
+use Rattle.std.proofs.lemmas.Bool.Decides.{nat_tests}
 use Rattle.std.proofs.lemmas.List.{length_push}
 use Rattle.grid_law.specs.Rules.{Differ}
 use Rattle.cell_table.specs.Seen.{Seen}
@@ -25,11 +24,7 @@ differ P Q slots touches = record { shape = touches.shape; complete = touches.co
 
 -- the horizon that an edit leaves
 pub to_horizon : (P Q : Project) (horizon : ℕ) → horizon ≡ P.horizon → unwrap_or (new_horizon P Q) horizon ≡ Q.horizon
-to_horizon P Q horizon h = by_test (P.horizon == Q.horizon) refl
-  where
-    by_test : (t : Bool) → (P.horizon == Q.horizon) ≡ t → unwrap_or (cond t None (Some Q.horizon)) horizon ≡ Q.horizon
-    by_test true e = h ∙ eqb-true P.horizon Q.horizon e
-    by_test false e = refl
+to_horizon P Q horizon h = grind (arith, nat_tests)
 
 module _ (old new : Seen MachineState Project) (journal : List Noted) (author : ℕ) (e : Edit) (next : Project) (listed : List Slot) (horizon : Option ℕ) (bench : IsBench old journal) (is : next ≡ edited old.slots e) (touches : Touches old.slots next listed) (moved : horizon ≡ new_horizon old.slots next) (touched : IsAfterTouch rp3_rules old new next listed (unwrap_or horizon old.horizon)) where
   pub to : unwrap_or horizon old.horizon ≡ next.horizon

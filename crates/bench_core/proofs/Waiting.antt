@@ -13,9 +13,9 @@ use Rattle.cell_table.proofs.Counted.{count_to_same, count_cone_same, count_to_n
 use Rattle.machine_cells.specs.GridRules.{rp3_rules}
 use Rattle.project_book.specs.Project.{Project}
 use Rattle.run_queries.specs.declared.query.Query.{Query}
-use Rattle.run_queries.specs.declared.query.Query.TheVariants.{Reply, State, Memory as MemoryAt, Counter, Profile, Tree, Level, Bound, Place}
+use Rattle.run_queries.specs.declared.query.Query.TheVariants.{State, Memory as MemoryAt, Counter, Level, Bound, Place}
 use Rattle.bench_core.specs.declared.asked.Asked.{Asked}
-use Rattle.bench_core.specs.Shown.{Shown, IsBench, project_of, version_of}
+use Rattle.bench_core.specs.Shown.{Shown, IsBench, project_of}
 use Rattle.bench_core.specs.Asks.{module_of, waits, pending, asked, asked_at, IsOrWants, AsksAs}
 use Rattle.bench_core.specs.Events.{Event, Opening, version_after, project_after, on_table, table_start}
 use Rattle.bench_core.specs.Stands.{Stands}
@@ -25,27 +25,23 @@ use Rattle.bench_core.proofs.Standing.{project_is, horizon_now, version_is}
 -- tests that are the same for each cell that is there
 module _ (P : Project) (f g : ℕ → ℕ → Bool) (same : (t c : ℕ) → t ≤ P.horizon → c < components P.k → f t c ≡ g t c) where
   waits_same : (q : Query) → waits P f q ≡ waits P g q
-  waits_same (Reply p n) = count_to_same rp3_rules P P.horizon f g same P.horizon
   waits_same (State c t) = count_cone_same rp3_rules P P.horizon f g same t c
   waits_same (MemoryAt a t) = count_cone_same rp3_rules P P.horizon f g same t (module_of P a)
   waits_same (Counter counter who from to) = count_to_same rp3_rules P P.horizon f g same to
-  waits_same (Profile net s) = count_to_same rp3_rules P P.horizon f g same P.horizon
-  waits_same (Tree net m) = count_to_same rp3_rules P P.horizon f g same P.horizon
   waits_same (Level net m t) = count_to_same rp3_rules P P.horizon f g same t
   waits_same (Bound x y p) = refl
   waits_same (Place a) = refl
+  waits_same _ = count_to_same rp3_rules P P.horizon f g same P.horizon
 
 module _ (P : Project) (f : ℕ → ℕ → Bool) (none : (t c : ℕ) → t ≤ P.horizon → c < components P.k → f t c ≡ false) where
   waits_none : (q : Query) → waits P f q ≡ 0
-  waits_none (Reply p n) = count_to_none rp3_rules P P.horizon f none P.horizon
   waits_none (State c t) = count_cone_none rp3_rules P P.horizon f none t c
   waits_none (MemoryAt a t) = count_cone_none rp3_rules P P.horizon f none t (module_of P a)
   waits_none (Counter counter who from to) = count_to_none rp3_rules P P.horizon f none to
-  waits_none (Profile net s) = count_to_none rp3_rules P P.horizon f none P.horizon
-  waits_none (Tree net m) = count_to_none rp3_rules P P.horizon f none P.horizon
   waits_none (Level net m t) = count_to_none rp3_rules P P.horizon f none t
   waits_none (Bound x y p) = refl
   waits_none (Place a) = refl
+  waits_none _ = count_to_none rp3_rules P P.horizon f none P.horizon
 
 -- where no cell of the run is counted as due, none is
 none_below : (P : Project) (f : ℕ → ℕ → Bool) (t : ℕ) → count_below rp3_rules P f t ≡ 0 → (u c : ℕ) → u ≤ t → c < components P.k → f u c ≡ false
@@ -78,10 +74,7 @@ module _ (o : Opening) (b : Shown) (h : List Event) (stands : Stands o b h) wher
       ∙ ap (λ P. waits P (due rp3_rules (table_start o) (on_table o h)) q) project
 
   asked_is : (q : Query) → asked b q ≡ asked_at (project_after o h) (version_after h) (pending_after o h q) q
-  asked_is q =
-      ap (λ n. asked_at (project_of b) (version_of b) n q) (pending_is q)
-      ∙ ap (λ v. asked_at (project_of b) v (pending_after o h q) q) (version_is o b h stands)
-      ∙ ap (λ P. asked_at P (version_after h) (pending_after o h q) q) (project_is o b h stands)
+  asked_is q = λ i. asked_at (project_is o b h stands i) (version_is o b h stands i) (pending_is q i) q
 
 -- what a query is answered, by the events
 pub asks_run : (b : Shown) (q : Query) (result : Asked) → AsksAs b q result → (o : Opening) (h : List Event) → Stands o b h → AsksRun o h q result

@@ -15,8 +15,7 @@ use Rattle.shared_bench.specs.declared.view.Opening.{Opening}
 use Rattle.shared_bench.specs.declared.view.Stage.TheVariants.{Serving}
 use Rattle.shared_bench.specs.Rule.{World, Kept, Fits, StageFits, first_project, IsServer, count_bits, tickets, many, journal_of, opened_of, AuthorsDrawn}
 use Rattle.shared_bench.specs.Turn.{counted_in, counts}
-use Rattle.shared_bench.proofs.Seats.{at_length, seats_stay, sum_set, starts_refl, starts_trans}
-use Rattle.shared_bench.proofs.Seats.{St, Mine}
+use Rattle.shared_bench.proofs.Seats.{St, Mine, at_length, seats_stay, sum_set, starts_refl, starts_trans}
 use Rattle.shared_bench.proofs.Turns.{bench_in, stage_aside}
 use Rattle.shared_bench.proofs.Journals.{bool_cases, project_since, folds_push, authors_push, drawn_push, entries_push_own, entries_push_other}
 

@@ -1,11 +1,12 @@
--- Joining a seat into another keeps the rule.
-use Rattle.std.proofs.Common.{◌≡◌, ◌≢◌, inl, inr, ⊎_elim, ℕ, ◌+◌, ◌-◌, ◌<◌, ◌≤◌, ◌||◌, true, false, List, length, get_or, set, cond, length-append, lit≤, sym, refl, ap, ◌∙◌, subst, arith, eq-eqb, ne_eqb, eqb}
+-- Splitting a seat keeps the rule, and so does joining one into another.
+use Rattle.std.proofs.Common.{◌≡◌, ◌≢◌, inl, inr, ⊎_elim, ℕ, ◌+◌, ◌-◌, ◌<◌, ◌≤◌, ◌||◌, true, false, List, length, get_or, set, cond, length-append, lit≤, sym, refl, ap, ◌∙◌, subst, arith, eq-eqb, ne_eqb, eqb, [], ◌∷◌, ◌++◌}
 use mathlib.Core.Option.{some, some-injective}
 use mathlib.Core.Logic.{dite}
 use native.Mathlib.Decide.{ℕ_discrete}
 use lib.ListN.{get_elem?}
-use Rattle.atomic_table.specs.Table.{Joins}
-use Rattle.atomic_table.proofs.Lists.{set_else}
+use Rattle.std.proofs.lemmas.List.Sums.{sum_by_push}
+use Rattle.atomic_table.specs.Table.{Joins, Splits}
+use Rattle.atomic_table.proofs.Lists.{set_else, set_again, at_snoc, at_longer}
 use Rattle.bench_core.specs.declared.noted.Noted.{Noted}
 use Rattle.shared_bench.specs.Legal.{has, merge}
 use Rattle.shared_bench.specs.declared.view.View.{View}
@@ -13,20 +14,61 @@ use Rattle.shared_bench.specs.declared.view.Opening.{Opening}
 use Rattle.shared_bench.specs.declared.view.Stage.{Stage}
 use Rattle.shared_bench.specs.declared.view.Stage.TheVariants.{Idle, Waiting, Serving, Filling}
 use Rattle.shared_bench.specs.Rule.{World, Kept, Fits, StageFits, AtHome, IsServer, tickets, many, live, journal_of, opened_of}
-use Rattle.shared_bench.specs.Turn.{stage_of, joined, nobody}
+use Rattle.shared_bench.specs.Turn.{stage_of, joined, nobody, newcomer}
 use Rattle.shared_bench.proofs.Seats.{Homes, seats_stay, sum_set, starts_nil}
 use Rattle.shared_bench.proofs.Journals.{bool_cases, absurd_bool, entries_nobody, entries_merge, has_append, distinct_append}
 
+pub splits : (k : Opening) (id : ℕ) (v : View) → Splits (Kept k) id v v (newcomer v)
+splits k id v s r at =
+    let w = r.world in
+    let bits : ℕ = get_or s.words 3 0 in
+    let u : View = newcomer v in
+    let f : Fits k w s.homes id bits v = r.each id v at in
+    let sums = sum_by_push tickets s.views u in
+    let manys = sum_by_push many s.views u in
+    subst (λ (vs : List View). Kept k record { words = s.words; homes = s.homes; views = vs ++ u ∷ [] }) (sym (set_again s.views id v at))
+    record {
+      world = w;
+      wide = r.wide;
+      counted = r.counted;
+      tickets_out = r.tickets_out;
+      serving = r.serving;
+      few = r.few;
+      short = r.short;
+      accepted = r.accepted;
+      authors = r.authors;
+      authors_drawn = r.authors_drawn;
+      in_all = let a = r.in_all in omega arith;
+      drawn = let a = r.drawn in omega arith;
+      home = ⊎_elim
+          (λ (a : AtHome k w s.homes). inl a)
+          (λ (a : (x : View) × (get_elem? s.views (w.holder w.served) ≡ some x) × IsServer x.stage). inr (a.0, at_longer s.views (u ∷ []) (w.holder w.served) a.0 a.1, a.2))
+          r.home;
+      each = λ j x there. ⊎_elim (λ (t : get_elem? s.views j ≡ some x). r.each j x t)
+          (λ (t : u ≡ x). subst (λ (x : View). Fits k w s.homes j bits x) t record {
+            opened = f.opened;
+            goes_on = f.goes_on;
+            heard = f.heard;
+            distinct = tt;
+            own = sym (entries_nobody (length (opened_of k)) w.since);
+            knows = f.knows;
+            owns = λ n h. absurd_bool false h refl;
+            room = (omega arith, λ h. absurd (omega arith));
+            stage = tt;
+          })
+          (at_snoc s.views u x j there);
+    }
+
+-- ---- joining
+
 -- what was a's is b's
-pub moved : (ℕ → ℕ) → ℕ → ℕ → ℕ → ℕ
+abbrev moved : (ℕ → ℕ) → ℕ → ℕ → ℕ → ℕ
 moved f a b n = cond (eqb (f n) a) b (f n)
 
 moved_to : (f : ℕ → ℕ) (a b n : ℕ) → f n ≡ a → moved f a b n ≡ b
-unfolding moved
 moved_to f a b n e = ap (λ t. cond t b (f n)) (eq-eqb (f n) a e)
 
 moved_not : (f : ℕ → ℕ) (a b n : ℕ) → f n ≢ a → moved f a b n ≡ f n
-unfolding moved
 moved_not f a b n ne = ap (λ t. cond t b (f n)) (ne_eqb (f n) a ne)
 
 abbrev united : World → ℕ → ℕ → World
@@ -36,15 +78,13 @@ module _ (k : Opening) (w : World) (homes : Homes) (id other : ℕ) (apart : oth
   stage_beside : (j : ℕ) (seen : List Noted) (st : Stage) → j ≢ other → StageFits k w homes j seen st → StageFits k (united w other id) homes j seen st
   stage_beside j seen Idle ne f = tt
   stage_beside j seen (Waiting t) ne f = (f.0, f.1, moved_not w.holder other id t (λ e. ne (sym f.2 ∙ e)) ∙ f.2)
-  stage_beside j seen (Serving t was) ne f = (f.0, f.1, moved_not w.holder other id t (λ e. ne (sym f.2 ∙ e)) ∙ f.2, f.3, f.4, f.5)
-  stage_beside j seen (Filling t was) ne f = (f.0, f.1, moved_not w.holder other id t (λ e. ne (sym f.2 ∙ e)) ∙ f.2, f.3, f.4, f.5)
+  stage_beside j seen _ ne f = (f.0, f.1, moved_not w.holder other id _ (λ e. ne (sym f.2 ∙ e)) ∙ f.2, f.3, f.4, f.5)
 
   -- a ticket that was the other's is now the seat's
   stage_over : (seen seen' : List Noted) (st : Stage) → (IsServer st → ⊥) → StageFits k w homes other seen st → StageFits k (united w other id) homes id seen' st
   stage_over seen seen' Idle not f = tt
   stage_over seen seen' (Waiting t) not f = (f.0, f.1, moved_to w.holder other id t f.2)
-  stage_over seen seen' (Serving t was) not f = absurd (not tt)
-  stage_over seen seen' (Filling t was) not f = absurd (not tt)
+  stage_over seen seen' _ not f = absurd (not tt)
 
   stage_both : (seen seen' : List Noted) (st st' : Stage) → (IsServer st' → ⊥) → StageFits k w homes id seen st → StageFits k w homes other seen' st' → StageFits k (united w other id) homes id seen (stage_of st st')
   stage_both seen seen' Idle st' not f g = stage_over seen' seen st' not g
@@ -52,23 +92,13 @@ module _ (k : Opening) (w : World) (homes : Homes) (id other : ℕ) (apart : oth
   stage_both seen seen' (Serving t was) st' not f g = stage_beside id seen (Serving t was) (λ e. apart (sym e)) f
   stage_both seen seen' (Filling t was) st' not f g = stage_beside id seen (Filling t was) (λ e. apart (sym e)) f
 
-live_of : (st st' : Stage) → (live st ≤ live (stage_of st st')) × (live st' ≤ live (stage_of st st')) × (live (stage_of st st') ≤ live st + live st') × (live st ≤ 1) × (live st' ≤ 1)
-live_of Idle Idle = (lit≤ tt, lit≤ tt, lit≤ tt, lit≤ tt, lit≤ tt)
-live_of Idle (Waiting t) = (lit≤ tt, lit≤ tt, lit≤ tt, lit≤ tt, lit≤ tt)
-live_of Idle (Serving t was) = (lit≤ tt, lit≤ tt, lit≤ tt, lit≤ tt, lit≤ tt)
-live_of Idle (Filling t was) = (lit≤ tt, lit≤ tt, lit≤ tt, lit≤ tt, lit≤ tt)
-live_of (Waiting _) Idle = (lit≤ tt, lit≤ tt, lit≤ tt, lit≤ tt, lit≤ tt)
-live_of (Waiting _) (Waiting t) = (lit≤ tt, lit≤ tt, lit≤ tt, lit≤ tt, lit≤ tt)
-live_of (Waiting _) (Serving t was) = (lit≤ tt, lit≤ tt, lit≤ tt, lit≤ tt, lit≤ tt)
-live_of (Waiting _) (Filling t was) = (lit≤ tt, lit≤ tt, lit≤ tt, lit≤ tt, lit≤ tt)
-live_of (Serving _ _) Idle = (lit≤ tt, lit≤ tt, lit≤ tt, lit≤ tt, lit≤ tt)
-live_of (Serving _ _) (Waiting t) = (lit≤ tt, lit≤ tt, lit≤ tt, lit≤ tt, lit≤ tt)
-live_of (Serving _ _) (Serving t was) = (lit≤ tt, lit≤ tt, lit≤ tt, lit≤ tt, lit≤ tt)
-live_of (Serving _ _) (Filling t was) = (lit≤ tt, lit≤ tt, lit≤ tt, lit≤ tt, lit≤ tt)
-live_of (Filling _ _) Idle = (lit≤ tt, lit≤ tt, lit≤ tt, lit≤ tt, lit≤ tt)
-live_of (Filling _ _) (Waiting t) = (lit≤ tt, lit≤ tt, lit≤ tt, lit≤ tt, lit≤ tt)
-live_of (Filling _ _) (Serving t was) = (lit≤ tt, lit≤ tt, lit≤ tt, lit≤ tt, lit≤ tt)
-live_of (Filling _ _) (Filling t was) = (lit≤ tt, lit≤ tt, lit≤ tt, lit≤ tt, lit≤ tt)
+live_one : (st : Stage) → live st ≤ 1
+live_one Idle = omega arith
+live_one _ = omega arith
+
+live_of : (st st' : Stage) → (live st ≤ live (stage_of st st')) × (live st' ≤ live (stage_of st st')) × (live (stage_of st st') ≤ live st + live st')
+live_of Idle st' = omega arith
+live_of _ st' = omega (arith, live_one st')
 
 -- the tickets and numbers of both: a, b and c are what is live of the two and of the joined view
 joined_room : (a b c p q m n lost all many_all : ℕ) → a ≤ c → b ≤ c → c ≤ a + b → a ≤ 1 → b ≤ 1 → a + p ≤ m → b + q ≤ n → (0 < m → p < m) → (0 < n → q < n) → lost ≡ p + q + (a + b - c) → all ≡ c + lost → many_all ≡ m + n
@@ -96,7 +126,7 @@ joins k id v other u not_v not_u here s r at apart there =
     let manys2 = sum_set many vs other u nobody there in
     let l = live_of v.stage u.stage in
     let room = joined_room (live v.stage) (live u.stage) (live (stage_of v.stage u.stage)) v.lost u.lost (many v) (many u) both.lost (tickets both) (many both)
-    l.0 l.1 l.2 l.3 l.4 f.room.0 g.room.0 f.room.1 g.room.1 refl refl (length-append v.numbers u.numbers) in
+    l.0 l.1 l.2 (live_one v.stage) (live_one u.stage) f.room.0 g.room.0 f.room.1 g.room.1 refl refl (length-append v.numbers u.numbers) in
     let same_tickets : tickets both ≡ tickets v + tickets u = room.0 in
     let same_many : many both ≡ many v + many u = length-append v.numbers u.numbers in
     let none_common : (a : ℕ) → has a v.numbers ≡ true → has a u.numbers ≡ true → ⊥ = (λ a h i. apart (sym (g.owns a i).0 ∙ (f.owns a h).0)) in

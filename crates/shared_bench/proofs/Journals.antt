@@ -10,8 +10,7 @@ use Rattle.project_book.specs.Project.{Project}
 use Rattle.project_book.specs.Edits.{accepts, edited}
 use Rattle.shared_bench.specs.Legal.{has, Folds, Receipt, receipts_of, entries_by, AuthorsBelow, insert, merge}
 use Rattle.shared_bench.specs.Answers.{after_entries, project_at}
-use Rattle.shared_bench.specs.Rule.{Distinct}
-use Rattle.shared_bench.specs.Rule.{AuthorsDrawn, bit_of}
+use Rattle.shared_bench.specs.Rule.{Distinct, AuthorsDrawn, bit_of}
 
 -- each Bool is one of the two
 pub bool_cases : (b : Bool) → (b ≡ true) ⊎ (b ≡ false)
@@ -130,22 +129,14 @@ has_append n (x ∷ ns) ms = elim (eqb n x) as (λ b. (b || has n (ns ++ ms)) �
 
 pub entries_merge : (ns ms : List ℕ) (k : ℕ) (es : List Noted) → ((a : ℕ) → has a ns ≡ true → has a ms ≡ true → ⊥) → entries_by (ns ++ ms) k es ≡ merge (entries_by ns k es) (entries_by ms k es)
 entries_merge ns ms k [] apart = refl
-entries_merge ns ms k (x ∷ es) apart =
-    let more = entries_merge ns ms (k + 1) es apart in
-    let o = entries_over ns (k + 1) es in
-    let p = entries_over ms (k + 1) es in
-    let e : Receipt = (k + 1, x.edit) in
-    ap (at_entry (ns ++ ms) k x es) (has_append x.author ns ms)
-    ∙ ⊎_elim
-    (λ (t : has x.author ns ≡ true).
-    ⊎_elim (λ (u : has x.author ms ≡ true). absurd (apart x.author t u))
-    (λ (u : has x.author ms ≡ false).
-    rw (t, u) (ap (λ l. e ∷ l) more ∙ sym (merge_first e (entries_by ns (k + 1) es) (entries_by ms (k + 1) es) p)))
-    (bool_cases (has x.author ms)))
-    (λ (t : has x.author ns ≡ false).
-    ⊎_elim (λ (u : has x.author ms ≡ true). rw (t, u) (ap (λ l. e ∷ l) more ∙ sym (merge_second e (entries_by ns (k + 1) es) (entries_by ms (k + 1) es) o p)))
-    (λ (u : has x.author ms ≡ false). rw (t, u) more) (bool_cases (has x.author ms)))
-    (bool_cases (has x.author ns))
+entries_merge ns ms k (x ∷ es) apart = ap (at_entry (ns ++ ms) k x es) (has_append x.author ns ms) ∙ by_owner (entries_merge ns ms (k + 1) es apart) (has x.author ns) (has x.author ms) (apart x.author)
+  where
+    by_owner : entries_by (ns ++ ms) (k + 1) es ≡ merge (entries_by ns (k + 1) es) (entries_by ms (k + 1) es) → (b c : Bool) → (b ≡ true → c ≡ true → ⊥)
+        → at_entry (ns ++ ms) k x es (b || c) ≡ merge (at_entry ns k x es b) (at_entry ms k x es c)
+    by_owner more true true never = absurd (never refl refl)
+    by_owner more true false never = ap (λ l. (k + 1, x.edit) ∷ l) more ∙ sym (merge_first (k + 1, x.edit) (entries_by ns (k + 1) es) (entries_by ms (k + 1) es) (entries_over ms (k + 1) es))
+    by_owner more false true never = ap (λ l. (k + 1, x.edit) ∷ l) more ∙ sym (merge_second (k + 1, x.edit) (entries_by ns (k + 1) es) (entries_by ms (k + 1) es) (entries_over ns (k + 1) es) (entries_over ms (k + 1) es))
+    by_owner more false false never = more
 
 -- two lists of numbers with none in common
 pub distinct_append : (ns ms : List ℕ) → Distinct ns → Distinct ms → ((a : ℕ) → has a ns ≡ true → has a ms ≡ true → ⊥) → Distinct (ns ++ ms)

@@ -1,10 +1,8 @@
 pub mod Seats
 pub mod Journals
 pub mod Turns
-pub mod Lengths
 pub mod Numbers
 pub mod Counting
-pub mod Splitting
 pub mod Joining
 pub mod Told
 pub mod Passes

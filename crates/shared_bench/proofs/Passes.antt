@@ -8,28 +8,18 @@ use Rattle.grid_law.specs.declared.no_memory.NoMemory.{NoMemory}
 use Rattle.cell_table.specs.declared.cell.Cell.{Cell}
 use Rattle.cell_table.specs.Claims.{Claimed}
 use Rattle.machine_cells.specs.declared.state.MachineState.{MachineState}
-use Rattle.run_queries.specs.declared.query.Query.{Query}
 use Rattle.project_book.specs.Project.{Project}
-use Rattle.project_book.specs.declared.edit.Edit.{Edit as AnyEdit}
-use Rattle.project_book.specs.declared.fault.EditFault.{EditFault}
-use Rattle.bench_core.specs.declared.asked.Asked.{Asked}
-use Rattle.bench_core.specs.declared.told.Told.{Told}
-use Rattle.bench_core.specs.Asks.{AsksAs}
+use Rattle.project_book.specs.declared.edit.Edit.{Edit as AnyEdit, Edit}
 use Rattle.bench_core.specs.Shown.{Shown, project_of, version_of}
-use Rattle.bench_core.specs.Told.{TellsAt, AnswersAt, RefusesAt}
-use Rattle.shared_bench.specs.Answers.{HasSeen, ClaimsAs, EditsAs}
+use Rattle.shared_bench.specs.Answers.{HasSeen, ClaimsAs, EditsAs, project_at, project_seen}
 use Rattle.project_book.specs.Edits.{accepts, edited as edited_by}
-use Rattle.shared_bench.proofs.Benches.{answers_at}
-use Rattle.project_book.specs.declared.edit.Edit.{Edit}
-use Rattle.shared_bench.specs.Legal.{noted, receipts_of, StartsWith, has}
-use Rattle.shared_bench.specs.Answers.{project_at}
-use Rattle.shared_bench.specs.Rule.{Distinct}
+use Rattle.shared_bench.specs.Legal.{noted, Receipt, receipts_of, StartsWith, has}
+use Rattle.shared_bench.specs.Rule.{Distinct, spent_of}
 use Rattle.shared_bench.specs.declared.view.View.{View}
 use Rattle.shared_bench.specs.declared.view.Stage.{Stage}
-use Rattle.shared_bench.specs.Rule.{spent_of}
+use Rattle.shared_bench.specs.declared.view.Stage.TheVariants.{Idle}
 use Rattle.shared_bench.specs.Turn.{MayCount, HasBench, entered, HasLegal, AtSeat, LooksAt, left_with, counted_in, looked, joined, stage_of, TicketFits}
 use Rattle.shared_bench.specs.Known.{Known, IsLater, IsJoined, IsLegalFor, HasAllNumbers, IsAllItsOwn, SomeIsLegal}
-use Rattle.shared_bench.specs.Answers.{project_seen}
 use Rattle.shared_bench.specs.Inside.{known_of, IsPass}
 use Rattle.shared_bench.proofs.Seats.{starts_refl, starts_trans}
 use Rattle.shared_bench.proofs.Journals.{has_append, distinct_apart, entries_all}
@@ -42,40 +32,39 @@ in_turn z number m m1 m4 d d' h is =
     let e : m4.0 ≡ left_with d' (entered h.0.0 d m.0) = ap (λ (p : AtSeat). p.0) is ∙ ap (λ (p : AtSeat). left_with d' p.0) h.0.1 in
     (sym (ap (λ (v : View). v.seen) e), h.4 ∙ sym (ap (λ (v : View). project_at v.project v.opened v.seen) e))
 
--- what the pass knows after a turn in which the journal stayed
+-- what the pass knows after its turn
+left_later : (z z4 : TableId) (number : ℕ) (m m4 : AtSeat) (d d' : Shown) (seen : List Noted) (receipts : List Receipt) → m4.0 ≡ record m.0 { seen = seen; receipts = receipts; spent = spent_of d'; stage = Idle }
+    → StartsWith seen m.0.seen → (m.0.spent ≡ true → spent_of d' ≡ true) → HasLegal m4.0 → z4 ≡ z → IsLater (known_of z m number) (known_of z4 m4 number)
+left_later z z4 number m m4 d d' seen receipts e starts spent legal same = record {
+  opening = same;
+  project = ap (λ (v : View). v.project) e;
+  opened = ap (λ (v : View). v.opened) e;
+  seats = ap (λ (v : View). v.seats) e;
+  number = refl;
+  seen = subst (λ (l : List Noted). StartsWith l m.0.seen) (sym (ap (λ (v : View). v.seen) e)) starts;
+  spent = λ s. ap (λ (v : View). v.spent) e ∙ spent s;
+  legal = legal;
+}
+
+-- where the journal stayed
 pub turn_later : (z z4 : TableId) (number : ℕ) (m m1 m4 : AtSeat) (d d' : Shown) → HasBench m.0 m1 d → m4 ≡ (left_with d' m1.0, []) → HasLegal m4.0 → z4 ≡ z → (spent_of d ≡ true → spent_of d' ≡ true)
     → IsLater (known_of z m number) (known_of z4 m4 number)
 turn_later z z4 number m m1 m4 d d' h is legal same spent =
     let e : m4.0 ≡ left_with d' (entered h.0.0 d m.0) = ap (λ (p : AtSeat). p.0) is ∙ ap (λ (p : AtSeat). left_with d' p.0) h.0.1 in
-    record {
-      opening = same;
-      project = ap (λ (v : View). v.project) e;
-      opened = ap (λ (v : View). v.opened) e;
-      seats = ap (λ (v : View). v.seats) e;
-      number = refl;
-      seen = subst (λ (l : List Noted). StartsWith l m.0.seen) (sym (ap (λ (v : View). v.seen) e)) h.1;
-      spent = λ s. ap (λ (v : View). v.spent) e ∙ spent (h.2 s);
-      legal = legal;
-    }
+    left_later z z4 number m m4 d d' d.journal m.0.receipts e h.1 (λ s. spent (h.2 s)) legal same
 
 -- a bench with the same journal and project
 pub in_turn_too : (p : Known) (d d' : Shown) → HasSeen p d → d'.journal ≡ d.journal → project_of d' ≡ project_of d → HasSeen p d'
 in_turn_too p d d' t journal project = (journal ∙ t.0, project ∙ t.1)
 
-pub tells_seen : (p : Known) (d : Shown) (q : Query) (r : Told) → HasSeen p d → TellsAt (project_of d) (length d.journal) q r → TellsAt (project_seen p) (length p.seen) q r
-tells_seen p d q r t h = subst (λ (n : ℕ). TellsAt (project_seen p) n q r) (ap length t.0) (subst (λ (P : Project). TellsAt P (length d.journal) q r) t.1 h)
-
-pub answers_seen : (p : Known) (d : Shown) (q : Query) (r : Asked) → HasSeen p d → AsksAs d q r → AnswersAt (project_seen p) (length p.seen) q r
-answers_seen p d q r t h = subst (λ (n : ℕ). AnswersAt (project_seen p) n q r) (ap length t.0) (subst (λ (P : Project). AnswersAt P (length d.journal) q r) t.1 (answers_at d q r h))
-
-pub refused_seen : (p : Known) (d : Shown) (e : AnyEdit) (f : EditFault) → HasSeen p d → RefusesAt (project_of d) (length d.journal) e f → RefusesAt (project_seen p) (length p.seen) e f
-refused_seen p d e f t h = subst (λ (n : ℕ). RefusesAt (project_seen p) n e f) (ap length t.0) (subst (λ (P : Project). RefusesAt P (length d.journal) e f) t.1 h)
+-- what is said of the bench's project and version is said of those that the pass has then seen
+pub said_seen : (Says : Project → ℕ → Type 0) (p : Known) (d : Shown) → HasSeen p d → Says (project_of d) (length d.journal) → Says (project_seen p) (length p.seen)
+said_seen Says p d t h = subst (λ (n : ℕ). Says (project_seen p) n) (ap length t.0) (subst (λ (P : Project). Says P (length d.journal)) t.1 h)
 
 -- a claim's project is the one that the pass has then seen
 pub claim_seen : (p : Known) (d : Shown) (from : Cell) (r : Result (Option (Claimed MachineState Project)) NoMemory) → HasSeen p d → ClaimsAs d from r → IfOk r (λ r. IfSome r (λ claim. claim.slots ≡ project_seen p))
-claim_seen p d from (Err e) t h = tt
-claim_seen p d from (Ok None) t h = tt
 claim_seen p d from (Ok (Some claim)) t h = let is = h.holds in is.slots ∙ t.1
+claim_seen p d from _ t h = tt
 
 -- the bench's version and project are what the pass has then seen
 pub project_told : (p : Known) (d : Shown) (r : Result (ℕ × Project) NoMemory) → HasSeen p d → IfOk r (λ r. (r.0 ≡ length d.journal) × (r.1 ≡ project_of d)) → IfOk r (λ r. (r.0 ≡ length p.seen) × (r.1 ≡ project_seen p))
@@ -96,17 +85,8 @@ seen_in_turn m m1 d a n h = sym (ap (λ (p : AtSeat). p.0.seen ++ noted a n ∷ 
 pub edit_later : (z z4 : TableId) (number : ℕ) (m m1 m4 : AtSeat) (d d' : Shown) (a : ℕ) (n : Edit) → HasBench m.0 m1 d → m4 ≡ (left_with d' (counted_in a n m1.0), []) → HasLegal m4.0 → z4 ≡ z → (spent_of d ≡ true → spent_of d' ≡ true)
     → IsLater (known_of z m number) (known_of z4 m4 number)
 edit_later z z4 number m m1 m4 d d' a n h is legal same spent =
-    let e = edited m m1 m4 d d' a n h is in
-    record {
-      opening = same;
-      project = ap (λ (v : View). v.project) e;
-      opened = ap (λ (v : View). v.opened) e;
-      seats = ap (λ (v : View). v.seats) e;
-      number = refl;
-      seen = subst (λ (l : List Noted). StartsWith l m.0.seen) (sym (ap (λ (v : View). v.seen) e)) (starts_trans m.0.seen d.journal (d.journal ++ noted a n ∷ []) (noted a n ∷ [], refl) h.1);
-      spent = λ s. ap (λ (v : View). v.spent) e ∙ spent (h.2 s);
-      legal = legal;
-    }
+    left_later z z4 number m m4 d d' (d.journal ++ noted a n ∷ []) (m.0.receipts ++ (length d.journal + 1, n) ∷ []) (edited m m1 m4 d d' a n h is)
+    (starts_trans m.0.seen d.journal (d.journal ++ noted a n ∷ []) (noted a n ∷ [], refl) h.1) (λ s. spent (h.2 s)) legal same
 
 pub edit_receipt : (m m1 m4 : AtSeat) (d d' : Shown) (a : ℕ) (n : Edit) (version : ℕ) → HasBench m.0 m1 d → m4 ≡ (left_with d' (counted_in a n m1.0), []) → d'.journal ≡ d.journal ++ noted a n ∷ [] → version ≡ length d'.journal
     → (version ≡ length m4.0.seen) × (m4.0.receipts ≡ m.0.receipts ++ (version, n) ∷ [])

@@ -1,5 +1,5 @@
 -- What the steps told, put together.
-use Rattle.std.proofs.Common.{◌≡◌, true, ◌≢◌, ℕ, ◌+◌, ◌%◌, ◌^◌, false, List, [], ◌∷◌, length, MatchBool, Option, Some, None, Ok, ◌≤◌, sym, refl, ap, ◌∙◌, subst, eq-eqb, ne_eqb, arith, length-append, ◌++◌}
+use Rattle.std.proofs.Common.{◌≡◌, true, ℕ, ◌+◌, ◌%◌, ◌^◌, false, List, [], ◌∷◌, length, MatchBool, Option, Some, None, Ok, ◌≤◌, sym, refl, ap, ◌∙◌, subst, eq-eqb, arith, length-append, ◌++◌}
 use mathlib.Core.Option.{none}
 use Rattle.atomic_table.specs.Table.{step, Allows, rest}
 use Rattle.bench_core.specs.Shown.{Shown, project_of}
@@ -21,9 +21,6 @@ use Rattle.shared_bench.proofs.Counting.{counts_now}
 pub got : (m : AtSeat) (r x t : ℕ) (m' : AtSeat) → m.0.stage ≡ Waiting t → x ≡ t % 2 ^ 64 → r ≡ x → Comes m r m' m.0.stage → HasTurn t m m'
 got m r x t m' is xt hit h = subst (λ b. MatchBool b (HasTurn t m m') (m' ≡ m)) (eq-eqb r (t % 2 ^ 64) (hit ∙ xt)) (subst (Comes m r m') is h)
 
-pub missed : (m : AtSeat) (r x t : ℕ) (m' : AtSeat) → m.0.stage ≡ Waiting t → x ≡ t % 2 ^ 64 → r ≢ x → Comes m r m' m.0.stage → m' ≡ m
-missed m r x t m' is xt miss h = subst (λ b. MatchBool b (HasTurn t m m') (m' ≡ m)) (ne_eqb r (t % 2 ^ 64) (λ e. miss (e ∙ sym xt))) (subst (Comes m r m') is h)
-
 abbrev pub slot_value : List (ℕ × Option Shown) → Option Shown
 slot_value [] = None
 slot_value (x ∷ xs) = x.1
@@ -41,20 +38,15 @@ brought m m' m2 t out h empty was now =
 pub in_hand : (m m' : AtSeat) (t : ℕ) (h : HasTurn t m m') → m'.1 ≡ (0, Some h.0) ∷ rest m'.1
 in_hand m m' t h = ap (λ (p : AtSeat). p.1) h.1 ∙ ap (λ (l : List (ℕ × Option Shown)). (0, Some h.0) ∷ l) (sym (ap (λ (p : AtSeat). rest p.1) h.1))
 
+abbrev in_slot : Shown → List (ℕ × Option Shown)
+in_slot d = (0, Some d) ∷ []
+
+put_in : (m m2 : AtSeat) (d : Shown) → m.1 ≡ (0, None) ∷ [] → m2 ≡ (m.0, (0, Some d) ∷ rest m.1) → m2 ≡ (m.0, in_slot d)
+put_in m m2 d was now = now ∙ (λ i. (m.0, (0, Some d) ∷ rest (was i)))
+
 -- once the bench lies in the slot in hand, the turn may be passed
 pub may_pass : (k : Opening) (slots id : ℕ) (m m2 : AtSeat) (d : Shown) → MayLeave m d → m2 ≡ (m.0, (0, Some d) ∷ rest m.1) → Allows (Kept k) slots id m2 2 (λ n. (n + 1) % 2 ^ 64) (leaves (step slots 2 1 0 none) m2)
-may_pass k slots id m m2 d may now =
-    let is : m2 ≡ (m.0, (0, Some d) ∷ []) = now ∙ (λ i. (m.0, (0, Some d) ∷ rest (may.1 i))) in
-    let P : AtSeat → Type 0 = λ p. Allows (Kept k) slots id p 2 (λ n. (n + 1) % 2 ^ 64) (leaves (step slots 2 1 0 none) p) in
-    subst P (sym is) (leaves_now k slots id (m.0, (0, Some d) ∷ []) may.0.0 may.0.1 d may.0.2 may.3 refl may.2 may.0.3 may.4)
-
--- the seat after the turn was passed
-pub has_left : (m m2 m3 : AtSeat) (d : Shown) → MayLeave m d → m2 ≡ (m.0, (0, Some d) ∷ rest m.1) → ((d' : Shown) → m2.1 ≡ (0, Some d') ∷ [] → (m3 ≡ (left_with d' m2.0, [])) × HasLegal m3.0)
-    → (m3 ≡ (left_with d m.0, [])) × HasLegal m3.0
-has_left m m2 m3 d may now told =
-    let is : m2 ≡ (m.0, (0, Some d) ∷ []) = now ∙ (λ i. (m.0, (0, Some d) ∷ rest (may.1 i))) in
-    let t = told d (ap (λ (p : AtSeat). p.1) is) in
-    (t.0 ∙ (λ i. (left_with d (is i).0, [])), t.1)
+may_pass k slots id m m2 d may now = rw (put_in m m2 d may.1 now) (leaves_now k slots id (m.0, in_slot d) may.0.0 may.0.1 d may.0.2 may.3 refl may.2 may.0.3 may.4)
 
 pub filled : (m m' : AtSeat) (t : ℕ) (d : Shown) → m.0.stage ≡ Filling t (spent_of d) → Fills m m' m.0.stage → m.1 ≡ [] → d.journal ≡ m.0.seen → m.0.gone ≡ false → IsProjectIn m.0 d → MayLeave m' d
 filled m m' t d is told empty same here project =
@@ -67,19 +59,12 @@ may_leave v m d h here = subst (λ (p : AtSeat). MayLeave p d) (sym h.0.1) ((h.0
 
 -- ---- an edit
 
-abbrev in_slot : Shown → List (ℕ × Option Shown)
-in_slot d = (0, Some d) ∷ []
-
-put_in : (m m2 : AtSeat) (d : Shown) → m.1 ≡ (0, None) ∷ [] → m2 ≡ (m.0, (0, Some d) ∷ rest m.1) → m2 ≡ (m.0, in_slot d)
-put_in m m2 d was now = now ∙ (λ i. (m.0, (0, Some d) ∷ rest (was i)))
-
 pub may_count : (k : Opening) (slots id : ℕ) (m m2 : AtSeat) (d : Shown) → MayCount m d → m2 ≡ (m.0, (0, Some d) ∷ rest m.1) → Allows (Kept k) slots id m2 0 (λ n. (n + 1) % 2 ^ 64) (counts (step slots 0 1 0 none) m2)
 may_count k slots id m m2 d may now =
-    let P : AtSeat → Type 0 = λ p. Allows (Kept k) slots id p 0 (λ n. (n + 1) % 2 ^ 64) (counts (step slots 0 1 0 none) p) in
     let e = may.2 in
     let long : length d.journal ≡ length m.0.seen + 1 = ap length e.2 ∙ length-append m.0.seen (noted e.0 e.1 ∷ []) in
     let most = may.3 in
-    subst P (sym (put_in m m2 d may.1 now)) (counts_now k slots id (m.0, in_slot d) may.0.0 may.0.1 d e.0 e.1 may.0.2 refl e.2 e.3 may.4 e.4 (omega arith))
+    rw (put_in m m2 d may.1 now) (counts_now k slots id (m.0, in_slot d) may.0.0 may.0.1 d e.0 e.1 may.0.2 refl e.2 e.3 may.4 e.4 (omega arith))
 
 -- the seat once the entry was counted
 pub has_counted : (m m2 m3 : AtSeat) (d : Shown) (a : ℕ) (n : Edit) → m.1 ≡ (0, None) ∷ [] → m2 ≡ (m.0, (0, Some d) ∷ rest m.1) → d.journal ≡ m.0.seen ++ noted a n ∷ []
@@ -90,9 +75,7 @@ has_counted m m2 m3 d a n was now more told =
     told d a n (ap (λ (p : AtSeat). p.1) is) (more ∙ ap (λ (v : View). v.seen ++ noted a n ∷ []) (sym same)) ∙ (λ i. (counted_in a n (is i).0, (is i).1))
 
 pub may_pass_on : (k : Opening) (slots id : ℕ) (m m3 : AtSeat) (d : Shown) (may : MayCount m d) → m3 ≡ (counted_in may.2.0 may.2.1 m.0, in_slot d) → Allows (Kept k) slots id m3 2 (λ n. (n + 1) % 2 ^ 64) (leaves (step slots 2 1 0 none) m3)
-may_pass_on k slots id m m3 d may is =
-    let P : AtSeat → Type 0 = λ p. Allows (Kept k) slots id p 2 (λ n. (n + 1) % 2 ^ 64) (leaves (step slots 2 1 0 none) p) in
-    subst P (sym is) (leaves_now k slots id (counted_in may.2.0 may.2.1 m.0, in_slot d) may.0.0 may.0.1 d may.0.2 may.4 refl may.2.2 may.0.3 may.5)
+may_pass_on k slots id m m3 d may is = rw is (leaves_now k slots id (counted_in may.2.0 may.2.1 m.0, in_slot d) may.0.0 may.0.1 d may.0.2 may.4 refl may.2.2 may.0.3 may.5)
 
 -- the seat after the turn was passed
 pub has_passed : (m m3 m4 : AtSeat) (d : Shown) (v : View) → m3 ≡ (v, in_slot d) → ((d' : Shown) → m3.1 ≡ (0, Some d') ∷ [] → (m4 ≡ (left_with d' m3.0, [])) × HasLegal m4.0) → (m4 ≡ (left_with d v, [])) × HasLegal m4.0

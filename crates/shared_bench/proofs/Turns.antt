@@ -20,9 +20,9 @@ use Rattle.shared_bench.specs.declared.view.Opening.{Opening}
 use Rattle.shared_bench.specs.declared.view.Stage.{Stage}
 use Rattle.shared_bench.specs.declared.view.Stage.TheVariants.{Idle, Waiting, Serving, Filling}
 use Rattle.shared_bench.specs.Rule.{World, Kept, Fits, StageFits, AtHome, Home, first_project, spent_of, IsServer, count_bits, bit_of, tickets, many, live, journal_of, opened_of, first_view, AuthorsDrawn}
-use Rattle.shared_bench.specs.Turn.{IsProjectIn, staged, took, entered, HasTurn, Comes, comes, HasLegal, Fills, fills, left_with, leaves, IsLegalIn}
+use Rattle.shared_bench.specs.Turn.{IsProjectIn, staged, took, entered, HasTurn, Comes, comes, HasLegal, Fills, fills, left_with, leaves, IsLegalIn, looked, lengths}
 use Rattle.shared_bench.proofs.Journals.{project_since}
-use Rattle.shared_bench.proofs.Seats.{St, Mine, at_length, only_one, seats_stay, sum_set, few_out, put, put_here, put_other, starts_refl, starts_nil}
+use Rattle.shared_bench.proofs.Seats.{St, Mine, at_length, only_one, seats_stay, sum_set, few_out, put, put_here, put_other, starts_refl, starts_nil, Homes}
 
 -- ---- a ticket
 
@@ -33,8 +33,7 @@ one_more w id = record w { issued = w.issued + 1; holder = put w.holder w.issued
 stage_later : (k : Opening) (w : World) (homes : List (maybe.Option (Option Shown))) (id j : ℕ) (seen : List Noted) (st : Stage) → StageFits k w homes j seen st → StageFits k (one_more w id) homes j seen st
 stage_later k w homes id j seen Idle f = tt
 stage_later k w homes id j seen (Waiting t) f = let b = f.1 in (f.0, omega arith, put_other w.holder w.issued id t (λ e. omega arith) ∙ f.2)
-stage_later k w homes id j seen (Serving t was) f = let b = f.1 in (f.0, omega arith, put_other w.holder w.issued id t (λ e. omega arith) ∙ f.2, f.3, f.4, f.5)
-stage_later k w homes id j seen (Filling t was) f = let b = f.1 in (f.0, omega arith, put_other w.holder w.issued id t (λ e. omega arith) ∙ f.2, f.3, f.4, f.5)
+stage_later k w homes id j seen _ f = let b = f.1 in (f.0, omega arith, put_other w.holder w.issued id _ (λ e. omega arith) ∙ f.2, f.3, f.4, f.5)
 
 fits_later : (k : Opening) (w : World) (homes : List (maybe.Option (Option Shown))) (id j bits : ℕ) (v : View) → Fits k w homes j bits v → Fits k (one_more w id) homes j bits v
 fits_later k w homes id j bits v f = record { opened = f.opened; goes_on = f.goes_on; heard = f.heard; distinct = f.distinct; own = f.own; knows = f.knows; owns = f.owns; room = f.room; stage = stage_later k w homes id j v.seen v.stage f.stage }
@@ -43,8 +42,7 @@ fits_later k w homes id j bits v f = record { opened = f.opened; goes_on = f.goe
 server_out : (k : Opening) (w : World) (homes : List (maybe.Option (Option Shown))) (j : ℕ) (seen : List Noted) (st : Stage) → StageFits k w homes j seen st → IsServer st → w.served < w.issued
 server_out k w homes j seen Idle f h = absurd h
 server_out k w homes j seen (Waiting t) f h = absurd h
-server_out k w homes j seen (Serving t was) f h = let a = f.0 in let b = f.1 in omega arith
-server_out k w homes j seen (Filling t was) f h = let a = f.0 in let b = f.1 in omega arith
+server_out k w homes j seen _ f h = let a = f.0 in let b = f.1 in omega arith
 
 -- a server stays one under another's step
 pub home_stays : (k : Opening) (w w' : World) (homes : List (maybe.Option (Option Shown))) (vs : List View) (id : ℕ) (v v' : View) → get_elem? vs id ≡ some v → (IsServer v.stage → ⊥)
@@ -107,8 +105,7 @@ stage_aside k w w' homes homes' id j other turn same issued served seen (Waiting
     let a = f.0 in let b = f.1 in
     let later : t ≢ w.served = (λ e. other (sym f.2 ∙ (ap w.holder e ∙ turn))) in
     (omega arith, omega arith, same t ∙ f.2)
-stage_aside k w w' homes homes' id j other turn same issued served seen (Serving t was) f = absurd (other (sym f.2 ∙ (ap w.holder f.0 ∙ turn)))
-stage_aside k w w' homes homes' id j other turn same issued served seen (Filling t was) f = absurd (other (sym f.2 ∙ (ap w.holder f.0 ∙ turn)))
+stage_aside k w w' homes homes' id j other turn same issued served seen _ f = absurd (other (sym f.2 ∙ (ap w.holder f.0 ∙ turn)))
 
 -- the journal is legal for each view
 pub legal_at : (k : Opening) (w : World) (homes : List (maybe.Option (Option Shown))) (j bits : ℕ) (v : View) → Folds (first_project k) (length (opened_of k)) w.since → AuthorsBelow k.seats w.since → v.gone ≡ false → Fits k w homes j bits v → IsLegalIn v (journal_of k w)
@@ -285,6 +282,45 @@ leaves_now k slots id me t was d is here holds kept spent project s r _ at _ =
       λ d' holds'.
           let same : d ≡ d' = ap (bench_in d) (sym holds ∙ holds') in
           ((λ i. (left_with (same i) me.0, rest (holds i))), p.1),
+    )
+
+-- ---- the length of the journal
+
+stage_seen : (k : Opening) (w : World) (homes : Homes) (j : ℕ) (seen seen' : List Noted) (st : Stage) → (IsServer st → ⊥) → StageFits k w homes j seen st → StageFits k w homes j seen' st
+stage_seen k w homes j seen seen' Idle not f = tt
+stage_seen k w homes j seen seen' (Waiting t) not f = f
+stage_seen k w homes j seen seen' _ not f = absurd (not tt)
+
+pub lengths_seen : (k : Opening) (slots id : ℕ) (me : Mine) → (IsServer me.0.stage → ⊥) → me.0.gone ≡ false → Allows (Kept k) slots id me 0 (λ n. n) (lengths (step slots 0 0 0 none) me)
+lengths_seen k slots id me not here s r _ at _ =
+    let w = r.world in
+    let v : View = me.0 in
+    let v' : View = looked (journal_of k w) v in
+    let f : Fits k w s.homes id (get_or s.words 3 0) v = r.each id v at in
+    let sums = sum_set tickets s.views id v v' at in
+    let manys = sum_set many s.views id v v' at in
+    let mine : Fits k w s.homes id (get_or s.words 3 0) v' = record { opened = f.opened; goes_on = starts_refl (journal_of k w); heard = f.heard; distinct = f.distinct; own = f.own; knows = f.knows; owns = f.owns; room = f.room; stage = stage_seen k w s.homes id v.seen (journal_of k w) v.stage not f.stage } in (
+      v',
+      keeps,
+      tt,
+      subst (λ (ws : List ℕ). Kept k record { words = ws; homes = s.homes; views = set s.views id v' }) (sym (set-get_or s.words 0 0))
+          record {
+            world = w;
+            wide = r.wide;
+            counted = r.counted;
+            tickets_out = r.tickets_out;
+            serving = r.serving;
+            few = r.few;
+            short = r.short;
+            accepted = r.accepted;
+            authors = r.authors;
+            authors_drawn = r.authors_drawn;
+            in_all = let a = r.in_all in omega arith;
+            drawn = let a = r.drawn in omega arith;
+            home = home_stays k w w s.homes s.views id v v' at not refl refl (λ _. refl) (λ u there. (r.each (w.holder w.served) u there).stage) r.home;
+            each = seats_stay (λ j u. Fits k w s.homes j (get_or s.words 3 0) u) s.views id v' mine (λ j u _ there. r.each j u there);
+          },
+      (journal_of k w, refl, r.counted, (let a = r.counted in let b = r.short in omega arith), f.goes_on, f.heard, f.distinct, (journal_of k w, legal_at k w s.homes id (get_or s.words 3 0) v' r.accepted r.authors here mine)),
     )
 
 -- ---- the opening

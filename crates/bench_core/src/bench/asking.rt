@@ -56,7 +56,7 @@ impl Bench {
     }
 
     /// What the run says to a query.
-    #[tactic(auto, using(crate::proofs::Good::good_place))]
+    #[tactic(auto, using(run_queries::proofs::Good::good_place))]
     fn found<R: Threads + Sync>(&self, rt: &R, query: Query) -> Asked
         requires good { bad_query (project_of self.now) query ≡ None }
         requires there { IsUpToDate self.now query }
@@ -113,7 +113,7 @@ impl Bench {
     }
 
     /// How many due cells the answer to a query waits for.
-    #[tactic(auto, using(crate::proofs::Good::good_state, crate::proofs::Good::good_memory, crate::proofs::Good::good_counter, crate::proofs::Good::good_level))]
+    #[tactic(auto, using(run_queries::proofs::Good::good_state, run_queries::proofs::Good::good_memory, run_queries::proofs::Good::good_counter, run_queries::proofs::Good::good_level))]
     fn pending(&self, query: Query) -> Result<u64, NoMemory>
         requires { bad_query (project_of self.now) query ≡ None }
         ensures count { IfOk result (λ n. n ≡ pending self.now query) }

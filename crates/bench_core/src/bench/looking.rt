@@ -17,7 +17,7 @@ use run_queries::{Body, Received, SharedState, has_sent, word_got, word_in};
 
 /// How many references a processor issued in the last steps of so many cycles with this state.
 fn sent_in(state: Option<&MachineState>, cycles: u32) -> u32
-    ensures { result ≡ cycles * (if has_sent (option_copied state.entry) then 1 else 0) }
+    ensures { result ≡ (if has_sent (option_copied state.entry) then cycles else 0) }
 {
     if has_sent(state) { cycles } else { 0 }
 }

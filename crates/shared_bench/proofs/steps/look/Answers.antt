@@ -1,5 +1,5 @@
 use Rattle.std.proofs.Common.{rules}
-use Rattle.shared_bench.proofs.Lengths.{lengths_seen}
+use Rattle.shared_bench.proofs.Turns.{lengths_seen}
 use Rattle.shared_bench.proofs.steps.look.Goals as goal
 
 pub load-requires : goal.load-requires

@@ -37,4 +37,4 @@ returns-clause-next c =
     ]))) c.claim.ensures.next
 
 pub returns-clause-headline_claims : goal.returns-clause-headline_claims
-returns-clause-headline_claims c = claim_stands c.args.self.now c.args.from.cycle c.args.from.component c.claim.result (returns-clause-next c) (rw (← c.self.view_is) c.claim.ensures.holds)
+returns-clause-headline_claims c = claim_stands c.args.self.now c.claim.result (rw (← c.self.view_is) c.claim.ensures.headline_claims)

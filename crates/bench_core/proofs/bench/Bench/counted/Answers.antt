@@ -1,5 +1,4 @@
-use Rattle.std.proofs.Common.{◌≡◌, ◌≤◌, ◌∙◌, ap, arith}
-use Rattle.project_book.specs.Project.{Project}
+use Rattle.std.proofs.Common.{◌≡◌, ◌≤◌, ◌∙◌, arith}
 use Rattle.project_book.specs.Limits.{max_horizon}
 use Rattle.monitor_sums.specs.Sums.{sum_of}
 use Rattle.bench_core.specs.Shown.{IsBench, IsCounted, project_of, present}
@@ -8,7 +7,7 @@ use Rattle.bench_core.proofs.bench.Bench.counted.Goals as goal
 
 pub sum-requires-clause-within : goal.sum-requires-clause-within
 sum-requires-clause-within c =
-    let end : c.horizon-horizon.result ≡ (project_of c.args.self.now).horizon = c.horizon-horizon.ensures.horizon ∙ ap (λ (p : Project). p.horizon) c.project.ensures in
+    let end : c.horizon-horizon.result ≡ (project_of c.args.self.now).horizon = rw c.project.ensures at c.horizon-horizon.ensures.horizon in
     omega (arith, end, c.horizon-horizon.ensures.short, c.requires.within)
 
 pub returns-then-to-horizon : goal.returns-then-to-horizon
@@ -17,7 +16,7 @@ returns-then-to-horizon c =
     let sums = c.sums.result.now in
     let bench : IsBench b.table b.journal = rw (← c.self.view_is) c.self.invariant.0 in
     let counts : IsCounted sums b.table = rw (c.sums.ensures, ← c.self.view_is) c.self.invariant.1 in
-    let end : c.horizon-horizon.result ≡ (project_of b).horizon = c.horizon-horizon.ensures.horizon ∙ ap (λ (p : Project). p.horizon) c.project.ensures in
+    let end : c.horizon-horizon.result ≡ (project_of b).horizon = rw c.project.ensures at c.horizon-horizon.ensures.horizon in
     let to_end : c.args.to ≡ (project_of b).horizon = c.if-to-horizon.true ∙ end in
     let short : (project_of b).horizon ≤ max_horizon = omega (arith, bench.horizon, bench.short) in
     let total : c.total.result ≡ sum_of sums.k c.args.counter (present b.table) c.args.who 0 (project_of b).horizon =

@@ -1,4 +1,4 @@
-use Rattle.std.proofs.Common.{rules, ◌≡◌, ◌+◌, ◌∙◌, sym, ap, subst, arith, ℕ, refl, List, [], ◌∷◌, ◌++◌, length}
+use Rattle.std.proofs.Common.{rules, ◌≡◌, ◌+◌, ◌∙◌, sym, arith, refl, [], ◌∷◌, ◌++◌, length}
 use Rattle.std.proofs.lemmas.List.{length_push}
 use Rattle.std.specs.Option.{unwrap_or}
 use Rattle.cell_table.specs.Touches.{IsAfterTouch}
@@ -10,8 +10,8 @@ use Rattle.project_book.specs.Edits.{edited, new_horizon}
 use Rattle.bench_core.specs.Shown.{IsBench}
 use Rattle.bench_core.proofs.Admitting.{admitted_room}
 use Rattle.bench_core.specs.Stands.{HasHistory}
-use Rattle.bench_core.specs.declared.noted.Noted.{Noted}
-use Rattle.bench_core.proofs.Histories.{history_edited}
+use Rattle.bench_core.specs.Events.{Edited}
+use Rattle.bench_core.proofs.Standing.{stands_edited}
 use Rattle.bench_core.specs.Recent.{AreTold}
 use Rattle.bench_core.proofs.Keeping.{told_later, holds_still}
 use Rattle.bench_core.proofs.Touching.{bench_edited, after_edit, to}
@@ -44,17 +44,13 @@ invariant_of-self-2 c =
     let touched : IsAfterTouch rp3_rules old new next listed (unwrap_or horizon old.horizon) = c.in-Ok-touch.ensures.ok in
     let end = to old new c.self.inside.journal.items c.args.author c.args.edit next listed horizon c.self.invariant.0 is touches moved touched in
     let bench : IsBench new c.push_reserved.new.self.items = search (rules, bench_edited, admitted_room) in
+    let noted : c.push_reserved.new.self.items ≡ c.self.inside.journal.items ++ record { author = c.args.author; edit = c.args.edit } ∷ [] = search rules in
+    let behind = c.self.invariant.2 in
+    let after = after_edit old new c.self.inside.journal.items c.args.author c.args.edit next listed horizon c.self.invariant.0 is touches moved touched in
     let history : HasHistory (record { table = new; journal = c.push_reserved.new.self.items }) =
-    let kept : c.reserve.new.self.items ≡ c.self.inside.journal.items = search rules in
-    subst (λ (l : List Noted). HasHistory (record { table = new; journal = l })) (sym (c.push_reserved.ensures.items ∙ ap (λ (l : List Noted). l ++ record { author = c.args.author; edit = c.args.edit } ∷ []) kept))
-    (history_edited (record { table = old; journal = c.self.inside.journal.items }) (record { table = new; journal = c.self.inside.journal.items ++ record { author = c.args.author; edit = c.args.edit } ∷ [] }) c.args.author c.args.edit (search rules)
-    (after_edit old new c.self.inside.journal.items c.args.author c.args.edit next listed horizon c.self.invariant.0 is touches moved touched) c.self.invariant.2) in
+    rw noted (behind.0, Edited c.args.author c.args.edit after.listed ∷ behind.1, stands_edited behind.0 (record { table = old; journal = c.self.inside.journal.items }) behind.1 behind.2 (record { table = new; journal = c.self.inside.journal.items ++ record { author = c.args.author; edit = c.args.edit } ∷ [] }) c.args.author c.args.edit (search rules) after) in
     let recent : AreTold new.slots (length c.push_reserved.new.self.items) c.self.inside.recent =
-    let kept : c.reserve.new.self.items ≡ c.self.inside.journal.items = search rules in
-    let more : length c.push_reserved.new.self.items ≡ length c.self.inside.journal.items + 1 = ap length c.push_reserved.ensures.items ∙ length_push c.reserve.new.self.items (record { author = c.args.author; edit = c.args.edit }) ∙ ap (λ (l : List Noted). length l + 1) kept in
-    subst (λ (n : ℕ). AreTold new.slots n c.self.inside.recent) (sym more) (told_later old.slots (length c.self.inside.journal.items) c.self.inside.recent c.self.invariant.3 new.slots) in
+    rw (noted, length_push c.self.inside.journal.items (record { author = c.args.author; edit = c.args.edit })) (told_later old.slots (length c.self.inside.journal.items) c.self.inside.recent c.self.invariant.3 new.slots) in
     let at_end : c.horizon-to.result ≡ new.horizon = c.horizon-to.ensures.horizon ∙ sym (touched.horizon ∙ end) in
-    let clears : (at : States) → StandsFor c.self.inside.counters at → StandsFor c.forget.new.self (cleared at (new.horizon + 1) old.horizon) =
-    subst (λ (n : ℕ). (at : States) → StandsFor c.self.inside.counters at → StandsFor c.forget.new.self (cleared at (n + 1) old.horizon)) at_end
-    (subst (λ (n : ℕ). (at : States) → StandsFor c.self.inside.counters at → StandsFor c.forget.new.self (cleared at (c.horizon-to.result + 1) n)) c.horizon-before.ensures c.forget.ensures.stands) in
+    let clears : (at : States) → StandsFor c.self.inside.counters at → StandsFor c.forget.new.self (cleared at (new.horizon + 1) old.horizon) = rw (at_end, c.horizon-before.ensures) at c.forget.ensures.stands in
     (bench, counted_touched c.self.inside.counters c.forget.new.self old new c.self.invariant.1 c.forget.ensures.shape (unwrap_or horizon old.horizon) next listed (sym touches.shape) touched clears, history, recent)

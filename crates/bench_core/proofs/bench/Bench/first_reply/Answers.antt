@@ -1,10 +1,9 @@
 use Rattle.std.proofs.Common.{◌≡◌, ℕ, suc, ◌+◌, ◌<◌, ◌≤◌, ◌∙◌, sym, ap, subst, arith, Option, Some, None}
 use Rattle.std.specs.Option.{option_copied}
 use Rattle.machine_cells.specs.declared.state.MachineState.{MachineState}
-use Rattle.project_book.specs.Project.{Project}
 use Rattle.run_queries.specs.Answers.{word_got, first_reply}
 use Rattle.bench_core.specs.Shown.{project_of, held}
-use Rattle.bench_core.proofs.Looking.{reply_stays, no_reply_until}
+use Rattle.run_queries.proofs.Stretches.{reply_stays, no_reply_until}
 use Rattle.bench_core.proofs.bench.Bench.first_reply.Goals as goal
 
 pub returns-in-Some : goal.returns-in-Some
@@ -13,7 +12,7 @@ returns-in-Some c =
     let at : ℕ → Option MachineState = λ t. held b.table t c.args.proc in
     let state : option_copied c.standing-part.result.state ≡ at c.loop-cycle.cycle = rw (← c.self.view_is) c.standing-part.ensures.state in
     let got : word_got c.args.issue (at c.loop-cycle.cycle) ≡ Some c.in-Some.word = ap (word_got c.args.issue) (sym state) ∙ (sym c.word_got.ensures ∙ c.in-Some.is) in
-    let end : c.horizon-horizon.result ≡ (project_of b).horizon = c.horizon-horizon.ensures.horizon ∙ ap (λ (p : Project). p.horizon) c.project.ensures in
+    let end : c.horizon-horizon.result ≡ (project_of b).horizon = rw c.project.ensures at c.horizon-horizon.ensures.horizon in
     let before : c.loop-cycle.cycle < suc (project_of b).horizon = omega (arith, end, c.loop-cycle-test.true) in
     sym (reply_stays at c.args.issue c.loop-cycle.cycle (suc (project_of b).horizon) c.in-Some.word c.loop-cycle.invariant.none got before)
 
@@ -28,7 +27,7 @@ loop-cycle-preserved c =
     let within : to ≤ b.table.horizon + 1 = rw (← c.self.view_is) c.standing-part.ensures.within in
     let none : word_got c.args.issue (at from) ≡ None = ap (word_got c.args.issue) (sym state) ∙ (sym c.word_got.ensures ∙ c.in-None.is) in
     record {
-      none = no_reply_until at c.args.issue from to c.loop-cycle.invariant.none none c.standing-part.ensures.after same;
+      none = no_reply_until at c.args.issue from to c.loop-cycle.invariant.none none (omega (arith, c.standing-part.ensures.after)) same;
       within = omega (arith, within, c.is_bench.ensures.bench.horizon);
     }
 
@@ -36,6 +35,6 @@ pub returns : goal.returns
 returns c =
     let b = c.args.self.now in
     let at : ℕ → Option MachineState = λ t. held b.table t c.args.proc in
-    let end : c.horizon-horizon.result ≡ (project_of b).horizon = c.horizon-horizon.ensures.horizon ∙ ap (λ (p : Project). p.horizon) c.project.ensures in
+    let end : c.horizon-horizon.result ≡ (project_of b).horizon = rw c.project.ensures at c.horizon-horizon.ensures.horizon in
     let all : c.loop-cycle.cycle ≡ suc (project_of b).horizon = omega (arith, end, c.loop-cycle.invariant.within, c.loop-cycle-test.false) in
     sym (subst (λ n. first_reply at c.args.issue n ≡ None) all c.loop-cycle.invariant.none)

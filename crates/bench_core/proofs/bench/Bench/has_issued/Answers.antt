@@ -1,10 +1,9 @@
-use Rattle.std.proofs.Common.{◌≡◌, ℕ, suc, ◌+◌, ◌-◌, ◌*◌, ◌<◌, ◌≤◌, ◌∙◌, ◌⊎◌, inl, inr, cond, sym, ap, arith, Option}
+use Rattle.std.proofs.Common.{◌≡◌, ℕ, suc, ◌+◌, ◌-◌, ◌<◌, ◌≤◌, ◌⊎◌, inl, inr, cond, arith, Option}
 use Rattle.std.specs.Option.{option_copied}
 use Rattle.machine_cells.specs.declared.state.MachineState.{MachineState}
-use Rattle.project_book.specs.Project.{Project}
 use Rattle.run_queries.specs.Answers.{has_sent, issued}
 use Rattle.bench_core.specs.Shown.{project_of, held}
-use Rattle.bench_core.proofs.Looking.{issued_until, at_most, count_tells}
+use Rattle.run_queries.proofs.Stretches.{issued_until, count_tells}
 use Rattle.bench_core.proofs.bench.Bench.has_issued.Goals.{then-loop-cycle-test+else-count-issue, else-loop-cycle-test}
 use Rattle.bench_core.proofs.bench.Bench.has_issued.Goals as goal
 
@@ -19,12 +18,11 @@ loop-cycle-preserved c =
     let state : option_copied c.standing-part.result.state ≡ at from = rw (← c.self.view_is) c.standing-part.ensures.state in
     let same : (t : ℕ) → from ≤ t → t < to → at t ≡ at from = rw (← c.self.view_is) c.standing-part.ensures.same in
     let within : to ≤ b.table.horizon + 1 = rw (← c.self.view_is) c.standing-part.ensures.within in
-    let more : issued at to ≡ issued at from + (to - from) * cond (has_sent (at from)) 1 0 = issued_until at from to c.standing-part.ensures.after same in
-    let here : sent ≡ (to - from) * cond (has_sent (at from)) 1 0 = c.sent_in-count.ensures ∙ ap (λ s. (to - from) * cond (has_sent s) 1 0) state in
-    let few : (to - from) * cond (has_sent (at from)) 1 0 ≤ to - from = at_most (to - from) (has_sent (at from)) in
-    let less : sent ≤ to - from = omega (arith, here, few) in
+    let more : issued at to ≡ issued at from + cond (has_sent (at from)) (to - from) 0 = issued_until at from to (omega (arith, c.standing-part.ensures.after)) same in
+    let here : sent ≡ cond (has_sent (at from)) (to - from) 0 = rw state at c.sent_in-count.ensures in
+    let less : sent ≤ to - from = grind (arith, here) in
     record {
-      is = ap (λ n. n + sent) inv.is ∙ ap (λ n. issued at from + n) here ∙ sym more;
+      is = omega (arith, inv.is, here, more);
       few = omega (arith, inv.few, less, c.standing-part.ensures.after);
       within = omega (arith, within, c.is_bench.ensures.bench.horizon);
     }
@@ -34,7 +32,7 @@ returns c =
     let b = c.args.self.now in
     let at : ℕ → Option MachineState = λ t. held b.table t c.args.proc in
     let inv = c.loop-cycle.invariant in
-    let end : c.horizon-horizon.result ≡ (project_of b).horizon = c.horizon-horizon.ensures.horizon ∙ ap (λ (p : Project). p.horizon) c.project.ensures in
+    let end : c.horizon-horizon.result ≡ (project_of b).horizon = rw c.project.ensures at c.horizon-horizon.ensures.horizon in
     let known : (c.args.issue < c.loop-cycle.count) ⊎ (c.loop-cycle.cycle ≡ suc (project_of b).horizon) = elim c.loop-cycle-test.branch [
       | then-loop-cycle-test+else-count-issue w ↦ inl w.if-count-issue.false
       | else-loop-cycle-test w ↦ inr (omega (arith, end, inv.within, w.loop-cycle-test.false))

@@ -1,11 +1,12 @@
-use Rattle.std.proofs.Common.{◌≡◌, subst, map}
-use Rattle.std.specs.Prelude.{slice_get}
-use Rattle.project_book.specs.Project.{Project}
+use Rattle.std.proofs.Common.{◌≡◌, sym, ap, map}
+use Rattle.std.specs.Prelude.{slice_get, option_and_then}
+use Rattle.run_queries.specs.declared.body.Body.TheVariants.{Level as IsAt}
+use Rattle.bench_core.specs.declared.asked.Asked.TheVariants.{Answer}
 use Rattle.saturation.specs.Levels.{level}
-use Rattle.bench_core.proofs.Reporting.{level_told}
+use Rattle.bench_core.specs.Shown.{project_of, version_of}
 use Rattle.bench_core.proofs.bench.Bench.level.Goals as goal
 
 pub returns-in-Ok : goal.returns-in-Ok
 returns-in-Ok c =
-    level_told c.args.self.now c.args.net c.args.«module» c.args.cycle (map (λ r. r.now) c.in-Ok.row.items) c.level-level.result c.answered.result c.in-Ok.ensures
-    (subst (λ (P : Project). c.level-level.result ≡ level P c.args.net c.args.«module» (slice_get (map (λ r. r.now) c.in-Ok.row.items))) c.project.ensures (subst (λ xs. c.level-level.result ≡ level c.project.result.now c.args.net c.args.«module» (slice_get (map (λ r. r.now) xs))) c.as_slice.ensures.value c.level-level.ensures)) c.answered.ensures
+    let is : c.level-level.result ≡ level (project_of c.args.self.now) c.args.net c.args.«module» (slice_get (map (λ r. r.now) c.in-Ok.row.items)) = rw (c.as_slice.ensures.value, c.project.ensures) at c.level-level.ensures in
+    rw (c.answered.ensures, is) (ap (λ o. Answer (version_of c.args.self.now) (IsAt (level (project_of c.args.self.now) c.args.net c.args.«module» (λ k. option_and_then (λ S. slice_get S k) o)))) (sym c.in-Ok.ensures))

@@ -1,4 +1,5 @@
-use Rattle.std.proofs.Common.{rules, ◌≡◌, ◌∙◌, refl, ap, sym, arith, length, Err, [], ◌∷◌}
+use Rattle.std.proofs.Common.{rules, refl, Err, [], ◌∷◌}
+use Rattle.cell_table.specs.declared.given.Settled.{Settled}
 use Rattle.cell_table.specs.declared.given.SettleFault.TheVariants.{Memory}
 use Rattle.cell_table.specs.Settling.{SettlesNext}
 use Rattle.cell_table.specs.Events.{Stores}
@@ -7,10 +8,9 @@ use Rattle.cell_table.proofs.Waves.{step_settled}
 use Rattle.grid_law.specs.Run.{run}
 use Rattle.machine_cells.specs.GridRules.{rp3_rules}
 use Rattle.machine_cells.specs.GridLaws.{rp3_laws}
-use Rattle.project_book.specs.Project.{Project}
-use Rattle.bench_core.specs.Shown.{IsBench}
-use Rattle.bench_core.proofs.Histories.{history_settled}
-use Rattle.bench_core.proofs.Keeping.{told_same, holds_still}
+use Rattle.bench_core.specs.Shown.{Shown}
+use Rattle.bench_core.proofs.Happening.{settle_some, history_settled}
+use Rattle.bench_core.proofs.Keeping.{holds_still, inside_still}
 use Rattle.bench_core.proofs.bench.Bench.settle_work.Goals as goal
 
 pub stored-requires : goal.stored-requires
@@ -25,27 +25,18 @@ invariant_of-self c =
     let cell = c.in-Ok-Some.cell in
     let next = of_some (SettlesNext rp3_rules i.table c.settle_work.new.self c.args.from.cycle c.args.from.component) c.in-Ok-Some.field-0 cell c.in-Ok-Some.field-0-is c.in-Ok-Some.ensures.some in
     let after = next.settled.after in
-    let bench : IsBench c.settle_work.new.self i.journal.items = record {
-      horizon = after.horizon ∙ (c.self.invariant.0.horizon ∙ ap (λ (p : Project). p.horizon) (sym after.slots));
-      short = omega (arith, after.horizon, c.self.invariant.0.short);
-      few = c.self.invariant.0.few;
-    } in (
-      bench,
-      c.stored.ensures.1,
-      history_settled (record { table = i.table; journal = i.journal.items }) (record { table = c.settle_work.new.self; journal = i.journal.items }) refl (Err (Memory 1)) tt
-          (Stores cell.cycle cell.component (run rp3_rules i.table.slots cell.cycle cell.component) next.changed ∷ [], λ o h stands. step_settled rp3_rules rp3_laws i.table c.settle_work.new.self c.args.from.cycle c.args.from.component cell next o h stands)
-          c.self.invariant.2,
-      told_same i.table.slots c.settle_work.new.self.slots (length i.journal.items) i.recent after.slots c.self.invariant.3,
-    )
+    let old : Shown = record { table = i.table; journal = i.journal.items } in
+    let new : Shown = record { table = c.settle_work.new.self; journal = i.journal.items } in
+    let one = settle_some old new refl {T = Settled} (Err (Memory 1))
+    (Stores cell.cycle cell.component (run rp3_rules i.table.slots cell.cycle cell.component) next.changed ∷ [], λ o h stands. step_settled rp3_rules rp3_laws i.table c.settle_work.new.self c.args.from.cycle c.args.from.component cell next o h stands) in
+    inside_still i.table c.settle_work.new.self i.counters _ i.journal.items i.recent c.self.invariant after.slots after.horizon c.stored.ensures.1 (history_settled old new (Err (Memory 1)) tt one c.self.invariant.2)
 
 pub invariant_of-self-in-Ok-None : goal.invariant_of-self-in-Ok-None
 invariant_of-self-in-Ok-None c =
     let i = c.self.inside in
-    let same : c.settle_work.new.self ≡ i.table = search rules in
-    holds_still i.table c.settle_work.new.self i.counters i.journal.items i.journal.items i.recent same refl c.self.invariant
+    holds_still i.table c.settle_work.new.self i.counters i.journal.items i.journal.items i.recent (search rules) refl c.self.invariant
 
 pub invariant_of-self-in-Err : goal.invariant_of-self-in-Err
 invariant_of-self-in-Err c =
     let i = c.self.inside in
-    let same : c.settle_work.new.self ≡ i.table = search rules in
-    holds_still i.table c.settle_work.new.self i.counters i.journal.items i.journal.items i.recent same refl c.self.invariant
+    holds_still i.table c.settle_work.new.self i.counters i.journal.items i.journal.items i.recent (search rules) refl c.self.invariant

@@ -20,10 +20,8 @@ returns-in-Some-clause-tells g c =
     let i = c.self.inside in
     let asking : Asking = record { version = c.version-version.result; query = c.args.query } in
     let at : c.version-version.result ≡ length i.journal.items = c.version-version.ensures ∙ ap version_of (sym c.self.view_is) in
-    let was : answer i.table.slots c.args.query ≡ Ok c.in-Some.body = (c.self.invariant.3 (asking, c.in-Some.body) c.in-Some.ensures.kept).1 at in
-    let is : answer (project_of b) c.args.query ≡ Ok c.in-Some.body = ap (λ (s : Shown). answer (project_of s) c.args.query) (sym c.self.view_is) ∙ was in
-    subst (λ (r : Asked). TellsRun b c.args.query r) (sym c.answered.ensures)
-    (subst (λ (s : Shown). TellsRun b c.args.query (Answer (version_of s) c.in-Some.body)) (sym c.self.view_is) (kept_tells b c.args.query c.in-Some.body c.requires.good is))
+    let is : answer (project_of b) c.args.query ≡ Ok c.in-Some.body = rw (← c.self.view_is) ((c.self.invariant.3 (asking, c.in-Some.body) c.in-Some.ensures.kept).1 at) in
+    rw c.answered.ensures (subst (λ (s : Shown). TellsRun b c.args.query (Answer (version_of s) c.in-Some.body)) (sym c.self.view_is) (kept_tells b c.args.query c.in-Some.body c.requires.good is))
 
 pub invariant_of-self-2 : goal.invariant_of-self-2
 invariant_of-self-2 g c =

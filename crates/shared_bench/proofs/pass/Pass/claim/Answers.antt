@@ -1,4 +1,3 @@
-use Rattle.shared_bench.specs.Known.{Known}
 use Rattle.shared_bench.specs.Inside.{known_of}
 use Rattle.shared_bench.proofs.Told.{may_leave}
 use Rattle.shared_bench.proofs.Passes.{in_turn, claim_seen}
@@ -16,6 +15,6 @@ returns-clause-in_turn g c = (
 
 pub returns-clause-project : goal.returns-clause-project
 returns-clause-project g c =
-    let p : Known = known_of c.leave.new.seat.table_id c.leave.new.seat.me c.self.inside.number in
+    let p = known_of c.leave.new.seat.table_id c.leave.new.seat.me c.self.inside.number in
     let t = in_turn c.leave.new.seat.table_id c.self.inside.number c.self.inside.seat.me c.wait_turn-bench.new.seat.me c.leave.new.seat.me c.wait_turn-bench.result c.wait_turn-bench.result c.wait_turn-bench.ensures.bench c.leave.ensures.left in
     claim_seen p c.wait_turn-bench.result c.args.from c.claim-claim.result t c.claim-claim.ensures

@@ -1,7 +1,6 @@
-use Rattle.std.proofs.Common.{◌∙◌, subst, sym}
+use Rattle.std.proofs.Common.{◌∙◌, subst}
 use Rattle.bench_core.specs.Shown.{Shown}
 use Rattle.shared_bench.specs.Turn.{AtSeat, IsLegalIn}
-use Rattle.shared_bench.specs.Known.{Known, IsLegalFor}
 use Rattle.shared_bench.proofs.Told.{legal_before}
 use Rattle.shared_bench.proofs.Passes.{all_own}
 use Rattle.shared_bench.proofs.pass.Pass.close.Goals.{in-Some, in-None}
@@ -16,7 +15,7 @@ returns-in-Some-enter-clause-legal c =
       | in-Some w ↦ subst (λ (p : AtSeat). IsLegalIn p.0 d.journal) (λ i. (w.seat-is i).me) l
       | in-None w ↦ subst (λ (p : AtSeat). IsLegalIn p.0 d.journal) ((λ i. (w.seat-is i).me) ∙ w.take_ticket-ticket.ensures.ticket.2) l
     ] in
-    subst (λ (k : Known). IsLegalFor k c.open.result.journal) c.self.view_is (subst (λ (b : Shown). IsLegalIn c.self.inside.seat.me.0 b.journal) (sym c.open.ensures) at_first)
+    rw (← c.self.view_is, c.open.ensures) at_first
 
 pub returns-in-Some-enter-clause-all : goal.returns-in-Some-enter-clause-all
 returns-in-Some-enter-clause-all c = all_own c.args.self c.open.result.journal (returns-in-Some-enter-clause-legal c)

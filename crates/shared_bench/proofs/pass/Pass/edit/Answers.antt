@@ -1,13 +1,14 @@
-use Rattle.std.proofs.Common.{◌≡◌, ◌∙◌, sym, subst, refl, ap, ℕ, true, length, [], ◌∷◌, ◌++◌}
+use Rattle.std.proofs.Common.{◌≡◌, ◌∙◌, sym, subst, refl, ap, ℕ, true, [], ◌∷◌, ◌++◌}
+use Rattle.bench_core.specs.Told.{RefusesAt}
 use Rattle.shared_bench.specs.Legal.{noted}
 use Rattle.shared_bench.specs.Answers.{IsMet}
 use Rattle.shared_bench.specs.Rule.{spent_of}
 use Rattle.shared_bench.specs.Turn.{MayLeave}
-use Rattle.shared_bench.specs.Known.{Known, IsLater}
+use Rattle.shared_bench.specs.Known.{Known}
 use Rattle.shared_bench.specs.Inside.{known_of}
 use Rattle.shared_bench.proofs.Journals.{absurd_bool}
 use Rattle.shared_bench.proofs.Told.{may_leave, may_edit}
-use Rattle.shared_bench.proofs.Passes.{edit_later, edit_receipt, seen_in_turn, in_turn, in_turn_edited, refused_seen, edits_ok}
+use Rattle.shared_bench.proofs.Passes.{edit_later, edit_receipt, seen_in_turn, in_turn, in_turn_edited, said_seen, edits_ok}
 use Rattle.shared_bench.proofs.pass.Pass.edit.Goals as goal
 
 pub leave-requires-clause-may : goal.leave-requires-clause-may
@@ -29,7 +30,7 @@ returns-in-Ok-clause-later g c =
     let ok = c.in-Ok.ensures in
     let left = c.leave_edited.ensures.left c.self.inside.number c.args.edit (ok.journal ∙ seen_in_turn m m1 d c.self.inside.number c.args.edit h) in
     let spent : spent_of d ≡ true → spent_of c.edit.new.self ≡ true = (λ e. absurd_bool (spent_of d) e ok.clock) in
-    subst (λ (k : Known). IsLater k (known_of c.leave_edited.new.seat.table_id c.leave_edited.new.seat.me c.self.inside.number)) c.self.view_is
+    rw (← c.self.view_is)
     (edit_later c.self.inside.seat.table_id c.leave_edited.new.seat.table_id c.self.inside.number m m1 c.leave_edited.new.seat.me d c.edit.new.self c.self.inside.number c.args.edit h left c.leave_edited.ensures.legal
     (c.leave_edited.ensures.own.0 ∙ c.wait_turn-bench.ensures.own.0) spent)
 
@@ -41,14 +42,13 @@ returns-in-Ok-clause-ok g c =
     let h = c.wait_turn-bench.ensures.bench in
     let ok = c.in-Ok.ensures in
     let left = c.leave_edited.ensures.left c.self.inside.number c.args.edit (ok.journal ∙ seen_in_turn m m1 d c.self.inside.number c.args.edit h) in
-    let r = edit_receipt m m1 c.leave_edited.new.seat.me d c.edit.new.self c.self.inside.number c.args.edit c.in-Ok.version h left ok.journal ok.version in
-    subst (λ (k : Known). (c.in-Ok.version ≡ length c.leave_edited.new.seat.me.0.seen) × (c.leave_edited.new.seat.me.0.receipts ≡ k.receipts ++ (c.in-Ok.version, c.args.edit) ∷ [])) c.self.view_is r
+    rw (← c.self.view_is) (edit_receipt m m1 c.leave_edited.new.seat.me d c.edit.new.self c.self.inside.number c.args.edit c.in-Ok.version h left ok.journal ok.version)
 
 pub returns-in-Err-clause-refused : goal.returns-in-Err-clause-refused
 returns-in-Err-clause-refused g c =
-    let p : Known = known_of c.leave.new.seat.table_id c.leave.new.seat.me c.self.inside.number in
+    let p = known_of c.leave.new.seat.table_id c.leave.new.seat.me c.self.inside.number in
     let t = in_turn c.leave.new.seat.table_id c.self.inside.number c.self.inside.seat.me c.wait_turn-bench.new.seat.me c.leave.new.seat.me c.wait_turn-bench.result c.edit.new.self c.wait_turn-bench.ensures.bench c.leave.ensures.left in
-    refused_seen p c.wait_turn-bench.result c.args.edit c.in-Err.fault t c.in-Err.ensures.refused
+    said_seen (λ P n. RefusesAt P n c.args.edit c.in-Err.fault) p c.wait_turn-bench.result t c.in-Err.ensures.refused
 
 pub returns-in-Ok-clause-in_turn : goal.returns-in-Ok-clause-in_turn
 returns-in-Ok-clause-in_turn g c =

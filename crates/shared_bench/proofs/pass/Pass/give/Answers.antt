@@ -1,5 +1,4 @@
-use Rattle.std.proofs.Common.{◌∙◌, subst}
-use Rattle.shared_bench.specs.Known.{Known, IsLater}
+use Rattle.std.proofs.Common.{◌∙◌}
 use Rattle.shared_bench.specs.Inside.{known_of}
 use Rattle.shared_bench.proofs.Told.{may_leave_changed}
 use Rattle.shared_bench.proofs.Passes.{in_turn, in_turn_too, turn_later}
@@ -13,12 +12,12 @@ leave-requires-clause-may g c =
 pub returns-clause-in_turn : goal.returns-clause-in_turn
 returns-clause-in_turn g c =
     let given = c.give-given.ensures in
-    let p : Known = known_of c.leave.new.seat.table_id c.leave.new.seat.me c.self.inside.number in
+    let p = known_of c.leave.new.seat.table_id c.leave.new.seat.me c.self.inside.number in
     let t = in_turn c.leave.new.seat.table_id c.self.inside.number c.self.inside.seat.me c.wait_turn-bench.new.seat.me c.leave.new.seat.me c.wait_turn-bench.result c.give-given.new.self c.wait_turn-bench.ensures.bench c.leave.ensures.left in
     (c.wait_turn-bench.result, c.give-given.new.self, (t, c.wait_turn-bench.ensures.history), (in_turn_too p c.wait_turn-bench.result c.give-given.new.self t given.journal given.project, given.history), given.gives)
 
 pub returns-clause-later : goal.returns-clause-later
 returns-clause-later g c =
-    subst (λ (k : Known). IsLater k (known_of c.leave.new.seat.table_id c.leave.new.seat.me c.self.inside.number)) c.self.view_is
+    rw (← c.self.view_is)
     (turn_later c.self.inside.seat.table_id c.leave.new.seat.table_id c.self.inside.number c.self.inside.seat.me c.wait_turn-bench.new.seat.me c.leave.new.seat.me c.wait_turn-bench.result c.give-given.new.self
     c.wait_turn-bench.ensures.bench c.leave.ensures.left c.leave.ensures.legal (c.leave.ensures.own.0 ∙ c.wait_turn-bench.ensures.own.0) c.give-given.ensures.kept)

@@ -1,7 +1,5 @@
 use Rattle.std.proofs.Common.{rules, ◌∙◌, sym, subst, ℕ, Option}
 use Rattle.shared_bench.specs.Turn.{TicketFits, stage_of}
-use Rattle.shared_bench.specs.Known.{Known, IsJoined}
-use Rattle.shared_bench.specs.Inside.{known_of}
 use Rattle.shared_bench.proofs.Joining.{joins}
 use Rattle.shared_bench.proofs.Told.{not_server}
 use Rattle.shared_bench.proofs.Passes.{first_ticket, second_ticket, joined_pass, joined_knows}
@@ -37,8 +35,6 @@ pub returns : goal.returns
 returns c =
     let m = c.self.inside.seat.me in
     let u = c.other.inside.seat.me in
-    let z' = c.look.new.seat.table_id in
-    subst (λ (k : Known). IsJoined k c.args.other (known_of z' c.look.new.seat.me c.self.inside.number)) c.self.view_is
-    (subst (λ (k : Known). IsJoined (known_of c.self.inside.seat.table_id m c.self.inside.number) k (known_of z' c.look.new.seat.me c.self.inside.number)) c.other.view_is
-    (joined_knows m u c.join_seat.new.seat.me c.look.new.seat.me c.look.result c.join_seat.ensures.2 c.look.ensures.seen c.self.inside.seat.table_id c.other.inside.seat.table_id z' c.self.inside.number c.other.inside.number
-    (c.look.ensures.own.0 ∙ c.join_seat.ensures.0)))
+    rw (← c.self.view_is, ← c.other.view_is)
+    (joined_knows m u c.join_seat.new.seat.me c.look.new.seat.me c.look.result c.join_seat.ensures.2 c.look.ensures.seen c.self.inside.seat.table_id c.other.inside.seat.table_id c.look.new.seat.table_id c.self.inside.number c.other.inside.number
+    (c.look.ensures.own.0 ∙ c.join_seat.ensures.0))

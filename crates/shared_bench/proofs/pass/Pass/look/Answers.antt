@@ -1,9 +1,10 @@
 use Rattle.std.proofs.Common.{sym, subst}
+use Rattle.bench_core.specs.Told.{AnswersAt}
+use Rattle.bench_core.proofs.Answered.{answers_at}
 use Rattle.shared_bench.specs.Turn.{MayLeave}
-use Rattle.shared_bench.specs.Known.{Known}
 use Rattle.shared_bench.specs.Inside.{known_of}
 use Rattle.shared_bench.proofs.Told.{may_leave}
-use Rattle.shared_bench.proofs.Passes.{in_turn, answers_seen}
+use Rattle.shared_bench.proofs.Passes.{in_turn, said_seen}
 use Rattle.shared_bench.proofs.pass.Pass.look.Goals as goal
 
 pub leave-requires-clause-may : goal.leave-requires-clause-may
@@ -20,6 +21,6 @@ returns-clause-in_turn g c = (
 
 pub returns-clause-answer : goal.returns-clause-answer
 returns-clause-answer g c =
-    let p : Known = known_of c.leave.new.seat.table_id c.leave.new.seat.me c.self.inside.number in
+    let p = known_of c.leave.new.seat.table_id c.leave.new.seat.me c.self.inside.number in
     let t = in_turn c.leave.new.seat.table_id c.self.inside.number c.self.inside.seat.me c.wait_turn-bench.new.seat.me c.leave.new.seat.me c.wait_turn-bench.result c.look-asked.new.self c.wait_turn-bench.ensures.bench c.leave.ensures.left in
-    answers_seen p c.wait_turn-bench.result c.args.query c.look-asked.result t c.look-asked.ensures.asks
+    said_seen (λ P n. AnswersAt P n c.args.query c.look-asked.result) p c.wait_turn-bench.result t (answers_at c.wait_turn-bench.result c.args.query c.look-asked.result c.look-asked.ensures.asks)

@@ -1,0 +1,56 @@
+-- What a good query names is there.
+use Rattle.std.proofs.Common.{◌≡◌, ℕ, ◌<◌, ◌≤◌, subst, arith, true, Option, None, Some}
+use Rattle.std.specs.Option.{ForSome}
+use Rattle.std.proofs.lemmas.Bool.Decides.{nat_tests}
+use Rattle.page_map.specs.Limits.{address_count}
+use Rattle.omega_net.specs.Numbers.{lines, components}
+use Rattle.omega_net.specs.declared.component.Net.{Net}
+use Rattle.monitor_sums.specs.declared.counter.Counter.{Counter as WhichCounter}
+use Rattle.project_book.specs.Project.{Project}
+use Rattle.run_queries.specs.declared.query.Query.TheVariants.{Reply, State, Memory, Counter, Profile, Tree, Level, Place}
+use Rattle.run_queries.specs.Bad.{is_who, bad_query}
+
+pub record GoodState (P : Project) (c t : ℕ) : Type 0 where
+  pub component : c < components P.k
+  pub cycle : t ≤ P.horizon
+
+pub record GoodMemory (P : Project) (a t : ℕ) : Type 0 where
+  pub cycle : t ≤ P.horizon
+  pub address : a < address_count
+
+pub record GoodCounter (P : Project) (who : Option ℕ) (from to : ℕ) : Type 0 where
+  pub asked : ForSome who (λ c. c < components P.k)
+  pub window : from ≤ to
+  pub within : to ≤ P.horizon
+
+pub record GoodLevel (P : Project) (m t : ℕ) : Type 0 where
+  pub «module» : m < lines P.k
+  pub cycle : t ≤ P.horizon
+
+pub good_state : (P : Project) (c t : ℕ) → bad_query P (State c t) ≡ None → GoodState P c t
+good_state P c t h = grind (arith, nat_tests)
+
+pub good_memory : (P : Project) (a t : ℕ) → bad_query P (Memory a t) ≡ None → GoodMemory P a t
+good_memory P a t h = grind (arith, nat_tests)
+
+pub good_place : (P : Project) (a : ℕ) → bad_query P (Place a) ≡ None → a < address_count
+good_place P a h = grind (arith, nat_tests)
+
+pub good_reply : (P : Project) (p n : ℕ) → bad_query P (Reply p n) ≡ None → p < components P.k
+good_reply P p n h = let lt : p < lines P.k = grind (arith, nat_tests) in omega arith
+
+is_there : (k : ℕ) (who : Option ℕ) → is_who k who ≡ true → ForSome who (λ c. c < components k)
+is_there k None e = λ d eq. cc
+is_there k (Some c) e = λ d eq. let same : c ≡ d = cc in let lt : c < components k = grind (arith, nat_tests) in subst (λ m. m < components k) same lt
+
+pub good_counter : (P : Project) (counter : WhichCounter) (who : Option ℕ) (from to : ℕ) → bad_query P (Counter counter who from to) ≡ None → GoodCounter P who from to
+good_counter P counter who from to h = record { asked = is_there P.k who (grind (arith, nat_tests)); window = grind (arith, nat_tests); within = grind (arith, nat_tests) }
+
+pub good_profile : (P : Project) (net : Net) (stage : ℕ) → bad_query P (Profile net stage) ≡ None → stage < P.k
+good_profile P net stage h = grind (arith, nat_tests)
+
+pub good_tree : (P : Project) (net : Net) (m : ℕ) → bad_query P (Tree net m) ≡ None → m < lines P.k
+good_tree P net m h = grind (arith, nat_tests)
+
+pub good_level : (P : Project) (net : Net) (m t : ℕ) → bad_query P (Level net m t) ≡ None → GoodLevel P m t
+good_level P net m t h = grind (arith, nat_tests)
