@@ -1,3 +1,4 @@
+pub mod Draws
 pub mod Lines
 pub mod Rows
 pub mod Waits

@@ -14,7 +14,7 @@ use Rattle.machine_cells.specs.Runs.{state_in}
 use Rattle.run_queries.specs.Answers.{has_sent}
 use Rattle.experiments.specs.declared.load.Load.{Load}
 use Rattle.experiments.specs.declared.delays.ColdWaits.{ColdWaits}
-use Rattle.experiments.specs.Loads.{IsLoaded}
+use Rattle.experiments.specs.Loads.{loaded}
 
 -- the cycles before t whose state shows that processor p just issued a reference, upwards: at place n that of issue n
 abbrev pub issue_cycles : (ℕ → ℕ → Option MachineState) → ℕ → ℕ → List ℕ
@@ -44,7 +44,8 @@ abbrev pub waits : Project → (ℕ → ℕ → Option MachineState) → ℕ →
 waits P at from to = flat_map (waits_of P at from to) (below (2 ^ P.k))
 
 -- so many replies came to references that aren't hot, and took so many cycles in all, from a cycle to the last one in the
--- run of a project of the load
+-- run of the load's project
 abbrev pub IsWaited : Load → ℕ → ColdWaits → Type 0
 IsWaited load from w =
-    (P : Project) × IsLoaded load P × (w.count ≡ length (waits P (state_in (run P)) from load.cycles)) × (w.cycles ≡ sum (waits P (state_in (run P)) from load.cycles))
+    (w.count ≡ length (waits (loaded load) (state_in (run (loaded load))) from load.cycles))
+    × (w.cycles ≡ sum (waits (loaded load) (state_in (run (loaded load))) from load.cycles))

@@ -1,10 +1,15 @@
 -- Scripts in which a share of the references is hot.
-use Rattle.std.specs.Prelude.{◌≡◌, ℕ, ◌+◌, ◌%◌, nat_lt, Bool, if◌then◌else◌, None, Ok, replicate}
+use Rattle.std.specs.Prelude.{◌≡◌, ℕ, zero, suc, ◌+◌, ◌%◌, ◌^◌, nat_lt, Bool, if◌then◌else◌, List, [], ◌∷◌, None, Ok, map, replicate}
+use Rattle.rand_pcg.specs.Lcg.{Lcg, started, increment_of}
+use Rattle.rand_pcg.specs.Pcg.{multiplier_64, pcg32}
 use Rattle.word_ops.specs.declared.kind.Kind.TheVariants.{Load as LoadOf, Add as AddOf}
 use Rattle.omega_net.specs.declared.script.ScriptEntry.{ScriptEntry}
 use Rattle.omega_net.specs.declared.script.ScriptEntry.TheVariants.{Reference}
+use Rattle.omega_net.specs.Wires.{below}
 use Rattle.page_map.specs.Limits.{max_k}
+use Rattle.page_map.specs.Pages.{whole_pages}
 use Rattle.project_book.specs.Project.{Project}
+use Rattle.project_book.specs.Queues.{usual_depths, usual_wait}
 use Rattle.monitor_sums.specs.declared.counter.Counter.TheVariants.{Served}
 use Rattle.run_queries.specs.declared.query.Query.TheVariants.{Counter as CountOf}
 use Rattle.run_queries.specs.declared.body.Body.TheVariants.{Count as Counts}
@@ -19,14 +24,30 @@ drawn sync hot first second =
     then Reference sync (record { kind = AddOf; operand = 1 }) 0 1
     else Reference sync (record { kind = LoadOf; operand = 0 }) (256 + second % 256) 1
 
--- an entry that some two numbers make
-abbrev pub IsDrawn : Bool → ℕ → ScriptEntry → Type 0
-IsDrawn sync hot entry = (first : ℕ) × (second : ℕ) × (entry ≡ drawn sync hot first second)
+-- the next n references, each made by the next two numbers of a generator
+unfoldable pub next_drawn : Bool → ℕ → ℕ → Lcg → List ScriptEntry
+next_drawn sync hot zero g = []
+next_drawn sync hot (suc n) g =
+    drawn sync hot (pcg32 g).0 (pcg32 (pcg32 g).1).0 ∷ next_drawn sync hot n (pcg32 (pcg32 g).1).1
 
--- a project is of the load's machine, with 8 references unanswered at once, and each stage combines or none
-abbrev pub IsLoaded : Load → Project → Type 0
-IsLoaded load P = (P.k ≡ load.k) × (P.horizon ≡ load.cycles) × (P.window ≡ 8) × (P.combine ≡ replicate max_k load.combine)
+-- a processor's script: 256 references, drawn from the load's seed by the stream of the processor's number
+abbrev pub script_drawn : Load → ℕ → List ScriptEntry
+script_drawn load p = next_drawn load.sync load.hot 256 (started 64 multiplier_64 load.seed (increment_of 64 p))
 
--- so many requests are served from a cycle to the last one in the run of a project of the load
+-- THE PROJECT OF A LOAD: its scripts, 8 references unanswered at once, the usual depths, and each stage combines or none
+abbrev pub loaded : Load → Project
+loaded load = record {
+  k = load.k;
+  horizon = load.cycles;
+  window = 8;
+  depths = usual_depths;
+  wait = usual_wait;
+  combine = replicate max_k load.combine;
+  pages = whole_pages load.k;
+  words = [];
+  scripts = map (script_drawn load) (below (2 ^ load.k));
+}
+
+-- so many requests are served from a cycle to the last one in the run of the load's project
 abbrev pub IsServed : Load → ℕ → ℕ → Type 0
-IsServed load from n = (P : Project) × IsLoaded load P × (answer P (CountOf Served None from load.cycles) ≡ Ok (Counts n))
+IsServed load from n = answer (loaded load) (CountOf Served None from load.cycles) ≡ Ok (Counts n)

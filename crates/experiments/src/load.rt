@@ -1,9 +1,10 @@
 //! Loads: scripts in which a share of the references is hot.
-ghost use Rattle.std.specs.Prelude.{◌≡◌, ◌<◌, ◌≤◌, ◌^◌, IfOk, All, length};
+ghost use Rattle.std.specs.Prelude.{◌≡◌, ◌<◌, ◌≤◌, ◌^◌, IfOk, length, map};
+ghost use Rattle.omega_net.specs.Wires.{below};
 ghost use Rattle.page_map.specs.Limits.{max_k};
 ghost use Rattle.project_book.specs.Limits.{max_horizon};
 ghost use Rattle.project_book.specs.Scripts.{IsEntry, IsScript};
-ghost use Rattle.experiments.specs.Loads.{drawn, IsDrawn, IsLoaded};
+ghost use Rattle.experiments.specs.Loads.{drawn, loaded, script_drawn};
 
 use grid_law::NoMemory;
 use omega_net::ScriptEntry;
@@ -12,7 +13,7 @@ use project_book::{
     FirstWords, MAX_WINDOW, Parts, Project, QueueDepths, STAGES, Scripts, USUAL_WAIT,
 };
 use rand_pcg::Pcg32;
-use rand_pcg::rand_core::Rng;
+use rand_pcg::rand_core::utils::NextWord;
 use std::alloc::{AllocError, Global};
 use word_ops::{Kind, Op};
 
@@ -75,14 +76,14 @@ pub fn drawn(sync: bool, hot: u32, first: u32, second: u32) -> ScriptEntry
 /// draws the same numbers whatever the share of the hot ones.
 fn script(alloc: Global, load: Load, proc: u32) -> Result<Vec<ScriptEntry>, AllocError>
     ensures script { IfOk result (λ es. IsScript es.items) }
-    ensures drawn { IfOk result (λ es. All (IsDrawn load.sync load.hot) es.items) }
+    ensures drawn { IfOk result (λ es. es.items ≡ script_drawn load proc) }
 {
     let mut generator = Pcg32::new(load.seed, u64::from(proc));
     let mut entries = Vec::new(alloc);
     'drawn: for count in 0..256u32 {
         let _nth = count;
-        let first = generator.next_u32();
-        let second = generator.next_u32();
+        let first = generator.next_word();
+        let second = generator.next_word();
         entries.push(drawn(load.sync, load.hot, first, second))?;
     }
     Ok(entries)
@@ -92,6 +93,7 @@ fn script(alloc: Global, load: Load, proc: u32) -> Result<Vec<ScriptEntry>, Allo
 fn scripts(alloc: Global, load: Load) -> Result<Scripts, NoMemory>
     requires { load.k ≤ max_k }
     ensures count { IfOk result (λ all. length all ≡ 2 ^ load.k) }
+    ensures drawn { IfOk result (λ all. all ≡ map (script_drawn load) (below (2 ^ load.k))) }
 {
     let count = 1 << load.k;
     let mut all = Scripts::new(alloc, count)?;
@@ -101,7 +103,8 @@ fn scripts(alloc: Global, load: Load) -> Result<Scripts, NoMemory>
     Ok(all)
 }
 
-/// The project of a load: its scripts, a window of 8 references, the usual depths, and combining at each stage or none.
+/// The project of a load: its scripts, a window of 8 references, the usual depths, every page spread over all modules, and
+/// combining at each stage or none.
 /// The conditions are that there is such a machine, and that the cycles are within the limit of a horizon.
 ///
 /// # Errors
@@ -110,7 +113,7 @@ fn scripts(alloc: Global, load: Load) -> Result<Scripts, NoMemory>
 pub fn project_of(alloc: Global, load: Load) -> Result<Project, NoMemory>
     requires k { load.k ≤ max_k }
     requires cycles { load.cycles ≤ max_horizon }
-    ensures { IfOk result (IsLoaded load) }
+    ensures { IfOk result (λ project. project ≡ loaded load) }
 {
     let scripts = scripts(alloc, load)?;
     let pages = PageMap::new(load.k);

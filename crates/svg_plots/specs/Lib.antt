@@ -1,2 +1,4 @@
 pub mod Entities
 pub mod Places
+pub mod Texts
+pub mod Ticks

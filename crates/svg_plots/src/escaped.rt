@@ -1,7 +1,8 @@
 //! Text in a document.
-ghost use Rattle.std.specs.Prelude.{◌≡◌, IfSome, IfNone, option_map, codes};
-ghost use Rattle.std.specs.Option.{option_copied};
+ghost use Rattle.std.specs.Prelude.{◌≡◌, option_map, Some};
+ghost use Rattle.std.specs.Fmt.{WritesOnOk};
 ghost use Rattle.svg_plots.specs.Entities.{entity_of};
+ghost use Rattle.svg_plots.specs.Texts.{escaped_text};
 
 use std::fmt;
 
@@ -23,14 +24,22 @@ pub fn entity(character: char) -> Option<&'static str>
 #[derive(Clone, Copy)]
 pub struct Escaped<'a>(pub &'a str);
 
-impl fmt::Display for Escaped<'_> {
-    fn fmt<W: fmt::Write>(&self, f: &mut fmt::Formatter<W>) -> fmt::Result {
-        for character in self.0.chars() {
-            match entity(character) {
-                Some(text) => f.write_str(text)?,
-                None => f.write_char(character)?,
-            }
+fn write_escaped<W: fmt::Write>(f: &mut fmt::Formatter<W>, text: &str) -> fmt::Result
+    ensures { WritesOnOk W.write_str_gives f.old result (escaped_text text.now) f.new }
+{
+    for character in text.chars() {
+        match entity(character) {
+            Some(text) => f.write_str(text)?,
+            None => f.write_char(character)?,
         }
-        Ok(())
+    }
+    Ok(())
+}
+
+impl fmt::Display for Escaped<'_> {
+    ghost output = { λ text. Some (escaped_text text.0.now) };
+
+    fn fmt<W: fmt::Write>(&self, f: &mut fmt::Formatter<W>) -> fmt::Result {
+        write_escaped(f, self.0)
     }
 }

@@ -1,7 +1,11 @@
 //! An SVG document that grows.
+ghost use Rattle.std.specs.Prelude.{◌≡◌, ◌++◌, IfOk, OnOk, Some, string_bytes};
+ghost use Rattle.svg_plots.specs.Texts.{anchor_text, cell_text, closing_text, dashes_text, frame_text, line_text, mark_text, marked_text, opening_text, path_text, spots_text, stroke_text, weight_text, words_text, writing_text};
+
 use crate::{Escaped, Tenths};
 use std::alloc::{AllocError, Global};
 use std::fmt;
+use std::marker::Model;
 
 /// A place in tenths of a pixel, from the left and from the top.
 #[derive(Clone, Copy, PartialEq, Eq, Debug)]
@@ -19,8 +23,21 @@ pub struct Stroke {
     pub dashed: bool,
 }
 
+#[tactic(auto, unfolding(crate::specs::Texts::dashes_text))]
+fn dashes(dashed: bool) -> &'static str
+    ensures { result.now ≡ dashes_text dashed }
+{
+    if dashed {
+        " stroke-dasharray=\"5 4\""
+    } else {
+        ""
+    }
+}
+
 /// A stroke prints as the attributes of an element.
 impl fmt::Display for Stroke {
+    ghost output = { λ stroke. Some (stroke_text stroke) };
+
     fn fmt<W: fmt::Write>(&self, f: &mut fmt::Formatter<W>) -> fmt::Result {
         let Stroke {
             colour,
@@ -28,11 +45,8 @@ impl fmt::Display for Stroke {
             dashed,
         } = *self;
         let width = Tenths(width);
-        write!(f, "stroke=\"{colour}\" stroke-width=\"{width}\"")?;
-        if dashed {
-            write!(f, " stroke-dasharray=\"5 4\"")?;
-        }
-        Ok(())
+        let dashes = dashes(dashed);
+        write!(f, "stroke=\"{colour}\" stroke-width=\"{width}\"{dashes}")
     }
 }
 
@@ -45,6 +59,9 @@ pub enum Anchor {
 }
 
 impl fmt::Display for Anchor {
+    ghost output = { λ anchor. Some (anchor_text anchor) };
+
+    #[tactic(auto, unfolding(crate::specs::Texts::anchor_text))]
     fn fmt<W: fmt::Write>(&self, f: &mut fmt::Formatter<W>) -> fmt::Result {
         match self {
             Anchor::Start => write!(f, "start"),
@@ -54,12 +71,30 @@ impl fmt::Display for Anchor {
     }
 }
 
-/// How a text is written: which end stands at its place, its size in pixels, and whether it is bold.
+/// How a text is written: which end stands at its place, its size in pixels, and whether it is bold. It prints as the
+/// attributes of an element.
 #[derive(Clone, Copy, PartialEq, Eq, Debug)]
 pub struct Writing {
     pub anchor: Anchor,
     pub size: u8,
     pub bold: bool,
+}
+
+#[tactic(auto, unfolding(crate::specs::Texts::weight_text))]
+fn weight(bold: bool) -> &'static str
+    ensures { result.now ≡ weight_text bold }
+{
+    if bold { " font-weight=\"bold\"" } else { "" }
+}
+
+impl fmt::Display for Writing {
+    ghost output = { λ how. Some (writing_text how) };
+
+    fn fmt<W: fmt::Write>(&self, f: &mut fmt::Formatter<W>) -> fmt::Result {
+        let Writing { anchor, size, bold } = *self;
+        let weight = weight(bold);
+        write!(f, "font-size=\"{size}\" text-anchor=\"{anchor}\"{weight}")
+    }
 }
 
 /// A mark at a point of a curve. It prints as the path that draws it from its middle.
@@ -88,6 +123,9 @@ impl Mark {
 }
 
 impl fmt::Display for Mark {
+    ghost output = { λ mark. Some (mark_text mark) };
+
+    #[tactic(auto, unfolding(crate::specs::Texts::mark_text))]
     fn fmt<W: fmt::Write>(&self, f: &mut fmt::Formatter<W>) -> fmt::Result {
         match self {
             Mark::Circle => write!(f, "m-3.5 0a3.5 3.5 0 1 0 7 0a3.5 3.5 0 1 0 -7 0z"),
@@ -101,10 +139,29 @@ impl fmt::Display for Mark {
     }
 }
 
-/// An SVG document that grows. Each call adds one element, where memory isn't refused.
+/// An SVG document that grows. Each call adds one element, where memory isn't refused. Contracts see its text.
 #[derive(Drop)]
 pub struct Picture {
     text: String,
+}
+
+impl Model for Picture {
+    ghost use Rattle.std.specs.Prelude.{ℕ, List, string_bytes};
+
+    ghost Value = { List ℕ };
+
+    ghost view = { λ picture. string_bytes picture.text };
+}
+
+/// Adds places, each with a space behind it.
+fn write_spots(text: &mut String, spots: &[Spot]) -> Result<(), AllocError>
+    ensures { OnOk result (string_bytes text.new ≡ string_bytes text.old ++ spots_text spots.now) }
+{
+    for spot in spots {
+        let (x, y) = (Tenths(spot.x), Tenths(spot.y));
+        write!(text, "{x},{y} ")?;
+    }
+    Ok(())
 }
 
 impl Picture {
@@ -113,17 +170,18 @@ impl Picture {
     /// # Errors
     ///
     /// Where a growth was refused. What was taken is given back.
-    pub fn new(alloc: Global, width: u16, height: u16, title: &str) -> Result<Picture, AllocError> {
+    pub fn new(alloc: Global, width: u16, height: u16, title: &str) -> Result<Picture, AllocError>
+        ensures { IfOk result (λ picture. picture ≡ opening_text width height title.now) }
+    {
         let mut text = String::new(alloc);
         writeln!(
             text,
             "<svg xmlns=\"http://www.w3.org/2000/svg\" width=\"{width}\" height=\"{height}\" viewBox=\"0 0 {width} {height}\" font-family=\"Helvetica, Arial, sans-serif\" fill=\"#1a1a1a\">"
         )?;
         let title = Escaped(title);
-        writeln!(text, "<title>{title}</title>")?;
         writeln!(
             text,
-            "<rect width=\"{width}\" height=\"{height}\" fill=\"#ffffff\"/>"
+            "<title>{title}</title>\n<rect width=\"{width}\" height=\"{height}\" fill=\"#ffffff\"/>"
         )?;
         Ok(Picture { text })
     }
@@ -133,7 +191,9 @@ impl Picture {
     /// # Errors
     ///
     /// Where a growth was refused. The document may have a part of it then, and is to be dropped.
-    pub fn line(&mut self, from: Spot, to: Spot, stroke: Stroke) -> Result<(), AllocError> {
+    pub fn line(&mut self, from: Spot, to: Spot, stroke: Stroke) -> Result<(), AllocError>
+        ensures { OnOk result (self.new ≡ self.old ++ line_text from to stroke) }
+    {
         let (x, y) = (Tenths(from.x), Tenths(from.y));
         let (to_x, to_y) = (Tenths(to.x), Tenths(to.y));
         writeln!(
@@ -153,7 +213,9 @@ impl Picture {
         width: u32,
         height: u32,
         fill: &'static str,
-    ) -> Result<(), AllocError> {
+    ) -> Result<(), AllocError>
+        ensures { OnOk result (self.new ≡ self.old ++ cell_text at width height fill.now) }
+    {
         let (x, y) = (Tenths(at.x), Tenths(at.y));
         let (width, height) = (Tenths(width), Tenths(height));
         writeln!(
@@ -167,7 +229,9 @@ impl Picture {
     /// # Errors
     ///
     /// Where a growth was refused. The document may have a part of it then, and is to be dropped.
-    pub fn frame(&mut self, from: Spot, to: Spot, stroke: Stroke) -> Result<(), AllocError> {
+    pub fn frame(&mut self, from: Spot, to: Spot, stroke: Stroke) -> Result<(), AllocError>
+        ensures { OnOk result (self.new ≡ self.old ++ frame_text from to stroke) }
+    {
         let (x, y) = (Tenths(from.x), Tenths(from.y));
         let width = Tenths(to.x.saturating_sub(from.x));
         let height = Tenths(to.y.saturating_sub(from.y));
@@ -182,15 +246,12 @@ impl Picture {
     /// # Errors
     ///
     /// Where a growth was refused. The document may have a part of it then, and is to be dropped.
-    pub fn words(&mut self, at: Spot, how: Writing, words: &str) -> Result<(), AllocError> {
+    pub fn words(&mut self, at: Spot, how: Writing, words: &str) -> Result<(), AllocError>
+        ensures { OnOk result (self.new ≡ self.old ++ words_text at how words.now) }
+    {
         let (x, y) = (Tenths(at.x), Tenths(at.y));
-        let Writing { anchor, size, bold } = how;
-        let weight = if bold { " font-weight=\"bold\"" } else { "" };
         let words = Escaped(words);
-        writeln!(
-            self.text,
-            "<text x=\"{x}\" y=\"{y}\" font-size=\"{size}\" text-anchor=\"{anchor}\"{weight}>{words}</text>"
-        )
+        writeln!(self.text, "<text x=\"{x}\" y=\"{y}\" {how}>{words}</text>")
     }
 
     /// A line through these places, none where there are fewer than two.
@@ -198,15 +259,14 @@ impl Picture {
     /// # Errors
     ///
     /// Where a growth was refused. The document may have a part of it then, and is to be dropped.
-    pub fn path(&mut self, spots: &[Spot], stroke: Stroke) -> Result<(), AllocError> {
+    pub fn path(&mut self, spots: &[Spot], stroke: Stroke) -> Result<(), AllocError>
+        ensures { OnOk result (self.new ≡ self.old ++ path_text spots.now stroke) }
+    {
         if spots.len() < 2 {
             return Ok(());
         }
         write!(self.text, "<polyline points=\"")?;
-        for spot in spots {
-            let (x, y) = (Tenths(spot.x), Tenths(spot.y));
-            write!(self.text, "{x},{y} ")?;
-        }
+        write_spots(&mut self.text, spots)?;
         writeln!(
             self.text,
             "\" fill=\"none\" stroke-linejoin=\"round\" {stroke}/>"
@@ -218,7 +278,9 @@ impl Picture {
     /// # Errors
     ///
     /// Where a growth was refused. The document may have a part of it then, and is to be dropped.
-    pub fn mark(&mut self, at: Spot, mark: Mark, colour: &'static str) -> Result<(), AllocError> {
+    pub fn mark(&mut self, at: Spot, mark: Mark, colour: &'static str) -> Result<(), AllocError>
+        ensures { OnOk result (self.new ≡ self.old ++ marked_text at mark colour.now) }
+    {
         let (x, y) = (Tenths(at.x), Tenths(at.y));
         writeln!(
             self.text,
@@ -231,7 +293,9 @@ impl Picture {
     /// # Errors
     ///
     /// Where a growth was refused. The picture is dropped.
-    pub fn close(self) -> Result<String, AllocError> {
+    pub fn close(self) -> Result<String, AllocError>
+        ensures { IfOk result (λ text. string_bytes text ≡ self ++ closing_text) }
+    {
         let Picture { mut text } = self;
         writeln!(text, "</svg>")?;
         Ok(text)

@@ -1,6 +1,7 @@
 //! Scales: where values are placed, and which of them are marked.
-ghost use Rattle.std.specs.Prelude.{◌≡◌, ◌+◌, ◌-◌, ◌*◌, ◌/◌, ◌^◌, ◌<◌, ◌≤◌};
+ghost use Rattle.std.specs.Prelude.{◌≡◌, ◌+◌, ◌-◌, ◌*◌, ◌/◌, ◌^◌, ◌<◌, ◌≤◌, nat_le};
 ghost use Rattle.svg_plots.specs.Places.{place_of, share_of};
+ghost use Rattle.svg_plots.specs.Ticks.{Doubles, step_of};
 
 /// A linear scale: the values from `from` to `to` over the places from `start` to `end`, which may also lie before it.
 #[derive(Clone, Copy, PartialEq, Eq, Debug)]
@@ -41,8 +42,8 @@ impl Scale {
     }
 }
 
-/// The steps between ticks.
-const STEPS: [u32; 28] = [
+/// 1, 2 and 5 times a power of ten, upwards, as far as 32 bits go.
+const STEPS: [u32; 29] = [
     1,
     2,
     5,
@@ -71,48 +72,72 @@ const STEPS: [u32; 28] = [
     200_000_000,
     500_000_000,
     1_000_000_000,
+    2_000_000_000,
 ];
 
+/// Whether no more than so many steps make up a span.
+fn is_enough(step: u32, span: u32, most: u32) -> bool
+    ensures { result ≡ nat_le span (step * most) }
+{
+    span <= step.saturating_mul(most)
+}
+
 /// The step from tick to tick over so wide a span: the least of 1, 2 and 5 times a power of ten of which no more than
-/// `most` make up the span; the whole span where there is none.
+/// `most` make up the span; the whole span where there is none below 2^32.
 pub fn tick_step(span: u32, most: u32) -> u32
     requires { 0 < most }
-    ensures { span ≤ result * most }
+    ensures step { result ≡ step_of span most }
+    ensures few { span ≤ result * most }
 {
-    for step in STEPS.iter() {
-        if span <= step.saturating_mul(most) {
-            return *step;
-        }
-    }
-    span
+    STEPS
+        .iter()
+        .find(|step| is_enough(**step, span, most))
+        .copied()
+        .unwrap_or(span)
+}
+
+/// How often a fraction of at least 1 can be halved before it is less than 2.
+fn halvings(numerator: u32, denominator: u32) -> u32
+    requires some { 0 < denominator }
+    requires one { denominator ≤ numerator }
+    ensures doubles { Doubles numerator denominator result }
+    ensures few { result < 32 }
+{
+    (numerator / denominator).ilog2()
 }
 
 /// One as a number with 30 binary places.
 const ONE: u64 = 1 << 30;
 
+/// The binary logarithm of a number from 1 on and before 2, in hundredths, rounded down. It is found bit by bit: squaring a
+/// number doubles its logarithm.
+fn hundredths(number: u64) -> u32
+    ensures { result < 100 }
+{
+    let mut rest = number;
+    let mut bits: u32 = 0;
+    for place in 0..10u32 {
+        rest = rest.saturating_mul(rest) / ONE;
+        bits *= 2;
+        if rest >= 2 * ONE {
+            rest /= 2;
+            bits += 1;
+        }
+    }
+    bits * 100 / 1024
+}
+
 /// The binary logarithm of a fraction, in hundredths, rounded down; 0 of a fraction that is less than one, or that has no
-/// denominator. It is found bit by bit: squaring a number doubles its logarithm.
+/// denominator.
 pub fn log2_hundredths(numerator: u32, denominator: u32) -> u32
-    ensures { numerator < denominator → result ≡ 0 }
+    ensures less { numerator < denominator → result ≡ 0 }
+    ensures none { denominator ≡ 0 → result ≡ 0 }
+    ensures whole { 0 < denominator → denominator ≤ numerator → Doubles numerator denominator (result / 100) }
 {
     if denominator == 0 || numerator < denominator {
         return 0;
     }
-    let mut rest = u64::from(numerator) * ONE / u64::from(denominator);
-    let mut bits: u32 = 0;
-    for _ in 0..32 {
-        if rest >= 2 * ONE {
-            rest /= 2;
-            bits = bits.saturating_add(1);
-        }
-    }
-    for _ in 0..10 {
-        rest = rest.saturating_mul(rest) / ONE;
-        bits = bits.saturating_mul(2);
-        if rest >= 2 * ONE {
-            rest /= 2;
-            bits = bits.saturating_add(1);
-        }
-    }
-    bits.saturating_mul(100) / 1024
+    let whole = halvings(numerator, denominator);
+    let rest = u64::from(numerator) * ONE / u64::from(denominator) >> whole;
+    whole * 100 + hundredths(rest)
 }
