@@ -13,8 +13,6 @@
 
 mod marks;
 mod row;
-#[cfg(test)]
-mod tests;
 mod word;
 mod words;
 

@@ -13,8 +13,6 @@ mod returns;
 mod settings;
 mod state;
 mod step;
-#[cfg(test)]
-mod tests;
 mod text;
 mod waiting;
 

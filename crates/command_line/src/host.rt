@@ -37,6 +37,16 @@ pub fn program<H: Host, R: Read, W: Write>(rt: &H, reader: &mut R, writer: &mut 
     else {
         return ended(rt, &Stop::At(End::CannotStart));
     };
+    program_of(rt, texts.as_slice(), reader, writer)
+}
+
+/// The program with these words behind its name, to its exit status.
+pub fn program_of<H: Host, R: Read, W: Write>(
+    rt: &H,
+    words: &[&str],
+    reader: &mut R,
+    writer: &mut W,
+) -> ExitCode {
     // Answers are handed on before more input is read, in one write where several lines were at hand.
     let Ok(mut writer) = BufWriter::new(rt.alloc(), writer) else {
         return ended(rt, &Stop::At(End::CannotStart));
@@ -44,7 +54,7 @@ pub fn program<H: Host, R: Read, W: Write>(rt: &H, reader: &mut R, writer: &mut 
     let stop = serve_words(
         rt,
         rt.alloc(),
-        texts.as_slice(),
+        words,
         &Disk::new(rt),
         reader,
         &mut writer,

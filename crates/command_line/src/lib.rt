@@ -22,6 +22,6 @@ mod words;
 pub use end::{End, refusal, status};
 pub use file::{MOST_BYTES, read_bytes, read_file};
 pub use folder::{Disk, Folder};
-pub use host::{Host, program};
+pub use host::{Host, program, program_of};
 pub use start::{Beginning, Stop, opening, serve_words};
 pub use words::{CommandLine, arguments};

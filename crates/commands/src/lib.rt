@@ -16,8 +16,6 @@ mod numbers;
 mod queries;
 mod queue;
 mod reports;
-#[cfg(test)]
-mod tests;
 
 pub use command::Command;
 pub use keyword::Keyword;

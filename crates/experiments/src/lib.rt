@@ -22,8 +22,6 @@ mod queues;
 mod rates;
 mod series;
 mod sweep;
-#[cfg(test)]
-mod tests;
 
 pub use delays::{ColdWaits, cold_waits, waited_each};
 pub use fault::Fault;

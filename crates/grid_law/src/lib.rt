@@ -32,8 +32,6 @@ mod line;
 mod no_memory;
 mod numbers;
 mod reader;
-#[cfg(test)]
-mod tests;
 
 pub use changed::Changed;
 pub use grid::Grid;

@@ -13,5 +13,3 @@ mod words;
 pub use numbers::number;
 pub use words::split_word;
 
-#[cfg(test)]
-mod tests;

@@ -9,8 +9,6 @@
 mod ports;
 mod state;
 mod step;
-#[cfg(test)]
-mod tests;
 mod text;
 
 pub use state::LowState;

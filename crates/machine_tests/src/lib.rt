@@ -1,4 +1,5 @@
-//! Tests of `omega_net`, `machine_cells` and `monitor_sums`: wires, cells of the machine, and what is counted of them. A
+//! Tests of `omega_net`, `machine_cells`, `monitor_sums` and `saturation`: wires, cells of the machine, and what is counted
+//! and reported of them. A
 //! crate with tests is proved twice by the gate, so those of a crate whose proofs take minutes stand beside it. Nothing
 //! stands on this crate.
 #![tactic(auto)]
@@ -7,5 +8,7 @@
 mod cells;
 #[cfg(test)]
 mod sums;
+#[cfg(test)]
+mod trees;
 #[cfg(test)]
 mod wires;

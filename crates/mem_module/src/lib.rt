@@ -9,8 +9,6 @@
 mod shared;
 mod state;
 mod step;
-#[cfg(test)]
-mod tests;
 mod text;
 mod words;
 

@@ -14,8 +14,6 @@ mod limits;
 mod map;
 mod page;
 mod place;
-#[cfg(test)]
-mod tests;
 
 pub use fault::PageFault;
 pub use limits::constants_are_limits;

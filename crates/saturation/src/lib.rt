@@ -16,8 +16,6 @@ mod levels;
 mod queues;
 mod rate;
 mod report;
-#[cfg(test)]
-mod tests;
 mod trees;
 
 pub use levels::level;

@@ -22,8 +22,6 @@ mod laws;
 mod ordered;
 mod served;
 mod states;
-#[cfg(test)]
-mod tests;
 
 pub use answer::{order, order_in};
 pub use laws::{orders_explain, trees_are_serial};

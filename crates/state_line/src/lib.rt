@@ -18,7 +18,5 @@
 mod line;
 mod moves;
 mod stack;
-#[cfg(test)]
-mod tests;
 
 pub use line::{Line, Standing};

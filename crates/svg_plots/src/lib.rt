@@ -17,8 +17,6 @@ mod map;
 mod picture;
 mod scale;
 mod tenths;
-#[cfg(test)]
-mod tests;
 
 pub use curves::{Axis, Curve, Curves, Panel, Tick, draw_curves};
 pub use escaped::{Escaped, entity};

@@ -11,8 +11,6 @@
 
 mod kind;
 mod op;
-#[cfg(test)]
-mod tests;
 
 pub use kind::Kind;
 pub use op::Op;

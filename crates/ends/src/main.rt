@@ -1,0 +1,43 @@
+//! The ends of the program other than the input's: words that it refuses, a file that isn't there, a file that is no project,
+//! and a reader that fails. Each prints the exit status; the last one's is this program's own.
+#![tactic(auto)]
+
+use command_line::{Host, program_of};
+use std::io::{self, Error, ErrorKind, Read, Result, Write};
+use std::process::ExitCode;
+
+/// Gives one line, and then fails.
+#[derive(Drop)]
+struct OneLine {
+    line: &'static [u8],
+}
+
+impl Read for OneLine {
+    fn read(&mut self, buf: &mut [u8]) -> Result<usize> {
+        if self.line.is_empty() {
+            return Err(Error::from(ErrorKind::Other));
+        }
+        self.line.read(buf)
+    }
+}
+
+/// Runs the program with these words, and prints how it ended.
+fn play<H: Host, R: Read, W: Write>(
+    rt: &H,
+    words: &[&str],
+    reader: &mut R,
+    writer: &mut W,
+) -> ExitCode {
+    let end = program_of(rt, words, reader, writer);
+    let _ = println!(rt; "{end:?}");
+    end
+}
+
+fn main(rt: HostRuntime) -> ExitCode {
+    let writer = &mut io::writer(&rt);
+    play(&rt, &["--workers", "17"], &mut rt.reader(), writer);
+    play(&rt, &["no such file.toml"], &mut rt.reader(), writer);
+    play(&rt, &["cut.toml"], &mut rt.reader(), writer);
+    let mut reader = OneLine { line: b"place 5\n" };
+    play(&rt, &[], &mut reader, writer)
+}

@@ -1,0 +1,217 @@
+//! Scales, ticks, texts and documents, by numbers worked out by hand.
+use std::test::Fail;
+use svg_plots::{
+    Anchor, Axis, CellGroup, CellMap, Crossing, Curve, Curves, Escaped, Mark, Panel, Picture,
+    Scale, Spot, Stroke, Tenths, Tick, Writing, draw_curves, draw_map, log2_hundredths, tick_step,
+};
+
+#[test]
+fn scales_place_values(rt: HostRuntime) {
+    let across = Scale {
+        from: 10,
+        to: 30,
+        start: 100,
+        end: 300,
+    };
+    for (value, place) in [(10, 100), (15, 150), (30, 300), (9, 100), (31, 300)] {
+        assert_eq!(rt; across.place(value), place);
+    }
+    let up = Scale {
+        from: 0,
+        to: 3,
+        start: 100,
+        end: 0,
+    };
+    for (value, place) in [(0, 100), (1, 67), (2, 34), (3, 0)] {
+        assert_eq!(rt; up.place(value), place);
+    }
+}
+
+#[test]
+fn ticks_are_few(rt: HostRuntime) {
+    for (span, most, step) in [
+        (0, 8, 1),
+        (8, 8, 1),
+        (9, 8, 2),
+        (101, 10, 20),
+        (1_000, 8, 200),
+        (4_294_967_295, 4, 2_000_000_000),
+        (4_294_967_295, 2, 4_294_967_295),
+    ] {
+        assert_eq!(rt; tick_step(span, most), step);
+    }
+}
+
+// log2 3 is 1.58496.., log2 10 is 3.32192.., log2 1.5 is 0.58496..
+#[test]
+fn logarithms_are_rounded_down(rt: HostRuntime) {
+    for (numerator, denominator, hundredths) in [
+        (1, 1, 0),
+        (2, 1, 100),
+        (3, 1, 158),
+        (10, 1, 332),
+        (3, 2, 58),
+        (64, 1, 600),
+        (1, 2, 0),
+        (1, 0, 0),
+    ] {
+        assert_eq!(rt; log2_hundredths(numerator, denominator), hundredths);
+    }
+}
+
+#[test]
+fn texts_are_escaped(rt: HostRuntime) -> Result<(), Fail> {
+    let text = Escaped("a<b> & \"c\" 'd' é");
+    assert_eq!(rt;
+        format!(in rt.alloc(); "{text}")?.as_str(),
+        "a&lt;b&gt; &amp; &quot;c&quot; &#39;d&#39; é"
+    );
+    let lengths = [(0, "0"), (10, "1"), (125, "12.5")];
+    for (length, text) in lengths {
+        let length = Tenths(length);
+        assert_eq!(rt; format!(in rt.alloc(); "{length}")?.as_str(), text);
+    }
+    Ok(())
+}
+
+const DRAWN: &str = "\
+<svg xmlns=\"http://www.w3.org/2000/svg\" width=\"40\" height=\"30\" viewBox=\"0 0 40 30\" font-family=\"Helvetica, Arial, sans-serif\" fill=\"#1a1a1a\">
+<title>1 &lt; 2</title>
+<rect width=\"40\" height=\"30\" fill=\"#ffffff\"/>
+<line x1=\"1\" y1=\"2\" x2=\"3\" y2=\"4.5\" stroke=\"#000000\" stroke-width=\"1\" stroke-dasharray=\"5 4\"/>
+<rect x=\"1\" y=\"2\" width=\"7\" height=\"0.5\" fill=\"#ffffff\"/>
+<rect x=\"1\" y=\"2\" width=\"2\" height=\"2.5\" fill=\"none\" stroke=\"#000000\" stroke-width=\"1\"/>
+<text x=\"1\" y=\"2\" font-size=\"12\" text-anchor=\"middle\" font-weight=\"bold\">a&amp;b</text>
+<polyline points=\"1,2 3,4.5 \" fill=\"none\" stroke-linejoin=\"round\" stroke=\"#000000\" stroke-width=\"1\"/>
+<path d=\"M3 4.5m-3 -3h6v6h-6z\" fill=\"#000000\" stroke=\"#000000\" stroke-width=\"1.5\"/>
+</svg>
+";
+
+#[test]
+fn elements_are_written(rt: HostRuntime) -> Result<(), Fail> {
+    let (from, to) = (Spot { x: 10, y: 20 }, Spot { x: 30, y: 45 });
+    let plain = Stroke {
+        colour: "#000000",
+        width: 10,
+        dashed: false,
+    };
+    let dashed = Stroke {
+        colour: "#000000",
+        width: 10,
+        dashed: true,
+    };
+    let how = Writing {
+        anchor: Anchor::Middle,
+        size: 12,
+        bold: true,
+    };
+    let mut picture = Picture::new(rt.alloc(), 40, 30, "1 < 2")?;
+    picture.line(from, to, dashed)?;
+    picture.cell(from, 70, 5, "#ffffff")?;
+    picture.frame(from, to, plain)?;
+    picture.words(from, how, "a&b")?;
+    picture.path(&[from, to], plain)?;
+    picture.path(&[from], plain)?;
+    picture.mark(to, Mark::Square, "#000000")?;
+    assert_eq!(rt; picture.close()?.as_str(), DRAWN);
+    Ok(())
+}
+
+const PLAIN: Stroke = Stroke {
+    colour: "#000000",
+    width: 10,
+    dashed: false,
+};
+
+// One panel is from 46 to 780 across, and from 386 to 86 up.
+#[test]
+fn curves_are_drawn(rt: HostRuntime) -> Result<(), Fail> {
+    let axis = Axis {
+        title: "p",
+        from: 0,
+        to: 4,
+        ticks: &[Tick {
+            value: 1,
+            number: 2,
+        }],
+    };
+    let mut points = Vec::new(rt.alloc());
+    for point in [(0, 0), (2, 1), (4, 9)] {
+        points.push(point)?;
+    }
+    let mut curves = Vec::new(rt.alloc());
+    curves.push(Curve {
+        label: "h < 1",
+        points,
+        stroke: PLAIN,
+        mark: Some(Mark::Up),
+    })?;
+    let mut panels = Vec::new(rt.alloc());
+    panels.push(Panel {
+        title: "low",
+        across: axis,
+        up: axis,
+        curves,
+    })?;
+    let drawn = Curves {
+        title: "rates",
+        panels: panels.as_slice(),
+        legend_columns: 1,
+    };
+    let text = draw_curves(rt.alloc(), &drawn, &["seed 1"])?;
+    for part in [
+        "height=\"487\"",
+        "<polyline points=\"46,386 413,311 780,86 \"",
+        "<path d=\"M413 311m0 -4l4 7h-8z\"",
+        "<text x=\"229.5\" y=\"403\" font-size=\"12\" text-anchor=\"middle\">2</text>",
+        ">h &lt; 1</text>",
+        ">seed 1</text>",
+    ] {
+        assert!(rt; text.as_str().contains(part));
+    }
+    Ok(())
+}
+
+// Two columns are 285 pixels wide each, one row is 20 high, and its cells begin at 87 under one crossing's label.
+#[test]
+fn maps_are_drawn(rt: HostRuntime) -> Result<(), Fail> {
+    let mut rows = Vec::new(rt.alloc());
+    rows.push(vec![in rt.alloc(); 2, 3]?)?;
+    let mut groups = Vec::new(rt.alloc());
+    groups.push(CellGroup {
+        label: "stage 0",
+        rows,
+    })?;
+    let crossings = [Crossing {
+        column: 1,
+        label: "level 1",
+    }];
+    let map = CellMap {
+        title: "queues",
+        across: "cycle",
+        first: 7,
+        groups: groups.as_slice(),
+        most: 4,
+        marked: 3,
+        crossings: &crossings,
+        levels: &[0, 1],
+        level_title: "level",
+        highest: 1,
+        strokes: &[false, true],
+        stroke_title: "served",
+        notes: &[],
+    };
+    let text = draw_map(rt.alloc(), &map)?;
+    for part in [
+        "<rect x=\"100\" y=\"87\" width=\"285\" height=\"19.6\" fill=\"#6baed6\"/>",
+        "<rect x=\"385\" y=\"87\" width=\"285\" height=\"19.6\" fill=\"#2171b5\"/>",
+        "<line x1=\"385\" y1=\"96.8\" x2=\"670\" y2=\"96.8\" stroke=\"#ffd75e\"",
+        "<line x1=\"385\" y1=\"42\" x2=\"385\" y2=\"135\" stroke=\"#d55e00\"",
+        "<polyline points=\"100,71 385,71 385,62 670,62 \"",
+        "<text x=\"385\" y=\"153\" font-size=\"12\" text-anchor=\"middle\">8</text>",
+        ">3 full</text>",
+    ] {
+        assert!(rt; text.as_str().contains(part));
+    }
+    Ok(())
+}

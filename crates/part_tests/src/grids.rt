@@ -1,0 +1,122 @@
+use arrayvec::ArrayVec;
+use grid_law::{Grid, Line, LineSlot, NoMemory, Number, Numbers, Reader, SlotFault};
+use std::alloc::Global;
+use std::sync::Arc;
+use std::test::Fail;
+
+/// Seeds 1, 2 and 4; the first place adds 2, the others nothing.
+fn three(alloc: Global) -> Result<Numbers, Fail> {
+    let places = vec![in alloc;
+        Number { seed: 1, add: 2 },
+        Number { seed: 2, add: 0 },
+        Number { seed: 4, add: 0 },
+    ]?;
+    Ok(Numbers::new(places).ok_or("three places")?)
+}
+
+/// The state of a place one cycle after a row of states.
+fn next(alloc: Global, line: &Numbers, row: &[u32], c: u32) -> Result<u32, Fail> {
+    if c >= Line::components(line) {
+        return Err(Fail::from("no such place"));
+    }
+    let mut near = Vec::new(alloc);
+    for n in Line::near(line, c) {
+        let state = row.get(n as usize).ok_or("no such state")?;
+        near.push(Arc::new(alloc, *state)?)?;
+    }
+    Ok(Line::step(alloc, line, &near, c)?)
+}
+
+// Cycle 1: 1 is odd, so 1 + 2; 2 is even, so 1 + 2 + 4; 4 is even, so 2 + 4.
+// Cycle 2: 3 is odd, so 3 + 2; 7 is odd, so 7 + 0; 6 is even, so 7 + 6.
+// A sum that passes 2^32 - 1 wraps: 1 + (2^32 - 2) + 4 is 2^32 + 3.
+#[test]
+fn rows_of_three(rt: HostRuntime) -> Result<(), Fail> {
+    let alloc = rt.alloc();
+    let line = Line::share(alloc, &three(alloc)?)?;
+    for (row, want) in [
+        ([1, 2, 4], [3, 7, 6]),
+        ([3, 7, 6], [5, 7, 13]),
+        ([1, 4294967294, 4], [3, 3, 2]),
+        ([4294967295, 0, 0], [1, 4294967295, 0]),
+    ] {
+        for (c, state) in want.iter().enumerate() {
+            assert_eq!(rt;
+                next(alloc, &line, &row, c as u32)?,
+                *state,
+                "place {c} after {row:?}"
+            );
+        }
+    }
+    assert_eq!(rt; Line::components(&line), 3);
+    assert_eq!(rt; Line::start(alloc, &line, 2).ok(), Some(4));
+    Ok(())
+}
+
+#[test]
+fn one_to_sixty_four(rt: HostRuntime) -> Result<(), Fail> {
+    let alloc = rt.alloc();
+    for (places, fits) in [(0, false), (1, true), (64, true), (65, false)] {
+        let numbers = Numbers::new(vec![in alloc; Number { seed: 7, add: 0 }; places]?);
+        assert_eq!(rt; numbers.is_some(), fits, "{places} places");
+    }
+    Ok(())
+}
+
+#[test]
+fn sets_one_slot(rt: HostRuntime) -> Result<(), Fail> {
+    let alloc = rt.alloc();
+    let line = three(alloc)?;
+    let (six, changed) = line.with(alloc, LineSlot::Seed(2), 6)?;
+    assert_eq!(rt; six.value(LineSlot::Seed(2)), Some(6));
+    assert_eq!(rt; changed.slots.as_slice(), [LineSlot::Seed(2)].as_slice());
+    let (_, changed) = six.with(alloc, LineSlot::Seed(2), 6)?;
+    assert!(rt; changed.slots.is_empty());
+    assert_eq!(rt;
+        line.with(alloc, LineSlot::Add(3), 1).err(),
+        Some(SlotFault::NoSuchSlot)
+    );
+    Ok(())
+}
+
+#[test]
+fn texts(rt: HostRuntime) -> Result<(), Fail> {
+    let alloc = rt.alloc();
+    let missing = SlotFault::NoSuchSlot;
+    let memory = SlotFault::Memory;
+    assert_eq!(rt;
+        format!(in alloc; "{NoMemory}, {memory}, {missing}")?.as_str(),
+        "no memory, no memory, no such slot"
+    );
+    Ok(())
+}
+
+// A place may read its own seed at cycle 0, and its own addend later; past the line there is no place.
+#[test]
+fn readers_of_slots(rt: HostRuntime) -> Result<(), Fail> {
+    let alloc = rt.alloc();
+    let line = three(alloc)?;
+    for (slot, first) in [(LineSlot::Seed(1), true), (LineSlot::Add(1), false)] {
+        let readers = Line::readers(alloc, &line, &slot)?;
+        let component = 1;
+        assert_eq!(rt;
+            readers.as_slice(),
+            [Reader { component, first }].as_slice()
+        );
+    }
+    assert!(rt; Line::readers(alloc, &line, &LineSlot::Add(3))?.is_empty());
+    Ok(())
+}
+
+// An odd number without an addend stays; 2 between 3 and 5 becomes 10.
+#[test]
+fn next_states(rt: HostRuntime) -> Result<(), Fail> {
+    let alloc = rt.alloc();
+    let line = three(alloc)?;
+    if Line::components(&line) < 2 {
+        return Err(Fail::from("no such place"));
+    }
+    assert_eq!(rt; Line::next(alloc, &line, &[&7, &3, &5], 1)?, None);
+    assert_eq!(rt; Line::next(alloc, &line, &[&2, &3, &5], 1)?, Some(10));
+    Ok(())
+}
