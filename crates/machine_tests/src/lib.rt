@@ -1,7 +1,6 @@
 //! Tests of `omega_net`, `machine_cells`, `monitor_sums` and `saturation`: wires, cells of the machine, and what is counted
-//! and reported of them. A
-//! crate with tests is proved twice by the gate, so those of a crate whose proofs take minutes stand beside it. Nothing
-//! stands on this crate.
+//! and reported of them. A crate with tests is proved twice by the gate, so those of a crate whose proofs take minutes stand
+//! beside it. Nothing stands on this crate.
 #![tactic(auto)]
 
 #[cfg(test)]
