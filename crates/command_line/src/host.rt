@@ -51,14 +51,7 @@ pub fn program_of<H: Host, R: Read, W: Write>(
     let Ok(mut writer) = BufWriter::new(rt.alloc(), writer) else {
         return ended(rt, &Stop::At(End::CannotStart));
     };
-    let stop = serve_words(
-        rt,
-        rt.alloc(),
-        words,
-        &Disk::new(rt),
-        reader,
-        &mut writer,
-    );
+    let stop = serve_words(rt, rt.alloc(), words, &Disk::new(rt), reader, &mut writer);
     ended(rt, &stop)
 }
 

@@ -12,4 +12,3 @@ mod words;
 
 pub use numbers::number;
 pub use words::split_word;
-
