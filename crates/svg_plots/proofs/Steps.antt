@@ -1,5 +1,5 @@
 -- A step is wide enough.
-use Rattle.std.proofs.Common.{◌≡◌, ℕ, ◌<◌, ◌≤◌, ◌*◌, nat_le, cond, List, [], ◌∷◌, Bool, true, false, Option, None, Some, unwrap_or, refl, arith}
+use Rattle.std.proofs.Common.{◌≡◌, ℕ, ◌<◌, ◌≤◌, ◌*◌, nat_le, cond, List, [], ◌∷◌, Bool, true, false, Option, Some, unwrap_or, refl, arith}
 use Rattle.std.specs.List.{find}
 use Rattle.std.proofs.lemmas.Bool.{leb-true}
 use Rattle.std.proofs.Math.Nat.{mul-le-mul_left}

@@ -2,7 +2,6 @@
 use Rattle.std.specs.Prelude.{ℕ, ◌/◌, ◌%◌, ◌-◌, ◌==◌, nat_lt, Bool, if◌then◌else◌, List, [], ◌∷◌, ◌++◌, length, unwrap_or, codes, decimal, chars, encode_utf8}
 use Rattle.std.specs.List.{flat_map, concat}
 use Rattle.svg_plots.specs.Entities.{entity_of}
-use Rattle.svg_plots.specs.declared.tenths.Tenths.{Tenths}
 use Rattle.svg_plots.specs.declared.picture.Spot.{Spot}
 use Rattle.svg_plots.specs.declared.picture.Stroke.{Stroke}
 use Rattle.svg_plots.specs.declared.picture.Writing.{Writing}

@@ -1,7 +1,7 @@
-use Rattle.std.proofs.Common.{rules, tests, ◌≡◌, ◌∙◌, ap, sym, subst, ◌≤◌, ◌*◌, nat_le, unwrap_or}
+use Rattle.std.proofs.Common.{rules, tests, ◌∙◌, ap, sym, subst, ◌≤◌, ◌*◌, nat_le, unwrap_or}
 use Rattle.std.proofs.lemmas.Iterator.{YieldsList-from_slice}
 use Rattle.std.proofs.lemmas.Iterator.Search.{find_from_yields_List}
-use Rattle.svg_plots.specs.Ticks.{step_of, steps}
+use Rattle.svg_plots.specs.Ticks.{steps}
 use Rattle.svg_plots.proofs.Steps.{find_wide}
 use Rattle.svg_plots.proofs.scale.tick_step.Goals as goal
 
