@@ -4,35 +4,19 @@ use Rattle.std.specs.Prelude.{◌==◌, Result, Ok, Err, IfOk, OnOk, OnErr, IsOk
 use Rattle.project_book.specs.Edits.{accepts, edited}
 use Rattle.project_book.specs.declared.edit.Edit.{Edit}
 use Rattle.project_book.specs.declared.fault.EditFault.{EditFault}
-use Rattle.project_book.specs.declared.fault.EditFault.TheVariants.{JournalFull, BadProcessor, BadEntry, ScriptFull, BadAddress, BadPage, BadInterleave, BadStage, BadDepth, BadWindow, BadTimes, BadHorizon, ClockSpent, Memory}
+use Rattle.project_book.specs.declared.fault.EditFault.TheVariants.{ClockSpent, Memory}
 use Rattle.bench_core.specs.Shown.{Shown, project_of, version_of}
 use Rattle.bench_core.specs.Edits.{admits}
+use Rattle.bench_core.proofs.Admitting.{refuses}
 pub use Rattle.bench_core.proofs.Answered.{bad_told, never_pending}
-use Rattle.bench_core.specs.Told.{RefusesAt}
 use Rattle.bench_shell.specs.Store.{Store, version_in, store_of, edited_store, EditGives}
-
-refuses : (s : Store) (e : Edit) (f : EditFault) → accepts s.project (version_in s) e ≡ Err f → RefusesAt s.project (version_in s) e f
-refuses s e JournalFull h = h
-refuses s e BadProcessor h = h
-refuses s e BadEntry h = h
-refuses s e ScriptFull h = h
-refuses s e BadAddress h = h
-refuses s e BadPage h = h
-refuses s e BadInterleave h = h
-refuses s e BadStage h = h
-refuses s e BadDepth h = h
-refuses s e BadWindow h = h
-refuses s e BadTimes h = h
-refuses s e BadHorizon h = h
-refuses s e ClockSpent h = tt
-refuses s e Memory h = tt
 
 -- a refusal by the first fault that applies
 refused_by : (s t : Store) (e : Edit) (f : EditFault) (r : Result ℕ EditFault) → accepts s.project (version_in s) e ≡ Err f → r ≡ Err f → OnErr r (t ≡ s) → EditGives s e r t
 refused_by s t e f (Ok v) is r_is err = cc
 refused_by s t e f (Err g) is r_is err =
     let same : g ≡ f = cc in
-    (refuses s e g (rw same is), err)
+    (refuses s.project (version_in s) e g (rw same is), err)
 
 -- a refusal by the clock
 spent_by : (s t : Store) (e : Edit) (r : Result ℕ EditFault) → r ≡ Err ClockSpent → OnErr r (t ≡ s) → EditGives s e r t

@@ -17,9 +17,6 @@ pub bool_cases : (b : Bool) → (b ≡ true) ⊎ (b ≡ false)
 bool_cases true = inl refl
 bool_cases false = inr refl
 
-pub absurd_bool : {A : Type 0} (b : Bool) → b ≡ true → b ≡ false → A
-absurd_bool b t f = absurd (let g : true ≡ false = sym t ∙ f in cc)
-
 -- ---- one entry more
 
 pub folds_push : (P : Project) (v : ℕ) (es : List Noted) (e : Noted) → Folds P v es → accepts (after_entries P es) (v + length es) e.edit ≡ Ok tt → Folds P v (es ++ e ∷ [])
@@ -36,11 +33,7 @@ project_since P opened since = ap (after_entries P) (drop_at opened since (lengt
 
 -- and after one entry more
 pub project_push : (P : Project) (opened since journal : List Noted) (e : Noted) → journal ≡ opened ++ since → project_at P opened (journal ++ e ∷ []) ≡ edited (project_at P opened journal) e.edit
-project_push P opened since journal e is =
-    ap (λ l. project_at P opened (l ++ e ∷ [])) is
-    ∙ (ap (project_at P opened) (append_assoc opened since (e ∷ []))
-    ∙ (project_since P opened (since ++ e ∷ [])
-    ∙ (after_push P since e ∙ ap (λ Q. edited Q e.edit) (sym (project_since P opened since) ∙ ap (project_at P opened) (sym is)))))
+project_push P opened since journal e is = rw (is, append_assoc opened since (e ∷ []), project_since P opened (since ++ e ∷ []), project_since P opened since) (after_push P since e)
 
 pub authors_push : (n : ℕ) (es : List Noted) (e : Noted) → AuthorsBelow n es → e.author < n → AuthorsBelow n (es ++ e ∷ [])
 authors_push n [] e f a = (a, tt)
@@ -88,9 +81,8 @@ pub entries_undrawn : (bits n k : ℕ) (es : List Noted) → AuthorsDrawn bits e
 entries_undrawn bits n k [] drawn unset = refl
 entries_undrawn bits n k (x ∷ es) drawn unset =
     let set_bit = drawn.0 in
-    let other : x.author ≢ n = (λ e. let b : bit_of bits n ≡ 1 = ap (bit_of bits) (sym e) ∙ set_bit in absurd (omega arith)) in
-    let no : has x.author (n ∷ []) ≡ false = ap (λ b. b || false) (ne_eqb x.author n other) in
-    rw no (entries_undrawn bits n (k + 1) es drawn.1 unset)
+    let other : x.author ≢ n = (λ e. let b : bit_of bits n ≡ 1 = rw e at set_bit in absurd (omega arith)) in
+    rw (ne_eqb x.author n other) (entries_undrawn bits n (k + 1) es drawn.1 unset)
 
 -- ---- the receipts of two passes
 
@@ -149,9 +141,9 @@ distinct_append (n ∷ ns) ms d e apart =
     )
 
 pub distinct_apart : (ns ms : List ℕ) → Distinct (ns ++ ms) → (a : ℕ) → has a ns ≡ true → has a ms ≡ true → ⊥
-distinct_apart [] ms d a h g = absurd_bool false h refl
+distinct_apart [] ms d a h g = absurd (let no : false ≡ true = h in cc)
 distinct_apart (n ∷ ns) ms d a h g =
     let later : has a ns ≡ true → ⊥ = (λ t. distinct_apart ns ms d.1 a t g) in
     dite (ℕ_discrete a n)
-    (λ e. absurd_bool (has n ns || has n ms) (ap (λ b. has n ns || b) (ap (λ m. has m ms) (sym e) ∙ g) ∙ or-true (has n ns)) (sym (has_append n ns ms) ∙ d.0))
+    (λ e. absurd (let no : false ≡ true = sym d.0 ∙ has_append n ns ms ∙ rw (rw e at g) (or-true (has n ns)) in cc))
     (λ ne. later (ap (λ b. b || has a ns) (sym (ne_eqb a n ne)) ∙ h))

@@ -4,7 +4,7 @@
 -- has a bit for each number that was drawn. The slot holds the bench. Words 1 and 2 count modulo 2^64.
 --
 -- Nothing here has to be believed: the contracts of the public calls name none of it.
-use Rattle.std.specs.Prelude.{◌≡◌, ◌⊎◌, ℕ, ◌+◌, ◌-◌, ◌%◌, ◌/◌, ◌^◌, ◌<◌, ◌≤◌, ◌==◌, Bool, true, false, List, [], ◌∷◌, ◌++◌, zero, suc, length, slice_index, sum_by, Option, Some, None}
+use Rattle.std.specs.Prelude.{◌≡◌, ◌⊎◌, ℕ, ◌+◌, ◌-◌, ◌%◌, ◌/◌, ◌^◌, ◌<◌, ◌≤◌, ◌==◌, Bool, true, false, List, [], ◌∷◌, ◌++◌, zero, suc, length, sum_by, Option, Some, None}
 use mathlib.Core.Option.{some, none}
 use mathlib.Core.Option as maybe
 use lib.ListN.{get_elem?}
@@ -49,19 +49,35 @@ abbrev pub AuthorsDrawn : ℕ → List Noted → Type 0
 AuthorsDrawn bits [] = Unit {0}
 AuthorsDrawn bits (e ∷ es) = (bit_of bits e.author ≡ 1) × AuthorsDrawn bits es
 
--- what the words don't hold: the entries after the opening; whether the clock was spent as the slot was last left; the
--- tickets served and handed out, not modulo 2^64; and the place of the seat that has a ticket, or a number
-pub record World : Type 0 where
-  pub since : List Noted
-  pub clock : Bool
+-- the tickets served and handed out, not modulo 2^64, and the place of the seat that has one; what lies in the slot; and
+-- whether the clock was spent as the slot was last left
+pub record Queue : Type 0 where
   pub served : ℕ
   pub issued : ℕ
   pub holder : ℕ → ℕ
+  pub slot : maybe.Option (Option Shown)
+  pub clock : Bool
+
+-- the entries after the opening; the tickets and the slot; a bit for each number drawn, and the place of the seat that
+-- has the number
+pub record World : Type 0 where
+  pub since : List Noted
+  pub queue : Queue
+  pub open queue use *
+  pub bits : ℕ
   pub owner : ℕ → ℕ
 
 -- the journal now
-abbrev pub journal_of : Opening → World → List Noted
-journal_of k w = opened_of k ++ w.since
+abbrev pub journal_of : Opening → List Noted → List Noted
+journal_of k since = opened_of k ++ since
+
+-- the table of a world and the seats' views
+abbrev pub state_of : Opening → World → List View → State (Option Shown) View
+state_of k w views = record {
+  words = length (journal_of k w.since) ∷ w.issued % 2 ^ 64 ∷ w.served % 2 ^ 64 ∷ w.bits ∷ [];
+  homes = w.slot ∷ [];
+  views = views;
+}
 
 -- how many tickets a seat waits for or is served with
 abbrev pub live : Stage → ℕ
@@ -85,52 +101,59 @@ IsServer (Waiting t) = ⊥
 IsServer (Serving t was) = Unit {0}
 IsServer (Filling t was) = Unit {0}
 
-module _ (k : Opening) (w : World) (homes : List (maybe.Option (Option Shown))) (j : ℕ) where
-  -- the ticket of a seat that waits is not served before; one that is served has the slot, and has seen all of the journal
-  abbrev pub StageFits : List Noted → Stage → Type 0
-  StageFits seen Idle = Unit {0}
-  StageFits seen (Waiting t) = (w.served ≤ t) × (t < w.issued) × (w.holder t ≡ j)
-  StageFits seen (Serving t was) = (t ≡ w.served) × (t < w.issued) × (w.holder t ≡ j) × (homes ≡ none ∷ []) × (seen ≡ journal_of k w) × (was ≡ w.clock)
-  StageFits seen (Filling t was) = (t ≡ w.served) × (t < w.issued) × (w.holder t ≡ j) × (homes ≡ some None ∷ []) × (seen ≡ journal_of k w) × (was ≡ w.clock)
+module _ (k : Opening) (since : List Noted) (q : Queue) where
+  -- the bench lies in the slot, with the journal and its project
+  abbrev pub AtHome : Type 0
+  AtHome = (d : Shown) × (q.slot ≡ some (Some d)) × (d.journal ≡ journal_of k since) × (spent_of d ≡ q.clock) × (project_of d ≡ project_at (first_project k) (opened_of k) d.journal)
 
-  -- what the seat at place j knows is so; one that was joined into another knows nothing
-  pub record Fits (bits : ℕ) (v : View) : Type 0 where
-    pub opened : v.gone ≡ false → (v.opened ≡ opened_of k) × (v.seats ≡ k.seats) × (v.project ≡ first_project k)
-    pub goes_on : StartsWith (journal_of k w) v.seen
-    pub heard : StartsWith (journal_of k w) v.heard
-    pub distinct : Distinct v.numbers
-    pub own : v.receipts ≡ entries_by v.numbers (length (opened_of k)) w.since
-    pub knows : v.spent ≡ true → w.clock ≡ true
-    pub owns : (n : ℕ) → has n v.numbers ≡ true → (w.owner n ≡ j) × (n < k.seats) × (bit_of bits n ≡ 1)
-    pub room : (tickets v ≤ many v) × (0 < many v → v.lost < many v)
-    pub stage : StageFits v.seen v.stage
+  -- the seat at place j has the ticket t, which is served, has seen all of the journal, and has left the slot so
+  abbrev pub Serves : ℕ → List Noted → ℕ → Bool → maybe.Option (Option Shown) → Type 0
+  Serves j seen t was slot = (t ≡ q.served) × (t < q.issued) × (q.holder t ≡ j) × (q.slot ≡ slot) × (seen ≡ journal_of k since) × (was ≡ q.clock)
 
--- the bench lies in the slot, with the journal and its project
-abbrev pub AtHome : Opening → World → List (maybe.Option (Option Shown)) → Type 0
-AtHome k w homes = (d : Shown) × (homes ≡ some (Some d) ∷ []) × (d.journal ≡ journal_of k w) × (spent_of d ≡ w.clock) × (project_of d ≡ project_at (first_project k) (opened_of k) d.journal)
+  -- the ticket of a seat that waits is not served before, and once it is served the bench is there
+  abbrev pub StageFits : ℕ → List Noted → Stage → Type 0
+  StageFits j seen Idle = Unit {0}
+  StageFits j seen (Waiting t) = (q.served ≤ t) × (t < q.issued) × (q.holder t ≡ j) × (t ≡ q.served → AtHome)
+  StageFits j seen (Serving t was) = Serves j seen t was none
+  StageFits j seen (Filling t was) = Serves j seen t was (some None)
 
--- the bench is at home, or a seat has the turn
-abbrev pub Home : Opening → World → List (maybe.Option (Option Shown)) → List View → Type 0
-Home k w homes views =
-    AtHome k w homes
-    ⊎ ((v : View) × (get_elem? views (w.holder w.served) ≡ some v) × IsServer v.stage)
+-- what a seat knows of the opening, of its numbers and of its entries is so; one that was joined into another knows nothing
+abbrev pub Knows : Opening → List Noted → View → Type 0
+Knows k since v = record {
+  opened : v.gone ≡ false → (v.opened ≡ opened_of k) × (v.seats ≡ k.seats) × (v.project ≡ first_project k);
+  heard : StartsWith (journal_of k since) v.heard;
+  distinct : Distinct v.numbers;
+  own : v.receipts ≡ entries_by v.numbers (length (opened_of k)) since;
+}
 
--- the rule
-pub record Kept (k : Opening) (s : State (Option Shown) View) : Type 0 where
-  pub world : World
-  pub wide : length s.words ≡ 4
-  pub counted : slice_index s.words 0 ≡ length (journal_of k world)
-  pub tickets_out : slice_index s.words 1 ≡ world.issued % 2 ^ 64
-  pub serving : slice_index s.words 2 ≡ world.served % 2 ^ 64
-  pub few : k.seats ≤ 64
-  pub short : length (journal_of k world) ≤ 65535
-  pub accepted : Folds (first_project k) (length (opened_of k)) world.since
-  pub authors : AuthorsBelow k.seats world.since
-  pub authors_drawn : AuthorsDrawn (slice_index s.words 3) world.since
-  pub in_all : world.issued ≡ world.served + sum_by tickets s.views
-  pub drawn : sum_by many s.views ≤ count_bits 64 (slice_index s.words 3)
-  pub home : Home k world s.homes s.views
-  pub each : (j : ℕ) (v : View) → get_elem? s.views j ≡ some v → Fits k world s.homes j (slice_index s.words 3) v
+-- what the seat at place j knows is so
+pub record Fits (k : Opening) (w : World) (j : ℕ) (v : View) : Type 0 where
+  pub knows : Knows k w.since v
+  pub goes_on : StartsWith (journal_of k w.since) v.seen
+  pub spent : v.spent ≡ true → w.clock ≡ true
+  pub owns : (n : ℕ) → has n v.numbers ≡ true → (w.owner n ≡ j) × (n < k.seats) × (bit_of w.bits n ≡ 1)
+  pub room : (tickets v ≤ many v) × (0 < many v → v.lost < many v)
+  pub stage : StageFits k w.since w.queue j v.seen v.stage
+
+-- the journal is short, each entry was accepted in its turn, and its authors have drawn their numbers
+pub record IsSound (k : Opening) (since : List Noted) (bits : ℕ) : Type 0 where
+  pub short : length (journal_of k since) ≤ 65535
+  pub accepted : Folds (first_project k) (length (opened_of k)) since
+  pub authors : AuthorsBelow k.seats since
+  pub drawn : AuthorsDrawn bits since
+
+-- the rule of a world and the seats' views: what each seat knows is so; the tickets that are out are the seats', who have
+-- no more numbers than were drawn; and where no ticket is out, the bench is at home
+pub record Obeys (k : Opening) (w : World) (views : List View) : Type 0 where
+  pub sound : IsSound k w.since w.bits
+  pub in_all : w.issued ≡ w.served + sum_by tickets views
+  pub drawn : sum_by many views ≤ count_bits 64 w.bits
+  pub home : AtHome k w.since w.queue ⊎ (w.served < w.issued)
+  pub each : (j : ℕ) (v : View) → get_elem? views j ≡ some v → Fits k w j v
+
+-- the rule: the table is that of a world and of views that obey
+abbrev pub Kept : Opening → State (Option Shown) View → Type 0
+Kept k s = (w : World) × (views : List View) × (s ≡ state_of k w views) × Obeys k w views
 
 -- the first seat has number 0 and the first ticket, and is about to fill the slot
 abbrev pub first_view : Opening → View

@@ -1,7 +1,7 @@
 -- The steps of a turn: what each makes of a seat's view, what it tells, and what it asks for.
 --
 -- Nothing here has to be believed: the contracts of the public calls name none of it.
-use Rattle.std.specs.Prelude.{◌≡◌, ℕ, ◌+◌, ◌-◌, ◌*◌, ◌%◌, ◌^◌, ◌<◌, ◌≤◌, ◌==◌, ◌||◌, Bool, true, false, List, [], ◌∷◌, ◌++◌, length, Option, Some, None, Ok, MatchBool}
+use Rattle.std.specs.Prelude.{◌≡◌, ℕ, ◌+◌, ◌-◌, ◌*◌, ◌%◌, ◌^◌, ◌<◌, ◌≤◌, ◌==◌, ◌||◌, Bool, true, false, List, [], ◌∷◌, ◌++◌, length, Option, Some, None, Ok, MatchBool, IfSome}
 use Rattle.atomic_table.specs.Table.{Me, Step}
 use Rattle.atomic_table.specs.Seated.{TableId}
 use Rattle.bench_core.specs.declared.noted.Noted.{Noted}
@@ -35,6 +35,11 @@ IsLegalIn v journal = IsLegal v.project v.opened v.seats v.seen v.numbers v.rece
 -- the view at another stage
 abbrev pub staged : Stage → View → View
 staged stage v = record v { stage = stage }
+
+-- the bench in hand, if there is one
+abbrev pub bench_in : List (ℕ × Option Shown) → Option Shown
+bench_in [] = None
+bench_in (x ∷ xs) = x.1
 
 -- a ticket was taken
 abbrev pub took : Tells
@@ -74,7 +79,7 @@ left_with d v = record v { spent = spent_of d; stage = Idle }
 
 -- the slot was given back
 abbrev pub leaves : Tells
-leaves st m r m' = (d : Shown) → m.1 ≡ (0, Some d) ∷ [] → (m' ≡ (left_with d m.0, [])) × HasLegal m'.0
+leaves st m r m' = IfSome (bench_in m.1) (λ d. (m' ≡ (left_with d m.0, [])) × HasLegal m'.0)
 
 -- the view, once it has seen this journal
 abbrev pub looked : List Noted → View → View
@@ -93,7 +98,7 @@ counted_in a n v = record v { seen = v.seen ++ noted a n ∷ []; receipts = v.re
 
 -- the edit of the bench in hand was counted
 abbrev pub counts : Tells
-counts st m r m' = (d : Shown) (a : ℕ) (n : Edit) → m.1 ≡ (0, Some d) ∷ [] → d.journal ≡ m.0.seen ++ noted a n ∷ [] → m' ≡ (counted_in a n m.0, m.1)
+counts st m r m' = IfSome (bench_in m.1) (λ d. (a : ℕ) (n : Edit) → d.journal ≡ m.0.seen ++ noted a n ∷ [] → m' ≡ (counted_in a n m.0, m.1))
 
 -- the view with this number alone
 abbrev pub numbered : ℕ → View → View
@@ -138,15 +143,37 @@ TicketFits None stage = stage ≡ Idle
 TicketFits (Some x) stage = (t : ℕ) × (x ≡ t % 2 ^ 64) × (stage ≡ Waiting t)
 
 -- the seat has the turn, and the bench d is in its hands; v is its view before
-abbrev pub HasBench : View → AtSeat → Shown → Type 0
-HasBench v m d = ((t : ℕ) × (m ≡ (entered t d v, (0, None) ∷ []))) × StartsWith d.journal v.seen × (v.spent ≡ true → spent_of d ≡ true) × IsLegalIn m.0 d.journal × IsProjectIn v d
+pub record HasBench (v : View) (m : AtSeat) (d : Shown) : Type 0 where
+  pub ticket : ℕ
+  pub is : m ≡ (entered ticket d v, (0, None) ∷ [])
+  pub goes_on : StartsWith d.journal v.seen
+  pub spent : v.spent ≡ true → spent_of d ≡ true
+  pub legal : IsLegalIn m.0 d.journal
+  pub project : IsProjectIn v d
+
+-- a seat with this view has the turn, and may pass it with the bench d, whose journal it has seen
+pub record MayPass (v : View) (d : Shown) : Type 0 where
+  pub ticket : ℕ
+  pub was : Bool
+  pub serves : v.stage ≡ Serving ticket was
+  pub spent : was ≡ true → spent_of d ≡ true
+  pub seen : d.journal ≡ v.seen
+  pub here : v.gone ≡ false
+  pub project : IsProjectIn v d
 
 -- the seat has the turn and an empty slot, and may put this bench back
 abbrev pub MayLeave : AtSeat → Shown → Type 0
-MayLeave m d = ((t : ℕ) × (was : Bool) × (m.0.stage ≡ Serving t was) × (was ≡ true → spent_of d ≡ true)) × (m.1 ≡ (0, None) ∷ []) × (d.journal ≡ m.0.seen) × (m.0.gone ≡ false) × IsProjectIn m.0 d
+MayLeave m d = (m.1 ≡ (0, None) ∷ []) × MayPass m.0 d
+
+-- a seat with this view has the turn, and may pass it with the bench d, once it has counted the entry that d has more
+pub record MayAdd (v : View) (d : Shown) : Type 0 where
+  pub author : ℕ
+  pub edit : Edit
+  pub passes : MayPass (counted_in author edit v) d
+  pub own : has author v.numbers ≡ true
+  pub accepted : accepts (project_at v.project v.opened v.seen) (length v.seen) edit ≡ Ok tt
+  pub short : length d.journal ≤ 65535
 
 -- the seat has the turn and an empty slot, and may put back this bench, which has one entry more
 abbrev pub MayCount : AtSeat → Shown → Type 0
-MayCount m d = ((t : ℕ) × (was : Bool) × (m.0.stage ≡ Serving t was) × (was ≡ true → spent_of d ≡ true)) × (m.1 ≡ (0, None) ∷ [])
-    × ((a : ℕ) × (n : Edit) × (d.journal ≡ m.0.seen ++ noted a n ∷ []) × (has a m.0.numbers ≡ true) × (accepts (project_at m.0.project m.0.opened m.0.seen) (length m.0.seen) n ≡ Ok tt))
-    × (length d.journal ≤ 65535) × (m.0.gone ≡ false) × IsProjectIn m.0 d
+MayCount m d = (m.1 ≡ (0, None) ∷ []) × MayAdd m.0 d

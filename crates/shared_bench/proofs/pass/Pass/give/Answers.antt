@@ -5,19 +5,17 @@ use Rattle.shared_bench.proofs.Passes.{in_turn, in_turn_too, turn_later}
 use Rattle.shared_bench.proofs.pass.Pass.give.Goals as goal
 
 pub leave-requires-clause-may : goal.leave-requires-clause-may
-leave-requires-clause-may g c =
-    let given = c.give-given.ensures in
-    may_leave_changed c.self.inside.seat.me.0 c.wait_turn-bench.new.seat.me c.wait_turn-bench.result c.give-given.new.self c.wait_turn-bench.ensures.bench c.self.invariant.here given.journal given.project given.kept
+leave-requires-clause-may g c = let given = c.give-given.ensures in may_leave_changed _ _ _ _ c.wait_turn-bench.ensures.bench c.self.invariant.here given.journal given.project given.kept
 
 pub returns-clause-in_turn : goal.returns-clause-in_turn
 returns-clause-in_turn g c =
     let given = c.give-given.ensures in
+    let d = c.wait_turn-bench.result in
     let p = known_of c.leave.new.seat.table_id c.leave.new.seat.me c.self.inside.number in
-    let t = in_turn c.leave.new.seat.table_id c.self.inside.number c.self.inside.seat.me c.wait_turn-bench.new.seat.me c.leave.new.seat.me c.wait_turn-bench.result c.give-given.new.self c.wait_turn-bench.ensures.bench c.leave.ensures.left in
-    (c.wait_turn-bench.result, c.give-given.new.self, (t, c.wait_turn-bench.ensures.history), (in_turn_too p c.wait_turn-bench.result c.give-given.new.self t given.journal given.project, given.history), given.gives)
+    let t = in_turn c.leave.new.seat.table_id c.self.inside.number _ _ c.leave.new.seat.me d c.give-given.new.self c.wait_turn-bench.ensures.bench c.leave.ensures.left in
+    (d, c.give-given.new.self, (t, c.wait_turn-bench.ensures.history), (in_turn_too p d c.give-given.new.self t given.journal given.project, given.history), given.gives)
 
 pub returns-clause-later : goal.returns-clause-later
 returns-clause-later g c =
-    rw (← c.self.view_is)
-    (turn_later c.self.inside.seat.table_id c.leave.new.seat.table_id c.self.inside.number c.self.inside.seat.me c.wait_turn-bench.new.seat.me c.leave.new.seat.me c.wait_turn-bench.result c.give-given.new.self
-    c.wait_turn-bench.ensures.bench c.leave.ensures.left c.leave.ensures.legal (c.leave.ensures.own.0 ∙ c.wait_turn-bench.ensures.own.0) c.give-given.ensures.kept)
+    let same = c.leave.ensures.own.0 ∙ c.wait_turn-bench.ensures.own.0 in
+    rw (← c.self.view_is) (turn_later _ _ _ c.self.inside.seat.me _ _ _ c.give-given.new.self c.wait_turn-bench.ensures.bench c.leave.ensures.left c.leave.ensures.legal same c.give-given.ensures.kept)

@@ -7,15 +7,7 @@ use Rattle.shared_bench.proofs.pass.Pass.join.Goals.{in-Some, in-None}
 use Rattle.shared_bench.proofs.pass.Pass.join.Goals as goal
 
 pub join_seat-requires : goal.join_seat-requires
-join_seat-requires c =
-    let p = c.self.invariant in
-    let q = c.other.invariant in (
-      search rules,
-      search rules,
-      search rules,
-      search rules,
-      joins _ _ _ _ _ (not_server c.self.inside.ticket _ p.ticket_is) (not_server c.other.inside.ticket _ q.ticket_is) p.here,
-    )
+join_seat-requires c = (search rules, search rules, search rules, search rules, joins _ _ _ _ _ (not_server c.other.inside.ticket _ c.other.invariant.ticket_is))
 
 pub invariant_of-result : goal.invariant_of-result
 invariant_of-result c =
