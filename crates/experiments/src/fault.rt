@@ -1,4 +1,6 @@
 //! Why an experiment has no figure.
+ghost use Rattle.std.specs.Prelude.{◌≡◌};
+
 use grid_law::NoMemory;
 use project_book::EditFault;
 use std::alloc::{AllocError, AllocFailed};
@@ -19,18 +21,30 @@ pub enum Fault {
 }
 
 impl From<NoMemory> for Fault {
+    ghost use Rattle.experiments.specs.declared.fault.Fault.TheVariants.{Memory};
+
+    ghost from_gives = { λ _ fault. fault ≡ Memory };
+
     fn from(_fault: NoMemory) -> Fault {
         Fault::Memory
     }
 }
 
 impl From<AllocError> for Fault {
+    ghost use Rattle.experiments.specs.declared.fault.Fault.TheVariants.{Memory};
+
+    ghost from_gives = { λ _ fault. fault ≡ Memory };
+
     fn from(_fault: AllocError) -> Fault {
         Fault::Memory
     }
 }
 
 impl<T: Drop> From<AllocFailed<T>> for Fault {
+    ghost use Rattle.experiments.specs.declared.fault.Fault.TheVariants.{Memory};
+
+    ghost from_gives = { λ _ fault. fault ≡ Memory };
+
     fn from(_fault: AllocFailed<T>) -> Fault {
         Fault::Memory
     }

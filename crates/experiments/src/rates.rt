@@ -1,11 +1,12 @@
 //! How many references are served.
-ghost use Rattle.std.specs.Prelude.{◌≡◌, IfOk, IfSome, None, Ok};
+ghost use Rattle.std.specs.Prelude.{◌≡◌, ℕ, IfErr, IfNone, IfOk, IfSome, None, Ok};
 ghost use Rattle.std.specs.List.{AllZip};
 ghost use Rattle.monitor_sums.specs.declared.counter.Counter.TheVariants.{Served};
 ghost use Rattle.run_queries.specs.declared.query.Query.TheVariants.{Counter as CountOf};
 ghost use Rattle.run_queries.specs.declared.body.Body.TheVariants.{Count as Counts};
 ghost use Rattle.run_queries.specs.Answers.{answer};
 ghost use Rattle.experiments.specs.Loads.{IsServed};
+ghost use Rattle.experiments.specs.Told.{IsRunReason};
 
 use crate::{Fault, Load, Window, project_of, told};
 use bench_core::Bench;
@@ -19,7 +20,8 @@ use std::thread::Threads;
 
 /// The count that a query was answered, where that is a count.
 fn count_in(body: Body) -> Option<u64>
-    ensures { IfSome result (λ n. body ≡ Counts n) }
+    ensures count { IfSome result (λ n. body ≡ Counts n) }
+    ensures none { IfNone result ((n : ℕ) → body ≡ Counts n → ⊥) }
 {
     match body {
         Body::Count(count) => Some(count),
@@ -40,7 +42,8 @@ pub fn served<T: Threads + Sync>(
     project: Project,
     window: Window,
 ) -> Result<u64, Fault>
-    ensures { IfOk result (λ n. answer project (CountOf Served None window.from window.to) ≡ Ok (Counts n)) }
+    ensures count { IfOk result (λ n. answer project (CountOf Served None window.from window.to) ≡ Ok (Counts n)) }
+    ensures bad { IfErr result (IsRunReason (answer project (CountOf Served None window.from window.to))) }
 {
     let mut bench = match Bench::new(alloc, project, 0) {
         Ok(bench) => bench,
@@ -58,7 +61,7 @@ pub fn served<T: Threads + Sync>(
     };
     match count_in(body) {
         Some(count) => Ok(count),
-        None => Err(Fault::Query(0)),
+        None => unreachable!(),
     }
 }
 

@@ -1,9 +1,9 @@
 //! One edit after another on one bench.
-ghost use Rattle.std.specs.Prelude.{◌≡◌, IfOk, IfErr, OnOk, Ok, map};
+ghost use Rattle.std.specs.Prelude.{◌≡◌, ◌⊎◌, IfOk, IfErr, OnOk, Ok, map};
 ghost use Rattle.project_book.specs.Edits.{edited};
 ghost use Rattle.run_queries.specs.Answers.{answer};
 ghost use Rattle.bench_core.specs.Shown.{project_of};
-ghost use Rattle.experiments.specs.Told.{IsReason};
+ghost use Rattle.experiments.specs.Told.{IsReason, IsAnyReason, IsEditReason};
 
 use crate::Fault;
 use bench_core::{Asked, Bench};
@@ -20,7 +20,7 @@ use std::thread::Threads;
 /// Query where the query has no answer, with the number of the reason; Clock where the clock is spent; Memory.
 pub fn told<T: Threads + Sync>(rt: &T, bench: &mut Bench, query: Query) -> Result<Body, Fault>
     ensures answer { IfOk result (λ body. answer (project_of bench.old) query ≡ Ok body) }
-    ensures bad { IfErr result (IsReason (answer (project_of bench.old) query)) }
+    ensures bad { IfErr result (IsReason bench.new.table.clock (answer (project_of bench.old) query)) }
     ensures project { project_of bench.new ≡ project_of bench.old }
 {
     match bench.settle() {
@@ -47,11 +47,15 @@ pub fn told_each<T: Threads + Sync>(
     queries: &[Query],
 ) -> Result<Vec<Body>, Fault>
     ensures answers { IfOk result (λ row. map (answer (project_of bench.old)) queries.now ≡ map Ok row.items) }
+    ensures bad { IfErr result (IsAnyReason bench.new.table.clock (answer (project_of bench.old)) queries.now) }
     ensures project { project_of bench.new ≡ project_of bench.old }
 {
     let mut row = Vec::new(alloc);
     for query in queries {
-        let body = told(rt, bench, *query)?;
+        let body = match told(rt, bench, *query) {
+            Ok(body) => body,
+            Err(fault) => return Err(fault),
+        };
         row.push(body)?;
     }
     Ok(row)
@@ -71,6 +75,7 @@ pub fn sweep_row<T: Threads + Sync>(
 ) -> Result<Vec<Body>, Fault>
     ensures project { OnOk result (project_of bench.new ≡ edited (project_of bench.old) edit) }
     ensures answers { IfOk result (λ row. map (answer (edited (project_of bench.old) edit)) queries.now ≡ map Ok row.items) }
+    ensures refused { IfErr result (λ fault. IsEditReason bench.old edit fault ⊎ IsAnyReason bench.new.table.clock (answer (edited (project_of bench.old) edit)) queries.now fault) }
 {
     match bench.edit(0, edit) {
         Ok(_) => {}

@@ -1,4 +1,12 @@
+pub mod Adding
+pub mod Fields
 pub mod Hot
 pub mod Listing
 pub mod Lists
+pub mod Printing
+pub mod RowCounts
 pub mod Rows
+pub mod Settings
+pub mod Stages
+pub mod SweepRows
+pub mod WordByWord

@@ -1,8 +1,9 @@
 -- What a summary counts.
-use Rattle.std.specs.Prelude.{◌≡◌, ◌≤◌, ◌<◌, ℕ, ◌^◌, List, map, length, All, AllPairs, Contains, slice_index, ◌⊎◌, ◌==◌, if◌then◌else◌, sum_by, Option, None, Some}
+use Rattle.std.specs.Prelude.{◌≡◌, ◌≤◌, ◌<◌, ℕ, ◌^◌, ◌*◌, List, map, length, min, All, AllPairs, Contains, slice_index, ◌⊎◌, ◌==◌, if◌then◌else◌, sum_by, Option, None, Some}
 use Rattle.omega_net.specs.declared.script.ScriptEntry.{ScriptEntry}
 use Rattle.omega_net.specs.declared.script.ScriptEntry.TheVariants.{Reference, Until}
 use Rattle.omega_net.specs.Wires.{below}
+use Rattle.project_book.specs.Limits.{max_times, script_entries}
 use Rattle.project_book.specs.Project.{Project, entry_at, length_at}
 
 -- a number of times where a word is the one that is counted, or any is
@@ -22,6 +23,17 @@ times_of P word p = sum_by (λ i. times_in (entry_at P p i) word) (below (length
 
 abbrev pub references : Project → Option ℕ → ℕ
 references P word = sum_by (times_of P word) (below (2 ^ P.k))
+
+-- how many scripts have an entry, and how many entries they have
+abbrev pub script_count : Project → ℕ
+script_count P = sum_by (λ p. min (length_at P p) 1) (below (2 ^ P.k))
+
+abbrev pub entry_count : Project → ℕ
+entry_count P = sum_by (length_at P) (below (2 ^ P.k))
+
+-- how often a script's entries refer to a word at most, by the limits of entries and of times
+abbrev pub script_times : ℕ
+script_times = script_entries * max_times
 
 -- a word comes before another one by the number of references: more of them, or as many and a lower address
 abbrev pub Before : (ℕ → ℕ) → ℕ → ℕ → Type 0

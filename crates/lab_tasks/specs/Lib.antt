@@ -1,9 +1,14 @@
+pub mod Added
 pub mod Counts
+pub mod Done
 pub mod Ends
+pub mod Kept
 pub mod Numbers
 pub mod Outcomes
 pub mod Plans
 pub mod Points
+pub mod Summaries
+pub mod SweepTables
 pub mod Sweeps
 pub mod Tables
 pub mod Words

@@ -1,9 +1,13 @@
 -- The points that are measured.
-use Rattle.std.specs.Prelude.{ℕ, ◌+◌, ◌++◌, Bool, true, false, List, map}
+use Rattle.std.specs.Prelude.{◌≡◌, ℕ, ◌+◌, ◌-◌, ◌/◌, ◌++◌, Bool, true, false, List, map}
 use Rattle.std.specs.List.{flat_map}
 use Rattle.omega_net.specs.Wires.{below}
 use Rattle.experiments.specs.declared.load.Load.{Load}
+use Rattle.experiments.specs.Loads.{IsServed}
+use Rattle.experiments.specs.Delays.{IsWaited}
 use Rattle.lab_tasks.specs.declared.plan.CurvePlan.{CurvePlan}
+use Rattle.lab_tasks.specs.declared.tables.RatePoint.{RatePoint}
+use Rattle.lab_tasks.specs.declared.tables.DelayPoint.{DelayPoint}
 
 -- a load of a plan for each share, on machines of 2^k processors
 abbrev pub share_loads : CurvePlan → ℕ → Bool → Bool → List Load
@@ -17,3 +21,20 @@ rate_loads plan = flat_map (λ k. share_loads plan k true false ++ share_loads p
 -- the low network, and the combining one without and with combining, each with each share
 abbrev pub delay_loads : CurvePlan → List Load
 delay_loads plan = share_loads plan plan.k false false ++ share_loads plan plan.k true false ++ share_loads plan plan.k true true
+
+-- the second half of so many cycles is measured: from which one, and how many
+abbrev pub first_measured : ℕ → ℕ
+first_measured cycles = cycles / 2 + 1
+
+abbrev pub measured_count : ℕ → ℕ
+measured_count cycles = cycles - cycles / 2
+
+-- the point of a load has what is served in its run in the measured cycles
+abbrev pub IsRate : CurvePlan → Load → RatePoint → Type 0
+IsRate plan load point =
+    (point.load ≡ load) × IsServed load (first_measured plan.cycles) point.served × (point.cycles ≡ measured_count plan.cycles)
+
+-- the point of a load has the replies to references that aren't hot, in its run in the measured cycles, and how long they took
+abbrev pub IsDelay : CurvePlan → Load → DelayPoint → Type 0
+IsDelay plan load point =
+    (point.load ≡ load) × IsWaited load (first_measured plan.cycles) (record { count = point.replies; cycles = point.waited })

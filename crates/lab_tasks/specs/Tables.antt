@@ -1,6 +1,6 @@
 -- What tables say.
-use Rattle.std.specs.Prelude.{ℕ, ◌+◌, ◌-◌, ◌*◌, ◌/◌, ◌%◌, ◌^◌, min, max, Bool, if◌then◌else◌, List, [], ◌∷◌, ◌++◌, codes, decimal}
-use Rattle.std.specs.List.{flat_map}
+use Rattle.std.specs.Prelude.{ℕ, ◌+◌, ◌-◌, ◌*◌, ◌/◌, ◌%◌, ◌^◌, ◌==◌, ◌||◌, min, max, Bool, if◌then◌else◌, List, [], ◌∷◌, ◌++◌, map, codes, decimal, chars, encode_utf8}
+use Rattle.std.specs.List.{flat_map, join_with_byte, list_any}
 use Rattle.experiments.specs.declared.load.Load.{Load}
 use Rattle.lab_tasks.specs.declared.tables.RatePoint.{RatePoint}
 use Rattle.lab_tasks.specs.declared.tables.DelayPoint.{DelayPoint}
@@ -55,3 +55,22 @@ delay_row p =
 -- a table: its first row, then a row for each point, each with a LF behind it
 abbrev pub table_text : {T : Type 0} → List ℕ → (T → List ℕ) → List T → List ℕ
 table_text first row points = first ++ flat_map (λ point. row point ++ 10 ∷ []) points
+
+-- whether a text has a comma or a quote: 44 is , and 34 is "
+abbrev pub is_quoted : List ℕ → Bool
+is_quoted text = list_any (λ b. b == 44) text || list_any (λ b. b == 34) text
+
+-- a text with each quote written twice
+abbrev pub doubled_char : ℕ → List ℕ
+doubled_char c = if c == 34 then codes "\"\"" else encode_utf8 c
+
+unfoldable pub doubled_text : List ℕ → List ℕ
+doubled_text text = flat_map doubled_char (chars text)
+
+-- a text as a field of a table: as it is without a comma or a quote, else in quotes
+unfoldable pub field_text : List ℕ → List ℕ
+field_text text = if is_quoted text then codes "\"" ++ doubled_text text ++ codes "\"" else text
+
+-- fields with commas between
+abbrev pub fields_text : List (List ℕ) → List ℕ
+fields_text texts = join_with_byte 44 (map field_text texts)

@@ -1,5 +1,5 @@
 -- What the program is told by its words.
-use Rattle.std.specs.Prelude.{List, [], ℕ, Option, Some, None, option_map, unwrap_or, codes}
+use Rattle.std.specs.Prelude.{List, [], map, ℕ, Option, Some, None, option_map, unwrap_or, codes}
 use Rattle.std.specs.Option.{option_map_or}
 use Rattle.std.specs.Borrow.{Bor}
 use Rattle.clap.specs.declared.parser.matches.ArgMatches.{ArgMatches}
@@ -7,9 +7,12 @@ use Rattle.clap.specs.Matches.{found_of, first_value, matched_of, raw_values}
 use Rattle.lab_tasks.specs.declared.words.Asked.{Asked}
 use Rattle.lab_tasks.specs.declared.words.Asked.TheVariants.{Map, Rates, Delays, Sweep, Check, Convert}
 
--- a word as its text, if there is one
+-- a word as its text, if there is one, and several words as theirs
 abbrev pub text_of : Option (Bor (List ℕ)) → Option (List ℕ)
 text_of word = option_map (λ w. w.now) word
+
+abbrev pub texts_of : List (Bor (List ℕ)) → List (List ℕ)
+texts_of words = map (λ w. w.now) words
 
 -- the text at an option, and those of all its uses
 abbrev pub text_at : ArgMatches → List ℕ → Option (List ℕ)

@@ -1,22 +1,27 @@
 //! What a project is, in words.
-ghost use Rattle.std.specs.Prelude.{◌≡◌, ◌+◌, ◌*◌, ◌^◌, ◌<◌, ◌≤◌, IfNone, IfOk, IfSome, Some, ℕ, min, slice_index, slice_set, sum_by, vec_len};
+ghost use Rattle.std.specs.Prelude.{◌≡◌, ◌+◌, ◌++◌, ◌^◌, ◌<◌, ◌≤◌, IfNone, IfOk, IfSome, OnOk, Some, ℕ, codes, decimal, slice_index, slice_set, string_bytes, vec_len};
+ghost use Rattle.std.specs.List.{flat_map};
 ghost use Rattle.omega_net.specs.Wires.{below};
 ghost use Rattle.page_map.specs.Limits.{address_count};
-ghost use Rattle.project_book.specs.Project.{length_at};
+ghost use Rattle.project_book.specs.Limits.{max_times};
+ghost use Rattle.project_book.specs.Project.{combines_at};
 ghost use Rattle.project_book.specs.Scripts.{IsEntry};
-ghost use Rattle.lab_tasks.specs.Counts.{times_in, times_of, references, AreHot, IsMost};
+ghost use Rattle.lab_tasks.specs.Counts.{times_in, times_of, references, script_count, entry_count, script_times, AreHot, IsMost};
+ghost use Rattle.lab_tasks.specs.Summaries.{size_text, machine_line, low_places, comb_places, other_places, places_line, combining_line, scripts_line, hot_line, IsSummary};
+ghost use Rattle.lab_tasks.specs.Tables.{switch_text};
 
+use crate::tables::switch;
 use omega_net::ScriptEntry;
 use page_map::ADDRESSES;
 use project_book::{Depths, Project};
 use std::alloc::{AllocError, Global};
-use std::fmt::Write;
+use std::fmt::{self, Write};
 
 /// How often an entry refers to a word, or to any word, at most.
 fn times_in(entry: Option<ScriptEntry>, word: Option<u32>) -> u32
     requires { IfSome entry IsEntry }
     ensures times { result ≡ times_in entry word }
-    ensures few { result ≤ 1000 }
+    ensures few { result ≤ max_times }
 {
     let (address, times) = match entry {
         Some(ScriptEntry::Reference { address, times, .. }) => (address, times),
@@ -33,7 +38,7 @@ fn times_in(entry: Option<ScriptEntry>, word: Option<u32>) -> u32
 #[tactic(auto, using(crate::proofs::Listing::sum_next))]
 fn times_of(project: &Project, proc: u32, word: Option<u32>) -> u32
     ensures times { result ≡ times_of project.now word proc }
-    ensures few { result ≤ 256000 }
+    ensures few { result ≤ script_times }
 {
     let mut times: u32 = 0;
     for index in 0..project.length(proc) {
@@ -77,10 +82,10 @@ fn word_in(entry: Option<ScriptEntry>) -> Option<u32>
 fn add_entry(counts: &mut Vec<u32>, entry: Option<ScriptEntry>)
     requires entry { IfSome entry IsEntry }
     requires long { vec_len counts.old ≡ address_count }
-    requires few { (a : ℕ) → slice_index counts.old.items a ≤ 4000000000 }
+    requires few { (a : ℕ) → slice_index counts.old.items a + max_times < 2 ^ 32 }
     ensures long { vec_len counts.new ≡ address_count }
     ensures more { (a : ℕ) → slice_index counts.new.items a ≡ slice_index counts.old.items a + times_in entry (Some a) }
-    ensures few { (a : ℕ) → slice_index counts.new.items a ≤ slice_index counts.old.items a + 1000 }
+    ensures few { (a : ℕ) → slice_index counts.new.items a ≤ slice_index counts.old.items a + max_times }
 {
     if let Some(word) = word_in(entry) {
         let times = times_in(entry, Some(word));
@@ -91,10 +96,10 @@ fn add_entry(counts: &mut Vec<u32>, entry: Option<ScriptEntry>)
 /// Counts the references of a processor's script to each word.
 fn add_script(counts: &mut Vec<u32>, project: &Project, proc: u32)
     requires long { vec_len counts.old ≡ address_count }
-    requires few { (a : ℕ) → slice_index counts.old.items a ≤ 3000000000 }
+    requires few { (a : ℕ) → slice_index counts.old.items a + script_times < 2 ^ 32 }
     ensures long { vec_len counts.new ≡ address_count }
     ensures more { (a : ℕ) → slice_index counts.new.items a ≡ slice_index counts.old.items a + times_of project.now (Some a) proc }
-    ensures few { (a : ℕ) → slice_index counts.new.items a ≤ slice_index counts.old.items a + 256000 }
+    ensures few { (a : ℕ) → slice_index counts.new.items a ≤ slice_index counts.old.items a + script_times }
 {
     for index in 0..project.length(proc) {
         add_entry(counts, project.entry(proc, index));
@@ -154,8 +159,7 @@ fn hot_words(alloc: Global, project: &Project) -> Result<Vec<(usize, u32)>, Allo
 {
     let mut counts = word_counts(alloc, project)?;
     let mut words = Vec::new(alloc);
-    for named in 0..NAMED {
-        let _named = named;
+    'naming: while words.len() < NAMED {
         let Some(word) = most_of(counts.as_slice()) else {
             return Ok(words);
         };
@@ -165,34 +169,106 @@ fn hot_words(alloc: Global, project: &Project) -> Result<Vec<(usize, u32)>, Allo
     Ok(words)
 }
 
-/// Adds the lines on the machine.
-fn tell_machine(text: &mut String, project: &Project) -> Result<(), AllocError> {
-    let (processors, stages) = (project.processors(), project.k());
+/// How large a machine is.
+#[derive(Clone, Copy)]
+struct Size<'a>(&'a Project);
+
+impl fmt::Display for Size<'_> {
+    ghost output = { λ size. Some (size_text size.0.now) };
+
+    fn fmt<W: fmt::Write>(&self, f: &mut fmt::Formatter<W>) -> fmt::Result {
+        let (processors, stages) = (self.0.processors(), self.0.k());
+        write!(
+            f,
+            "{processors} processors, {processors} modules, {stages} stages"
+        )
+    }
+}
+
+/// Adds the line on the machine.
+fn add_machine(text: &mut String, project: &Project) -> Result<(), AllocError>
+    ensures { OnOk result (string_bytes text.new ≡ string_bytes text.old ++ machine_line project.now) }
+{
+    let size = Size(project);
     let (horizon, window) = (project.horizon(), project.window());
     writeln!(
         text,
-        "{processors} processors, {processors} modules, {stages} stages; cycles 0 to {horizon}; at most {window} unanswered"
-    )?;
-    let low = project.depth(Depths::LowForward);
-    let low_reverse = project.depth(Depths::LowReverse);
-    let comb = project.depth(Depths::CombForward);
-    let comb_reverse = project.depth(Depths::CombReverse);
-    let (module, wait) = (project.depth(Depths::ModuleQueue), project.wait());
-    writeln!(
-        text,
-        "places: low-forward {low}, low-reverse {low_reverse}, comb-forward {comb}, comb-reverse {comb_reverse}, module {module}, wait {wait}"
-    )?;
-    write!(text, "combining:")?;
-    for stage in 0..stages {
-        let on = if project.combine(stage) { "on" } else { "off" };
+        "{size}; cycles 0 to {horizon}; at most {window} unanswered"
+    )
+}
+
+/// The places of queues in the low network, in the combining one, and the other ones.
+#[derive(Clone, Copy)]
+struct LowPlaces<'a>(&'a Project);
+
+impl fmt::Display for LowPlaces<'_> {
+    ghost output = { λ places. Some (low_places places.0.now) };
+
+    fn fmt<W: fmt::Write>(&self, f: &mut fmt::Formatter<W>) -> fmt::Result {
+        let forward = self.0.depth(Depths::LowForward);
+        let reverse = self.0.depth(Depths::LowReverse);
+        write!(f, "low-forward {forward}, low-reverse {reverse}")
+    }
+}
+
+#[derive(Clone, Copy)]
+struct CombPlaces<'a>(&'a Project);
+
+impl fmt::Display for CombPlaces<'_> {
+    ghost output = { λ places. Some (comb_places places.0.now) };
+
+    fn fmt<W: fmt::Write>(&self, f: &mut fmt::Formatter<W>) -> fmt::Result {
+        let forward = self.0.depth(Depths::CombForward);
+        let reverse = self.0.depth(Depths::CombReverse);
+        write!(f, "comb-forward {forward}, comb-reverse {reverse}")
+    }
+}
+
+#[derive(Clone, Copy)]
+struct OtherPlaces<'a>(&'a Project);
+
+impl fmt::Display for OtherPlaces<'_> {
+    ghost output = { λ places. Some (other_places places.0.now) };
+
+    fn fmt<W: fmt::Write>(&self, f: &mut fmt::Formatter<W>) -> fmt::Result {
+        let module = self.0.depth(Depths::ModuleQueue);
+        let wait = self.0.wait();
+        write!(f, "module {module}, wait {wait}")
+    }
+}
+
+/// Adds the line on places.
+fn add_places(text: &mut String, project: &Project) -> Result<(), AllocError>
+    ensures { OnOk result (string_bytes text.new ≡ string_bytes text.old ++ places_line project.now) }
+{
+    let (low, comb) = (LowPlaces(project), CombPlaces(project));
+    let others = OtherPlaces(project);
+    writeln!(text, "places: {low}, {comb}, {others}")
+}
+
+/// Adds for each stage whether its switches combine, with a space before.
+fn add_switches(text: &mut String, project: &Project) -> Result<(), AllocError>
+    ensures { OnOk result (string_bytes text.new ≡ string_bytes text.old ++ flat_map (λ stage. codes " " ++ switch_text (combines_at project.now stage)) (below project.now.k)) }
+{
+    for stage in 0..project.k() {
+        let on = switch(project.combine(stage));
         write!(text, " {on}")?;
     }
+    Ok(())
+}
+
+/// Adds the line on combining.
+fn add_combining(text: &mut String, project: &Project) -> Result<(), AllocError>
+    ensures { OnOk result (string_bytes text.new ≡ string_bytes text.old ++ combining_line project.now) }
+{
+    write!(text, "combining:")?;
+    add_switches(text, project)?;
     writeln!(text, "")
 }
 
 /// How many scripts have an entry.
 fn scripts_of(project: &Project) -> u32
-    ensures { result ≡ sum_by (λ p. min (length_at project.now p) 1) (below (2 ^ project.now.k)) }
+    ensures { result ≡ script_count project.now }
 {
     let mut scripts: u32 = 0;
     for proc in 0..project.processors() {
@@ -203,7 +279,7 @@ fn scripts_of(project: &Project) -> u32
 
 /// How many entries the scripts have.
 fn entries_of(project: &Project) -> u32
-    ensures { result ≡ sum_by (length_at project.now) (below (2 ^ project.now.k)) }
+    ensures { result ≡ entry_count project.now }
 {
     project.is_project();
     let mut entries: u32 = 0;
@@ -213,21 +289,47 @@ fn entries_of(project: &Project) -> u32
     entries
 }
 
-/// What a project is, in words.
-pub(crate) fn summary(alloc: Global, project: &Project) -> Result<String, AllocError> {
-    let mut text = String::new(alloc);
-    tell_machine(&mut text, project)?;
+/// Adds the line on the scripts.
+fn add_scripts(text: &mut String, project: &Project) -> Result<(), AllocError>
+    ensures { OnOk result (string_bytes text.new ≡ string_bytes text.old ++ scripts_line project.now) }
+{
     let (scripts, entries) = (scripts_of(project), entries_of(project));
     let all = references(project, None);
     writeln!(
         text,
         "scripts: {scripts}, with {entries} entries, {all} references at most"
-    )?;
-    write!(text, "hot words:")?;
-    let words = hot_words(alloc, project)?;
-    for (word, count) in words.as_slice() {
+    )
+}
+
+/// Adds words with their counts, with a space before each.
+fn add_words(text: &mut String, words: &[(usize, u32)]) -> Result<(), AllocError>
+    ensures { OnOk result (string_bytes text.new ≡ string_bytes text.old ++ flat_map (λ w. codes " " ++ (decimal w.0 ++ (codes " (" ++ (decimal w.1 ++ codes ")")))) words.now) }
+{
+    for (word, count) in words {
         write!(text, " {word} ({count})")?;
     }
-    writeln!(text, "")?;
+    Ok(())
+}
+
+/// Adds the line on hot words.
+fn add_hot(text: &mut String, words: &[(usize, u32)]) -> Result<(), AllocError>
+    ensures { OnOk result (string_bytes text.new ≡ string_bytes text.old ++ hot_line words.now) }
+{
+    write!(text, "hot words:")?;
+    add_words(text, words)?;
+    writeln!(text, "")
+}
+
+/// What a project is, in words.
+pub(crate) fn summary(alloc: Global, project: &Project) -> Result<String, AllocError>
+    ensures { IfOk result (λ text. IsSummary project.now (string_bytes text)) }
+{
+    let mut text = String::new(alloc);
+    add_machine(&mut text, project)?;
+    add_places(&mut text, project)?;
+    add_combining(&mut text, project)?;
+    add_scripts(&mut text, project)?;
+    let words = hot_words(alloc, project)?;
+    add_hot(&mut text, words.as_slice())?;
     Ok(text)
 }

@@ -1,5 +1,9 @@
 //! Mean delays of the references that aren't hot against the share of hot ones.
-ghost use Rattle.std.specs.Prelude.{◌≡◌, IfOk, string_bytes};
+ghost use Rattle.std.specs.Prelude.{◌≡◌, IfOk, IsOkUnless, OnOk, string_bytes};
+ghost use Rattle.std.specs.List.{AllZip};
+ghost use Rattle.experiments.specs.Delays.{IsWaited};
+ghost use Rattle.lab_tasks.specs.Added.{Adds};
+ghost use Rattle.lab_tasks.specs.Points.{delay_loads, first_measured, IsDelay};
 ghost use Rattle.lab_tasks.specs.Tables.{delay_row, table_text};
 
 use crate::curves::{even_ticks, mark_of, stroke_of};
@@ -9,7 +13,7 @@ use crate::points::delay_loads;
 use crate::progress::Progress;
 use crate::rates::first_measured;
 use crate::tables::{DELAY_HEADER, DelayPoint};
-use experiments::{ColdWaits, Load, waited_each};
+use experiments::{ColdWaits, Fault, Load, waited_each};
 use std::alloc::{AllocError, Global};
 use std::fmt::Write;
 use std::thread::Threads;
@@ -24,7 +28,10 @@ pub(crate) fn delay_points<'a, T: Threads + Sync, P: Progress>(
     alloc: Global,
     plan: &CurvePlan,
     progress: &mut P,
-) -> Result<Vec<DelayPoint>, End<'a>> {
+) -> Result<Vec<DelayPoint>, End<'a>>
+    ensures points { IfOk result (λ v. AllZip (IsDelay plan.now) (delay_loads plan.now) v.items) }
+    ensures memory { IsOkUnless result End.Memory }
+{
     let loads = delay_loads(alloc, plan)?;
     let mut points = Vec::new(alloc);
     for some in loads.chunks(AT_ONCE) {
@@ -41,20 +48,36 @@ fn add_points<'a, T: Threads + Sync>(
     plan: &CurvePlan,
     loads: &[Load],
     points: &mut Vec<DelayPoint>,
-) -> Result<(), End<'a>> {
+) -> Result<(), End<'a>>
+    ensures added { OnOk result (Adds (IsDelay plan.now) loads.now points.old.items points.new.items) }
+    ensures memory { IsOkUnless result End.Memory }
+{
     let all = waited_each(rt, alloc, loads, first_measured(plan.cycles))?;
     for (load, waits) in loads.iter().zip(all.as_slice()) {
-        let ColdWaits { count, cycles } = (*waits)?;
-        let (Ok(replies), Ok(waited)) = (u32::try_from(count), u32::try_from(cycles)) else {
-            return Err(End::Memory);
-        };
-        points.push(DelayPoint {
-            load: *load,
-            replies,
-            waited,
-        })?;
+        points.push(delay_point(plan, *load, *waits)?)?;
     }
     Ok(())
+}
+
+/// The point of a load whose references waited so.
+fn delay_point<'a>(
+    plan: &CurvePlan,
+    load: Load,
+    waits: Result<ColdWaits, Fault>,
+) -> Result<DelayPoint, End<'a>>
+    requires { IfOk waits (IsWaited load (first_measured plan.now.cycles)) }
+    ensures point { IfOk result (IsDelay plan.now load) }
+    ensures memory { IsOkUnless result End.Memory }
+{
+    let ColdWaits { count, cycles } = waits?;
+    let (Ok(replies), Ok(waited)) = (u32::try_from(count), u32::try_from(cycles)) else {
+        return Err(End::Memory);
+    };
+    Ok(DelayPoint {
+        load,
+        replies,
+        waited,
+    })
 }
 
 /// The table of the points.

@@ -6,10 +6,12 @@
 //! there is no outcome, with its status and its line.
 //!
 //! The crate stands on `experiments` for figures, on `svg_plots` for pictures, on `commands` for the words of questions,
-//! and on `project_file` for files. It promises how numbers, lists and ranges are read (`specs/Numbers.antt`), which
-//! points are measured and in which order (`specs/Points.antt`), rates, means and the bound (`specs/Tables.antt`), what a
-//! summary counts (`specs/Counts.antt`), and the statuses and lines (`specs/Ends.antt`). What the pictures look like is
-//! shown by examples.
+//! and on `project_file` for files. What [`perform`] does for each command, and why it doesn't, is in `specs/Done.antt`: how
+//! numbers, lists and ranges are read (`specs/Numbers.antt`), which word is refused first (`specs/Plans.antt`), which points
+//! are measured and that each is that of its load's run (`specs/Points.antt`), rates, means, the bound and fields of tables
+//! (`specs/Tables.antt`), the table of a sweep (`specs/SweepTables.antt`), what a summary counts and says
+//! (`specs/Counts.antt`, `specs/Summaries.antt`), which project files are kept (`specs/Kept.antt`), and the statuses and lines
+//! (`specs/Ends.antt`). What the pictures look like is shown by examples.
 #![tactic(auto)]
 
 mod check;

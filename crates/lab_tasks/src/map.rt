@@ -1,5 +1,5 @@
 //! Tree saturation as a picture.
-ghost use Rattle.std.specs.Prelude.{◌<◌, ◌≤◌};
+ghost use Rattle.std.specs.Prelude.{◌<◌, ◌≤◌, IsOkUnless};
 ghost use Rattle.omega_net.specs.Numbers.{lines};
 
 use crate::end::End;
@@ -132,6 +132,7 @@ pub(crate) fn map_picture<'a>(
     requires there { plan.«module» < lines project.now.k }
     requires window { plan.window.from ≤ plan.window.to }
     requires within { plan.window.to ≤ project.now.horizon }
+    ensures { IsOkUnless result End.Memory }
 {
     let map = saturation_map(alloc, project, plan.net, plan.module, plan.window)?;
     let most = project.depth(Depths::forward(plan.net)).min(255) as u8;

@@ -1,9 +1,9 @@
 //! The numbers that the words of `map`, `rates` and `delays` give.
-ghost use Rattle.std.specs.Prelude.{◌≡◌, ◌<◌, ◌≤◌, ◌-◌, IfErr, IfOk, Some};
+ghost use Rattle.std.specs.Prelude.{◌≡◌, ◌<◌, ◌≤◌, IfErr, IfOk, Some};
 ghost use Rattle.omega_net.specs.Numbers.{lines};
 ghost use Rattle.page_map.specs.Limits.{max_k};
 ghost use Rattle.lab_tasks.specs.Numbers.{AreNoShares, AreShares, are_hundredths, IsTold, IsUntold};
-ghost use Rattle.lab_tasks.specs.Plans.{net_of, IsNoNet};
+ghost use Rattle.lab_tasks.specs.Plans.{net_of, IsCurves, IsMap, IsNoCurve, IsNoMap, IsNoNet};
 ghost use Rattle.lab_tasks.specs.Words.{text_of};
 
 use crate::end::{End, Reason};
@@ -72,10 +72,8 @@ fn net_at<'a>(word: Option<&'a str>) -> Result<Net, End<'a>>
 
 /// What is to be drawn of a project: a module that it has, and cycles up to its horizon.
 pub(crate) fn map_plan<'a>(words: &MapWords<'a>, project: &Project) -> Result<MapPlan, End<'a>>
-    ensures net { IfOk result (λ plan. net_of (text_of words.now.net) ≡ Some plan.net) }
-    ensures number { IfOk result (λ plan. IsTold (text_of words.now.«module») 0 0 (lines project.now.k - 1) plan.«module») }
-    ensures from { IfOk result (λ plan. IsTold (text_of words.now.from) 0 0 project.now.horizon plan.window.from) }
-    ensures to { IfOk result (λ plan. IsTold (text_of words.now.to) project.now.horizon 0 project.now.horizon plan.window.to) }
+    ensures told { IfOk result (IsMap project.now words.now) }
+    ensures refused { IfErr result (IsNoMap project.now words.now) }
     ensures there { IfOk result (λ plan. plan.«module» < lines project.now.k) }
     ensures window { IfOk result (λ plan. plan.window.from ≤ plan.window.to) }
     ensures within { IfOk result (λ plan. plan.window.to ≤ project.now.horizon) }
@@ -148,10 +146,8 @@ fn shares_at<'a>(alloc: Global, word: Option<&'a str>) -> Result<Vec<u32>, End<'
 
 /// What is to be measured.
 pub(crate) fn curve_plan<'a>(alloc: Global, words: &CurveWords<'a>) -> Result<CurvePlan, End<'a>>
-    ensures k { IfOk result (λ plan. IsTold (text_of words.now.k) max_k 1 max_k plan.k) }
-    ensures hot { IfOk result (λ plan. AreShares (text_of words.now.hot) plan.hot.items) }
-    ensures cycles { IfOk result (λ plan. IsTold (text_of words.now.cycles) 256 2 256 plan.cycles) }
-    ensures seed { IfOk result (λ plan. IsTold (text_of words.now.seed) 1 0 4294967295 plan.seed) }
+    ensures told { IfOk result (IsCurves words.now) }
+    ensures refused { IfErr result (IsNoCurve words.now) }
     ensures small { IfOk result (λ plan. plan.k ≤ max_k) }
 {
     let k = number_at("--k", words.k, MAX_K, 1, MAX_K)?;

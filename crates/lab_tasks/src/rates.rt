@@ -1,6 +1,10 @@
 //! Served references per cycle against the number of processors.
-ghost use Rattle.std.specs.Prelude.{◌≡◌, ◌≤◌, ◌+◌, ◌-◌, ◌/◌, IfOk, string_bytes};
+ghost use Rattle.std.specs.Prelude.{◌≡◌, ◌≤◌, IfOk, IsOkUnless, OnOk, string_bytes};
+ghost use Rattle.std.specs.List.{AllZip};
 ghost use Rattle.page_map.specs.Limits.{max_k};
+ghost use Rattle.experiments.specs.Loads.{IsServed};
+ghost use Rattle.lab_tasks.specs.Added.{Adds};
+ghost use Rattle.lab_tasks.specs.Points.{first_measured, measured_count, rate_loads, IsRate};
 ghost use Rattle.lab_tasks.specs.Tables.{rate_row, table_text};
 
 use crate::curves::{doublings, mark_of, stroke_of};
@@ -9,7 +13,7 @@ use crate::plan::CurvePlan;
 use crate::points::rate_loads;
 use crate::progress::Progress;
 use crate::tables::{RATE_HEADER, RatePoint, bound_thousandths, processors_of};
-use experiments::{Load, served_each};
+use experiments::{Fault, Load, served_each};
 use std::alloc::{AllocError, Global};
 use std::fmt::Write;
 use std::thread::Threads;
@@ -17,7 +21,7 @@ use svg_plots::{Axis, Curve, Curves, Panel, Tick, draw_curves, log2_hundredths};
 
 /// The first cycle that is measured: what comes before is the start.
 pub(crate) fn first_measured(cycles: u32) -> u32
-    ensures { result ≡ cycles / 2 + 1 }
+    ensures { result ≡ first_measured cycles }
 {
     let left_out = cycles / 2;
     left_out + 1
@@ -25,7 +29,7 @@ pub(crate) fn first_measured(cycles: u32) -> u32
 
 /// How many cycles are measured.
 fn measured_count(cycles: u32) -> u32
-    ensures { result ≡ cycles - cycles / 2 }
+    ensures { result ≡ measured_count cycles }
 {
     cycles - cycles / 2
 }
@@ -41,6 +45,8 @@ pub(crate) fn rate_points<'a, T: Threads + Sync, P: Progress>(
     progress: &mut P,
 ) -> Result<Vec<RatePoint>, End<'a>>
     requires { plan.now.k ≤ max_k }
+    ensures points { IfOk result (λ v. AllZip (IsRate plan.now) (rate_loads plan.now) v.items) }
+    ensures memory { IsOkUnless result End.Memory }
 {
     let loads = rate_loads(alloc, plan)?;
     let mut points = Vec::new(alloc);
@@ -58,19 +64,35 @@ fn add_points<'a, T: Threads + Sync>(
     plan: &CurvePlan,
     loads: &[Load],
     points: &mut Vec<RatePoint>,
-) -> Result<(), End<'a>> {
+) -> Result<(), End<'a>>
+    ensures added { OnOk result (Adds (IsRate plan.now) loads.now points.old.items points.new.items) }
+    ensures memory { IsOkUnless result End.Memory }
+{
     let counts = served_each(rt, alloc, loads, first_measured(plan.cycles))?;
     for (load, count) in loads.iter().zip(counts.as_slice()) {
-        let Ok(served) = u32::try_from((*count)?) else {
-            return Err(End::Memory);
-        };
-        points.push(RatePoint {
-            load: *load,
-            served,
-            cycles: measured_count(plan.cycles),
-        })?;
+        points.push(rate_point(plan, *load, *count)?)?;
     }
     Ok(())
+}
+
+/// The point of a load of which so many are served.
+fn rate_point<'a>(
+    plan: &CurvePlan,
+    load: Load,
+    count: Result<u64, Fault>,
+) -> Result<RatePoint, End<'a>>
+    requires { IfOk count (IsServed load (first_measured plan.now.cycles)) }
+    ensures point { IfOk result (IsRate plan.now load) }
+    ensures memory { IsOkUnless result End.Memory }
+{
+    let Ok(served) = u32::try_from(count?) else {
+        return Err(End::Memory);
+    };
+    Ok(RatePoint {
+        load,
+        served,
+        cycles: measured_count(plan.cycles),
+    })
 }
 
 /// The table of the points.

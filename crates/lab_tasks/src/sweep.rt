@@ -1,13 +1,16 @@
 //! One depth after another on one bench.
-ghost use Rattle.std.specs.Prelude.{◌≡◌, ◌+◌, ◌-◌, ◌<◌, ◌≤◌, [], ◌∷◌, ◌++◌, IfErr, IfOk, Ok, OnOk, Some, map};
-ghost use Rattle.std.specs.List.{flat_map};
+ghost use Rattle.std.specs.Prelude.{◌≡◌, ◌+◌, ◌-◌, ◌^◌, ◌<◌, ◌≤◌, ◌==◌, [], ◌∷◌, ◌++◌, IfErr, IfOk, Ok, OnOk, Some, codes, decimal, if◌then◌else◌, length, map, min, string_bytes};
+ghost use Rattle.std.specs.List.{flat_map, AllZip};
 ghost use Rattle.line_words.specs.Words.{words_of};
 ghost use Rattle.run_queries.specs.Answers.{answer};
+ghost use Rattle.run_queries.specs.Texts.{body_text};
 ghost use Rattle.bench_core.specs.Shown.{project_of};
 ghost use Rattle.commands.specs.Queues.{queue_named};
 ghost use Rattle.commands.specs.Commands.{command_of};
-ghost use Rattle.commands.specs.declared.command.Command.TheVariants.{Query as Asks};
 ghost use Rattle.lab_tasks.specs.Sweeps.{queue_text, depths_in, IsSwept, RefusesDepths, rows_of, settings_of, with_settings, IsAsked, RefusesAsk};
+ghost use Rattle.lab_tasks.specs.SweepTables.{header_text, HasFields, HasRowOf, HasRows, IsRow, IsTable, AreNotSwept, AreNotAsked, IsNoTable, OrMemory};
+ghost use Rattle.lab_tasks.specs.Tables.{field_text, fields_text};
+ghost use Rattle.lab_tasks.specs.declared.end.End.TheVariants.{Memory};
 
 use crate::end::{End, Reason};
 use crate::numbers::{parts_at, range_in};
@@ -90,12 +93,15 @@ fn swept_in<'a>(word: &'a str) -> Result<Swept, End<'a>>
 
 /// What the words sweep, in turn.
 fn all_swept<'a>(alloc: Global, words: &[&'a str]) -> Result<Vec<Swept>, End<'a>>
-    ensures { IfOk result (λ all. map (λ word. depths_in word.now) words.entry.now ≡ map (λ swept. Some (swept.queue, (swept.from, swept.to))) all.items) }
+    ensures swept { IfOk result (λ all. AllZip IsSwept (map (λ word. word.now) words.entry.now) all.items) }
+    ensures refused { IfErr result (OrMemory (AreNotSwept (map (λ word. word.now) words.entry.now))) }
 {
     let mut all = Vec::new(alloc);
     for word in words {
-        let swept = swept_in(word)?;
-        all.push(swept)?;
+        match swept_in(word) {
+            Ok(swept) => all.push(swept)?,
+            Err(end) => return Err(end),
+        }
     }
     Ok(all)
 }
@@ -125,12 +131,15 @@ fn all_queries<'a>(
     project: &Project,
     words: &[&'a str],
 ) -> Result<Vec<Query>, End<'a>>
-    ensures { IfOk result (λ all. map (λ word. command_of project.now.k (words_of word.now)) words.entry.now ≡ map (λ query. Some (Asks query)) all.items) }
+    ensures asked { IfOk result (λ all. AllZip (IsAsked project.now) (map (λ word. word.now) words.entry.now) all.items) }
+    ensures refused { IfErr result (OrMemory (AreNotAsked project.now (map (λ word. word.now) words.entry.now))) }
 {
     let mut all = Vec::new(alloc);
     for word in words {
-        let query = query_in(project, word)?;
-        all.push(query)?;
+        match query_in(project, word) {
+            Ok(query) => all.push(query)?,
+            Err(end) => return Err(end),
+        }
     }
     Ok(all)
 }
@@ -147,7 +156,9 @@ fn count_of(swept: Swept) -> u32
 }
 
 /// How many rows there are: each depth with each. From 2^32 on it is the number before.
-fn count_rows(all: &[Swept]) -> u32 {
+fn count_rows(all: &[Swept]) -> u32
+    ensures { result ≡ min (length (rows_of all.now)) (2 ^ 32 - 1) }
+{
     let mut rows: u32 = 1;
     for swept in all {
         rows = rows.saturating_mul(count_of(*swept));
@@ -206,23 +217,77 @@ fn all_rows(alloc: Global, all: &[Swept]) -> Result<Vec<Vec<Setting>>, AllocErro
     Ok(rows)
 }
 
-/// The header of the table: the queues, then the questions.
-fn header(alloc: Global, all: &[Swept], asks: &[&str]) -> Result<String, AllocError> {
-    let mut text = String::new(alloc);
+/// Adds a field of a row, with a comma before it but for the first.
+fn add_field(text: &mut String, place: usize, field: &str) -> Result<(), AllocError>
+    ensures { OnOk result (string_bytes text.new ≡ string_bytes text.old ++ ((if place == 0 then [] else codes ",") ++ field_text field.now)) }
+{
+    let field = Field(field);
+    if place == 0 {
+        write!(text, "{field}")
+    } else {
+        write!(text, ",{field}")
+    }
+}
+
+/// Adds the names of the queues, each with a comma behind.
+fn add_queues(text: &mut String, all: &[Swept]) -> Result<(), AllocError>
+    ensures { OnOk result (string_bytes text.new ≡ string_bytes text.old ++ flat_map (λ swept. queue_text swept.queue ++ codes ",") all.now) }
+{
     for swept in all {
         let name = queue_name(swept.queue);
         write!(text, "{name},")?;
     }
+    Ok(())
+}
+
+/// Adds the questions, with commas between.
+fn add_asks(text: &mut String, asks: &[&str]) -> Result<(), AllocError>
+    ensures { OnOk result (string_bytes text.new ≡ string_bytes text.old ++ fields_text (map (λ ask. ask.now) asks.entry.now)) }
+{
     for (place, ask) in asks.iter().enumerate() {
-        let ask = Field(ask);
-        if place == 0 {
-            write!(text, "{ask}")?;
-        } else {
-            write!(text, ",{ask}")?;
-        }
+        add_field(text, place, ask)?;
     }
+    Ok(())
+}
+
+/// The header of the table: the queues, then the questions.
+fn header(alloc: Global, all: &[Swept], asks: &[&str]) -> Result<String, AllocError>
+    ensures { IfOk result (λ text. string_bytes text ≡ header_text all.now (map (λ ask. ask.now) asks.entry.now)) }
+{
+    let mut text = String::new(alloc);
+    add_queues(&mut text, all)?;
+    add_asks(&mut text, asks)?;
     writeln!(text, "")?;
     Ok(text)
+}
+
+/// Adds the depths of a row, each with a comma behind.
+fn add_depths(text: &mut String, row: &[Setting]) -> Result<(), AllocError>
+    ensures { OnOk result (string_bytes text.new ≡ string_bytes text.old ++ flat_map (λ setting. decimal setting.depth ++ codes ",") row.now) }
+{
+    for setting in row {
+        let depth = setting.depth;
+        write!(text, "{depth},")?;
+    }
+    Ok(())
+}
+
+/// An answer's text.
+fn printed(alloc: Global, body: &Body) -> Result<String, AllocError>
+    ensures { IfOk result (λ text. body_text body.now ≡ Some (string_bytes text)) }
+{
+    format!(in alloc; "{body}")
+}
+
+/// Adds the answers of a row, with commas between.
+fn add_answers(alloc: Global, text: &mut String, bodies: &[Body]) -> Result<(), AllocError>
+    ensures { OnOk result (HasFields bodies.now (string_bytes text.old) (string_bytes text.new)) }
+{
+    for (place, body) in bodies.iter().enumerate() {
+        let answer = printed(alloc, body)?;
+        add_field(text, place, answer.as_str())?;
+    }
+    Ok(())
 }
 
 /// Adds a row to the table.
@@ -231,20 +296,11 @@ fn add_row(
     text: &mut String,
     row: &[Setting],
     bodies: &[Body],
-) -> Result<(), AllocError> {
-    for setting in row {
-        let depth = setting.depth;
-        write!(text, "{depth},")?;
-    }
-    for (place, body) in bodies.iter().enumerate() {
-        let body = format!(in alloc; "{body}")?;
-        let body = Field(body.as_str());
-        if place == 0 {
-            write!(text, "{body}")?;
-        } else {
-            write!(text, ",{body}")?;
-        }
-    }
+) -> Result<(), AllocError>
+    ensures { OnOk result (HasRowOf bodies.now row.now (string_bytes text.old) (string_bytes text.new)) }
+{
+    add_depths(text, row)?;
+    add_answers(alloc, text, bodies)?;
     writeln!(text, "")
 }
 
@@ -275,10 +331,52 @@ fn row_at<T: Threads + Sync>(
     row: &[Setting],
     queries: &[Query],
 ) -> Result<Vec<Body>, Fault>
-    ensures { IfOk result (λ bodies. map (answer (with_settings (project_of bench.old) row.now)) queries.now ≡ map Ok bodies.items) }
+    ensures answers { IfOk result (λ bodies. map (answer (with_settings (project_of bench.old) row.now)) queries.now ≡ map Ok bodies.items) }
+    ensures project { OnOk result (project_of bench.new ≡ with_settings (project_of bench.old) row.now) }
 {
     set_row(rt, alloc, bench, row)?;
     told_each(rt, alloc, bench, queries)
+}
+
+/// Adds all rows: what the bench's project is told with the depths of each.
+fn add_rows<'a, T: Threads + Sync>(
+    rt: &T,
+    alloc: Global,
+    text: &mut String,
+    bench: &mut Bench,
+    all: &[Swept],
+    queries: &[Query],
+) -> Result<(), End<'a>>
+    ensures rows { OnOk result (HasRows (IsRow (project_of bench.old) queries.now) (string_bytes text.old) (rows_of all.now) (string_bytes text.new)) }
+    ensures refused { IfErr result (λ end. end ≡ Memory) }
+{
+    let rows = all_rows(alloc, all)?;
+    for settings in rows.as_slice() {
+        let row = settings.as_slice();
+        let bodies = row_at(rt, alloc, bench, row, queries)?;
+        add_row(alloc, text, row, bodies.as_slice())?;
+    }
+    Ok(())
+}
+
+/// The table of what is swept and asked.
+fn table_of<'a, T: Threads + Sync>(
+    rt: &T,
+    alloc: Global,
+    project: Project,
+    all: &[Swept],
+    queries: &[Query],
+    asks: &[&'a str],
+) -> Result<String, End<'a>>
+    ensures rows { IfOk result (λ text. HasRows (IsRow project queries.now) (header_text all.now (map (λ ask. ask.now) asks.entry.now)) (rows_of all.now) (string_bytes text)) }
+    ensures refused { IfErr result (λ end. end ≡ Memory) }
+{
+    let mut text = header(alloc, all, asks)?;
+    let Ok(mut bench) = Bench::new(alloc, project, 0) else {
+        return Err(End::Memory);
+    };
+    add_rows(rt, alloc, &mut text, &mut bench, all, queries)?;
+    Ok(text)
 }
 
 /// The table of a sweep over a project.
@@ -288,9 +386,18 @@ pub(crate) fn sweep_table<'a, T: Threads + Sync>(
     project: Project,
     depths: &[&'a str],
     asks: &[&'a str],
-) -> Result<String, End<'a>> {
-    let all = all_swept(alloc, depths)?;
-    let queries = all_queries(alloc, &project, asks)?;
+) -> Result<String, End<'a>>
+    ensures table { IfOk result (λ text. IsTable project (map (λ word. word.now) depths.entry.now) (map (λ word. word.now) asks.entry.now) (string_bytes text)) }
+    ensures refused { IfErr result (OrMemory (IsNoTable project (map (λ word. word.now) depths.entry.now) (map (λ word. word.now) asks.entry.now))) }
+{
+    let all = match all_swept(alloc, depths) {
+        Ok(all) => all,
+        Err(end) => return Err(end),
+    };
+    let queries = match all_queries(alloc, &project, asks) {
+        Ok(queries) => queries,
+        Err(end) => return Err(end),
+    };
     if count_rows(all.as_slice()) > MOST_ROWS {
         return Err(End::Word {
             option: "--depth",
@@ -298,14 +405,5 @@ pub(crate) fn sweep_table<'a, T: Threads + Sync>(
             reason: Reason::Within(1, MOST_ROWS),
         });
     }
-    let mut text = header(alloc, all.as_slice(), asks)?;
-    let rows = all_rows(alloc, all.as_slice())?;
-    let Ok(mut bench) = Bench::new(alloc, project, 0) else {
-        return Err(End::Memory);
-    };
-    for row in rows.as_slice() {
-        let bodies = row_at(rt, alloc, &mut bench, row.as_slice(), queries.as_slice())?;
-        add_row(alloc, &mut text, row.as_slice(), bodies.as_slice())?;
-    }
-    Ok(text)
+    table_of(rt, alloc, project, all.as_slice(), queries.as_slice(), asks)
 }

@@ -1,6 +1,8 @@
 //! Tables as text: rows of fields with commas between.
-ghost use Rattle.std.specs.Prelude.{◌≡◌, ◌≤◌, ◌<◌, ◌^◌, Some};
-ghost use Rattle.lab_tasks.specs.Tables.{thousandths_text, processors_of, bound_of, rate_of, mean_of, delay_row, switch_text, network_text, machine_text, bound_text};
+ghost use Rattle.std.specs.Prelude.{◌≡◌, ◌≤◌, ◌<◌, ◌^◌, ◌==◌, Some};
+ghost use Rattle.std.specs.List.{list_any};
+ghost use Rattle.std.specs.Fmt.{WritesOnOk};
+ghost use Rattle.lab_tasks.specs.Tables.{thousandths_text, processors_of, bound_of, rate_of, mean_of, delay_row, switch_text, network_text, machine_text, bound_text, is_quoted, doubled_char, doubled_text, field_text};
 
 use experiments::Load;
 use std::fmt;
@@ -61,7 +63,7 @@ pub struct RatePoint {
 pub(crate) const RATE_HEADER: &str =
     "processors,combining,hot_percent,served,cycles,served_per_cycle,bound\n";
 
-fn switch(on: bool) -> &'static str
+pub(crate) fn switch(on: bool) -> &'static str
     ensures { result.now ≡ switch_text on }
 {
     if on { "on" } else { "off" }
@@ -176,26 +178,65 @@ impl fmt::Display for DelayPoint {
     }
 }
 
+/// Whether a byte is in a text.
+fn has(text: &str, byte: u8) -> bool
+    ensures { result ≡ list_any (λ b. b == byte) text.now }
+{
+    text.as_bytes().iter().any(|b| *b == byte)
+}
+
+/// Whether a text has a comma or a quote.
+fn is_quoted(text: &str) -> bool
+    ensures { result ≡ is_quoted text.now }
+{
+    has(text, b',') || has(text, b'"')
+}
+
+/// Writes a character, and a quote twice.
+fn write_doubled_char<W: fmt::Write>(f: &mut fmt::Formatter<W>, character: char) -> fmt::Result
+    ensures { WritesOnOk W.write_str_gives f.old result (doubled_char character) f.new }
+{
+    if character == '"' {
+        f.write_str("\"\"")
+    } else {
+        f.write_char(character)
+    }
+}
+
+fn write_doubled<W: fmt::Write>(f: &mut fmt::Formatter<W>, text: &str) -> fmt::Result
+    ensures { WritesOnOk W.write_str_gives f.old result (doubled_text text.now) f.new }
+{
+    for character in text.chars() {
+        write_doubled_char(f, character)?;
+    }
+    Ok(())
+}
+
+/// A text that prints with each of its quotes twice.
+#[derive(Clone, Copy)]
+struct Doubled<'a>(&'a str);
+
+impl fmt::Display for Doubled<'_> {
+    ghost output = { λ text. Some (doubled_text text.0.now) };
+
+    fn fmt<W: fmt::Write>(&self, f: &mut fmt::Formatter<W>) -> fmt::Result {
+        write_doubled(f, self.0)
+    }
+}
+
 /// A text as one field of a table: in quotes where it has a comma or a quote, each of which is then written twice.
 #[derive(Clone, Copy)]
 pub struct Field<'a>(pub &'a str);
 
 impl fmt::Display for Field<'_> {
+    ghost output = { λ text. Some (field_text text.0.now) };
+
+    #[tactic(auto, unfolding(crate::specs::Tables::field_text))]
     fn fmt<W: fmt::Write>(&self, f: &mut fmt::Formatter<W>) -> fmt::Result {
-        let quoted = self
-            .0
-            .chars()
-            .any(|character| character == ',' || character == '"');
-        if !quoted {
+        if !is_quoted(self.0) {
             return f.write_str(self.0);
         }
-        f.write_char('"')?;
-        for character in self.0.chars() {
-            if character == '"' {
-                f.write_char('"')?;
-            }
-            f.write_char(character)?;
-        }
-        f.write_char('"')
+        let doubled = Doubled(self.0);
+        write!(f, "\"{doubled}\"")
     }
 }

@@ -1,7 +1,13 @@
 //! What is asked for is done.
-ghost use Rattle.std.specs.Prelude.{◌≡◌, [], ◌∷◌, ◌++◌, IfOk, None, Ok, OnOk, string_bytes};
+ghost use Rattle.std.specs.Prelude.{◌≡◌, ◌⊎◌, [], ◌∷◌, ◌++◌, IfErr, IfOk, IsOkUnless, None, Ok, OnOk, Some, string_bytes};
 ghost use Rattle.project_file.specs.Filed.{filed};
-ghost use Rattle.lab_tasks.specs.Outcomes.{files_of, AreGiven, IsGiven};
+ghost use Rattle.lab_tasks.specs.Added.{Adds};
+ghost use Rattle.lab_tasks.specs.Done.{delay_header, rate_header, AreDelays, AreRates, IsDone, IsMadeOf, IsMapText, IsNoProject, IsNoSweep, IsNotDone, IsNotMade, IsSweepText, IsTableGiven};
+ghost use Rattle.lab_tasks.specs.Kept.{kept_of, load_name, name_text, net_text, IsKept, IsWithKept};
+ghost use Rattle.lab_tasks.specs.Outcomes.{files_of, folder_of, AreGiven, IsGiven};
+ghost use Rattle.lab_tasks.specs.Plans.{IsNoCurve, IsNoMap};
+ghost use Rattle.lab_tasks.specs.Summaries.{IsSummary};
+ghost use Rattle.lab_tasks.specs.Tables.{delay_row, rate_row, table_text};
 ghost use Rattle.lab_tasks.specs.Words.{text_of};
 
 use crate::check::summary;
@@ -21,12 +27,14 @@ use page_map::MAX_K;
 use project_book::{Edit, MAX_HORIZON, Project};
 use project_file::{read_project, write_project};
 use std::alloc::{AllocError, Global};
+use std::fmt;
 use std::thread::Threads;
 
 /// Nothing printed, and no file.
 fn nothing(alloc: Global) -> Outcome
     ensures printed { result.printed.items ≡ [] }
     ensures files { result.files.items ≡ [] }
+    ensures folder { result.folder ≡ None }
 {
     Outcome {
         printed: Vec::new(alloc),
@@ -44,6 +52,7 @@ fn add_file(
 ) -> Result<(), AllocError>
     ensures printed { OnOk result (outcome.new.printed.items ≡ outcome.old.printed.items) }
     ensures files { OnOk result (files_of outcome.new ≡ files_of outcome.old ++ (name.now, bytes.items) ∷ []) }
+    ensures folder { OnOk result (folder_of outcome.new ≡ folder_of outcome.old) }
 {
     let name = String::from_str(alloc, name)?;
     outcome.files.push(OutFile { name, bytes })?;
@@ -68,7 +77,8 @@ fn to_file_or_output(
 
 /// The project that a file's bytes are.
 fn project_in<'a>(alloc: Global, bytes: &[u8]) -> Result<Project, End<'a>>
-    ensures { IfOk result (λ project. filed bytes.now ≡ Ok project) }
+    ensures filed { IfOk result (λ project. filed bytes.now ≡ Ok project) }
+    ensures refused { IfErr result (IsNoProject bytes.now) }
 {
     match read_project(alloc, bytes) {
         Ok(project) => Ok(project),
@@ -76,26 +86,54 @@ fn project_in<'a>(alloc: Global, bytes: &[u8]) -> Result<Project, End<'a>>
     }
 }
 
-fn map<'a>(alloc: Global, words: &MapWords<'a>, bytes: &[u8]) -> Result<Outcome, End<'a>> {
+fn map<'a>(alloc: Global, words: &MapWords<'a>, bytes: &[u8]) -> Result<Outcome, End<'a>>
+    ensures done { IfOk result (IsMadeOf bytes.now (text_of words.now.out) (IsMapText words.now)) }
+    ensures refused { IfErr result (λ end. IsNotMade bytes.now (λ P. IsNoMap P words.now end) end) }
+{
     let project = project_in(alloc, bytes)?;
     let plan = map_plan(words, &project)?;
     let text = map_picture(alloc, words.file, &project, plan)?;
     Ok(to_file_or_output(alloc, words.out, text.into_bytes())?)
 }
 
-/// The name of a load's project file.
-fn name_of(alloc: Global, folder: &str, load: Load) -> Result<String, AllocError> {
-    let (k, hot) = (load.k, load.hot);
-    let net = match (load.sync, load.combine) {
+/// The network of a load, in the name of its project file.
+fn net_name(load: Load) -> &'static str
+    ensures { result.now ≡ net_text load.sync load.combine }
+{
+    match (load.sync, load.combine) {
         (false, _) => "low",
         (true, false) => "off",
         (true, true) => "on",
-    };
-    format!(in alloc; "{folder}/k{k}-hot{hot}-{net}.toml")
+    }
+}
+
+/// A load as the name of its project file.
+#[derive(Clone, Copy)]
+struct FileName(Load);
+
+impl fmt::Display for FileName {
+    ghost output = { λ n. Some (load_name n.0) };
+
+    fn fmt<W: fmt::Write>(&self, f: &mut fmt::Formatter<W>) -> fmt::Result {
+        let (k, hot) = (self.0.k, self.0.hot);
+        let net = net_name(self.0);
+        write!(f, "k{k}-hot{hot}-{net}.toml")
+    }
+}
+
+/// The name of a load's project file.
+fn name_of(alloc: Global, folder: &str, load: Load) -> Result<String, AllocError>
+    ensures { IfOk result (λ name. string_bytes name ≡ name_text folder.now load) }
+{
+    let name = FileName(load);
+    format!(in alloc; "{folder}/{name}")
 }
 
 /// The project of a load with combining at the stages that it has: a file names no others.
-fn kept_project<'a>(alloc: Global, load: Load) -> Result<Project, End<'a>> {
+fn kept_project<'a>(alloc: Global, load: Load) -> Result<Project, End<'a>>
+    ensures kept { IfOk result (λ project. project ≡ kept_of load) }
+    ensures memory { IsOkUnless result End.Memory }
+{
     if load.k > MAX_K || load.cycles > MAX_HORIZON {
         return Err(End::Memory);
     }
@@ -122,7 +160,12 @@ fn keep<'a>(
     outcome: &mut Outcome,
     folder: &str,
     loads: &[Load],
-) -> Result<(), End<'a>> {
+) -> Result<(), End<'a>>
+    ensures printed { OnOk result (outcome.new.printed.items ≡ outcome.old.printed.items) }
+    ensures files { OnOk result (Adds (IsKept folder.now) loads.now (files_of outcome.old) (files_of outcome.new)) }
+    ensures folder { OnOk result (folder_of outcome.new ≡ Some folder.now) }
+    ensures memory { IsOkUnless result End.Memory }
+{
     outcome.folder = Some(String::from_str(alloc, folder)?);
     for load in loads {
         let project = kept_project(alloc, *load)?;
@@ -160,7 +203,10 @@ fn with_kept<'a>(
     words: &CurveWords<'a>,
     loads: &[Load],
     outcome: Outcome,
-) -> Result<Outcome, End<'a>> {
+) -> Result<Outcome, End<'a>>
+    ensures kept { IfOk result (IsWithKept (text_of words.now.keep) loads.now outcome) }
+    ensures memory { IsOkUnless result End.Memory }
+{
     let mut outcome = outcome;
     if let Some(folder) = words.keep {
         keep(alloc, &mut outcome, folder, loads)?;
@@ -173,7 +219,9 @@ fn rates_drawn<'a>(
     words: &CurveWords<'a>,
     plan: &CurvePlan,
     points: &[RatePoint],
-) -> Result<Outcome, AllocError> {
+) -> Result<Outcome, AllocError>
+    ensures { IfOk result (IsTableGiven words.now (table_text rate_header rate_row points.now)) }
+{
     let table = rate_table(alloc, points)?;
     let picture = rate_picture(alloc, plan, points)?;
     curves(alloc, words, table, picture)
@@ -184,7 +232,10 @@ fn rates<'a, T: Threads + Sync, P: Progress>(
     alloc: Global,
     words: &CurveWords<'a>,
     progress: &mut P,
-) -> Result<Outcome, End<'a>> {
+) -> Result<Outcome, End<'a>>
+    ensures done { IfOk result (AreRates words.now) }
+    ensures refused { IfErr result (λ end. (end ≡ End.Memory) ⊎ IsNoCurve words.now end) }
+{
     let plan = curve_plan(alloc, words)?;
     let points = rate_points(rt, alloc, &plan, progress)?;
     let outcome = rates_drawn(alloc, words, &plan, points.as_slice())?;
@@ -197,7 +248,9 @@ fn delays_drawn<'a>(
     words: &CurveWords<'a>,
     plan: &CurvePlan,
     points: &[DelayPoint],
-) -> Result<Outcome, AllocError> {
+) -> Result<Outcome, AllocError>
+    ensures { IfOk result (IsTableGiven words.now (table_text delay_header delay_row points.now)) }
+{
     let table = delay_table(alloc, points)?;
     let picture = delay_picture(alloc, plan, points)?;
     curves(alloc, words, table, picture)
@@ -208,7 +261,10 @@ fn delays<'a, T: Threads + Sync, P: Progress>(
     alloc: Global,
     words: &CurveWords<'a>,
     progress: &mut P,
-) -> Result<Outcome, End<'a>> {
+) -> Result<Outcome, End<'a>>
+    ensures done { IfOk result (AreDelays words.now) }
+    ensures refused { IfErr result (λ end. (end ≡ End.Memory) ⊎ IsNoCurve words.now end) }
+{
     let plan = curve_plan(alloc, words)?;
     let points = delay_points(rt, alloc, &plan, progress)?;
     let outcome = delays_drawn(alloc, words, &plan, points.as_slice())?;
@@ -221,20 +277,32 @@ fn sweep<'a, T: Threads + Sync>(
     alloc: Global,
     words: &SweepWords<'a>,
     bytes: &[u8],
-) -> Result<Outcome, End<'a>> {
+) -> Result<Outcome, End<'a>>
+    ensures done { IfOk result (IsMadeOf bytes.now (text_of words.now.csv) (IsSweepText words.now)) }
+    ensures refused { IfErr result (λ end. IsNotMade bytes.now (IsNoSweep words.now end) end) }
+{
     let project = project_in(alloc, bytes)?;
     let (depths, asks) = (words.depths.as_slice(), words.asks.as_slice());
-    let table = sweep_table(rt, alloc, project, depths, asks)?;
+    let table = match sweep_table(rt, alloc, project, depths, asks) {
+        Ok(table) => table,
+        Err(end) => return Err(end),
+    };
     Ok(to_file_or_output(alloc, words.csv, table.into_bytes())?)
 }
 
-fn check<'a>(alloc: Global, bytes: &[u8]) -> Result<Outcome, End<'a>> {
+fn check<'a>(alloc: Global, bytes: &[u8]) -> Result<Outcome, End<'a>>
+    ensures done { IfOk result (IsMadeOf bytes.now None IsSummary) }
+    ensures refused { IfErr result (IsNotMade bytes.now (λ P. ⊥)) }
+{
     let project = project_in(alloc, bytes)?;
     let text = summary(alloc, &project)?;
     Ok(to_file_or_output(alloc, None, text.into_bytes())?)
 }
 
-fn convert<'a>(alloc: Global, out: Option<&str>, bytes: &[u8]) -> Result<Outcome, End<'a>> {
+fn convert<'a>(alloc: Global, out: Option<&str>, bytes: &[u8]) -> Result<Outcome, End<'a>>
+    ensures done { IfOk result (IsMadeOf bytes.now (text_of out.entry) (λ P text. filed text ≡ Ok P)) }
+    ensures refused { IfErr result (IsNotMade bytes.now (λ P. ⊥)) }
+{
     let project = project_in(alloc, bytes)?;
     let bytes = write_project(alloc, &project)?;
     Ok(to_file_or_output(alloc, out, bytes)?)
@@ -251,7 +319,10 @@ pub fn perform<'a, T: Threads + Sync, P: Progress>(
     asked: &Asked<'a>,
     bytes: &[u8],
     progress: &mut P,
-) -> Result<Outcome, End<'a>> {
+) -> Result<Outcome, End<'a>>
+    ensures done { IfOk result (IsDone asked.now bytes.now) }
+    ensures refused { IfErr result (IsNotDone asked.now bytes.now) }
+{
     match asked {
         Asked::Map(words) => map(alloc, words, bytes),
         Asked::Rates(words) => rates(rt, alloc, words, progress),

@@ -7,9 +7,9 @@ use Rattle.run_queries.specs.declared.query.Query.TheVariants.{Counter as CountO
 use Rattle.run_queries.specs.Answers.{answer}
 use Rattle.experiments.proofs.rates.served.Goals as goal
 
-pub returns-in-Some : goal.returns-in-Some
-returns-in-Some g c =
+pub returns-clause-count : goal.returns-clause-count
+returns-clause-count g c =
     let ok : Body → Result Body ℕ = λ b. Ok b in
     ap (λ (P : Project). answer P (CountOf Served None c.args.window.from c.args.window.to)) (sym c.in-Ok.ensures.project)
     ∙ c.in-Ok-told.ensures.answer
-    ∙ ap ok c.in-Some.ensures
+    ∙ ap ok c.in-Some.ensures.count

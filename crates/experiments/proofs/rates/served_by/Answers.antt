@@ -9,4 +9,4 @@ use Rattle.experiments.proofs.rates.served_by.Goals as goal
 
 pub returns : goal.returns
 returns g c =
-    subst (λ (P : Project). IfOk c.served.result (λ n. answer P (CountOf Served None c.args.from c.args.load.cycles) ≡ Ok (Counts n))) c.in-Ok.ensures c.served.ensures
+    subst (λ (P : Project). IfOk c.served.result (λ n. answer P (CountOf Served None c.args.from c.args.load.cycles) ≡ Ok (Counts n))) c.in-Ok.ensures c.served.ensures.count

@@ -1,7 +1,13 @@
-use Rattle.std.proofs.Common.{Some}
+use Rattle.std.proofs.Common.{◌-◌, ◌≤◌, length, Some}
 use Rattle.lab_tasks.specs.Counts.{references}
 use Rattle.lab_tasks.proofs.Hot.{Naming}
 use Rattle.lab_tasks.proofs.check.hot_words.Given as goal
 
-abbrev pub invariant-loop-named : goal.invariant-loop-named
-invariant-loop-named l = Naming (λ a. references l.project (Some a)) l.counts.items l.words.items l.named
+abbrev pub invariant-naming : goal.invariant-naming
+invariant-naming l = record {
+  few : length l.words.items ≤ 8;
+  named : Naming (λ a. references l.project (Some a)) l.counts.items l.words.items;
+}
+
+abbrev pub decreases-naming : goal.decreases-naming
+decreases-naming l = 8 - length l.words.items

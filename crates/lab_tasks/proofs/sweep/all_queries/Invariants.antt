@@ -1,8 +1,7 @@
-use Rattle.std.proofs.Common.{◌≡◌, Some, map, take}
-use Rattle.line_words.specs.Words.{words_of}
-use Rattle.commands.specs.Commands.{command_of}
-use Rattle.commands.specs.declared.command.Command.TheVariants.{Query as Asks}
+use Rattle.std.proofs.Common.{map, take}
+use Rattle.std.specs.List.{AllZip}
+use Rattle.lab_tasks.specs.Sweeps.{IsAsked}
 use Rattle.lab_tasks.proofs.sweep.all_queries.Given as goal
 
 abbrev pub invariant-loop-word : goal.invariant-loop-word
-invariant-loop-word l = map (λ word. command_of l.project.k (words_of word.now)) (take l.word-index l.words) ≡ map (λ query. Some (Asks query)) l.all.items
+invariant-loop-word l = AllZip (IsAsked l.project) (map (λ word. word.now) (take l.word-index l.words)) l.all.items
