@@ -224,7 +224,7 @@ impl fmt::Display for Doubled<'_> {
     }
 }
 
-/// A text as one field of a table: in quotes where it has a comma or a quote, each of which is then written twice.
+/// A text as one field of a table: in quotes where it has a comma or a quote, and each quote is then written twice.
 #[derive(Clone, Copy)]
 pub struct Field<'a>(pub &'a str);
 
