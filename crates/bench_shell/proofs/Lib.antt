@@ -3,6 +3,3 @@ mod Lines
 mod Printing
 mod Steps
 mod Writes
-mod Seats
-mod Openings
-mod Starts

@@ -4,5 +4,3 @@ pub mod Lines
 pub mod Output
 pub mod Steps
 pub mod Cause
-pub mod Seated
-pub mod Serving

@@ -17,7 +17,9 @@ use std::thread::Threads;
 /// The author of the edits of a run on a bench.
 const AUTHOR: u32 = 0;
 
-/// What is told of a question to a bench that was settled with this result.
+/// What a query is told by a bench that has just been settled with this result, for desks that settle one in a way of their
+/// own: the answer at the bench's version, or the number of the reason why there is none. Where the settling met a fault it
+/// is that fault, and nothing is asked; want of memory may come of the asking too. The bench stays as it is.
 #[tactic(auto, using(crate::proofs::Benches::bad_told, crate::proofs::Benches::never_pending))]
 pub fn answered<T: Threads + Sync>(
     rt: &T,

@@ -13,22 +13,16 @@
 #![tactic(auto)]
 
 mod answer;
-mod attendance;
 mod bench;
 mod desk;
 mod ends;
 mod fault;
 mod held;
-mod seated;
-mod serving;
 mod session;
-mod waves;
 
 pub use answer::Answer;
+pub use bench::answered;
 pub use desk::Desk;
 pub use ends::{Reading, Sink, Source, Writing};
 pub use fault::RunFault;
-pub use seated::Seated;
-pub use serving::{Beside, Hall, ServeFault, run_beside, serve};
 pub use session::{run, run_watched, run_within};
-pub use waves::Waves;

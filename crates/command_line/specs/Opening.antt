@@ -7,7 +7,7 @@ use Rattle.project_file.specs.Filed.{filed}
 use Rattle.project_file.specs.declared.fault.ProjectFault.{ProjectFault}
 use Rattle.project_file.specs.declared.fault.ProjectFault.TheVariants.{Memory}
 use Rattle.bench_shell.specs.Store.{first_store}
-use Rattle.bench_shell.specs.Serving.{ServesAll, ServesPart}
+use Rattle.worker_sessions.specs.Serving.{ServesAll, ServesPart}
 use Rattle.command_line.specs.Arguments.{hotspot, file_in, IsNumberHeld}
 use Rattle.command_line.specs.declared.end.End.{End}
 use Rattle.command_line.specs.declared.end.End.TheVariants.{Ended, NoFile, Project as Refused, Served, CannotStart}

@@ -2,11 +2,11 @@
 use crate::end::{End, status};
 use crate::folder::Disk;
 use crate::start::{Stop, serve_words};
-use bench_shell::Hall;
 use std::env;
 use std::io::{BufWriter, Eprint, ErrorKind, Print, Read, Write};
 use std::process::ExitCode;
 use std::rt::{Env, Files};
+use worker_sessions::Hall;
 
 /// What the program takes of its host: memory, arguments, files, threads, and both outputs.
 pub trait Host: AllocGlobal + Env + Files + Print + Eprint + Hall {}

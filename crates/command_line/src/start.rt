@@ -9,13 +9,13 @@ ghost use Rattle.command_line.specs.Opening.{IsNamed, FileStops, Opens, StopsFor
 use crate::end::{End, refusal};
 use crate::folder::Folder;
 use crate::words::arguments;
-use bench_shell::{Hall, ServeFault, serve};
 use clap::Error;
 use project_book::Project;
 use project_file::{ProjectFault, fault_place, read_project};
 use std::alloc::{AllocError, Global};
 use std::io::{Read, Write};
 use wave_workers::Ungated;
+use worker_sessions::{Hall, ServeFault, serve};
 
 /// What the program ends with.
 #[derive(Drop)]

@@ -1,13 +1,14 @@
 //! Runs of the shell and of the program.
 use crate::again::again;
 use crate::benches::fresh;
-use bench_shell::{Hall, RunFault, run};
+use bench_shell::{RunFault, run};
 use command_line::{End, Folder, read_bytes, serve_words};
 use project_file::ProjectFault;
 use std::alloc::Global;
 use std::io;
 use std::io::{Error, ErrorKind};
 use std::thread::Threads;
+use worker_sessions::Hall;
 
 const TYPED: &str = "reply 1 0
 word 0 20

@@ -3,13 +3,13 @@
 use crate::again::again;
 use crate::benches::{fresh, is_simulated, served as served_query};
 use bench_core::{Asked, Bench};
-use bench_shell::Hall;
 use cell_table::{SettleFault, Settled};
 use run_queries::Body;
 use shared_bench::{Pass, open};
 use std::alloc::Global;
 use std::thread::Threads;
 use wave_workers::{Ungated, WorkFault, Worked, settle_wave, work};
+use worker_sessions::Hall;
 
 /// Waves of three gates: a growth that is refused in one of their threads is refused to the call, and what was stored stays;
 /// a piece whose thread isn't started is computed all the same.

@@ -1,5 +1,5 @@
 //! Command lines that are taken and refused, and how the program begins and ends.
-use bench_shell::{Hall, RunFault};
+use bench_shell::RunFault;
 use command_line::{
     CommandLine, Disk, End, Folder, MOST_BYTES, Stop, arguments, opening, read_bytes, refusal,
     serve_words, status,
@@ -9,6 +9,7 @@ use std::alloc::Global;
 use std::io;
 use std::io::{Error, ErrorKind};
 use std::test::Fail;
+use worker_sessions::Hall;
 
 #[test]
 fn command_lines_are_taken(rt: HostRuntime) -> Result<(), Fail> {

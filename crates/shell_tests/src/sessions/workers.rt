@@ -3,7 +3,7 @@ ghost use Rattle.std.specs.Prelude.{◌≡◌, ◌≤◌, [], IfOk};
 ghost use Rattle.shared_bench.specs.Legal.{StartsWith};
 
 use super::bench;
-use bench_shell::{Hall, RunFault, Seated, run, serve};
+use bench_shell::{RunFault, run};
 use cell_table::Cell;
 use project_book::{Edit, Project};
 use shared_bench::{Pass, open};
@@ -14,6 +14,7 @@ use std::sync::atomic::{AtomicU64, Ordering};
 use std::test::Fail;
 use std::thread;
 use wave_workers::{Gate, Ungated};
+use worker_sessions::{Hall, Seated, serve};
 
 /// Two processors and this horizon; page 0 on module 0, page 1 on module 1; word 0 is 10.
 fn base(alloc: Global, horizon: u32) -> std::result::Result<Project, Fail> {

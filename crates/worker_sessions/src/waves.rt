@@ -1,9 +1,8 @@
 //! A bench that is settled by waves where they pay, as a desk: one editor alone.
 ghost use Rattle.std.specs.Prelude.{◌≡◌};
 
-use crate::bench::answered;
-use crate::desk::Desk;
 use bench_core::{Bench, Told};
+use bench_shell::{Desk, answered};
 use grid_law::NoMemory;
 use project_book::{Edit, EditFault};
 use run_queries::Query;

@@ -4,10 +4,10 @@ use Rattle.std.proofs.KnownBytes.{Keeps-refl}
 use Rattle.bench_core.specs.Shown.{Shown, project_of}
 use Rattle.shared_bench.specs.Legal.{StartsWith}
 use Rattle.bench_shell.specs.Store.{store_of}
-use Rattle.bench_shell.specs.Seated.{seated_store}
+use Rattle.worker_sessions.specs.Seated.{seated_store}
 use Rattle.bench_shell.specs.Output.{AnswersOwn}
-use Rattle.bench_shell.proofs.Openings.{alone_all, alone_part, beside_all}
-use Rattle.bench_shell.proofs.serving.serve.Goals as goal
+use Rattle.worker_sessions.proofs.Openings.{alone_all, alone_part, beside_all}
+use Rattle.worker_sessions.proofs.serving.serve.Goals as goal
 
 pub returns-in-Ok : goal.returns-in-Ok
 returns-in-Ok g c =

@@ -2,10 +2,10 @@
 ghost use Rattle.std.specs.Prelude.{◌≡◌, [], length};
 ghost use Rattle.shared_bench.specs.Legal.{StartsWith};
 ghost use Rattle.bench_shell.specs.Store.{version_in};
-ghost use Rattle.bench_shell.specs.Seated.{seated_store};
+ghost use Rattle.worker_sessions.specs.Seated.{seated_store};
 
-use crate::desk::Desk;
 use bench_core::Told;
+use bench_shell::Desk;
 use grid_law::NoMemory;
 use project_book::{Edit, EditFault};
 use run_queries::Query;
@@ -27,7 +27,7 @@ pub struct Seated<R> {
 
 impl<R> Model for Seated<R> {
     ghost use Rattle.shared_bench.specs.Known.{Known};
-    ghost use Rattle.bench_shell.specs.Seated.{IsSeated};
+    ghost use Rattle.worker_sessions.specs.Seated.{IsSeated};
 
     ghost Value = { Known };
 
@@ -58,7 +58,7 @@ impl<R: Wait + Drop> Seated<R> {
 
 impl<R: Wait> Desk for Seated<R> {
     ghost use Rattle.std.specs.Prelude.{◌≡◌, true, length};
-    ghost use Rattle.bench_shell.specs.Seated.{seated_store, own_journal};
+    ghost use Rattle.worker_sessions.specs.Seated.{seated_store, own_journal};
 
     ghost store = { seated_store };
 

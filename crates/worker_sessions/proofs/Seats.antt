@@ -20,7 +20,7 @@ use Rattle.shared_bench.specs.Known.{Known, IsLater}
 use Rattle.shared_bench.specs.Answers.{project_at, project_seen, after_entries, IsMet, EditsAs}
 use Rattle.shared_bench.proofs.Journals.{project_push}
 use Rattle.bench_shell.specs.Store.{Store, version_in, edited_store, EditGives, IsToldAt, Orders}
-use Rattle.bench_shell.specs.Seated.{entries_of, own_journal, seated_store, IsSeated}
+use Rattle.worker_sessions.specs.Seated.{entries_of, own_journal, seated_store, IsSeated}
 
 -- a list that goes on from another, and is no longer, is that one
 same_length : (xs ys : List Noted) → StartsWith ys xs → length ys ≤ length xs → ys ≡ xs

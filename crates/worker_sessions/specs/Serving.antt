@@ -6,8 +6,8 @@ use Rattle.wave_workers.specs.Working.{IsWorked}
 use Rattle.shared_bench.specs.Known.{Known, IsSplit}
 use Rattle.bench_shell.specs.Store.{Store}
 use Rattle.bench_shell.specs.Output.{AnswersAll, AnswersPart, AnswersOwn}
-use Rattle.bench_shell.specs.declared.serving.ServeFault.{ServeFault}
-use Rattle.bench_shell.specs.declared.serving.ServeFault.TheVariants.{Start, Run}
+use Rattle.worker_sessions.specs.declared.serving.ServeFault.{ServeFault}
+use Rattle.worker_sessions.specs.declared.serving.ServeFault.TheVariants.{Start, Run}
 
 -- the workers beside a pass have ended: the pass that was split for them comes back with a number of each, where all could
 -- be started, which only threads that have ended bring back

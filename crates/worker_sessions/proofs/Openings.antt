@@ -5,9 +5,9 @@ use Rattle.bench_core.specs.Shown.{Shown, project_of}
 use Rattle.shared_bench.specs.Known.{Known}
 use Rattle.shared_bench.specs.Answers.{project_at}
 use Rattle.bench_shell.specs.Store.{Store, store_of, first_store}
-use Rattle.bench_shell.specs.Seated.{entries_of, seated_store}
+use Rattle.worker_sessions.specs.Seated.{entries_of, seated_store}
 use Rattle.bench_shell.specs.Output.{AnswersAll, AnswersPart, AnswersOwn}
-use Rattle.bench_shell.specs.Serving.{ServesAll, ServesPart}
+use Rattle.worker_sessions.specs.Serving.{ServesAll, ServesPart}
 
 first_bench : (b : Shown) (P : Project) → project_of b ≡ P → b.journal ≡ [] → store_of b ≡ first_store P
 first_bench b P is none = λ i. record { project = is i; author = 0; journal = none i }

@@ -1,8 +1,8 @@
 use Rattle.std.proofs.Common.{◌≡◌, ◌∙◌, sym, subst, length}
 use Rattle.shared_bench.specs.Known.{Known}
-use Rattle.bench_shell.specs.Seated.{seated_store}
-use Rattle.bench_shell.proofs.Seats.{k_seated}
-use Rattle.bench_shell.proofs.seated.SeatedDesk.opened.Goals as goal
+use Rattle.worker_sessions.specs.Seated.{seated_store}
+use Rattle.worker_sessions.proofs.Seats.{k_seated}
+use Rattle.worker_sessions.proofs.seated.SeatedDesk.opened.Goals as goal
 
 pub returns-clause-both : goal.returns-clause-both
 returns-clause-both g c =

@@ -1,0 +1,3 @@
+mod Seats
+mod Openings
+mod Starts
