@@ -1,17 +1,21 @@
--- The counters of a table whose last cycles were filled.
-use Rattle.std.proofs.Common.{◌≡◌, ℕ, ◌+◌, ◌<◌, ◌≤◌, ◌∙◌, ◌⊎◌, sym, ap, arith, inl, inr, Option, None}
+-- The counters of a table where many cells were filled together.
+use Rattle.std.proofs.Common.{◌≡◌, ℕ, ◌+◌, ◌<◌, ◌≤◌, ◌∙◌, ◌⊎◌, ◌||◌, refl, sym, ap, arith, inl, inr, cond, Bool, true, false, Option, None, List, length, take, get_or, All}
 use Rattle.std.proofs.lemmas.Bool.Decides.{nat_tests}
+use Rattle.std.proofs.lemmas.List.Elements.{All-weaker}
+use Rattle.std.proofs.lemmas.List.Folds.{list_any_none, list_any_more}
 use Rattle.omega_net.specs.Numbers.{components}
-use Rattle.cell_table.specs.Seen.{Held, Seen}
+use Rattle.cell_table.specs.Seen.{Seen}
 use Rattle.cell_table.specs.Cells.{IsThere}
-use Rattle.cell_table.specs.Filling.{IsFilled}
+use Rattle.cell_table.specs.Passing.{HoldsOutside, HoldsBut}
+use Rattle.cell_table.specs.Touches.{covers, is_marked, IsWithin}
+use Rattle.cell_table.specs.declared.cell.CellRange.{CellRange}
 use Rattle.machine_cells.specs.declared.state.MachineState.{MachineState}
 use Rattle.machine_cells.specs.GridRules.{rp3_rules}
 use Rattle.monitor_sums.specs.Kept.{Kept, StandsFor}
 use Rattle.monitor_sums.specs.Sums.{States, filled}
 use Rattle.project_book.specs.Project.{Project}
 use Rattle.bench_core.specs.Shown.{IsCounted, held, present}
-use Rattle.bench_core.specs.Filling.{filled_in, filled_to}
+use Rattle.bench_core.specs.Filling.{filled_in, filled_to, filled_over}
 use Rattle.bench_core.proofs.Counting.{stands_along, counts_held, present_at, present_past}
 
 -- of one cell: cycles more of its component, then one component more
@@ -47,7 +51,7 @@ same_outside : (at states : States) (n from to u d : ℕ) → d < n → ((u < fr
 same_outside at states n from to u d lt same = grind (arith, nat_tests)
 
 -- the counters of the table before count the one after, once all components were counted
-pub counted_filled : (sums next : Kept) (old new : Seen MachineState Project) (from m n : ℕ) → IsCounted sums old → IsFilled rp3_rules old new from m → next.k ≡ sums.k → n ≡ components sums.k
+pub counted_filled : (sums next : Kept) (old new : Seen MachineState Project) (from m n : ℕ) → IsCounted sums old → HoldsOutside rp3_rules old new from m → next.k ≡ sums.k → n ≡ components sums.k
     → StandsFor next (filled_to (present old) (held new) n from (from + m)) → IsCounted next new
 counted_filled sums next old new from m n counts is shape all stands =
     counts_held next (filled_to (present old) (held new) n from (from + m)) new (shape ∙ counts.shape ∙ ap (λ (P : Project). P.k) (sym is.slots)) stands
@@ -57,8 +61,44 @@ counted_filled sums next old new from m n counts is shape all stands =
     (λ u d past. behind u d (omega (arith, past, is.horizon)))
   where
     kept : (u d : ℕ) → IsThere rp3_rules old u d → (u < from) ⊎ (from + m ≤ u) → held old u d ≡ held new u d
-    kept u d there (inl h) = ap (λ (r : Held MachineState). r.state) (sym (is.before u d there h))
-    kept u d there (inr h) = is.news u d there (omega (arith, h)) ∙ sym (ap (λ (r : Held MachineState). r.state) (is.rest u d there h))
+    kept u d there (inl h) = sym (is.before u d there h)
+    kept u d there (inr h) = sym (is.behind u d there h)
 
     behind : (u d : ℕ) → old.horizon < u → filled_to (present old) (held new) n from (from + m) u d ≡ None
     behind u d past = let within = is.within in grind (arith, nat_tests, present_past old u d)
+
+-- one range more
+pub stands_range : (sums next : Kept) (at states : States) (ranges : List CellRange) (i : ℕ) (d : CellRange) → i < length ranges → StandsFor sums (filled_over at states (take i ranges))
+    → ((other : States) → StandsFor sums other → StandsFor next (filled_in other states (get_or ranges i d).component (get_or ranges i d).from (get_or ranges i d).to)) → StandsFor next (filled_over at states (take (i + 1) ranges))
+stands_range sums next at states ranges i d lt stands fills =
+    let range = get_or ranges i d in
+    stands_along next (filled_in (filled_over at states (take i ranges)) states range.component range.from range.to) (filled_over at states (take (i + 1) ranges)) (fills (filled_over at states (take i ranges)) stands)
+    (λ u c le less. by_marks u c (is_marked (take i ranges) u c) (covers range u c) ∙ ap (λ b. cond b (states u c) (at u c)) (sym (list_any_more (λ r. covers r u c) ranges i d lt)))
+  where
+    by_marks : (u c : ℕ) (x y : Bool) → cond y (states u c) (cond x (states u c) (at u c)) ≡ cond (x || y) (states u c) (at u c)
+    by_marks u c true true = refl
+    by_marks u c true false = refl
+    by_marks u c false true = refl
+    by_marks u c false false = refl
+
+-- no range has cells past the cycles that it lies within
+unmarked : (n count u d : ℕ) (ranges : List CellRange) → n ≤ u → All (IsWithin n count) ranges → is_marked ranges u d ≡ false
+unmarked n count u d ranges past within = list_any_none (λ r. covers r u d) ranges (All-weaker (IsWithin n count) (λ r. covers r u d ≡ false) (λ r is. uncovered r is.1) ranges within)
+  where
+    uncovered : (r : CellRange) → r.to ≤ n → covers r u d ≡ false
+    uncovered r le = grind (arith, nat_tests)
+
+-- counters of the table before count the one after, once all cells of the ranges were counted
+pub counted_refilled : (sums next : Kept) (old new : Seen MachineState Project) (ranges : List CellRange) → IsCounted sums old → HoldsBut rp3_rules old new ranges → next.k ≡ sums.k
+    → StandsFor next (filled_over (present old) (held new) ranges) → IsCounted next new
+counted_refilled sums next old new ranges counts is shape stands =
+    counts_held next (filled_over (present old) (held new) ranges) new (shape ∙ counts.shape ∙ ap (λ (P : Project). P.k) (sym is.slots)) stands
+    (λ u d there. by_mark u d (record { cycle = omega (arith, there.cycle, is.horizon); component = rw is.slots at there.component }) (is_marked ranges u d) refl)
+    (λ u d past. behind u d (omega (arith, past, is.horizon)))
+  where
+    by_mark : (u d : ℕ) → IsThere rp3_rules old u d → (x : Bool) → is_marked ranges u d ≡ x → cond x (held new u d) (present old u d) ≡ held new u d
+    by_mark u d was true e = refl
+    by_mark u d was false e = present_at old u d was.cycle ∙ sym (is.others u d was e)
+
+    behind : (u d : ℕ) → old.horizon < u → filled_over (present old) (held new) ranges u d ≡ None
+    behind u d past = rw (unmarked (old.horizon + 1) (rp3_rules.components old.slots) u d ranges (omega (arith, past)) is.within) (present_past old u d past)

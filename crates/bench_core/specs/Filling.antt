@@ -1,5 +1,7 @@
 -- Maps where some cells hold what another map has for them.
-use Rattle.std.specs.Prelude.{ℕ, ◌==◌, ◌&&◌, nat_le, nat_lt, if◌then◌else◌}
+use Rattle.std.specs.Prelude.{ℕ, ◌==◌, ◌&&◌, nat_le, nat_lt, if◌then◌else◌, List}
+use Rattle.cell_table.specs.declared.cell.CellRange.{CellRange}
+use Rattle.cell_table.specs.Touches.{is_marked}
 use Rattle.monitor_sums.specs.Sums.{States}
 
 -- the cells of a component at the cycles from one on to before another
@@ -9,3 +11,7 @@ filled_in at next c from to u d = if (d == c) && (nat_le from u && nat_lt u to) 
 -- those of the first n components
 abbrev pub filled_to : States → States → ℕ → ℕ → ℕ → States
 filled_to at next n from to u d = if nat_lt d n && (nat_le from u && nat_lt u to) then next u d else at u d
+
+-- the cells of these ranges
+abbrev pub filled_over : States → States → List CellRange → States
+filled_over at next ranges u d = if is_marked ranges u d then next u d else at u d

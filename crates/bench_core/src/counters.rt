@@ -1,13 +1,14 @@
 //! The counters of a bench.
-ghost use Rattle.std.specs.Prelude.{◌≡◌, ◌+◌, ◌<◌, ◌≤◌, IfOk, None};
+ghost use Rattle.std.specs.Prelude.{◌≡◌, ◌+◌, ◌<◌, ◌≤◌, All, IfOk, None};
 ghost use Rattle.omega_net.specs.Numbers.{components};
+ghost use Rattle.cell_table.specs.Touches.{IsWithin};
 ghost use Rattle.bench_core.specs.Shown.{held};
-ghost use Rattle.bench_core.specs.Filling.{filled_in, filled_to};
+ghost use Rattle.bench_core.specs.Filling.{filled_in, filled_to, filled_over};
 ghost use Rattle.monitor_sums.specs.Kept.{StandsFor};
 ghost use Rattle.monitor_sums.specs.Sums.{States, cleared};
 ghost use Rattle.project_book.specs.Limits.{max_horizon};
 
-use cell_table::{Cell, Table, Watcher};
+use cell_table::{Cell, CellRange, Table, Watcher};
 use grid_law::NoMemory;
 use machine_cells::Rp3;
 use monitor_sums::Sums;
@@ -94,6 +95,19 @@ fn count_all_filled(sums: &mut Sums, table: &Table<Rp3>, from: u32, to: u32)
     }
 }
 
+/// Counts what the cells of these ranges hold.
+fn count_ranges(sums: &mut Sums, table: &Table<Rp3>, ranges: &[CellRange])
+    requires same { sums.old.k ≡ table.now.slots.k }
+    requires short { table.now.horizon ≤ max_horizon }
+    requires within { All (IsWithin (table.now.horizon + 1) (components sums.old.k)) ranges.now }
+    ensures shape { sums.new.k ≡ sums.old.k }
+    ensures stands { (at : States) → StandsFor sums.old at → StandsFor sums.new (filled_over at (held table.now) ranges.now) }
+{
+    for range in ranges {
+        count_filled(sums, table, range.component, range.from, range.to);
+    }
+}
+
 impl Watcher<Rp3> for Counters {
     ghost use Rattle.bench_core.specs.Shown.{IsCounted};
 
@@ -111,5 +125,9 @@ impl Watcher<Rp3> for Counters {
 
     fn filled(&mut self, table: &Table<Rp3>, from: u32, cycles: u32) {
         count_all_filled(&mut self.sums, table, from, from + cycles);
+    }
+
+    fn refilled(&mut self, table: &Table<Rp3>, ranges: &[CellRange]) {
+        count_ranges(&mut self.sums, table, ranges);
     }
 }

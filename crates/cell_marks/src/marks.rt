@@ -1,5 +1,5 @@
 //! A mark for each cell.
-ghost use Rattle.std.specs.Prelude.{◌≡◌, ℕ, ◌<◌, ◌≤◌, ◌+◌, ◌*◌, ◌++◌, ◌^◌, true, false, MatchOption, IfOk, OnErr, MatchResult, length, replicate, slice_set, slice_index_or, take, [], if◌then◌else◌};
+ghost use Rattle.std.specs.Prelude.{◌≡◌, ℕ, ◌<◌, ◌≤◌, ◌+◌, ◌*◌, ◌++◌, ◌^◌, ◌↔◌, ◌||◌, true, false, IsTrue, MatchOption, IfOk, OnErr, MatchResult, length, replicate, slice_set, slice_index_or, take, [], if◌then◌else◌};
 ghost use Rattle.cell_marks.specs.Marked.{is_set, has, count_in, count_of, row_at, IsFirstFrom};
 
 use crate::row::Row;
@@ -93,6 +93,16 @@ impl Marks {
             Some(row) => row.first_from(from),
             None => None,
         }
+    }
+
+    /// Whether the components marked in row t or in `with` are just those marked in row u; 64 of them in one step.
+    pub fn is_alike(&self, t: u32, with: &Row, u: u32) -> bool
+        requires width { length with.now ≡ self.now.width }
+        requires row { t < length self.now.rows }
+        requires other { u < length self.now.rows }
+        ensures { IsTrue result ↔ ((c : ℕ) → c < self.now.width → (has self.now.rows t c || is_set with.now c) ≡ has self.now.rows u c) }
+    {
+        self.rows[u as usize].is_union(&self.rows[t as usize], with)
     }
 
     /// Marks a cell.

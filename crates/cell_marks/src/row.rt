@@ -1,9 +1,9 @@
 //! One row of marks.
-ghost use Rattle.std.specs.Prelude.{◌≡◌, ℕ, ◌<◌, ◌≤◌, ◌+◌, ◌^◌, true, false, MatchOption, IfOk, length, replicate, slice_set, if◌then◌else◌};
+ghost use Rattle.std.specs.Prelude.{◌≡◌, ℕ, ◌<◌, ◌≤◌, ◌+◌, ◌^◌, ◌↔◌, ◌||◌, true, false, IsTrue, MatchOption, IfOk, length, replicate, slice_set, if◌then◌else◌};
 ghost use Rattle.cell_marks.specs.Marked.{is_set, count_in, IsFirstFrom};
 
 use crate::word::word_of;
-use crate::words::{clear_all_in, clear_in, first_in, has_in, set_in};
+use crate::words::{clear_all_in, clear_in, first_in, has_in, is_union_in, set_in};
 use std::alloc::{AllocError, Global};
 use std::marker::Model;
 
@@ -85,6 +85,16 @@ impl Row {
             }
             None => None,
         }
+    }
+
+    /// Whether the components marked in one row or the other are just those marked here; 64 of them in one step.
+    pub(crate) fn is_union(&self, one: &Row, other: &Row) -> bool
+        requires one { length one.now ≡ length self.now }
+        requires other { length other.now ≡ length self.now }
+        ensures { IsTrue result ↔ ((c : ℕ) → c < length self.now → (is_set one.now c || is_set other.now c) ≡ is_set self.now c) }
+    {
+        let _len = (one.len, other.len);
+        is_union_in(&one.words, &other.words, &self.words, self.len)
     }
 
     /// Marks a component.

@@ -1,5 +1,5 @@
 //! The bits of one word.
-ghost use Rattle.std.specs.Prelude.{◌≡◌, ◌≢◌, ℕ, ◌+◌, ◌-◌, ◌*◌, ◌/◌, ◌%◌, ◌^◌, ◌<◌, ◌≤◌, ◌↔◌, IsTrue, MatchOption, nat_eq};
+ghost use Rattle.std.specs.Prelude.{◌≡◌, ◌≢◌, ℕ, ◌+◌, ◌-◌, ◌*◌, ◌/◌, ◌%◌, ◌^◌, ◌<◌, ◌≤◌, ◌↔◌, ◌||◌, IsTrue, MatchOption, nat_eq};
 ghost use Rattle.std.specs.Int.{bit_at};
 
 /// The word whose bits are all set, or all clear.
@@ -47,4 +47,13 @@ pub(crate) fn first_bit(word: u64, from: u32) -> Option<u32>
     } else {
         Some(rest.trailing_zeros())
     }
+}
+
+/// Whether the bits below n that are set in one word or the other are just those of the third.
+pub(crate) fn is_union(one: u64, other: u64, union: u64, n: u32) -> bool
+    requires { n ≤ 64 }
+    ensures { IsTrue result ↔ ((i : ℕ) → i < n → (nat_eq (bit_at one i) 1 || nat_eq (bit_at other i) 1) ≡ nat_eq (bit_at union i) 1) }
+{
+    let unlike = (one | other) ^ union;
+    n <= unlike.trailing_zeros()
 }

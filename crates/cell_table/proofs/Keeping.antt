@@ -10,7 +10,7 @@ use Rattle.state_line.specs.Lined.{Lined}
 use Rattle.cell_marks.specs.Marked.{Marked, count_in, count_of, IsFirstFrom, row_at as marks_at, has as has_mark}
 use Rattle.cell_table.specs.Seen.{Held, nothing, fresh, marked, row_at, held_in, held_at, due_in_row, due_up_to}
 use Rattle.cell_table.specs.Settling.{IsNextDueInRow}
-use Rattle.cell_table.specs.Layout.{version_at, line_at, state_at, kept_at, rows_of, cleared, IsLayout, IsSameStates, IsOtherState, IsOtherCell}
+use Rattle.cell_table.specs.Layout.{version_at, line_at, state_at, kept, kept_at, rows_of, cleared, IsLayout, IsSameStates, IsOtherState, IsOtherCell}
 
 module _ {X : Type 0} where
   -- a value is changed at one place of a list of rows
@@ -80,7 +80,7 @@ module _ {State : Type 0} where
 
     module _ (layout : IsLayout lines due versions) where
       past_cycles : (t c : ℕ) → length due.rows ≤ t → kept_at lines due versions t c ≡ nothing
-      past_cycles t c h = rw (no_state (cases_lt c due.width), no_mark, no_version) refl
+      past_cycles t c h = rw (no_state (cases_lt c due.width), no_mark) refl
         where
           no_state : (c < due.width) ⊎ (due.width ≤ c) → state_at lines t c ≡ None
           no_state (inl k) = get_or_past (line_at lines c).states t None (omega (arith, layout.cycles c k))
@@ -89,20 +89,14 @@ module _ {State : Type 0} where
           no_mark : has_mark due.rows t c ≡ false
           no_mark = ap (λ row. get_or row c false) (get_or_past due.rows t [] h)
 
-          no_version : version_at versions t c ≡ 0
-          no_version = ap (λ row. get_or row c 0) (get_or_past versions t [] (omega (arith, layout.rows)))
-
       past_components : (t c : ℕ) → t < length due.rows → due.width ≤ c → kept_at lines due versions t c ≡ nothing
-      past_components t c h k = rw (no_state, no_mark, no_version) refl
+      past_components t c h k = rw (no_state, no_mark) refl
         where
           no_state : state_at lines t c ≡ None
           no_state = ap (λ (l : Lined State). get_or l.states t None) (get_or_past lines c _ (omega (arith, layout.components)))
 
           no_mark : has_mark due.rows t c ≡ false
           no_mark = get_or_past (get_or due.rows t []) c false (omega (arith, layout.marks t h))
-
-          no_version : version_at versions t c ≡ 0
-          no_version = get_or_past (get_or versions t []) c 0 (omega (arith, layout.numbers t h))
 
       -- what a row shows of a component, also where there is none
       pub held_kept : (t c : ℕ) → held_at (rows_of lines due versions) t c ≡ kept_at lines due versions t c
@@ -139,8 +133,11 @@ module _ {State : Type 0} where
     pub seen_due : IsLayout lines due versions → (t c : ℕ) → (held_at rows t c).is_due ≡ has_mark due.rows t c
     seen_due layout t c = ap (λ (k : Held State). k.is_due) (seen layout t c)
 
-    pub seen_version : IsLayout lines due versions → (t c : ℕ) → (held_at rows t c).version ≡ version_at versions t c
-    seen_version layout t c = ap (λ (k : Held State). k.version) (seen layout t c)
+    pub seen_version : IsLayout lines due versions → (t c : ℕ) → has_mark due.rows t c ≡ true → (held_at rows t c).version ≡ version_at versions t c
+    seen_version layout t c e = ap (λ (k : Held State). k.version) (seen layout t c) ∙ ap (λ b. cond b (version_at versions t c) 0) e
+
+    pub seen_no_version : IsLayout lines due versions → (t c : ℕ) → has_mark due.rows t c ≡ false → (held_at rows t c).version ≡ 0
+    seen_no_version layout t c e = ap (λ (k : Held State). k.version) (seen layout t c) ∙ ap (λ b. cond b (version_at versions t c) 0) e
 
     pub seen_first : IsLayout lines due versions → (t from c : ℕ) → IsFirstFrom (marks_at due.rows t) from c × (c < length (marks_at due.rows t)) → IsNextDueInRow (row_at rows t) from c × (c < length (row_at rows t))
     seen_first layout t from c first = (
@@ -173,7 +170,7 @@ module _ {State : Type 0} where
     same_cells lines1 due1 versions1 layout width cycles at =
         sym (rows_are rows lines1 due1 versions1 (seen_cycles ∙ sym cycles) (λ t h. seen_length t (omega (arith, h, cycles)) ∙ sym width) (λ t c h k. seen layout t c ∙ sym (at t c)))
 
-  three : (b : Bool) (s s1 : Option State) (d d1 : Bool) (v v1 : ℕ) → ◌≡◌ {A = Held State} (record { state = cond b s1 s; is_due = cond b d1 d; version = cond b v1 v }) (cond b (record { state = s1; is_due = d1; version = v1 }) (record { state = s; is_due = d; version = v }))
+  three : (b : Bool) (s s1 : Option State) (d d1 : Bool) (v v1 : ℕ) → ◌≡◌ {A = Held State} (kept (cond b s1 s) (cond b d1 d) (cond b v1 v)) (cond b (kept s1 d1 v1) (kept s d v))
   three true s s1 d d1 v v1 = refl
   three false s s1 d d1 v v1 = refl
 
@@ -202,16 +199,16 @@ module _ {State : Type 0} where
     same_state = record { len = refl; lens = λ d. refl; at = λ u d. same_at (state_at lines) t c u d }
 
     -- a state is stored
-    pub stored_cell : (lines1 : List (Lined State)) (due1 : Marked) (o : Option State) → due1 ≡ record { width = due.width; rows = set due.rows t (set (marks_at due.rows t) c false) } → IsOtherState lines lines1 t c o → IsOtherCell rows (rows_of lines1 due1 versions) t c (cleared (held_at rows t c) o)
+    pub stored_cell : (lines1 : List (Lined State)) (due1 : Marked) (o : Option State) → due1 ≡ record { width = due.width; rows = set due.rows t (set (marks_at due.rows t) c false) } → IsOtherState lines lines1 t c o → IsOtherCell rows (rows_of lines1 due1 versions) t c (cleared o)
     stored_cell lines1 due1 o de other =
-        other_cell lines due versions rows e lines1 due1 versions t c (cleared (held_at rows t c) o) layout (layout_stored lines1 due1 false o de other) (ap (λ (m : Marked). m.width) de) (ap (λ (m : Marked). length m.rows) de ∙ length-set due.rows t _) (λ u d. at u d)
+        other_cell lines due versions rows e lines1 due1 versions t c (cleared o) layout (layout_stored lines1 due1 false o de other) (ap (λ (m : Marked). m.width) de) (ap (λ (m : Marked). length m.rows) de ∙ length-set due.rows t _) (λ u d. at u d)
       where
-        at : (u d : ℕ) → kept_at lines1 due1 versions u d ≡ cond ((eqb u t) && (eqb d c)) (cleared (held_at rows t c) o) (kept_at lines due versions u d)
+        at : (u d : ℕ) → kept_at lines1 due1 versions u d ≡ cond ((eqb u t) && (eqb d c)) (cleared o) (kept_at lines due versions u d)
         at u d =
-            ap (λ (s : Option State). record { state = s; is_due = has_mark due1.rows u d; version = version_at versions u d }) (other.at u d)
-            ∙ ap (λ (b : Bool). record { state = cond ((eqb u t) && (eqb d c)) o (state_at lines u d); is_due = b; version = version_at versions u d }) (ap (λ (m : Marked). has_mark m.rows u d) de ∙ marks_after false u d)
-            ∙ ap (λ (v : ℕ). record { state = cond ((eqb u t) && (eqb d c)) o (state_at lines u d); is_due = cond ((eqb u t) && (eqb d c)) false (has_mark due.rows u d); version = v }) (same_at (version_at versions) t c u d ∙ ap (λ v. cond ((eqb u t) && (eqb d c)) v (version_at versions u d)) (sym (seen_version lines due versions rows e layout t c)))
-            ∙ three ((eqb u t) && (eqb d c)) (state_at lines u d) o (has_mark due.rows u d) false (version_at versions u d) (held_at rows t c).version
+            ap (λ (s : Option State). kept s (has_mark due1.rows u d) (version_at versions u d)) (other.at u d)
+            ∙ ap (λ (b : Bool). kept (cond ((eqb u t) && (eqb d c)) o (state_at lines u d)) b (version_at versions u d)) (ap (λ (m : Marked). has_mark m.rows u d) de ∙ marks_after false u d)
+            ∙ ap (λ (v : ℕ). kept (cond ((eqb u t) && (eqb d c)) o (state_at lines u d)) (cond ((eqb u t) && (eqb d c)) false (has_mark due.rows u d)) v) (same_at (version_at versions) t c u d)
+            ∙ three ((eqb u t) && (eqb d c)) (state_at lines u d) o (has_mark due.rows u d) false (version_at versions u d) (version_at versions t c)
 
     -- the state of the cell is kept
     pub kept_other : IsOtherState lines lines t c (held_at rows t c).state
@@ -242,9 +239,9 @@ module _ {State : Type 0} where
 
         at : (u d : ℕ) → kept_at lines due1 versions1 u d ≡ cond ((eqb u t) && (eqb d c)) (marked (held_at rows t c) v) (kept_at lines due versions u d)
         at u d =
-            ap (λ (b : Bool). record { state = state_at lines u d; is_due = b; version = version_at versions1 u d }) (ap (λ (m : Marked). has_mark m.rows u d) de ∙ marks_after true u d)
-            ∙ ap (λ (w : ℕ). record { state = state_at lines u d; is_due = cond ((eqb u t) && (eqb d c)) true (has_mark due.rows u d); version = w }) (ap (λ ws. version_at ws u d) ve ∙ at_set versions t c v 0 (omega (arith, layout.rows)) (omega (arith, layout.numbers t there)) u d)
-            ∙ ap (λ (s : Option State). record { state = s; is_due = cond ((eqb u t) && (eqb d c)) true (has_mark due.rows u d); version = cond ((eqb u t) && (eqb d c)) v (version_at versions u d) }) (same_at (state_at lines) t c u d ∙ ap (λ s. cond ((eqb u t) && (eqb d c)) s (state_at lines u d)) (sym (seen_state lines due versions rows e layout t c)))
+            ap (λ (b : Bool). kept (state_at lines u d) b (version_at versions1 u d)) (ap (λ (m : Marked). has_mark m.rows u d) de ∙ marks_after true u d)
+            ∙ ap (λ (w : ℕ). kept (state_at lines u d) (cond ((eqb u t) && (eqb d c)) true (has_mark due.rows u d)) w) (ap (λ ws. version_at ws u d) ve ∙ at_set versions t c v 0 (omega (arith, layout.rows)) (omega (arith, layout.numbers t there)) u d)
+            ∙ ap (λ (s : Option State). kept s (cond ((eqb u t) && (eqb d c)) true (has_mark due.rows u d)) (cond ((eqb u t) && (eqb d c)) v (version_at versions u d))) (same_at (state_at lines) t c u d ∙ ap (λ s. cond ((eqb u t) && (eqb d c)) s (state_at lines u d)) (sym (seen_state lines due versions rows e layout t c)))
             ∙ three ((eqb u t) && (eqb d c)) (state_at lines u d) (held_at rows t c).state (has_mark due.rows u d) true (version_at versions u d) v
 
   module _ (lines : List (Lined State)) (due : Marked) (versions : List (List ℕ)) (layout : IsLayout lines due versions) (rows : List (List (Held State))) (e : rows_of lines due versions ≡ rows) where
@@ -273,7 +270,7 @@ module _ {State : Type 0} where
   -- lines that show the same states
   pub same_lines : (lines lines1 : List (Lined State)) (due : Marked) (versions : List (List ℕ)) (rows : List (List (Held State))) → IsLayout lines due versions → rows_of lines due versions ≡ rows → IsSameStates lines lines1 → rows_of lines1 due versions ≡ rows
   same_lines lines lines1 due versions rows layout e same =
-      same_cells lines due versions rows e lines1 due versions layout refl refl (λ u d. ap (λ (xs : List (Option State)). record { state = get_or xs u None; is_due = has_mark due.rows u d; version = version_at versions u d }) (same.same d))
+      same_cells lines due versions rows e lines1 due versions layout refl refl (λ u d. ap (λ (xs : List (Option State)). kept (get_or xs u None) (has_mark due.rows u d) (version_at versions u d)) (same.same d))
 
   -- new cells
   pub rows_new : (lines : List (Lined State)) (due : Marked) (versions : List (List ℕ)) (w n v : ℕ) → due ≡ record { width = w; rows = replicate n (replicate w true) } → versions ≡ replicate n (replicate w v) → ((c : ℕ) → c < w → (line_at lines c).states ≡ replicate n None) → rows_of lines due versions ≡ replicate n (replicate w (fresh v))
@@ -295,9 +292,9 @@ module _ {State : Type 0} where
       at : (t c : ℕ) → t < n → c < w → held_at (replicate n (replicate w (fresh v))) t c ≡ kept_at lines due versions t c
       at t c h k =
           ap (λ r. held_in r c) (row (fresh v) t h) ∙ get_or-replicate w c (fresh v) nothing k
-          ∙ ap (λ (s : Option State). record { state = s; is_due = true; version = v }) (sym (ap (λ xs. get_or xs t None) (states c k) ∙ get_or-replicate n t None None h))
-          ∙ ap (λ (b : Bool). record { state = state_at lines t c; is_due = b; version = v }) (sym (ap (λ (m : Marked). has_mark m.rows t c) de ∙ ap (λ r. get_or r c false) (row true t h) ∙ get_or-replicate w c true false k))
-          ∙ ap (λ (x : ℕ). record { state = state_at lines t c; is_due = has_mark due.rows t c; version = x }) (sym (ap (λ vs. version_at vs t c) ve ∙ ap (λ r. get_or r c 0) (row v t h) ∙ get_or-replicate w c v 0 k))
+          ∙ ap (λ (s : Option State). kept s true v) (sym (ap (λ xs. get_or xs t None) (states c k) ∙ get_or-replicate n t None None h))
+          ∙ ap (λ (b : Bool). kept (state_at lines t c) b v) (sym (ap (λ (m : Marked). has_mark m.rows t c) de ∙ ap (λ r. get_or r c false) (row true t h) ∙ get_or-replicate w c true false k))
+          ∙ ap (λ (x : ℕ). kept (state_at lines t c) (has_mark due.rows t c) x) (sym (ap (λ vs. version_at vs t c) ve ∙ ap (λ r. get_or r c 0) (row v t h) ∙ get_or-replicate w c v 0 k))
 
   -- fewer cycles
   pub rows_cut : (lines lines1 : List (Lined State)) (due due1 : Marked) (versions versions1 : List (List ℕ)) (rows : List (List (Held State))) (n : ℕ) → IsLayout lines due versions → rows_of lines due versions ≡ rows → due1 ≡ record { width = due.width; rows = take n due.rows } → versions1 ≡ take n versions → ((c : ℕ) → (line_at lines1 c).states ≡ take n (line_at lines c).states) → rows_of lines1 due1 versions1 ≡ take n rows
@@ -319,9 +316,9 @@ module _ {State : Type 0} where
       at : (t c : ℕ) → t < n → t < length due.rows → held_at (take n rows) t c ≡ kept_at lines1 due1 versions1 t c
       at t c h k =
           ap (λ r. held_in r c) (get_or-take n rows t [] h) ∙ seen lines due versions rows e layout t c
-          ∙ ap (λ (s : Option State). record { state = s; is_due = has_mark due.rows t c; version = version_at versions t c }) (sym (ap (λ xs. get_or xs t None) (states c) ∙ get_or-take n (line_at lines c).states t None h))
-          ∙ ap (λ (b : Bool). record { state = state_at lines1 t c; is_due = b; version = version_at versions t c }) (sym (ap (λ (m : Marked). has_mark m.rows t c) de ∙ ap (λ r. get_or r c false) (get_or-take n due.rows t [] h)))
-          ∙ ap (λ (x : ℕ). record { state = state_at lines1 t c; is_due = has_mark due1.rows t c; version = x }) (sym (ap (λ vs. version_at vs t c) ve ∙ ap (λ r. get_or r c 0) (get_or-take n versions t [] h)))
+          ∙ ap (λ (s : Option State). kept s (has_mark due.rows t c) (version_at versions t c)) (sym (ap (λ xs. get_or xs t None) (states c) ∙ get_or-take n (line_at lines c).states t None h))
+          ∙ ap (λ (b : Bool). kept (state_at lines1 t c) b (version_at versions t c)) (sym (ap (λ (m : Marked). has_mark m.rows t c) de ∙ ap (λ r. get_or r c false) (get_or-take n due.rows t [] h)))
+          ∙ ap (λ (x : ℕ). kept (state_at lines1 t c) (has_mark due1.rows t c) x) (sym (ap (λ vs. version_at vs t c) ve ∙ ap (λ r. get_or r c 0) (get_or-take n versions t [] h)))
 
   -- more cycles
   module _ (lines lines1 : List (Lined State)) (due due1 : Marked) (versions versions1 : List (List ℕ)) (rows : List (List (Held State))) (m v : ℕ) (layout : IsLayout lines due versions) (e : rows_of lines due versions ≡ rows) (de : due1 ≡ record { width = due.width; rows = due.rows ++ replicate m (replicate due.width true) }) (ve : versions1 ≡ versions ++ replicate m (replicate due.width v)) (len : length lines1 ≡ length lines) (states : (c : ℕ) → c < length lines → (line_at lines1 c).states ≡ (line_at lines c).states ++ replicate m None) where
@@ -381,14 +378,14 @@ module _ {State : Type 0} where
         at : (t c : ℕ) → t < length due.rows + m → c < due.width → (t < length due.rows) ⊎ (length due.rows ≤ t) → held_at (rows ++ replicate m (replicate due.width (fresh v))) t c ≡ kept_at lines1 due1 versions1 t c
         at t c h i (inl k) =
             ap (λ r. held_in r c) (row_before rows (fresh v) t cycles k) ∙ seen lines due versions rows e layout t c
-            ∙ ap (λ (s : Option State). record { state = s; is_due = has_mark due.rows t c; version = version_at versions t c }) (sym (state_before t c k i))
-            ∙ ap (λ (b : Bool). record { state = state_at lines1 t c; is_due = b; version = version_at versions t c }) (sym (ap (λ r. get_or r c false) (marks_more t ∙ row_before due.rows true t refl k)))
-            ∙ ap (λ (x : ℕ). record { state = state_at lines1 t c; is_due = has_mark due1.rows t c; version = x }) (sym (ap (λ r. get_or r c 0) (versions_more t ∙ row_before versions v t layout.rows k)))
+            ∙ ap (λ (s : Option State). kept s (has_mark due.rows t c) (version_at versions t c)) (sym (state_before t c k i))
+            ∙ ap (λ (b : Bool). kept (state_at lines1 t c) b (version_at versions t c)) (sym (ap (λ r. get_or r c false) (marks_more t ∙ row_before due.rows true t refl k)))
+            ∙ ap (λ (x : ℕ). kept (state_at lines1 t c) (has_mark due1.rows t c) x) (sym (ap (λ r. get_or r c 0) (versions_more t ∙ row_before versions v t layout.rows k)))
         at t c h i (inr k) =
             ap (λ r. held_in r c) (row_behind rows (fresh v) t cycles k h) ∙ get_or-replicate due.width c (fresh v) nothing i
-            ∙ ap (λ (s : Option State). record { state = s; is_due = true; version = v }) (sym (state_behind t c k h i))
-            ∙ ap (λ (b : Bool). record { state = state_at lines1 t c; is_due = b; version = v }) (sym (ap (λ r. get_or r c false) (marks_more t ∙ row_behind due.rows true t refl k h) ∙ get_or-replicate due.width c true false i))
-            ∙ ap (λ (x : ℕ). record { state = state_at lines1 t c; is_due = has_mark due1.rows t c; version = x }) (sym (ap (λ r. get_or r c 0) (versions_more t ∙ row_behind versions v t layout.rows k h) ∙ get_or-replicate due.width c v 0 i))
+            ∙ ap (λ (s : Option State). kept s true v) (sym (state_behind t c k h i))
+            ∙ ap (λ (b : Bool). kept (state_at lines1 t c) b v) (sym (ap (λ r. get_or r c false) (marks_more t ∙ row_behind due.rows true t refl k h) ∙ get_or-replicate due.width c true false i))
+            ∙ ap (λ (x : ℕ). kept (state_at lines1 t c) (has_mark due1.rows t c) x) (sym (ap (λ r. get_or r c 0) (versions_more t ∙ row_behind versions v t layout.rows k h) ∙ get_or-replicate due.width c v 0 i))
 
         at_width : rows_of lines1 due1 versions1 ≡ rows ++ replicate m (replicate due.width (fresh v))
         at_width =

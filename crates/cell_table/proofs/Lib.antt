@@ -5,6 +5,10 @@ pub mod Tables
 pub mod States
 pub mod Stores
 pub mod Trailing
+pub mod Passing
+pub mod Repeating
+pub mod Alike
+pub mod Repeated
 pub mod Filled
 pub mod FilledRows
 pub mod Woken

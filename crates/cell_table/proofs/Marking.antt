@@ -6,7 +6,7 @@ use Rattle.std.proofs.lemmas.List.Folds.{list_any_more}
 use Rattle.cell_table.specs.Seen.{Held, held_at, marked}
 use Rattle.cell_table.specs.Readers.{has}
 use Rattle.cell_table.specs.Layout.{IsOtherCell}
-use Rattle.cell_table.specs.declared.marks.CellRange.{CellRange}
+use Rattle.cell_table.specs.declared.cell.CellRange.{CellRange}
 use Rattle.cell_table.specs.Touches.{covers, is_marked}
 
 eqb_swap : (a b : ℕ) → eqb a b ≡ eqb b a

@@ -1,5 +1,5 @@
 -- A pass over the due cells, by cycle and then component.
-use Rattle.std.proofs.Common.{◌≡◌, ℕ, ◌+◌, ◌*◌, ◌<◌, ◌≤◌, ◌∙◌, subst, refl, arith, ◌⊎◌, inl, inr, Option, None, Some, IfNone, IfSome, List, [], ◌∷◌, length, Bool, true, false, cond, ◌-◌, ◌^◌}
+use Rattle.std.proofs.Common.{◌≡◌, ℕ, ◌+◌, ◌*◌, ◌<◌, ◌≤◌, ◌∙◌, subst, refl, arith, ◌⊎◌, inl, inr, Option, None, Some, IfNone, IfSome, List, [], ◌∷◌, Bool, true, false, cond, ◌-◌, ◌^◌}
 use Rattle.std.proofs.lemmas.Bool.{cases_lt}
 use Rattle.cell_table.specs.declared.cell.Cell.{Cell}
 use Rattle.grid_law.specs.Rules.{Rules, Laws}
@@ -8,7 +8,9 @@ use Rattle.cell_table.specs.Cells.{IsThere, AtOrAfter, Before}
 use Rattle.cell_table.specs.Events.{Event, Edits, Claims, Stores, Start}
 use Rattle.cell_table.specs.Stands.{Stands}
 use Rattle.grid_law.specs.Run.{run}
-use Rattle.cell_table.specs.Settling.{NoneDueBefore, HoldsRunBefore, IsSettled, IsSpent, Settling, SettlesNext}
+use Rattle.cell_table.specs.Consistent.{IsTable}
+use Rattle.cell_table.proofs.Runs.{holds_run_at}
+use Rattle.cell_table.specs.Settling.{NoneDueBefore, IsNextDue, HoldsRunBefore, IsSettled, IsSpent, Settling, SettlesNext, IsAt, IsFurther}
 use Rattle.cell_table.specs.Cost.{Settles, SettlesFirst}
 use Rattle.cell_table.proofs.Ordering.{before_or_after, before_along, before_next}
 use Rattle.cell_table.proofs.Costing.{settles_first, settles_all}
@@ -42,22 +44,8 @@ clock_stays old new true is room last = let b = room refl in absurd (omega arith
 clock_stays old new false is room last = is ∙ last
 
 module _ {State Slots Slot : Type 0} (R : Rules State Slots Slot) where
-  -- a pass has come to that cell: these cells were settled, and those before it hold the run
-  pub record IsAt (old now : Seen State Slots) (t0 c0 computed : ℕ) : Type 0 where
-    pub done : List (Event State Slots Slot)
-    pub settling : Settling R old done now t0 c0
-    pub number : length done ≡ computed
-    pub none_before : NoneDueBefore R now t0 c0
-    pub runs_before : HoldsRunBefore R now t0 c0
-    pub few : computed ≤ 4294967296 * t0 + c0
-    pub fits : c0 < 4294967296
-    pub slots : now.slots ≡ old.slots
-    pub horizon : now.horizon ≡ old.horizon
-    pub rises : old.clock ≤ now.clock
-    pub clock : old.clock ≡ 2 ^ 64 - 1 → now.clock ≡ 2 ^ 64 - 1
-
   -- it begins before all cells
-  pub begins : (old : Seen State Slots) → IsAt old old 0 0 0
+  pub begins : (old : Seen State Slots) → IsAt R old old 0 0 0
   begins old = record {
     done = [];
     settling = refl;
@@ -79,7 +67,7 @@ module _ {State Slots Slot : Type 0} (R : Rules State Slots Slot) where
   settling_along old v (Stores t1 c1 x changed ∷ done) t0 c0 t c e a = (e.0, e.1, e.2, before_along t1 c1 t0 c0 t c e.3 a)
 
   -- and goes on behind the next cell that is settled
-  pub goes_on : (old now next : Seen State Slots) (t0 c0 computed : ℕ) (cell : Cell) → IsAt old now t0 c0 computed → SettlesNext R now next t0 c0 cell → cell.component + 1 < 4294967296 → IsAt old next cell.cycle (cell.component + 1) (computed + 1)
+  pub goes_on : (old now next : Seen State Slots) (t0 c0 computed : ℕ) (cell : Cell) → IsAt R old now t0 c0 computed → SettlesNext R now next t0 c0 cell → cell.component + 1 < 4294967296 → IsAt R old next cell.cycle (cell.component + 1) (computed + 1)
   goes_on old now next t0 c0 computed cell is_at s fits = record {
     done = Stores cell.cycle cell.component (run R now.slots cell.cycle cell.component) s.changed ∷ is_at.done;
     settling = (now, settling_along old now is_at.done t0 c0 cell.cycle cell.component is_at.settling s.after, s.settled, before_next cell.cycle cell.component);
@@ -122,3 +110,55 @@ module _ {State Slots Slot : Type 0} (R : Rules State Slots Slot) (laws : Laws R
   pub all_settled : IsSettled R now → (o : Start Slots) (h : List (Event State Slots Slot)) → Stands R o old h → Settles R o h now is_at.done computed
   all_settled settled o h stands =
       subst (Settles R o h now is_at.done) is_at.number (settles_all R laws o h old stands is_at.done now t0 c0 is_at.settling is_at.none_before is_at.runs_before settled)
+
+-- a pass can begin at a cycle before which nothing is due, and go on at a later one before which nothing is
+module _ {State Slots Slot : Type 0} (R : Rules State Slots Slot) (laws : Laws R) (v : Seen State Slots) (table : IsTable R v.slots v.horizon v.rows) (t0 : ℕ) (none : NoneDueBefore R v t0 0) where
+  runs_here : HoldsRunBefore R v t0 0
+  runs_here t c there b =
+      holds_run_at R laws v table t c there (λ t1 c1 k l. none t1 c1 k (omega (arith, b.0, l), λ e. absurd (omega (arith, b.0, l, e)))) (none t c there b)
+
+  pub begins_at : t0 < 4294967296 → IsAt R v v t0 0 0
+  begins_at small = record {
+    done = [];
+    settling = refl;
+    number = refl;
+    none_before = none;
+    runs_before = runs_here;
+    few = omega arith;
+    fits = omega arith;
+    slots = refl;
+    horizon = refl;
+    rises = omega arith;
+    clock = λ last. last;
+  }
+
+  pub moves_on : (first : Seen State Slots) (t c n : ℕ) → IsAt R first v t c n → t < t0 → IsAt R first v t0 0 n
+  moves_on first t c n at h = record {
+    done = at.done;
+    settling = settling_along R first v at.done t c t0 0 at.settling (omega (arith, h), λ e. absurd (omega (arith, h, e)));
+    number = at.number;
+    none_before = none;
+    runs_before = runs_here;
+    few = omega (arith, at.few, at.fits, h);
+    fits = omega arith;
+    slots = at.slots;
+    horizon = at.horizon;
+    rises = at.rises;
+    clock = at.clock;
+  }
+
+-- where the first due cell from a cell on stands at a cycle, nothing is due before that
+pub none_till : {State Slots Slot : Type 0} (R : Rules State Slots Slot) (v : Seen State Slots) (t c : ℕ) (cell : Cell) → NoneDueBefore R v t c → IsNextDue R v t c cell → NoneDueBefore R v cell.cycle 0
+none_till R v t c cell none next t1 c1 there b = by_place (before_or_after t c t1 c1)
+  where
+    by_place : Before t1 c1 t c ⊎ AtOrAfter t c t1 c1 → (held_at v.rows t1 c1).is_due ≡ false
+    by_place (inl p) = none t1 c1 there p
+    by_place (inr p) = next.none_between t1 c1 there p (before_along t1 c1 cell.cycle 0 cell.cycle cell.component b (omega arith, λ e. omega arith))
+
+-- a pass that goes on comes nearer to its end
+pub nearer : (horizon t0 c0 t c : ℕ) → IsFurther horizon t0 c0 t c → c0 < 4294967296 → 4294967296 * (horizon + 1 - t) + (4294967296 - c) < 4294967296 * (horizon + 1 - t0) + (4294967296 - c0)
+nearer horizon t0 c0 t c further fits = by_cycle (cases_lt t0 t)
+  where
+    by_cycle : (t0 < t) ⊎ (t ≤ t0) → 4294967296 * (horizon + 1 - t) + (4294967296 - c) < 4294967296 * (horizon + 1 - t0) + (4294967296 - c0)
+    by_cycle (inl h) = omega (arith, h, further.1, fits)
+    by_cycle (inr h) = let e : t0 ≡ t = omega (arith, h, further.0.0) in let k = further.0.1 e in omega (arith, e, k, fits)

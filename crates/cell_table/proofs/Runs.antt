@@ -23,13 +23,17 @@ module _ {State Slots Slot : Type 0} (R : Rules State Slots Slot) (laws : Laws R
   some_step ms rest f c e = rw e refl
 
   -- a state computed from near states of the run is the run's
-  step_run : (t c : ℕ) → c < R.components v.slots → ((m : ℕ) → m < R.components v.slots → (held_at v.rows t m).state ≡ Some (run R v.slots t m)) → (x : State) → IsCurrentState R v.slots v.rows (t + 1) c x → x ≡ run R v.slots (suc t) c
-  step_run t c inside earlier x current =
+  pub step_near : (t c : ℕ) → AllByRecursion (λ m. (held_at v.rows t m).state ≡ Some (run R v.slots t m)) (R.near v.slots c) → (x : State) → IsCurrentState R v.slots v.rows (t + 1) c x → x ≡ run R v.slots (suc t) c
+  step_near t c each x current =
       let back : (t + 1) - 1 ≡ t = omega arith in
-      let known = states_known (row_at v.rows t) (run R v.slots t) (R.near v.slots c) (each (R.near v.slots c) (recursion_from_All _ (R.near v.slots c) (laws.near_within v.slots c inside))) in
+      let known = states_known (row_at v.rows t) (run R v.slots t) (R.near v.slots c) each in
       let later = inputs_later R v.slots v.rows (t + 1) c (λ e. omega arith) ∙ ap (λ n. states_of (row_at v.rows n) (R.near v.slots c)) back ∙ known in
       let inputs : current.inputs ≡ map (run R v.slots t) (R.near v.slots c) = some_same _ _ (sym current.are_held ∙ later) in
       current.computed ∙ ap (λ xs. result_of R v.slots xs c) inputs ∙ some_step (R.near v.slots c) (laws.near_first v.slots c).0 (run R v.slots t) c (laws.near_first v.slots c).1
+
+  step_run : (t c : ℕ) → c < R.components v.slots → ((m : ℕ) → m < R.components v.slots → (held_at v.rows t m).state ≡ Some (run R v.slots t m)) → (x : State) → IsCurrentState R v.slots v.rows (t + 1) c x → x ≡ run R v.slots (suc t) c
+  step_run t c inside earlier x current =
+      step_near t c (each (R.near v.slots c) (recursion_from_All _ (R.near v.slots c) (laws.near_within v.slots c inside))) x current
     where
       each : (ms : List ℕ) → AllByRecursion (λ m. m < R.components v.slots) ms → AllByRecursion (λ m. (held_at v.rows t m).state ≡ Some (run R v.slots t m)) ms
       each [] p = tt

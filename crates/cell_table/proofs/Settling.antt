@@ -18,12 +18,12 @@ use Rattle.cell_table.proofs.Tables.{is_ready}
 use Rattle.cell_table.proofs.Stores.{current_of_inputs, current_from_present}
 use Rattle.cell_table.proofs.Runs.{computes_run, holds_run_at, holds_run}
 
-due_kept : {State : Type 0} (b1 b2 : Bool) (r : Held State) (x : State) (v : ℕ) → (b1 ≡ false → (b2 ≡ false) × (r.is_due ≡ false)) → (cond b1 (stored r x) (cond b2 (marked r v) r)).is_due ≡ false
+due_kept : {State : Type 0} (b1 b2 : Bool) (r : Held State) (x : State) (v : ℕ) → (b1 ≡ false → (b2 ≡ false) × (r.is_due ≡ false)) → (cond b1 (stored x) (cond b2 (marked r v) r)).is_due ≡ false
 due_kept true b2 r x v f = refl
 due_kept false true r x v f = absurd (true≢false (f refl).0)
 due_kept false false r x v f = (f refl).1
 
-state_is : {State : Type 0} (b1 b2 : Bool) (r : Held State) (x y : State) (v : ℕ) → (b1 ≡ true → x ≡ y) → (b1 ≡ false → r.state ≡ Some y) → (cond b1 (stored r x) (cond b2 (marked r v) r)).state ≡ Some y
+state_is : {State : Type 0} (b1 b2 : Bool) (r : Held State) (x y : State) (v : ℕ) → (b1 ≡ true → x ≡ y) → (b1 ≡ false → r.state ≡ Some y) → (cond b1 (stored x) (cond b2 (marked r v) r)).state ≡ Some y
 state_is true b2 r x y v f g = ap Some (f refl)
 state_is false true r x y v f g = g refl
 state_is false false r x y v f g = g refl

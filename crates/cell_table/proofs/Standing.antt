@@ -45,7 +45,7 @@ module _ {State : Type 0} where
   says_touched false true r k state d version s = record { state_is = (s refl).state_is; due_is = refl; version_is = λ e. refl }
   says_touched false false r k state d version s = s refl
 
-  says_stored : (b1 b2 : Bool) (r : Held State) (x : State) (k : ℕ) (state : Option State) (d : Bool) (version : ℕ) → (b1 ≡ true → b2 ≡ false) → Says r state d version → Says (cond b1 (stored r x) (cond b2 (marked r k) r)) (cond b1 (Some x) state) (b2 || (not b1 && d)) (cond b2 k version)
+  says_stored : (b1 b2 : Bool) (r : Held State) (x : State) (k : ℕ) (state : Option State) (d : Bool) (version : ℕ) → (b1 ≡ true → b2 ≡ false) → Says r state d version → Says (cond b1 (stored x) (cond b2 (marked r k) r)) (cond b1 (Some x) state) (b2 || (not b1 && d)) (cond b2 k version)
   says_stored true true r x k state d version f s = absurd (true≢false (f refl))
   says_stored true false r x k state d version f s = record { state_is = refl; due_is = refl; version_is = λ e. absurd (false≢true e) }
   says_stored false true r x k state d version f s = record { state_is = s.state_is; due_is = refl; version_is = λ e. refl }
@@ -117,6 +117,6 @@ module _ {State Slots Slot : Type 0} (R : Rules State Slots Slot) (laws : Laws R
               let b1 = (eqb t1 t) && (eqb c1 c) in
               let d2 = changed && ((eqb t1 (t + 1)) && has (R.near (slots_of o h) c1) c) in
               let e2 : (changed && ((eqb t1 (t + 1)) && has (R.near v.slots c1) c)) ≡ d2 = ap (λ s. changed && ((eqb t1 (t + 1)) && has (R.near s c1) c)) stands.slots in
-              let eq = after.cells t1 c1 before ∙ ap (λ b. cond b1 (stored r x) (cond b (marked r new.clock) r)) e2 ∙ ap (λ n. cond b1 (stored r x) (cond d2 (marked r n) r)) clock in
+              let eq = after.cells t1 c1 before ∙ ap (λ b. cond b1 (stored x) (cond b (marked r new.clock) r)) e2 ∙ ap (λ n. cond b1 (stored x) (cond d2 (marked r n) r)) clock in
               let unread : b1 ≡ true → d2 ≡ false = λ e. and_right _ _ (and_left (eqb t1 (t + 1)) _ (ne_eqb t1 (t + 1) (λ q. let p : t1 ≡ t = eqb-true t1 t (and_parts (eqb t1 t) (eqb c1 c) e).0 in absurd (omega arith)))) in
               subst (λ n. Says n (val R o (Stores t c x changed ∷ h) t1 c1) (due R o (Stores t c x changed ∷ h) t1 c1) (version_of R o (Stores t c x changed ∷ h) t1 c1)) (sym eq) (says_stored b1 d2 r x (clock_of R o (Stores t c x changed ∷ h)) (val R o h t1 c1) (due R o h t1 c1) (version_of R o h t1 c1) unread (says_now t1 c1 before))

@@ -22,12 +22,12 @@ all_any [] f = tt
 all_any (m ∷ ms) f = (f m, all_any ms f)
 
 module _ {State : Type 0} where
-  state_after : (b1 b2 : Bool) (r : Held State) (x : State) (v : ℕ) → (b1 ≡ true → r.state ≡ Some x) → (cond b1 (stored r x) (cond b2 (marked r v) r)).state ≡ r.state
+  state_after : (b1 b2 : Bool) (r : Held State) (x : State) (v : ℕ) → (b1 ≡ true → r.state ≡ Some x) → (cond b1 (stored x) (cond b2 (marked r v) r)).state ≡ r.state
   state_after true b2 r x v f = sym (f refl)
   state_after false true r x v f = refl
   state_after false false r x v f = refl
 
-  due_after : (b1 b2 : Bool) (r : Held State) (x : State) (v : ℕ) → (cond b1 (stored r x) (cond b2 (marked r v) r)).is_due ≡ false → (b1 ≡ true) ⊎ ((b1 ≡ false) × (b2 ≡ false) × (r.is_due ≡ false))
+  due_after : (b1 b2 : Bool) (r : Held State) (x : State) (v : ℕ) → (cond b1 (stored x) (cond b2 (marked r v) r)).is_due ≡ false → (b1 ≡ true) ⊎ ((b1 ≡ false) × (b2 ≡ false) × (r.is_due ≡ false))
   due_after true b2 r x v f = inl refl
   due_after false true r x v f = absurd (true≢false f)
   due_after false false r x v f = inr (refl, refl, f)
@@ -67,7 +67,7 @@ module _ {State Slots Slot : Type 0} (R : Rules State Slots Slot) (laws : Laws R
           let unmarked : (changed && ((eqb t1 (t + 1)) && has (R.near s c1) c)) ≡ false = and_right changed _ (and_left (eqb t1 (t + 1)) _ (ne_eqb t1 (t + 1) (λ q. absurd (omega arith)))) in
           record {
             state = x;
-            holds = ap (λ (r : Held State). r.state) (at t1 c1 h k) ∙ ap (λ b. (cond b (stored (held_at rows t1 c1) x) (cond (changed && ((eqb t1 (t + 1)) && has (R.near s c1) c)) (marked (held_at rows t1 c1) version) (held_at rows t1 c1))).state) e;
+            holds = ap (λ (r : Held State). r.state) (at t1 c1 h k) ∙ ap (λ b. (cond b (stored x) (cond (changed && ((eqb t1 (t + 1)) && has (R.near s c1) c)) (marked (held_at rows t1 c1) version) (held_at rows t1 c1))).state) e;
             is_current = record {
               inputs = current.inputs;
               are_held = kept_inputs t1 c1 h k unmarked ∙ rw (i, j) current.are_held;

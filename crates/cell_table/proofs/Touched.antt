@@ -9,7 +9,7 @@ use Rattle.cell_table.specs.Cells.{IsThere}
 use Rattle.cell_table.specs.Inputs.{states_of, inputs_of}
 use Rattle.cell_table.specs.Consistent.{IsTable, IsCurrent}
 use Rattle.cell_table.specs.Reads.{reads_any}
-use Rattle.cell_table.specs.declared.marks.CellRange.{CellRange}
+use Rattle.cell_table.specs.declared.cell.CellRange.{CellRange}
 use Rattle.cell_table.specs.Touches.{cell_reads, held_touched, held_marked, is_marked}
 use Rattle.cell_table.proofs.States.{states_same, neither}
 use Rattle.cell_table.proofs.Tables.{inputs_first, inputs_later}

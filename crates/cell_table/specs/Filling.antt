@@ -1,9 +1,9 @@
 -- Filling cycles whose cells hold no state yet.
-use Rattle.std.specs.Prelude.{◌≡◌, ℕ, zero, suc, ◌+◌, ◌-◌, ◌*◌, ◌<◌, ◌≤◌, ◌==◌, min, if◌then◌else◌, Bool, true, false, Option, None, Some, List, length, slice_index_or}
+use Rattle.std.specs.Prelude.{◌≡◌, ℕ, zero, suc, ◌+◌, ◌-◌, ◌<◌, ◌≤◌, ◌==◌, min, if◌then◌else◌, Bool, true, false, Option, None, Some, List, length, slice_index_or}
 use Rattle.state_line.specs.Lined.{Lined}
 use Rattle.grid_law.specs.Rules.{Rules}
 use Rattle.grid_law.specs.Run.{run}
-use Rattle.cell_table.specs.Seen.{Seen, fresh, held_at}
+use Rattle.cell_table.specs.Seen.{Seen, held_at}
 use Rattle.cell_table.specs.Cells.{IsThere}
 use Rattle.cell_table.specs.Readers.{has}
 
@@ -51,21 +51,3 @@ module _ {State Slots Slot : Type 0} (R : Rules State Slots Slot) where
   -- the cells from a cycle on hold no state
   abbrev pub AllNew : Seen State Slots → ℕ → Type 0
   AllNew v from = (t c : ℕ) → IsThere R v t c → from ≤ t → (held_at v.rows t c).state ≡ None
-
-  -- the version that a cell has once so many cycles from that one on were stored, and its own not
-  abbrev pub version_filled : Seen State Slots → ℕ → ℕ → ℕ → ℕ → ℕ
-  version_filled v from zero t c = (held_at v.rows t c).version
-  version_filled v from (suc m) t c =
-      if t == from + (m + 1) then version_after (R.near v.slots c) (v.clock + m * R.components v.slots) (held_at v.rows t c).version (R.components v.slots) else (held_at v.rows t c).version
-
-  -- the first m cycles from that one on hold the run now, and those behind them still nothing
-  pub record IsFilled (old new : Seen State Slots) (from m : ℕ) : Type 0 where
-    pub slots : new.slots ≡ old.slots
-    pub horizon : new.horizon ≡ old.horizon
-    pub clock : new.clock ≡ old.clock + m * R.components old.slots
-    pub within : from + m ≤ old.horizon + 1
-    pub news : AllNew old from
-    pub before : (t c : ℕ) → IsThere R old t c → t < from → held_at new.rows t c ≡ held_at old.rows t c
-    pub states : (t c : ℕ) → IsThere R old t c → from ≤ t → t < from + m → (held_at new.rows t c).state ≡ Some (run R old.slots t c)
-    pub settled : (t c : ℕ) → IsThere R old t c → from ≤ t → t < from + m → (held_at new.rows t c).is_due ≡ false
-    pub rest : (t c : ℕ) → IsThere R old t c → from + m ≤ t → held_at new.rows t c ≡ fresh (version_filled old from m t c)

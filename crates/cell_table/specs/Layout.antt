@@ -1,5 +1,5 @@
 -- How a table keeps its cells: for each component a line of states, and by cycle marks of the due cells and versions.
-use Rattle.std.specs.Prelude.{◌≡◌, ℕ, ◌<◌, ◌==◌, ◌&&◌, ◌^◌, if◌then◌else◌, Option, None, false, List, [], map, length, slice_index_or}
+use Rattle.std.specs.Prelude.{◌≡◌, ℕ, ◌<◌, ◌==◌, ◌&&◌, ◌^◌, if◌then◌else◌, Bool, Option, None, false, List, [], map, length, slice_index_or}
 use Rattle.std.specs.List.{range_with_len}
 use Rattle.state_line.specs.Lined.{Lined}
 use Rattle.cell_marks.specs.Marked.{Marked, has as has_mark}
@@ -18,13 +18,17 @@ module _ {State : Type 0} where
   abbrev pub state_at : List (Lined State) → ℕ → ℕ → Option State
   state_at lines t c = slice_index_or (line_at lines c).states t None
 
+  -- what a state, a mark and a version are together: the version counts only where the cell is due
+  abbrev pub kept : Option State → Bool → ℕ → Held State
+  kept state is_due version = record { state = state; is_due = is_due; version = (if is_due then version else 0) }
+
   -- what is held for a cell
   abbrev pub kept_at : List (Lined State) → Marked → List (List ℕ) → ℕ → ℕ → Held State
-  kept_at lines due versions t c = record { state = state_at lines t c; is_due = has_mark due.rows t c; version = version_at versions t c }
+  kept_at lines due versions t c = kept (state_at lines t c) (has_mark due.rows t c) (version_at versions t c)
 
   -- what is held for a cell once it isn't due
-  abbrev pub cleared : Held State → Option State → Held State
-  cleared k state = record { state = state; is_due = false; version = k.version }
+  abbrev pub cleared : Option State → Held State
+  cleared state = record { state = state; is_due = false; version = 0 }
 
   -- and for all, row by row
   abbrev pub rows_of : List (Lined State) → Marked → List (List ℕ) → List (List (Held State))

@@ -21,3 +21,5 @@ pub mod Cost
 pub mod Layout
 pub mod Waves
 pub mod Filling
+pub mod Passing
+pub mod Repeating

@@ -1,5 +1,5 @@
 -- Settling a table, one due cell after another.
-use Rattle.std.specs.Prelude.{◌≡◌, ◌≢◌, ℕ, ◌+◌, ◌-◌, ◌^◌, ◌<◌, ◌≤◌, Some, Bool, true, false, List, [], ◌∷◌}
+use Rattle.std.specs.Prelude.{◌≡◌, ◌≢◌, ℕ, ◌+◌, ◌-◌, ◌*◌, ◌^◌, ◌<◌, ◌≤◌, Some, Bool, true, false, List, [], ◌∷◌, length}
 use Rattle.cell_table.specs.declared.cell.Cell.{Cell}
 use Rattle.cell_table.specs.declared.given.SettleFault.{SettleFault}
 use Rattle.cell_table.specs.declared.given.SettleFault.TheVariants.{ClockSpent, Memory}
@@ -79,6 +79,24 @@ module _ {State Slots Slot : Type 0} (R : Rules State Slots Slot) where
   Settling old (Claims t c ∷ done) new t0 c0 = ⊥
   Settling old (Stores t c x changed ∷ done) new t0 c0 =
       (mid : Seen State Slots) × Settling old done mid t c × IsSettledCell mid new t c x changed × Before t c t0 c0
+
+  -- a pass has come to that cell: these cells were settled, and those before it hold the run
+  pub record IsAt (old now : Seen State Slots) (t0 c0 computed : ℕ) : Type 0 where
+    pub done : List (Event State Slots Slot)
+    pub settling : Settling old done now t0 c0
+    pub number : length done ≡ computed
+    pub none_before : NoneDueBefore now t0 c0
+    pub runs_before : HoldsRunBefore now t0 c0
+    pub few : computed ≤ 4294967296 * t0 + c0
+    pub fits : c0 < 4294967296
+    pub slots : now.slots ≡ old.slots
+    pub horizon : now.horizon ≡ old.horizon
+    pub rises : old.clock ≤ now.clock
+    pub clock : old.clock ≡ 2 ^ 64 - 1 → now.clock ≡ 2 ^ 64 - 1
+
+-- the second cell stands behind the first, at the latest one cycle past the horizon
+abbrev pub IsFurther : ℕ → ℕ → ℕ → ℕ → ℕ → Type 0
+IsFurther horizon t0 c0 t c = AtOrAfter t0 (c0 + 1) t c × (t ≤ horizon + 1)
 
 -- how many cells were computed before the fault
 abbrev pub computed_of : SettleFault → ℕ

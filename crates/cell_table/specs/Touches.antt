@@ -5,7 +5,7 @@ use Rattle.grid_law.specs.Rules.{Rules}
 use Rattle.cell_table.specs.Seen.{Held, Seen, fresh, marked, held_at}
 use Rattle.cell_table.specs.Inputs.{inputs_of}
 use Rattle.cell_table.specs.Reads.{reads_one, reads_any}
-use Rattle.cell_table.specs.declared.marks.CellRange.{CellRange}
+use Rattle.cell_table.specs.declared.cell.CellRange.{CellRange}
 use Rattle.cell_table.specs.Cells.{IsThere}
 
 -- whether the cell is one of the range

@@ -8,3 +8,11 @@ pub struct Cell {
     /// Below the grid's number of components.
     pub component: u32,
 }
+
+/// The cells of a component from one cycle on, to before another.
+#[derive(Clone, Copy)]
+pub struct CellRange {
+    pub component: u32,
+    pub from: u32,
+    pub to: u32,
+}

@@ -1,5 +1,5 @@
 //! What is held for the cells.
-ghost use Rattle.std.specs.Prelude.{◌≡◌, ℕ, ◌+◌, ◌-◌, ◌<◌, ◌≤◌, ◌++◌, ◌^◌, ◌↔◌, IsTrue, All, IfOk, OnOk, OnErr, IfErr, length, replicate, map, take, option_map, is_some, true, false, MatchOption, Some, None, if◌then◌else◌, nat_lt, slice_index_or, []};
+ghost use Rattle.std.specs.Prelude.{◌≡◌, ℕ, ◌+◌, ◌-◌, ◌<◌, ◌≤◌, ◌++◌, ◌^◌, ◌↔◌, ◌||◌, IsTrue, All, IfOk, OnOk, OnErr, IfErr, length, replicate, map, take, option_map, is_some, true, false, MatchOption, Some, None, if◌then◌else◌, nat_lt, slice_index_or, []};
 ghost use Rattle.std.specs.Option.{option_copied};
 ghost use Rattle.std.specs.Arc.{arc_value};
 ghost use Rattle.cell_table.specs.Seen.{fresh, stored, marked, held_at, row_at, due_in_row, due_up_to};
@@ -8,19 +8,20 @@ ghost use Rattle.cell_table.specs.Readers.{IsIndex, AreNear};
 ghost use Rattle.grid_law.specs.Run.{run};
 ghost use Rattle.cell_table.specs.Settling.{IsNextDueInRow};
 ghost use Rattle.cell_table.specs.Layout.{cleared, IsOtherCell};
+ghost use Rattle.cell_table.specs.Filling.{is_awake};
 
 mod standing;
 
 use crate::Cell;
 use crate::fill::fill_lines;
 use crate::lines::{
-    are_empty_from, cut_ends, grow_ends, lines_of, put_state, repeat_state, reserve_ends,
-    shared_in, state_in, stays_in,
+    are_empty_from, cut_ends, extend_changed, grow_ends, lines_of, put_state, repeat_state,
+    reserve_changed, reserve_ends, shared_in, state_in, stays_in,
 };
 use crate::neighbours::Neighbours;
 use crate::readers::Readers;
 use crate::versions::{Versions, grow_rows, rows_of, set_version, version_in};
-use cell_marks::Marks;
+use cell_marks::{Marks, Row};
 use grid_law::{Grid, NoMemory};
 use state_line::Line;
 use std::alloc::Global;
@@ -119,10 +120,15 @@ impl<S: Drop> Cells<S> {
         self.due.has(cell.cycle, cell.component)
     }
 
+    /// The version of a due cell, 0 of any other.
     pub(crate) fn version(&self, cell: Cell) -> u64
         ensures { result ≡ (held_at self.now cell.cycle cell.component).version }
     {
-        version_in(&self.versions, cell.cycle, cell.component)
+        if self.is_due(cell) {
+            version_in(&self.versions, cell.cycle, cell.component)
+        } else {
+            0
+        }
     }
 
     /// How many cells of a cycle are due; no cell is looked at.
@@ -155,12 +161,22 @@ impl<S: Drop> Cells<S> {
         self.due.first_from(cycle, from)
     }
 
+    /// Whether the components that are due at a cycle, or among those, are just those due at another one; 64 in one step.
+    pub(crate) fn is_due_alike(&self, cycle: u32, among: &Row, other: u32) -> bool
+        requires cycle { cycle < length self.now }
+        requires other { other < length self.now }
+        requires width { length among.now ≡ length (row_at self.now cycle) }
+        ensures { result ≡ true → (c : ℕ) → c < length among.now → ((held_at self.now cycle c).is_due || is_awake among.now c) ≡ (held_at self.now other c).is_due }
+    {
+        self.due.is_alike(cycle, among, other)
+    }
+
     /// Puts another state for a cell, which isn't due then. Where memory is wanting, nothing is
     /// changed, and the state comes back.
     pub(crate) fn put(&mut self, cell: Cell, state: Arc<S>) -> Result<(), Arc<S>>
         requires cycle { cell.cycle < length self.old }
         requires component { cell.component < length (row_at self.old cell.cycle) }
-        ensures ok { OnOk result (IsOtherCell self.old self.new cell.cycle cell.component (stored (held_at self.old cell.cycle cell.component) (arc_value state))) }
+        ensures ok { OnOk result (IsOtherCell self.old self.new cell.cycle cell.component (stored (arc_value state))) }
         ensures err { OnErr result (self.new ≡ self.old) }
         ensures back { IfErr result (λ back. arc_value back ≡ arc_value state) }
     {
@@ -180,7 +196,7 @@ impl<S: Drop> Cells<S> {
         requires component { cell.component < length (row_at self.old cell.cycle) }
         requires later { 0 < cell.cycle }
         ensures ok { OnOk result (IsOtherCell self.old self.new cell.cycle cell.component
-            (cleared (held_at self.old cell.cycle cell.component) (held_at self.old (cell.cycle - 1) cell.component).state)) }
+            (cleared (held_at self.old (cell.cycle - 1) cell.component).state)) }
         ensures err { OnErr result (self.new ≡ self.old) }
     {
         match repeat_state(&mut self.lines, cell) {
@@ -197,7 +213,7 @@ impl<S: Drop> Cells<S> {
         requires cycle { cell.cycle < length self.old }
         requires component { cell.component < length (row_at self.old cell.cycle) }
         ensures { IsOtherCell self.old self.new cell.cycle cell.component
-            (cleared (held_at self.old cell.cycle cell.component) (held_at self.old cell.cycle cell.component).state) }
+            (cleared (held_at self.old cell.cycle cell.component).state) }
     {
         self.due.clear(cell.cycle, cell.component);
     }
@@ -361,12 +377,41 @@ pub(crate) fn fill_cells<G: Grid>(
     ensures from { from ≤ result }
     ensures end { result ≤ length cells.old }
     ensures earlier { (t c : ℕ) → c < G.rules.components slots.now → t < from → held_at cells.new t c ≡ held_at cells.old t c }
-    ensures states { (t c : ℕ) → c < G.rules.components slots.now → t < result → (held_at cells.new t c).state ≡ Some (run G.rules slots.now t c) }
-    ensures settled { (t c : ℕ) → c < G.rules.components slots.now → from ≤ t → t < result → (held_at cells.new t c).is_due ≡ false }
+    ensures passed { (t c : ℕ) → c < G.rules.components slots.now → from ≤ t → t < result → held_at cells.new t c ≡ stored (run G.rules slots.now t c) }
     ensures rest { (t c : ℕ) → c < G.rules.components slots.now → result ≤ t → t < length cells.old → held_at cells.new t c ≡ held_at cells.old t c }
+    ensures versions { (t c : ℕ) → (held_at cells.old t c).is_due ≡ false → (held_at cells.old t c).version ≡ 0 }
 {
     let end = cells.due.len();
     let to = fill_lines::<G>(&mut cells.lines, slots, neighbours, readers, from, end);
     clear_rows(&mut cells.due, from, to);
     to
+}
+
+/// Lets the components that change keep the state of the cycle before `from` to before `to`, and no cell of these cycles
+/// is due then. Where memory is wanting, nothing is changed.
+pub(crate) fn repeat_cells<S: Drop>(
+    cells: &mut Cells<S>,
+    changes: &Row,
+    from: u32,
+    to: u32,
+) -> Result<(), NoMemory>
+    requires later { 0 < from }
+    requires after { from ≤ to }
+    requires within { to ≤ length cells.old }
+    requires width { (t : ℕ) → t < length cells.old → length (row_at cells.old t) ≡ length changes.now }
+    ensures len { length cells.new ≡ length cells.old }
+    ensures lens { (t : ℕ) → t < length cells.old → length (row_at cells.new t) ≡ length changes.now }
+    ensures repeated { OnOk result ((t c : ℕ) → c < length changes.now → from ≤ t → t < to → held_at cells.new t c ≡ cleared (held_at cells.old (if is_awake changes.now c then from - 1 else t) c).state) }
+    ensures earlier { OnOk result ((t c : ℕ) → t < from → held_at cells.new t c ≡ held_at cells.old t c) }
+    ensures later { OnOk result ((t c : ℕ) → to ≤ t → held_at cells.new t c ≡ held_at cells.old t c) }
+    ensures versions { (t c : ℕ) → (held_at cells.old t c).is_due ≡ false → (held_at cells.old t c).version ≡ 0 }
+    ensures err { OnErr result (cells.new ≡ cells.old) }
+{
+    match reserve_changed(&mut cells.lines, changes, from) {
+        Ok(()) => {}
+        Err(_) => return Err(NoMemory),
+    }
+    extend_changed(&mut cells.lines, changes, from, to);
+    clear_rows(&mut cells.due, from, to);
+    Ok(())
 }

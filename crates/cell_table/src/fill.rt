@@ -179,7 +179,7 @@ fn compute<G: Grid>(
 }
 
 /// Marks these components.
-fn wake(marks: &mut Row, components: &[u32])
+pub(crate) fn wake(marks: &mut Row, components: &[u32])
     requires { All (λ k. k < length marks.old) components.now }
     ensures len { length marks.new ≡ length marks.old }
     ensures at { (c : ℕ) → is_awake marks.new c ≡ (is_awake marks.old c || has components.now c) }

@@ -48,7 +48,9 @@
 //! bits that are counted (`cell_marks`). So an edit asks the readers of a slot once for each stretch;
 //! a cell whose near cells all go on in their stretches gets the state of the cell before it without
 //! a step; and where nothing is due, one number tells it. Cycles that are all new are filled: each is
-//! computed before it is stored, and only components near one that changed are looked at.
+//! computed before it is stored, and only components near one that changed are looked at. Cycles in which
+//! the same happens as in the one before, since each due cell gets the state of the cell before it, are
+//! settled at once.
 //!
 //! The crate stands on `grid_law` for grids and their laws, on `state_line` and `cell_marks`, and on
 //! `arrayvec` for lists of near components.
@@ -65,6 +67,7 @@ mod lines;
 mod marks;
 mod near;
 mod neighbours;
+mod ranges;
 mod readers;
 mod rows;
 mod table;
@@ -72,7 +75,7 @@ mod versions;
 mod watcher;
 mod work;
 
-pub use cell::Cell;
+pub use cell::{Cell, CellRange};
 pub use claim::{Claim, Done};
 pub use given::{Given, SettleFault, Settled, StoreFault, TouchFault};
 pub use table::Table;

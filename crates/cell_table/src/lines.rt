@@ -1,10 +1,13 @@
 //! The lines of all components.
-ghost use Rattle.std.specs.Prelude.{◌≡◌, ℕ, ◌+◌, ◌++◌, ◌<◌, ◌≤◌, ◌-◌, ◌^◌, IfOk, OnOk, OnErr, IfErr, Some, None, length, replicate, take, option_map, true};
+ghost use Rattle.std.specs.Prelude.{◌≡◌, ℕ, ◌+◌, ◌++◌, ◌<◌, ◌≤◌, ◌-◌, ◌^◌, IfOk, OnOk, OnErr, IfErr, Some, None, length, replicate, take, option_map, true, false};
 ghost use Rattle.std.specs.Option.{option_copied};
 ghost use Rattle.std.specs.Arc.{arc_value};
+ghost use Rattle.state_line.specs.Lined.{GoesOn};
 ghost use Rattle.cell_table.specs.Layout.{line_at, state_at, IsSameStates, IsOtherState};
+ghost use Rattle.cell_table.specs.Filling.{is_awake};
 
 use crate::Cell;
+use cell_marks::Row;
 use grid_law::NoMemory;
 use state_line::Line;
 use std::alloc::Global;
@@ -154,5 +157,53 @@ pub(crate) fn cut_ends<S: Drop>(lines: &mut Vec<Line<S>>, n: u32)
     for c in 0..lines.len() {
         let line = &mut lines[c];
         line.truncate(n);
+    }
+}
+
+/// Gets the memory for a change at cycle n of the lines of the components that change.
+pub(crate) fn reserve_changed<S: Drop>(
+    lines: &mut Vec<Line<S>>,
+    changes: &Row,
+    n: u32,
+) -> Result<(), NoMemory>
+    requires width { length changes.now ≡ length lines.old.items }
+    requires within { (c : ℕ) → c < length lines.old.items → n ≤ length (line_at lines.old.items c).states }
+    ensures same { IsSameStates lines.old.items lines.new.items }
+    ensures place { OnOk result ((c : ℕ) → is_awake changes.now c ≡ true → (line_at lines.new.items c).place ≡ n) }
+{
+    // The number of a component is below this one, so that of the next fits.
+    let _count = changes.len();
+    let mut from = 0;
+    while let Some(c) = changes.first_from(from) {
+        let line = &mut lines[c as usize];
+        match line.reserve(n) {
+            Ok(()) => {}
+            Err(_) => return Err(NoMemory),
+        }
+        from = c + 1;
+    }
+    Ok(())
+}
+
+/// Lets the state of each component that changes go on from its line's place to before a cycle.
+pub(crate) fn extend_changed<S: Drop>(lines: &mut Vec<Line<S>>, changes: &Row, from: u32, to: u32)
+    requires later { 0 < from }
+    requires after { from ≤ to }
+    requires width { length changes.now ≡ length lines.old.items }
+    requires within { (c : ℕ) → c < length lines.old.items → to ≤ length (line_at lines.old.items c).states }
+    requires place { (c : ℕ) → is_awake changes.now c ≡ true → (line_at lines.old.items c).place ≡ from }
+    ensures len { length lines.new.items ≡ length lines.old.items }
+    ensures lens { (c : ℕ) → length (line_at lines.new.items c).states ≡ length (line_at lines.old.items c).states }
+    ensures extended { (c : ℕ) → is_awake changes.now c ≡ true → GoesOn (line_at lines.old.items c) (line_at lines.new.items c) × ((line_at lines.new.items c).place ≡ to) }
+    ensures others { (c : ℕ) → is_awake changes.now c ≡ false → line_at lines.new.items c ≡ line_at lines.old.items c }
+{
+    let _ = from;
+    // The number of a component is below this one, so that of the next fits.
+    let _count = changes.len();
+    let mut next = 0;
+    while let Some(c) = changes.first_from(next) {
+        let line = &mut lines[c as usize];
+        line.extend_to(to);
+        next = c + 1;
     }
 }

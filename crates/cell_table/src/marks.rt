@@ -3,17 +3,9 @@ ghost use Rattle.std.specs.Prelude.{◌≡◌, ℕ, ◌+◌, ◌++◌, ◌<◌, 
 ghost use Rattle.cell_table.specs.Seen.{held_at, row_at, marked, fresh};
 ghost use Rattle.cell_table.specs.Touches.{covers, is_marked, IsWithin, held_marked};
 
-use crate::Cell;
 use crate::cells::Cells;
+use crate::{Cell, CellRange};
 use grid_law::NoMemory;
-
-/// The cells of a component from one cycle on, to before another.
-#[derive(Clone, Copy)]
-pub struct CellRange {
-    pub component: u32,
-    pub from: u32,
-    pub to: u32,
-}
 
 /// Adds a range, where its cells read a slot.
 pub(crate) fn add_where(

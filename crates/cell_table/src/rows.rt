@@ -2,13 +2,15 @@
 ghost use Rattle.std.specs.Prelude.{◌≡◌, ℕ, ◌+◌, ◌*◌, ◌<◌, ◌≤◌, ◌-◌, ◌^◌, ◌↔◌, ◌&&◌, ◌==◌, Some, true, false, length, All, if◌then◌else◌, OnOk, OnErr, IfErr};
 ghost use Rattle.std.specs.Arc.{arc_value};
 ghost use Rattle.cell_table.specs.Seen.{held_at, row_at, marked, fresh};
-ghost use Rattle.cell_table.specs.Filling.{version_after};
+ghost use Rattle.cell_table.specs.Filling.{version_after, is_awake};
+ghost use Rattle.cell_table.specs.Passing.{woken};
 ghost use Rattle.cell_table.specs.Readers.{has, readers_at, IsIndex};
 ghost use Rattle.cell_table.specs.Gives.{Stores};
 
 use crate::Cell;
 use crate::cells::Cells;
 use crate::readers::Readers;
+use cell_marks::Row;
 use grid_law::{Grid, NoMemory};
 use std::sync::Arc;
 
@@ -66,6 +68,39 @@ pub(crate) fn mark_cycle<G: Grid>(
     for component in 0..count {
         let version = clock + u64::from(component) + 1;
         mark_readers(cells, readers, Cell { cycle, component }, version);
+    }
+}
+
+/// Marks the cells one cycle later, as the stores of the components that change do one after another, the clock being
+/// `clock` before them.
+pub(crate) fn mark_changed<G: Grid>(
+    cells: &mut Cells<G::State>,
+    slots: &G::Slots,
+    readers: &Readers,
+    changes: &Row,
+    cycle: u32,
+    clock: u64,
+)
+    requires cycle { cycle < length cells.old }
+    requires whole { (t : ℕ) → t < length cells.old → length (row_at cells.old t) ≡ G.rules.components slots.now }
+    requires index { IsIndex G.rules slots.now readers.now }
+    requires width { length changes.now ≡ G.rules.components slots.now }
+    requires room { clock + length changes.now < 2 ^ 64 }
+    ensures len { length cells.new ≡ length cells.old }
+    ensures lens { (t : ℕ) → length (row_at cells.new t) ≡ length (row_at cells.old t) }
+    ensures others { (t c : ℕ) → t < length cells.old → (t ≡ cycle + 1 → ⊥) → held_at cells.new t c ≡ held_at cells.old t c }
+    ensures marked { cycle + 1 < length cells.old → (c : ℕ) → c < G.rules.components slots.now
+        → held_at cells.new (cycle + 1) c ≡ woken G.rules slots.now cells.old (λ t k. is_awake changes.now k) clock cycle (G.rules.components slots.now) c }
+{
+    let _ = slots;
+    // The number of a component is below this one, so that of the next fits.
+    let _count = changes.len();
+    let mut version = clock;
+    let mut from = 0;
+    while let Some(component) = changes.first_from(from) {
+        version += 1;
+        mark_readers(cells, readers, Cell { cycle, component }, version);
+        from = component + 1;
     }
 }
 

@@ -12,6 +12,7 @@ ghost use Rattle.cell_table.specs.Events.{Event, Start, slots_of, horizon_of};
 ghost use Rattle.cell_table.specs.Stands.{Stands};
 ghost use Rattle.grid_law.specs.Run.{run};
 
+mod alike;
 mod claiming;
 mod cone;
 mod filling;

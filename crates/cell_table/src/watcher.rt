@@ -1,15 +1,15 @@
 //! Who is told of the states that are stored.
 
-use crate::{Cell, Table};
+use crate::{Cell, CellRange, Table};
 use grid_law::Grid;
 
 /// Who is told of each state that is stored, right afterwards, and whether it is another one than the
 /// cell held: `Table::settle_watched` tells it, and so may whoever calls `Table::give`. Of cycles that
-/// are new it is told at once.
+/// are settled together it is told at once.
 pub trait Watcher<G: Grid> {
     ghost use Rattle.cell_table.specs.Seen.{Seen};
     ghost use Rattle.cell_table.specs.Gives.{IsStored, HoldsSame};
-    ghost use Rattle.cell_table.specs.Filling.{IsFilled};
+    ghost use Rattle.cell_table.specs.Passing.{HoldsOutside, HoldsBut};
 
     /// What a watcher keeps of the table that it watches.
     ghost keeps: { Self → Seen G.State G.Slots → Type 0 };
@@ -24,9 +24,14 @@ pub trait Watcher<G: Grid> {
         requires { (before : Seen G.State G.Slots) × keeps self.old before × HoldsSame G.rules before table.now }
         ensures { keeps self.new table.now };
 
-    /// States were stored for all cells of so many cycles from one on, which held none.
+    /// States were stored for all cells of so many cycles from one on, and for no others.
     fn filled(&mut self, table: &Table<G>, from: u32, cycles: u32)
-        requires { (before : Seen G.State G.Slots) × keeps self.old before × IsFilled G.rules before table.now from cycles }
+        requires { (before : Seen G.State G.Slots) × keeps self.old before × HoldsOutside G.rules before table.now from cycles }
+        ensures { keeps self.new table.now };
+
+    /// States were stored for cells of these ranges, and for no others.
+    fn refilled(&mut self, table: &Table<G>, ranges: &[CellRange])
+        requires { (before : Seen G.State G.Slots) × keeps self.old before × HoldsBut G.rules before table.now ranges.now }
         ensures { keeps self.new table.now };
 }
 
@@ -51,5 +56,10 @@ impl<G: Grid> Watcher<G> for Nobody {
         let _ = table;
         let _ = from;
         let _ = cycles;
+    }
+
+    fn refilled(&mut self, table: &Table<G>, ranges: &[CellRange]) {
+        let _ = table;
+        let _ = ranges;
     }
 }

@@ -307,6 +307,29 @@ fn settles_new_cycles_alone(rt: HostRuntime) -> Result<(), Fail> {
     Ok(())
 }
 
+// Nothing is added, so a place that is odd stays as it is: 1 1 1 1, 2 7 7 7 and 4 6 13 13 from cycle 0 on. With 3 in the place
+// of the first 1 they are 3 3 3 3, 2 9 9 9 and 4 6 15 15: the first cell of place 0, the next one of it and of its neighbour, and
+// all later ones, of which those of cycles 4 to 9 repeat those of cycle 3.
+#[test]
+fn settles_cycles_that_repeat(rt: HostRuntime) -> Result<(), Fail> {
+    let came = surprise(
+        rt.alloc(),
+        &[
+            (Step::Set(LineSlot::Add(0), 0), Came::Done),
+            (Step::Horizon(9), Came::Done),
+            (Step::Settle, Came::Number(30)),
+            (Step::Row(9), Came::States([Some(1), Some(7), Some(13)])),
+            (Step::Set(LineSlot::Seed(0), 3), Came::Done),
+            (Step::Settle, Came::Number(27)),
+            (Step::DueTo(9), Came::Number(0)),
+            (Step::Row(2), Came::States([Some(3), Some(9), Some(15)])),
+            (Step::Row(9), Came::States([Some(3), Some(9), Some(15)])),
+        ],
+    )?;
+    assert_eq!(rt; came, None);
+    Ok(())
+}
+
 // Place 0 reads Seed(0) at cycle 0 and Add(0) later, so an edit of Add(2) is none of its business,
 // and what was computed before it is stored. Of the clock of the claim and of its cell's version no
 // more is asked than that the cell stayed due.

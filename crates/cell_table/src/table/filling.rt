@@ -5,7 +5,8 @@ ghost use Rattle.cell_table.specs.Events.{Event, Start};
 ghost use Rattle.cell_table.specs.Stands.{Stands};
 ghost use Rattle.cell_table.specs.Settling.{NoneDueBefore, IsSettled, IsSpent, computed_of, IsClockSpent};
 ghost use Rattle.cell_table.specs.Cost.{Settles, SettlesFirst};
-ghost use Rattle.cell_table.specs.Filling.{AllNew, IsFilled};
+ghost use Rattle.cell_table.specs.Filling.{AllNew};
+ghost use Rattle.cell_table.specs.Passing.{HoldsOutside};
 
 use super::Table;
 use crate::cells::fill_cells;
@@ -15,7 +16,7 @@ use crate::{Cell, SettleFault, Settled};
 use grid_law::Grid;
 
 /// Whether the clock has room for so many cells in each of one cycle more than `later`.
-fn has_room(clock: u64, later: u32, count: u32) -> bool
+pub(super) fn has_room(clock: u64, later: u32, count: u32) -> bool
     ensures { result ≡ true → clock + (later + 1) * count < 2 ^ 64 }
 {
     let cells = (u64::from(later) + 1) * u64::from(count);
@@ -76,7 +77,8 @@ impl<G: Grid> Table<G> {
         requires none { NoneDueBefore G.rules self.old from 0 }
         requires news { AllNew G.rules self.old from }
         requires room { self.old.clock + (self.old.horizon - from + 1) * G.rules.components self.old.slots < 2 ^ 64 }
-        ensures filled { IsFilled G.rules self.old self.new from result }
+        ensures outside { HoldsOutside G.rules self.old self.new from result }
+        ensures clock { self.new.clock ≡ self.old.clock + result * G.rules.components self.old.slots }
         ensures settles { self.old.horizon < from + result → (done : List (Event G.State G.Slots G.Slot)) × ((o : Start G.Slots) (h : List (Event G.State G.Slots G.Slot)) → Stands G.rules o self.old h
             → Settles G.rules o h self.new done (result * G.rules.components self.old.slots)) }
         ensures firsts { (done : List (Event G.State G.Slots G.Slot)) × ((o : Start G.Slots) (h : List (Event G.State G.Slots G.Slot)) → Stands G.rules o self.old h

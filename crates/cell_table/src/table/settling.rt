@@ -1,5 +1,5 @@
 //! Settling: computing the due cells, by cycle and then component, until none is left.
-ghost use Rattle.std.specs.Prelude.{◌≡◌, ◌≢◌, ℕ, ◌+◌, ◌-◌, ◌^◌, ◌<◌, ◌≤◌, ◌↔◌, IsTrue, IfOk, IfErr, OnOk, OnErr, IfNone, IfSome, MatchOption, is_some, true, false, Some, List};
+ghost use Rattle.std.specs.Prelude.{◌≡◌, ◌≢◌, ℕ, ◌+◌, ◌-◌, ◌^◌, ◌<◌, ◌≤◌, ◌↔◌, IsTrue, IfOk, IfErr, OnOk, OnErr, IfNone, IfSome, MatchOption, is_some, true, false, Some, List, length};
 ghost use Rattle.std.specs.Arc.{arc_value};
 ghost use Rattle.cell_table.specs.Seen.{Seen, held_at, row_at};
 ghost use Rattle.cell_table.specs.Cells.{IsThere};
@@ -8,10 +8,11 @@ ghost use Rattle.cell_table.specs.Consistent.{current_of};
 ghost use Rattle.cell_table.specs.Gives.{IsAfterStore, IsStored, HoldsSame};
 ghost use Rattle.cell_table.specs.Events.{Event, Start};
 ghost use Rattle.cell_table.specs.Stands.{Stands};
-ghost use Rattle.cell_table.specs.Settling.{IsAsBefore, IsNextDueInRow, NoneDueBefore, NoneDueFrom, IsNextDue, IsSettled, SettlesNext, IsSpent, computed_of, IsClockSpent};
+ghost use Rattle.cell_table.specs.Settling.{IsAsBefore, IsNextDueInRow, NoneDueBefore, NoneDueFrom, IsNextDue, IsSettled, SettlesNext, IsSpent, IsAt, IsFurther, computed_of, IsClockSpent};
 ghost use Rattle.cell_table.specs.Cost.{Settles, SettlesFirst};
 
 use super::Table;
+use super::alike::{Passed, Spare};
 use crate::near::{first, five_lent};
 use crate::watcher::{Nobody, Watcher};
 use crate::{Cell, SettleFault, Settled, StoreFault};
@@ -129,7 +130,7 @@ impl<G: Grid> Table<G> {
     }
 
     /// Whether a cell holds the state of the cell before it, where it may be known that it does.
-    fn holds_as_before(&self, cell: Cell, stays: bool) -> bool
+    pub(super) fn holds_as_before(&self, cell: Cell, stays: bool) -> bool
         requires later { 0 < cell.cycle }
         requires stays { stays ≡ true → (held_at self.now.rows (cell.cycle - 1) cell.component).state ≡ (held_at self.now.rows cell.cycle cell.component).state }
         ensures known { stays ≡ true → result ≡ true }
@@ -249,7 +250,48 @@ impl<G: Grid> Table<G> {
         }
     }
 
-    /// As `settle_watched`, one cell after another.
+    /// Computes the first due cell at or after `from`, or at once the cells of all cycles from there on in which the same
+    /// happens as in the one before, and tells a watcher: where to go on, or none where no cell is due. After a fault nothing is
+    /// changed.
+    fn settle_more<W: Watcher<G>>(
+        &mut self,
+        from: Cell,
+        spare: &mut Spare,
+        watcher: &mut W,
+    ) -> Result<Option<Passed>, StoreFault>
+        requires none { NoneDueBefore G.rules self.old from.cycle from.component }
+        requires changes { length spare.old.changes ≡ G.rules.components self.old.slots }
+        requires reached { length spare.old.reached ≡ G.rules.components self.old.slots }
+        requires watched { W.keeps watcher.old self.old }
+        ensures changes { length spare.new.changes ≡ length spare.old.changes }
+        ensures reached { length spare.new.reached ≡ length spare.old.reached }
+        ensures watched { W.keeps watcher.new self.new }
+        ensures none { IfOk result (λ o. IfNone o (IsSettled G.rules self.old × (self.new ≡ self.old))) }
+        ensures on { IfOk result (λ o. IfSome o (λ p. (first : Seen G.State G.Slots) (n : ℕ) → IsAt G.rules first self.old from.cycle from.component n → IsAt G.rules first self.new p.to.cycle p.to.component (n + p.computed))) }
+        ensures further { IfOk result (λ o. IfSome o (λ p. IsFurther self.old.horizon from.cycle from.component p.to.cycle p.to.component)) }
+        ensures fits { IfOk result (λ o. IfSome o (λ p. p.to.cycle < 2 ^ 32)) }
+        ensures err { OnErr result (self.new ≡ self.old) }
+        ensures spent { result ≡ Err StoreFault.ClockSpent → IsSpent G.rules self.old from.cycle from.component }
+    {
+        match self.settle_on(from, spare, watcher) {
+            Some(passed) => return Ok(Some(passed)),
+            None => {}
+        }
+        match self.settle_next(from) {
+            Ok(Some(settled)) => {
+                self.tell(watcher, settled);
+                let to = Cell {
+                    cycle: settled.cell.cycle,
+                    component: settled.cell.component + 1,
+                };
+                Ok(Some(Passed { to, computed: 1 }))
+            }
+            Ok(None) => Ok(None),
+            Err(fault) => Err(fault),
+        }
+    }
+
+    /// As `settle_watched`, one cell after another, and cycles at once where the same happens as in the one before.
     fn settle_each<W: Watcher<G>>(&mut self, watcher: &mut W) -> Result<Settled, SettleFault>
         requires { W.keeps watcher.old self.old }
         ensures watched { W.keeps watcher.new self.new }
@@ -270,15 +312,20 @@ impl<G: Grid> Table<G> {
             cycle: 0,
             component: 0,
         };
+        match self.next_due(from) {
+            Some(_) => {}
+            None => return Ok(Settled { computed }),
+        }
+        let count = G::components(&self.slots);
+        let mut spare = match Spare::new(self.cells.allocator(), count) {
+            Ok(spare) => spare,
+            Err(_) => return Err(SettleFault::Memory { computed }),
+        };
         loop {
-            match self.settle_next(from) {
-                Ok(Some(settled)) => {
-                    self.tell(watcher, settled);
-                    computed += 1;
-                    from = Cell {
-                        cycle: settled.cell.cycle,
-                        component: settled.cell.component + 1,
-                    };
+            match self.settle_more(from, &mut spare, watcher) {
+                Ok(Some(passed)) => {
+                    computed += passed.computed;
+                    from = passed.to;
                 }
                 Ok(None) => return Ok(Settled { computed }),
                 Err(StoreFault::ClockSpent) => return Err(SettleFault::ClockSpent { computed }),
@@ -318,7 +365,7 @@ impl<G: Grid> Table<G> {
     /// run; each is stored once, by cycle and then component, and `computed` is their number.
     /// Afterwards every cell holds the run. After a fault the cells computed stay stored and the
     /// rest stays due, and a further call goes on. The clock never falls. The cells are passed once
-    /// in all, and a cycle with nothing due in one step.
+    /// in all, a cycle with nothing due in one step, and cycles in which the same happens as in the one before together.
     ///
     /// # Errors
     ///

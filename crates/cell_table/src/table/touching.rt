@@ -12,8 +12,8 @@ ghost use Rattle.cell_table.specs.Settling.{IsSettled};
 ghost use Rattle.cell_table.specs.Cost.{Costs, CostsAnEdit};
 
 use super::Table;
-use crate::marks::{CellRange, add_where, retouch};
-use crate::{Cell, TouchFault};
+use crate::marks::{add_where, retouch};
+use crate::{Cell, CellRange, TouchFault};
 use grid_law::{Changed, Grid, NoMemory, Reader};
 use std::alloc::Global;
 use std::sync::Arc;

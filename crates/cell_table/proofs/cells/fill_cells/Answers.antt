@@ -1,7 +1,6 @@
-use Rattle.std.proofs.Common.{◌<◌, ◌∙◌, sym, ap, arith, length}
-use Rattle.cell_table.specs.Seen.{Held}
-use Rattle.cell_table.proofs.Keeping.{seen_cycles, seen_cycle, seen_length, seen_state, length_row}
-use Rattle.cell_table.proofs.FilledRows.{marks_filled, none_on, filled_cell, same_cell, unmarked_cell}
+use Rattle.std.proofs.Common.{◌<◌, ◌∙◌, sym, arith, length}
+use Rattle.cell_table.proofs.Keeping.{seen_cycles, seen_cycle, seen_length, seen_state, seen_due, seen_no_version, length_row}
+use Rattle.cell_table.proofs.FilledRows.{marks_filled, none_on, same_cell, passed_cell}
 use Rattle.cell_table.proofs.cells.fill_cells.Goals as goal
 
 pub fill_lines-to-requires-clause-count : goal.fill_lines-to-requires-clause-count
@@ -61,8 +60,8 @@ returns-clause-earlier g c = λ t d h k.
     same_cell i.lines.items c.fill_lines-to.new.lines.items i.due c.clear_rows.new.due i.versions.items c.args.cells.now c.cells.invariant c.cells.view_is f.len f.lens r.width r.len marks t d
     (f.known t d inside (omega (arith, k, f.from)) ∙ sym (sym (seen_state i.lines.items i.due i.versions.items c.args.cells.now c.cells.view_is c.cells.invariant t d) ∙ c.requires.known t d h k)) (r.earlier t k)
 
-pub returns-clause-states : goal.returns-clause-states
-returns-clause-states g c = λ t d h k.
+pub returns-clause-passed : goal.returns-clause-passed
+returns-clause-passed g c = λ t d h k l.
     let i = c.cells.inside in
     let some : 0 < length c.args.cells.now = omega (arith, c.requires.from) in
     let wide = seen_length i.lines.items i.due i.versions.items c.args.cells.now c.cells.view_is 0 (seen_cycle i.lines.items i.due i.versions.items c.args.cells.now c.cells.view_is 0 some) in
@@ -71,19 +70,12 @@ returns-clause-states g c = λ t d h k.
     let r = c.clear_rows.ensures in
     let inside : d < length i.lines.items = omega (arith, h, count) in
     let marks = marks_filled i.due c.clear_rows.new.due c.args.from c.fill_lines-to.result c.cells.invariant.marks r.cleared r.earlier r.later in
-    ap (λ (x : Held g.row.G-State.Denot). x.state) (filled_cell i.lines.items c.fill_lines-to.new.lines.items i.due c.clear_rows.new.due i.versions.items c.args.cells.now c.cells.invariant c.cells.view_is f.len f.lens r.width r.len marks t d)
-    ∙ f.known t d inside k
+    passed_cell i.lines.items c.fill_lines-to.new.lines.items i.due c.clear_rows.new.due i.versions.items c.args.cells.now c.cells.invariant c.cells.view_is f.len f.lens r.width r.len marks t d _ (omega (arith, h, c.cells.invariant.components, count)) (r.cleared t k l) (f.known t d inside l)
 
-pub returns-clause-settled : goal.returns-clause-settled
-returns-clause-settled g c = λ t d h k l.
+pub returns-clause-versions : goal.returns-clause-versions
+returns-clause-versions g c = λ t d e.
     let i = c.cells.inside in
-    let some : 0 < length c.args.cells.now = omega (arith, c.requires.from) in
-    let wide = seen_length i.lines.items i.due i.versions.items c.args.cells.now c.cells.view_is 0 (seen_cycle i.lines.items i.due i.versions.items c.args.cells.now c.cells.view_is 0 some) in
-    let count = c.cells.invariant.components ∙ sym wide ∙ c.requires.whole 0 some in
-    let f = c.fill_lines-to.ensures in
-    let r = c.clear_rows.ensures in
-    let marks = marks_filled i.due c.clear_rows.new.due c.args.from c.fill_lines-to.result c.cells.invariant.marks r.cleared r.earlier r.later in
-    unmarked_cell i.lines.items c.fill_lines-to.new.lines.items i.due c.clear_rows.new.due i.versions.items c.args.cells.now c.cells.invariant c.cells.view_is f.len f.lens r.width r.len marks t d (omega (arith, h, c.cells.invariant.components, count)) (r.cleared t k l)
+    seen_no_version i.lines.items i.due i.versions.items c.args.cells.now c.cells.view_is c.cells.invariant t d (sym (seen_due i.lines.items i.due i.versions.items c.args.cells.now c.cells.view_is c.cells.invariant t d) ∙ e)
 
 pub returns-clause-rest : goal.returns-clause-rest
 returns-clause-rest g c = λ t d h k l.

@@ -3,9 +3,9 @@ use Rattle.std.proofs.lemmas.List.Elements.{All-nil}
 use Rattle.cell_table.specs.declared.given.Settled.{Settled}
 use Rattle.cell_table.specs.declared.given.SettleFault.{SettleFault}
 use Rattle.cell_table.specs.declared.given.SettleFault.TheVariants.{ClockSpent, Memory}
-use Rattle.cell_table.specs.Settling.{IsSettled, IsSpent, SettlesNext}
+use Rattle.cell_table.specs.Settling.{IsSettled, IsSpent, SettlesNext, IsAt}
 use Rattle.cell_table.specs.Waves.{IsWork}
-use Rattle.cell_table.proofs.Passes.{IsAt, begins, of_some, of_none, few_next, goes_on, spent_first, first_settled, all_settled}
+use Rattle.cell_table.proofs.Passes.{begins, of_some, of_none, few_next, goes_on, spent_first, first_settled, all_settled}
 use Rattle.machine_cells.specs.GridRules.{rp3_rules}
 use Rattle.machine_cells.specs.GridLaws.{rp3_laws}
 use Rattle.bench_core.specs.Shown.{Shown, project_of}

@@ -1,6 +1,6 @@
+use Rattle.cell_table.specs.Settling.{IsAt}
 use Rattle.std.proofs.Common.{◌≡◌, ◌+◌, ◌-◌, ◌*◌, All}
 use Rattle.cell_table.specs.Waves.{IsWork}
-use Rattle.cell_table.proofs.Passes.{IsAt}
 use Rattle.machine_cells.specs.GridRules.{rp3_rules}
 use Rattle.bench_core.specs.Shown.{project_of}
 use Rattle.wave_workers.proofs.wave.settle_by_waves.Given as goal

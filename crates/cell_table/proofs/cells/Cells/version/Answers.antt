@@ -1,8 +1,16 @@
 use Rattle.std.proofs.Common.{◌∙◌, sym}
-use Rattle.cell_table.proofs.Keeping.{seen_version}
+use Rattle.cell_table.proofs.Keeping.{seen_due, seen_version, seen_no_version}
 use Rattle.cell_table.proofs.cells.Cells.version.Goals as goal
 
-pub returns : goal.returns
-returns g c =
+pub returns-then-is_due : goal.returns-then-is_due
+returns-then-is_due g c =
     let i = c.self.inside in
-    c.version_in.ensures ∙ sym (seen_version i.lines.items i.due i.versions.items c.args.self.now c.self.view_is c.self.invariant c.args.cell.cycle c.args.cell.component)
+    let due = seen_due i.lines.items i.due i.versions.items c.args.self.now c.self.view_is c.self.invariant c.args.cell.cycle c.args.cell.component in
+    c.version_in.ensures
+    ∙ sym (seen_version i.lines.items i.due i.versions.items c.args.self.now c.self.view_is c.self.invariant c.args.cell.cycle c.args.cell.component (sym due ∙ sym c.is_due.ensures ∙ c.if-is_due.true))
+
+pub returns-else-is_due : goal.returns-else-is_due
+returns-else-is_due g c =
+    let i = c.self.inside in
+    let due = seen_due i.lines.items i.due i.versions.items c.args.self.now c.self.view_is c.self.invariant c.args.cell.cycle c.args.cell.component in
+    sym (seen_no_version i.lines.items i.due i.versions.items c.args.self.now c.self.view_is c.self.invariant c.args.cell.cycle c.args.cell.component (sym due ∙ sym c.is_due.ensures ∙ c.if-is_due.false))

@@ -1,16 +1,17 @@
-use Rattle.std.proofs.Common.{◌+◌, ◌-◌, ◌*◌, ◌^◌, ◌<◌, ◌≤◌, ◌∙◌, sym, ap, subst, refl, arith, length}
+use Rattle.std.proofs.Common.{◌+◌, ◌-◌, ◌*◌, ◌^◌, ◌<◌, ◌≤◌, ◌∙◌, sym, ap, subst, arith, length}
 use Rattle.cell_table.specs.Seen.{Held, Seen, fresh, held_at}
 use Rattle.cell_table.specs.Consistent.{IsWhole}
 use Rattle.cell_table.specs.Settling.{NoneDueBefore}
-use Rattle.cell_table.specs.Filling.{AllNew, IsFilled, version_after}
-use Rattle.cell_table.proofs.Filled.{known_before, new_behind, is_filled, is_filled_as, filled_table, filled_events, filled_all, filled_firsts, filled_settled, room_for}
+use Rattle.cell_table.specs.Filling.{AllNew, version_after}
+use Rattle.cell_table.proofs.Filled.{known_before, new_behind, holds_outside, filled_table, filled_events, filled_all, filled_firsts, filled_settled, room_for}
 use Rattle.cell_table.proofs.table.Table.fill.Goals as goal
 
 pub fill_cells-to-requires-clause-known : goal.fill_cells-to-requires-clause-known
 fill_cells-to-requires-clause-known g c =
+    let R = g.G.Grid.rules in
     let i = c.self.inside in
     let v : Seen g.row.G-State.Denot g.row.G-Slots.Denot = record { slots = i.slots; horizon = i.horizon; clock = i.clock; rows = i.cells } in
-    known_before g.G.Grid.rules g.G.Grid.laws v c.self.invariant.table c.args.from (rw (← c.self.view_is) at c.requires.there) (rw (← c.self.view_is) at c.requires.none) (rw (← c.self.view_is) at c.requires.news)
+    known_before R g.G.Grid.laws v c.self.invariant.table c.args.from (rw (← c.self.view_is) at c.requires.there) (rw (← c.self.view_is) at c.requires.none) (rw (← c.self.view_is) at c.requires.news)
 
 pub mark_filled-requires-clause-room : goal.mark_filled-requires-clause-room
 mark_filled-requires-clause-room g c =
@@ -46,30 +47,31 @@ invariant_of-self g c =
     let to = c.fill_cells-to.result in
     let n = R.components i.slots in
     let f = c.fill_cells-to.ensures in
-    let k = c.mark_filled.ensures in
-    let rows1 = c.fill_cells-to.new.cells in
-    let rows2 = c.mark_filled.new.cells in
     let there : from ≤ i.horizon = rw (← c.self.view_is) at c.requires.there in
     let none : NoneDueBefore R v from 0 = rw (← c.self.view_is) at c.requires.none in
     let news : AllNew R v from = rw (← c.self.view_is) at c.requires.news in
+    let few : n < 4294967296 = omega (arith, c.components-count.ensures) in
+    let small : from < 4294967296 = omega arith in
+    let k = c.mark_filled.ensures in
+    let rows1 = c.fill_cells-to.new.cells in
+    let rows2 = c.mark_filled.new.cells in
+    let clock = c.clock_filled-clock.result in
     let room : i.clock + (i.horizon - from + 1) * n < 2 ^ 64 = rw (← c.self.view_is) at c.requires.room in
     let end : to ≤ i.horizon + 1 = omega (arith, f.end, table.whole.cycles) in
-    let few : to - from ≤ i.horizon - from + 1 = omega (arith, there, end) in
-    let small : n < 4294967296 = omega (arith, c.components-count.ensures) in
-    let is = is_filled R g.G.Grid.laws v table from there none news to rows1 rows2 f.from end f.earlier f.states f.settled
-    (λ t d a b e. f.rest t d a b (omega (arith, e, table.whole.cycles)))
-    (λ t d a b m. k.others t d (omega (arith, a, f.len, table.whole.cycles)) m)
-    (λ e d a b. k.still e d)
-    (λ l d a b. k.marked l d (omega (arith, a, c.components-count.ensures)) (omega (arith, b, f.len, table.whole.cycles))
-    ∙ ap (λ m. fresh (version_after (R.near i.slots d) (i.clock + (to - from - 1) * m) (held_at rows1 to d).version m)) c.components-count.ensures
-    ∙ ap (λ (r : Held g.row.G-State.Denot). fresh (version_after (R.near i.slots d) (i.clock + (to - from - 1) * n) r.version n)) (f.rest to d a (omega arith) (omega (arith, b, table.whole.cycles)))) in
+    let enough = room_for i.clock (to - from) (i.horizon - from + 1) n (omega (arith, there, end)) room in
+    let is_clock = c.clock_filled-clock.ensures ∙ ap (λ m. i.clock + (to - from) * m) c.components-count.ensures in
     let whole : IsWhole R i.slots i.horizon rows2 = record {
       cycles = k.len ∙ f.len ∙ table.whole.cycles;
       components = λ t h. k.lens t ∙ f.lens t (omega (arith, h, table.whole.cycles));
     } in
-    let new : Seen g.row.G-State.Denot g.row.G-Slots.Denot = record { slots = i.slots; horizon = i.horizon; clock = i.clock + (to - from) * n; rows = rows2 } in
     record {
-      table = filled_table R g.G.Grid.laws v table from there none news small (to - from) new is (room_for i.clock (to - from) (i.horizon - from + 1) n few room) whole;
+      table = filled_table R g.G.Grid.laws v table from there none news few small f.versions to clock rows1 rows2 f.from end is_clock enough whole f.earlier f.passed
+          (λ t d a b e. f.rest t d a b (omega (arith, e, table.whole.cycles)))
+          (λ t d a b m. k.others t d (omega (arith, a, f.len, table.whole.cycles)) m)
+          (λ e d a b. k.still e d)
+          (λ l d a b. k.marked l d (omega (arith, a, c.components-count.ensures)) (omega (arith, b, f.len, table.whole.cycles))
+          ∙ ap (λ m. fresh (version_after (R.near i.slots d) (i.clock + (to - from - 1) * m) (held_at rows1 to d).version m)) c.components-count.ensures
+          ∙ ap (λ (r : Held g.row.G-State.Denot). fresh (version_after (R.near i.slots d) (i.clock + (to - from - 1) * n) r.version n)) (f.rest to d a (omega arith) (omega (arith, b, table.whole.cycles))));
       index = c.self.invariant.index;
       near = c.self.invariant.near;
     }
@@ -85,8 +87,8 @@ clock_filled-clock-requires g c =
     let few : to - from ≤ i.horizon - from + 1 = omega (arith, there, c.fill_cells-to.ensures.end, c.self.invariant.table.whole.cycles) in
     subst (λ k. i.clock + (to - from) * k < 2 ^ 64) (sym c.components-count.ensures) (room_for i.clock (to - from) (i.horizon - from + 1) n few room)
 
-pub returns-clause-filled : goal.returns-clause-filled
-returns-clause-filled g c =
+pub returns-clause-outside : goal.returns-clause-outside
+returns-clause-outside g c =
     let R = g.G.Grid.rules in
     let i = c.self.inside in
     let v : Seen g.row.G-State.Denot g.row.G-Slots.Denot = record { slots = i.slots; horizon = i.horizon; clock = i.clock; rows = i.cells } in
@@ -95,25 +97,30 @@ returns-clause-filled g c =
     let to = c.fill_cells-to.result in
     let n = R.components i.slots in
     let f = c.fill_cells-to.ensures in
-    let k = c.mark_filled.ensures in
-    let rows1 = c.fill_cells-to.new.cells in
-    let rows2 = c.mark_filled.new.cells in
     let there : from ≤ i.horizon = rw (← c.self.view_is) at c.requires.there in
     let none : NoneDueBefore R v from 0 = rw (← c.self.view_is) at c.requires.none in
     let news : AllNew R v from = rw (← c.self.view_is) at c.requires.news in
+    let few : n < 4294967296 = omega (arith, c.components-count.ensures) in
+    let small : from < 4294967296 = omega arith in
+    let k = c.mark_filled.ensures in
+    let rows1 = c.fill_cells-to.new.cells in
+    let rows2 = c.mark_filled.new.cells in
+    let clock = c.clock_filled-clock.result in
     let room : i.clock + (i.horizon - from + 1) * n < 2 ^ 64 = rw (← c.self.view_is) at c.requires.room in
     let end : to ≤ i.horizon + 1 = omega (arith, f.end, table.whole.cycles) in
-    let few : to - from ≤ i.horizon - from + 1 = omega (arith, there, end) in
-    let small : n < 4294967296 = omega (arith, c.components-count.ensures) in
-    let is = is_filled_as R g.G.Grid.laws v table from there none news to rows1 rows2 f.from end f.earlier f.states f.settled
+    let enough = room_for i.clock (to - from) (i.horizon - from + 1) n (omega (arith, there, end)) room in
+    let is_clock = c.clock_filled-clock.ensures ∙ ap (λ m. i.clock + (to - from) * m) c.components-count.ensures in
+    let whole : IsWhole R i.slots i.horizon rows2 = record {
+      cycles = k.len ∙ f.len ∙ table.whole.cycles;
+      components = λ t h. k.lens t ∙ f.lens t (omega (arith, h, table.whole.cycles));
+    } in
+    rw (← c.self.view_is) (holds_outside R g.G.Grid.laws v table from there none news few small f.versions to clock rows1 rows2 f.from end is_clock enough whole f.earlier f.passed
     (λ t d a b e. f.rest t d a b (omega (arith, e, table.whole.cycles)))
     (λ t d a b m. k.others t d (omega (arith, a, f.len, table.whole.cycles)) m)
     (λ e d a b. k.still e d)
     (λ l d a b. k.marked l d (omega (arith, a, c.components-count.ensures)) (omega (arith, b, f.len, table.whole.cycles))
     ∙ ap (λ m. fresh (version_after (R.near i.slots d) (i.clock + (to - from - 1) * m) (held_at rows1 to d).version m)) c.components-count.ensures
-    ∙ ap (λ (r : Held g.row.G-State.Denot). fresh (version_after (R.near i.slots d) (i.clock + (to - from - 1) * n) r.version n)) (f.rest to d a (omega arith) (omega (arith, b, table.whole.cycles)))) in
-    let clock = c.clock_filled-clock.ensures ∙ ap (λ m. i.clock + (to - from) * m) c.components-count.ensures in
-    rw (← c.self.view_is) (is (to - from) c.clock_filled-clock.result refl clock)
+    ∙ ap (λ (r : Held g.row.G-State.Denot). fresh (version_after (R.near i.slots d) (i.clock + (to - from - 1) * n) r.version n)) (f.rest to d a (omega arith) (omega (arith, b, table.whole.cycles)))))
 
 pub returns-clause-settles : goal.returns-clause-settles
 returns-clause-settles g c =
@@ -125,20 +132,39 @@ returns-clause-settles g c =
     let to = c.fill_cells-to.result in
     let n = R.components i.slots in
     let f = c.fill_cells-to.ensures in
-    let k = c.mark_filled.ensures in
-    let rows1 = c.fill_cells-to.new.cells in
-    let rows2 = c.mark_filled.new.cells in
     let there : from ≤ i.horizon = rw (← c.self.view_is) at c.requires.there in
     let none : NoneDueBefore R v from 0 = rw (← c.self.view_is) at c.requires.none in
     let news : AllNew R v from = rw (← c.self.view_is) at c.requires.news in
+    let few : n < 4294967296 = omega (arith, c.components-count.ensures) in
+    let small : from < 4294967296 = omega arith in
+    let k = c.mark_filled.ensures in
+    let rows1 = c.fill_cells-to.new.cells in
+    let rows2 = c.mark_filled.new.cells in
+    let clock = c.clock_filled-clock.result in
     let room : i.clock + (i.horizon - from + 1) * n < 2 ^ 64 = rw (← c.self.view_is) at c.requires.room in
     let end : to ≤ i.horizon + 1 = omega (arith, f.end, table.whole.cycles) in
-    let few : to - from ≤ i.horizon - from + 1 = omega (arith, there, end) in
-    let small : n < 4294967296 = omega (arith, c.components-count.ensures) in
-    let new : Seen g.row.G-State.Denot g.row.G-Slots.Denot = record { slots = i.slots; horizon = i.horizon; clock = c.clock_filled-clock.result; rows = rows2 } in
-    let is : IsFilled R v new from (to - from) = rw (← c.self.view_is) at (returns-clause-filled g c) in
-    let enough = room_for i.clock (to - from) (i.horizon - from + 1) n few room in
-    rw (← c.self.view_is) (λ all. (filled_events R g.G.Grid.laws v table from there none news small (to - from) new is enough, λ o h stands. filled_all R g.G.Grid.laws v table from there none news small (to - from) new is enough (omega (arith, all, there, end)) o h stands))
+    let enough = room_for i.clock (to - from) (i.horizon - from + 1) n (omega (arith, there, end)) room in
+    let is_clock = c.clock_filled-clock.ensures ∙ ap (λ m. i.clock + (to - from) * m) c.components-count.ensures in
+    let whole : IsWhole R i.slots i.horizon rows2 = record {
+      cycles = k.len ∙ f.len ∙ table.whole.cycles;
+      components = λ t h. k.lens t ∙ f.lens t (omega (arith, h, table.whole.cycles));
+    } in
+    rw (← c.self.view_is) (λ all. (
+      filled_events R g.G.Grid.laws v table from there none news few small f.versions to clock rows1 rows2 f.from end is_clock enough whole f.earlier f.passed
+          (λ t d a b e. f.rest t d a b (omega (arith, e, table.whole.cycles)))
+          (λ t d a b m. k.others t d (omega (arith, a, f.len, table.whole.cycles)) m)
+          (λ e d a b. k.still e d)
+          (λ l d a b. k.marked l d (omega (arith, a, c.components-count.ensures)) (omega (arith, b, f.len, table.whole.cycles))
+          ∙ ap (λ m. fresh (version_after (R.near i.slots d) (i.clock + (to - from - 1) * m) (held_at rows1 to d).version m)) c.components-count.ensures
+          ∙ ap (λ (r : Held g.row.G-State.Denot). fresh (version_after (R.near i.slots d) (i.clock + (to - from - 1) * n) r.version n)) (f.rest to d a (omega arith) (omega (arith, b, table.whole.cycles)))),
+      filled_all R g.G.Grid.laws v table from there none news few small f.versions to clock rows1 rows2 f.from end is_clock enough whole f.earlier f.passed
+          (λ t d a b e. f.rest t d a b (omega (arith, e, table.whole.cycles)))
+          (λ t d a b m. k.others t d (omega (arith, a, f.len, table.whole.cycles)) m)
+          (λ e d a b. k.still e d)
+          (λ l d a b. k.marked l d (omega (arith, a, c.components-count.ensures)) (omega (arith, b, f.len, table.whole.cycles))
+          ∙ ap (λ m. fresh (version_after (R.near i.slots d) (i.clock + (to - from - 1) * m) (held_at rows1 to d).version m)) c.components-count.ensures
+          ∙ ap (λ (r : Held g.row.G-State.Denot). fresh (version_after (R.near i.slots d) (i.clock + (to - from - 1) * n) r.version n)) (f.rest to d a (omega arith) (omega (arith, b, table.whole.cycles)))) (omega (arith, all, there, end)),
+    ))
 
 pub returns-clause-firsts : goal.returns-clause-firsts
 returns-clause-firsts g c =
@@ -150,20 +176,39 @@ returns-clause-firsts g c =
     let to = c.fill_cells-to.result in
     let n = R.components i.slots in
     let f = c.fill_cells-to.ensures in
-    let k = c.mark_filled.ensures in
-    let rows1 = c.fill_cells-to.new.cells in
-    let rows2 = c.mark_filled.new.cells in
     let there : from ≤ i.horizon = rw (← c.self.view_is) at c.requires.there in
     let none : NoneDueBefore R v from 0 = rw (← c.self.view_is) at c.requires.none in
     let news : AllNew R v from = rw (← c.self.view_is) at c.requires.news in
+    let few : n < 4294967296 = omega (arith, c.components-count.ensures) in
+    let small : from < 4294967296 = omega arith in
+    let k = c.mark_filled.ensures in
+    let rows1 = c.fill_cells-to.new.cells in
+    let rows2 = c.mark_filled.new.cells in
+    let clock = c.clock_filled-clock.result in
     let room : i.clock + (i.horizon - from + 1) * n < 2 ^ 64 = rw (← c.self.view_is) at c.requires.room in
     let end : to ≤ i.horizon + 1 = omega (arith, f.end, table.whole.cycles) in
-    let few : to - from ≤ i.horizon - from + 1 = omega (arith, there, end) in
-    let small : n < 4294967296 = omega (arith, c.components-count.ensures) in
-    let new : Seen g.row.G-State.Denot g.row.G-Slots.Denot = record { slots = i.slots; horizon = i.horizon; clock = c.clock_filled-clock.result; rows = rows2 } in
-    let is : IsFilled R v new from (to - from) = rw (← c.self.view_is) at (returns-clause-filled g c) in
-    let enough = room_for i.clock (to - from) (i.horizon - from + 1) n few room in
-    rw (← c.self.view_is) (filled_events R g.G.Grid.laws v table from there none news small (to - from) new is enough, λ o h stands. filled_firsts R g.G.Grid.laws v table from there none news small (to - from) new is enough o h stands)
+    let enough = room_for i.clock (to - from) (i.horizon - from + 1) n (omega (arith, there, end)) room in
+    let is_clock = c.clock_filled-clock.ensures ∙ ap (λ m. i.clock + (to - from) * m) c.components-count.ensures in
+    let whole : IsWhole R i.slots i.horizon rows2 = record {
+      cycles = k.len ∙ f.len ∙ table.whole.cycles;
+      components = λ t h. k.lens t ∙ f.lens t (omega (arith, h, table.whole.cycles));
+    } in
+    rw (← c.self.view_is) (
+      filled_events R g.G.Grid.laws v table from there none news few small f.versions to clock rows1 rows2 f.from end is_clock enough whole f.earlier f.passed
+          (λ t d a b e. f.rest t d a b (omega (arith, e, table.whole.cycles)))
+          (λ t d a b m. k.others t d (omega (arith, a, f.len, table.whole.cycles)) m)
+          (λ e d a b. k.still e d)
+          (λ l d a b. k.marked l d (omega (arith, a, c.components-count.ensures)) (omega (arith, b, f.len, table.whole.cycles))
+          ∙ ap (λ m. fresh (version_after (R.near i.slots d) (i.clock + (to - from - 1) * m) (held_at rows1 to d).version m)) c.components-count.ensures
+          ∙ ap (λ (r : Held g.row.G-State.Denot). fresh (version_after (R.near i.slots d) (i.clock + (to - from - 1) * n) r.version n)) (f.rest to d a (omega arith) (omega (arith, b, table.whole.cycles)))),
+      filled_firsts R g.G.Grid.laws v table from there none news few small f.versions to clock rows1 rows2 f.from end is_clock enough whole f.earlier f.passed
+          (λ t d a b e. f.rest t d a b (omega (arith, e, table.whole.cycles)))
+          (λ t d a b m. k.others t d (omega (arith, a, f.len, table.whole.cycles)) m)
+          (λ e d a b. k.still e d)
+          (λ l d a b. k.marked l d (omega (arith, a, c.components-count.ensures)) (omega (arith, b, f.len, table.whole.cycles))
+          ∙ ap (λ m. fresh (version_after (R.near i.slots d) (i.clock + (to - from - 1) * m) (held_at rows1 to d).version m)) c.components-count.ensures
+          ∙ ap (λ (r : Held g.row.G-State.Denot). fresh (version_after (R.near i.slots d) (i.clock + (to - from - 1) * n) r.version n)) (f.rest to d a (omega arith) (omega (arith, b, table.whole.cycles)))),
+    )
 
 pub returns-clause-settled : goal.returns-clause-settled
 returns-clause-settled g c =
@@ -175,17 +220,27 @@ returns-clause-settled g c =
     let to = c.fill_cells-to.result in
     let n = R.components i.slots in
     let f = c.fill_cells-to.ensures in
-    let k = c.mark_filled.ensures in
-    let rows1 = c.fill_cells-to.new.cells in
-    let rows2 = c.mark_filled.new.cells in
     let there : from ≤ i.horizon = rw (← c.self.view_is) at c.requires.there in
     let none : NoneDueBefore R v from 0 = rw (← c.self.view_is) at c.requires.none in
     let news : AllNew R v from = rw (← c.self.view_is) at c.requires.news in
+    let few : n < 4294967296 = omega (arith, c.components-count.ensures) in
+    let small : from < 4294967296 = omega arith in
+    let k = c.mark_filled.ensures in
+    let rows1 = c.fill_cells-to.new.cells in
+    let rows2 = c.mark_filled.new.cells in
+    let clock = c.clock_filled-clock.result in
     let room : i.clock + (i.horizon - from + 1) * n < 2 ^ 64 = rw (← c.self.view_is) at c.requires.room in
     let end : to ≤ i.horizon + 1 = omega (arith, f.end, table.whole.cycles) in
-    let few : to - from ≤ i.horizon - from + 1 = omega (arith, there, end) in
-    let small : n < 4294967296 = omega (arith, c.components-count.ensures) in
-    let new : Seen g.row.G-State.Denot g.row.G-Slots.Denot = record { slots = i.slots; horizon = i.horizon; clock = c.clock_filled-clock.result; rows = rows2 } in
-    let is : IsFilled R v new from (to - from) = rw (← c.self.view_is) at (returns-clause-filled g c) in
-    let enough = room_for i.clock (to - from) (i.horizon - from + 1) n few room in
-    rw (← c.self.view_is) (λ all. filled_settled R g.G.Grid.laws v table from there none news small (to - from) new is enough (omega (arith, all, there, end)))
+    let enough = room_for i.clock (to - from) (i.horizon - from + 1) n (omega (arith, there, end)) room in
+    let is_clock = c.clock_filled-clock.ensures ∙ ap (λ m. i.clock + (to - from) * m) c.components-count.ensures in
+    let whole : IsWhole R i.slots i.horizon rows2 = record {
+      cycles = k.len ∙ f.len ∙ table.whole.cycles;
+      components = λ t h. k.lens t ∙ f.lens t (omega (arith, h, table.whole.cycles));
+    } in
+    rw (← c.self.view_is) (λ all. filled_settled R g.G.Grid.laws v table from there none news few small f.versions to clock rows1 rows2 f.from end is_clock enough whole f.earlier f.passed
+    (λ t d a b e. f.rest t d a b (omega (arith, e, table.whole.cycles)))
+    (λ t d a b m. k.others t d (omega (arith, a, f.len, table.whole.cycles)) m)
+    (λ e d a b. k.still e d)
+    (λ l d a b. k.marked l d (omega (arith, a, c.components-count.ensures)) (omega (arith, b, f.len, table.whole.cycles))
+    ∙ ap (λ m. fresh (version_after (R.near i.slots d) (i.clock + (to - from - 1) * m) (held_at rows1 to d).version m)) c.components-count.ensures
+    ∙ ap (λ (r : Held g.row.G-State.Denot). fresh (version_after (R.near i.slots d) (i.clock + (to - from - 1) * n) r.version n)) (f.rest to d a (omega arith) (omega (arith, b, table.whole.cycles)))) (omega (arith, all, there, end)))

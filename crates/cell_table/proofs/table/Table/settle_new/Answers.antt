@@ -10,8 +10,8 @@ returns-clause-headline_settles g c =
     let i = c.self.inside in
     let f = c.fill-cycles.ensures in
     let m = c.fill-cycles.result in
-    let horizon : i.horizon ≡ c.args.self.now.horizon = ap (λ (v : Seen g.row.G-State.Denot g.row.G-Slots.Denot). v.horizon) c.self.view_is ∙ f.filled.horizon in
-    let slots : i.slots ≡ c.args.self.now.slots = ap (λ (v : Seen g.row.G-State.Denot g.row.G-Slots.Denot). v.slots) c.self.view_is ∙ f.filled.slots in
+    let horizon : i.horizon ≡ c.args.self.now.horizon = ap (λ (v : Seen g.row.G-State.Denot g.row.G-Slots.Denot). v.horizon) c.self.view_is ∙ f.outside.horizon in
+    let slots : i.slots ≡ c.args.self.now.slots = ap (λ (v : Seen g.row.G-State.Denot g.row.G-Slots.Denot). v.slots) c.self.view_is ∙ f.outside.slots in
     let count : c.components-count.result ≡ R.components c.args.self.now.slots = c.components-count.ensures ∙ ap R.components slots in
     ok_along (λ s h.
     let all : c.args.self.now.horizon < c.args.from + m = omega (arith, h.0, horizon, c.requires.there) in

@@ -1,0 +1,152 @@
+use Rattle.std.proofs.Common.{◌≡◌, ℕ, ◌+◌, ◌-◌, ◌*◌, ◌^◌, ◌<◌, ◌≤◌, ◌||◌, ◌∙◌, sym, ap, subst, arith, length, false}
+use Rattle.std.proofs.lemmas.List.{length-replicate}
+use Rattle.cell_marks.specs.Marked.{count_in}
+use Rattle.cell_table.specs.Seen.{Seen, held_at, row_at, due_in_row}
+use Rattle.cell_table.specs.Consistent.{IsWhole}
+use Rattle.cell_table.specs.Filling.{is_awake}
+use Rattle.cell_table.specs.Passing.{woken}
+use Rattle.cell_table.specs.Settling.{NoneDueBefore, IsAt}
+use Rattle.cell_table.specs.Repeating.{any_changes, BeginsAlike, StaysAlike, AreDueAlike}
+use Rattle.cell_table.proofs.Passes.{begins_at}
+use Rattle.cell_table.proofs.Repeated.{stays_less, goes_on_to, stays_table, holds_but, ranges_within}
+use Rattle.cell_table.proofs.table.Table.settle_alike.Goals as goal
+
+pub invariant_of-self-2 : goal.invariant_of-self-2
+invariant_of-self-2 g c =
+    let R = g.G.Grid.rules in
+    let i = c.self.inside in
+    let v : Seen g.row.G-State.Denot g.row.G-Slots.Denot = record { slots = i.slots; horizon = i.horizon; clock = i.clock; rows = i.cells } in
+    let table = c.self.invariant.table in
+    let s = c.args.cycle in
+    let e = c.due_alike_to-end.result in
+    let n = R.components i.slots in
+    let changes = c.begins_alike.new.changes in
+    let rows1 = c.repeat_cells.new.cells in
+    let rows2 = c.mark_changed.new.cells in
+    let clock = c.clock_filled-clock.result in
+    let before = c.clock_filled-before.result in
+    let there : s ≤ i.horizon = rw (← c.self.view_is) at c.requires.there in
+    let none : NoneDueBefore R v s 0 = rw (← c.self.view_is) at c.requires.none in
+    let wide : length c.args.spare.now.changes ≡ n = rw (← c.self.view_is) at c.requires.changes in
+    let width : length changes ≡ n = c.begins_alike.ensures.len ∙ ap length c.clear_all.ensures ∙ length-replicate (length c.args.spare.now.changes) false ∙ wide in
+    let begins : BeginsAlike R v s changes = rw (← c.self.view_is) at (c.begins_alike.ensures.alike c.if-not-begins_alike.false) in
+    let last : c.alike_end-end.result ≤ i.horizon + 1 = rw (← c.self.view_is) at c.alike_end-end.ensures.within in
+    let so_far : StaysAlike R v s changes c.alike_end-end.result = rw (← c.self.view_is) at c.alike_end-end.ensures.stays in
+    let stays = stays_less R v s changes c.alike_end-end.result e c.due_alike_to-end.ensures.before so_far in
+    let reached : (d : ℕ) → d < n → is_awake c.reach.new.reached d ≡ any_changes changes (R.near i.slots d) n = rw (← c.self.view_is) at c.reach.ensures.reached in
+    let due : (d u : ℕ) → d < n → s < u → u < e → ((held_at i.cells u d).is_due || is_awake c.reach.new.reached d) ≡ (held_at i.cells s d).is_due = rw (← c.self.view_is) at c.due_alike_to-end.ensures.alike in
+    let alike : AreDueAlike R v s changes e = λ d u k h l. ap (λ b. (held_at i.cells u d).is_due || b) (sym (reached d k)) ∙ due d u k h l in
+    let end : e ≤ i.horizon + 1 = omega (arith, last, c.due_alike_to-end.ensures.before) in
+    let after = c.due_alike_to-end.ensures.after in
+    let few : n < 4294967296 = omega (arith, c.components-count.ensures) in
+    let is_clock : clock ≡ i.clock + (e - s) * count_in changes = c.clock_filled-clock.ensures ∙ ap (λ k. i.clock + (e - s) * k) c.count-changed.ensures in
+    let is_before : before ≡ i.clock + (e - s - 1) * count_in changes = c.clock_filled-before.ensures ∙ ap (λ k. i.clock + (e - s - 1) * k) c.count-changed.ensures in
+    let one : e - s - 1 + 1 ≡ e - s = omega (arith, after) in
+    let room : i.clock + (e - s) * n < 2 ^ 64 = subst (λ k. i.clock + k * n < 2 ^ 64) one (subst (λ k. i.clock + (e - s - 1 + 1) * k < 2 ^ 64) c.components-count.ensures (c.has_room.ensures c.if-not-has_room.false)) in
+    let whole : IsWhole R i.slots i.horizon rows2 = record {
+      cycles = c.mark_changed.ensures.len ∙ c.repeat_cells.ensures.len ∙ table.whole.cycles;
+      components = λ t h. c.mark_changed.ensures.lens t ∙ c.repeat_cells.ensures.lens t (omega (arith, h, table.whole.cycles)) ∙ width;
+    } in
+    let last_one : e - 1 + 1 ≡ e = omega (arith, after) in
+    let behind : e ≤ i.horizon → (d : ℕ) → d < n → held_at rows2 e d ≡ woken R i.slots rows1 (λ t k. is_awake changes k) before (e - 1) n d = λ h d k. subst (λ u. held_at rows2 u d ≡ woken R i.slots rows1 (λ t k. is_awake changes k) before (e - 1) n d) last_one (c.mark_changed.ensures.marked (omega (arith, h, last_one, c.repeat_cells.ensures.len, table.whole.cycles)) d k) in
+    record {
+      table = stays_table R g.G.Grid.laws v table s e there end none changes begins stays alike after width rows1 rows2 clock before few c.repeat_cells.ensures.versions is_clock is_before room whole
+          (λ t d k h l. c.in-Ok-repeat_cells.ensures.repeated t d (omega (arith, k, width)) h l)
+          c.in-Ok-repeat_cells.ensures.earlier
+          c.in-Ok-repeat_cells.ensures.later
+          (λ t d h p. c.mark_changed.ensures.others t d (omega (arith, h, c.repeat_cells.ensures.len, table.whole.cycles)) (λ q. p (omega (arith, q, last_one))))
+          behind (begins_at R g.G.Grid.laws v table s none (omega arith));
+      index = c.self.invariant.index;
+      near = c.self.invariant.near;
+    }
+
+pub returns-clause-on : goal.returns-clause-on
+returns-clause-on g c =
+    let R = g.G.Grid.rules in
+    let i = c.self.inside in
+    let v : Seen g.row.G-State.Denot g.row.G-Slots.Denot = record { slots = i.slots; horizon = i.horizon; clock = i.clock; rows = i.cells } in
+    let table = c.self.invariant.table in
+    let s = c.args.cycle in
+    let e = c.due_alike_to-end.result in
+    let n = R.components i.slots in
+    let changes = c.begins_alike.new.changes in
+    let rows1 = c.repeat_cells.new.cells in
+    let rows2 = c.mark_changed.new.cells in
+    let clock = c.clock_filled-clock.result in
+    let before = c.clock_filled-before.result in
+    let there : s ≤ i.horizon = rw (← c.self.view_is) at c.requires.there in
+    let none : NoneDueBefore R v s 0 = rw (← c.self.view_is) at c.requires.none in
+    let wide : length c.args.spare.now.changes ≡ n = rw (← c.self.view_is) at c.requires.changes in
+    let width : length changes ≡ n = c.begins_alike.ensures.len ∙ ap length c.clear_all.ensures ∙ length-replicate (length c.args.spare.now.changes) false ∙ wide in
+    let begins : BeginsAlike R v s changes = rw (← c.self.view_is) at (c.begins_alike.ensures.alike c.if-not-begins_alike.false) in
+    let last : c.alike_end-end.result ≤ i.horizon + 1 = rw (← c.self.view_is) at c.alike_end-end.ensures.within in
+    let so_far : StaysAlike R v s changes c.alike_end-end.result = rw (← c.self.view_is) at c.alike_end-end.ensures.stays in
+    let stays = stays_less R v s changes c.alike_end-end.result e c.due_alike_to-end.ensures.before so_far in
+    let reached : (d : ℕ) → d < n → is_awake c.reach.new.reached d ≡ any_changes changes (R.near i.slots d) n = rw (← c.self.view_is) at c.reach.ensures.reached in
+    let due : (d u : ℕ) → d < n → s < u → u < e → ((held_at i.cells u d).is_due || is_awake c.reach.new.reached d) ≡ (held_at i.cells s d).is_due = rw (← c.self.view_is) at c.due_alike_to-end.ensures.alike in
+    let alike : AreDueAlike R v s changes e = λ d u k h l. ap (λ b. (held_at i.cells u d).is_due || b) (sym (reached d k)) ∙ due d u k h l in
+    let end : e ≤ i.horizon + 1 = omega (arith, last, c.due_alike_to-end.ensures.before) in
+    let after = c.due_alike_to-end.ensures.after in
+    let few : n < 4294967296 = omega (arith, c.components-count.ensures) in
+    let is_clock : clock ≡ i.clock + (e - s) * count_in changes = c.clock_filled-clock.ensures ∙ ap (λ k. i.clock + (e - s) * k) c.count-changed.ensures in
+    let is_before : before ≡ i.clock + (e - s - 1) * count_in changes = c.clock_filled-before.ensures ∙ ap (λ k. i.clock + (e - s - 1) * k) c.count-changed.ensures in
+    let one : e - s - 1 + 1 ≡ e - s = omega (arith, after) in
+    let room : i.clock + (e - s) * n < 2 ^ 64 = subst (λ k. i.clock + k * n < 2 ^ 64) one (subst (λ k. i.clock + (e - s - 1 + 1) * k < 2 ^ 64) c.components-count.ensures (c.has_room.ensures c.if-not-has_room.false)) in
+    let whole : IsWhole R i.slots i.horizon rows2 = record {
+      cycles = c.mark_changed.ensures.len ∙ c.repeat_cells.ensures.len ∙ table.whole.cycles;
+      components = λ t h. c.mark_changed.ensures.lens t ∙ c.repeat_cells.ensures.lens t (omega (arith, h, table.whole.cycles)) ∙ width;
+    } in
+    let last_one : e - 1 + 1 ≡ e = omega (arith, after) in
+    let behind : e ≤ i.horizon → (d : ℕ) → d < n → held_at rows2 e d ≡ woken R i.slots rows1 (λ t k. is_awake changes k) before (e - 1) n d = λ h d k. subst (λ u. held_at rows2 u d ≡ woken R i.slots rows1 (λ t k. is_awake changes k) before (e - 1) n d) last_one (c.mark_changed.ensures.marked (omega (arith, h, last_one, c.repeat_cells.ensures.len, table.whole.cycles)) d k) in
+    let number : (e - s) * due_in_row (row_at i.cells s) ≡ c.from.result * c.from-2.result = ap (λ k. (e - s) * k) (sym (c.from-2.ensures ∙ c.due_count-due.ensures)) ∙ ap (λ k. k * c.from-2.result) (sym c.from.ensures) in
+    rw (← c.self.view_is) (λ first k at. subst (λ m. IsAt R first (record { slots = i.slots; horizon = i.horizon; clock = clock; rows = rows2 }) (s + (e - s)) 0 (k + m)) number (goes_on_to R g.G.Grid.laws v table s e there end none changes begins stays alike after width rows1 rows2 clock before few c.repeat_cells.ensures.versions is_clock is_before room whole
+    (λ t d k h l. c.in-Ok-repeat_cells.ensures.repeated t d (omega (arith, k, width)) h l)
+    c.in-Ok-repeat_cells.ensures.earlier
+    c.in-Ok-repeat_cells.ensures.later
+    (λ t d h p. c.mark_changed.ensures.others t d (omega (arith, h, c.repeat_cells.ensures.len, table.whole.cycles)) (λ q. p (omega (arith, q, last_one))))
+    behind first k at))
+
+pub returns-clause-but : goal.returns-clause-but
+returns-clause-but g c =
+    let R = g.G.Grid.rules in
+    let i = c.self.inside in
+    let v : Seen g.row.G-State.Denot g.row.G-Slots.Denot = record { slots = i.slots; horizon = i.horizon; clock = i.clock; rows = i.cells } in
+    let table = c.self.invariant.table in
+    let s = c.args.cycle in
+    let e = c.due_alike_to-end.result in
+    let n = R.components i.slots in
+    let changes = c.begins_alike.new.changes in
+    let rows1 = c.repeat_cells.new.cells in
+    let rows2 = c.mark_changed.new.cells in
+    let clock = c.clock_filled-clock.result in
+    let before = c.clock_filled-before.result in
+    let there : s ≤ i.horizon = rw (← c.self.view_is) at c.requires.there in
+    let none : NoneDueBefore R v s 0 = rw (← c.self.view_is) at c.requires.none in
+    let wide : length c.args.spare.now.changes ≡ n = rw (← c.self.view_is) at c.requires.changes in
+    let width : length changes ≡ n = c.begins_alike.ensures.len ∙ ap length c.clear_all.ensures ∙ length-replicate (length c.args.spare.now.changes) false ∙ wide in
+    let begins : BeginsAlike R v s changes = rw (← c.self.view_is) at (c.begins_alike.ensures.alike c.if-not-begins_alike.false) in
+    let last : c.alike_end-end.result ≤ i.horizon + 1 = rw (← c.self.view_is) at c.alike_end-end.ensures.within in
+    let so_far : StaysAlike R v s changes c.alike_end-end.result = rw (← c.self.view_is) at c.alike_end-end.ensures.stays in
+    let stays = stays_less R v s changes c.alike_end-end.result e c.due_alike_to-end.ensures.before so_far in
+    let reached : (d : ℕ) → d < n → is_awake c.reach.new.reached d ≡ any_changes changes (R.near i.slots d) n = rw (← c.self.view_is) at c.reach.ensures.reached in
+    let due : (d u : ℕ) → d < n → s < u → u < e → ((held_at i.cells u d).is_due || is_awake c.reach.new.reached d) ≡ (held_at i.cells s d).is_due = rw (← c.self.view_is) at c.due_alike_to-end.ensures.alike in
+    let alike : AreDueAlike R v s changes e = λ d u k h l. ap (λ b. (held_at i.cells u d).is_due || b) (sym (reached d k)) ∙ due d u k h l in
+    let end : e ≤ i.horizon + 1 = omega (arith, last, c.due_alike_to-end.ensures.before) in
+    let after = c.due_alike_to-end.ensures.after in
+    let few : n < 4294967296 = omega (arith, c.components-count.ensures) in
+    let is_clock : clock ≡ i.clock + (e - s) * count_in changes = c.clock_filled-clock.ensures ∙ ap (λ k. i.clock + (e - s) * k) c.count-changed.ensures in
+    let is_before : before ≡ i.clock + (e - s - 1) * count_in changes = c.clock_filled-before.ensures ∙ ap (λ k. i.clock + (e - s - 1) * k) c.count-changed.ensures in
+    let one : e - s - 1 + 1 ≡ e - s = omega (arith, after) in
+    let room : i.clock + (e - s) * n < 2 ^ 64 = subst (λ k. i.clock + k * n < 2 ^ 64) one (subst (λ k. i.clock + (e - s - 1 + 1) * k < 2 ^ 64) c.components-count.ensures (c.has_room.ensures c.if-not-has_room.false)) in
+    let whole : IsWhole R i.slots i.horizon rows2 = record {
+      cycles = c.mark_changed.ensures.len ∙ c.repeat_cells.ensures.len ∙ table.whole.cycles;
+      components = λ t h. c.mark_changed.ensures.lens t ∙ c.repeat_cells.ensures.lens t (omega (arith, h, table.whole.cycles)) ∙ width;
+    } in
+    let last_one : e - 1 + 1 ≡ e = omega (arith, after) in
+    let behind : e ≤ i.horizon → (d : ℕ) → d < n → held_at rows2 e d ≡ woken R i.slots rows1 (λ t k. is_awake changes k) before (e - 1) n d = λ h d k. subst (λ u. held_at rows2 u d ≡ woken R i.slots rows1 (λ t k. is_awake changes k) before (e - 1) n d) last_one (c.mark_changed.ensures.marked (omega (arith, h, last_one, c.repeat_cells.ensures.len, table.whole.cycles)) d k) in
+    rw (← c.self.view_is) (holds_but R g.G.Grid.laws v table s e there end none changes begins stays alike after width rows1 rows2 clock before few c.repeat_cells.ensures.versions is_clock is_before room whole
+    (λ t d k h l. c.in-Ok-repeat_cells.ensures.repeated t d (omega (arith, k, width)) h l)
+    c.in-Ok-repeat_cells.ensures.earlier
+    c.in-Ok-repeat_cells.ensures.later
+    (λ t d h p. c.mark_changed.ensures.others t d (omega (arith, h, c.repeat_cells.ensures.len, table.whole.cycles)) (λ q. p (omega (arith, q, last_one))))
+    behind c.ranges_of.new.ranges.items (ranges_within c.ranges_of.new.ranges.items e (i.horizon + 1) (length changes) n end width c.in-Ok.ensures.within) c.in-Ok.ensures.marked)

@@ -1,0 +1,311 @@
+//! Settling at once the cycles in which the same happens as in the one before them.
+ghost use Rattle.std.specs.Prelude.{◌≡◌, ℕ, ◌+◌, ◌-◌, ◌*◌, ◌^◌, ◌<◌, ◌≤◌, ◌||◌, IfNone, IfSome, IfOk, true, false, length, MatchOption};
+ghost use Rattle.cell_table.specs.Seen.{Seen, held_at};
+ghost use Rattle.cell_table.specs.Cells.{IsThere};
+ghost use Rattle.cell_table.specs.Readers.{has};
+ghost use Rattle.cell_table.specs.Filling.{is_awake};
+ghost use Rattle.cell_table.specs.Settling.{NoneDueBefore, IsAt, IsFurther};
+ghost use Rattle.cell_table.specs.Passing.{HoldsBut};
+ghost use Rattle.cell_table.specs.Repeating.{any_changes, BeginsAlike, StaysBefore, StaysAlike, IsAlike, StaysAlikeTo};
+
+use super::Table;
+use super::filling::has_room;
+use crate::cells::repeat_cells;
+use crate::fill::wake;
+use crate::ranges::ranges_of;
+use crate::rows::{clock_filled, mark_changed};
+use crate::watcher::Watcher;
+use crate::{Cell, CellRange};
+use cell_marks::Row;
+use grid_law::{Grid, NoMemory};
+use std::alloc::Global;
+
+/// What settling at once takes beside the table: which components change, which read one of those, and the cells that may
+/// hold other states afterwards.
+#[derive(Drop)]
+pub(super) struct Spare {
+    pub changes: Row,
+    pub reached: Row,
+    pub ranges: Vec<CellRange>,
+    /// How many cycles in a row were tried in vain, and how many are to be let by before the next try.
+    failed: u32,
+    wait: u32,
+}
+
+/// How many cycles are let by at most before the next try.
+const LONGEST_WAIT: u32 = 16;
+
+impl Spare {
+    /// For so many components.
+    pub(super) fn new(alloc: Global, count: u32) -> Result<Spare, NoMemory>
+        ensures changes { IfOk result (λ s. length s.changes ≡ count) }
+        ensures reached { IfOk result (λ s. length s.reached ≡ count) }
+    {
+        Ok(Spare {
+            changes: Row::new(alloc, count, false)?,
+            reached: Row::new(alloc, count, false)?,
+            ranges: Vec::new(alloc),
+            failed: 0,
+            wait: 0,
+        })
+    }
+}
+
+/// Where a pass over the due cells has come to, and how many of them were computed on the way.
+#[derive(Clone, Copy)]
+pub(super) struct Passed {
+    pub to: Cell,
+    pub computed: u64,
+}
+
+/// How many cycles were settled at once, and how many of their cells were computed.
+#[derive(Clone, Copy)]
+pub(super) struct Alike {
+    pub cycles: u32,
+    pub computed: u64,
+}
+
+impl<G: Grid> Table<G> {
+    /// Whether a due cell gets the state of the cell before, known without a step. Where it holds another one its component
+    /// is marked as one that changes.
+    fn is_alike(&self, cell: Cell, changes: &mut Row) -> bool
+        requires there { IsThere G.rules self.now cell.cycle cell.component }
+        requires later { 2 ≤ cell.cycle }
+        requires none { NoneDueBefore G.rules self.now cell.cycle 0 }
+        requires width { cell.component < length changes.old }
+        requires unmarked { is_awake changes.old cell.component ≡ false }
+        ensures len { length changes.new ≡ length changes.old }
+        ensures others { (c : ℕ) → (c ≡ cell.component → ⊥) → is_awake changes.new c ≡ is_awake changes.old c }
+        ensures alike { result ≡ true → IsAlike G.rules self.now cell.cycle cell.component (is_awake changes.new cell.component) }
+    {
+        let near = self.near(cell.component);
+        if !self.cells.all_stay(cell.cycle - 1, near) {
+            return false;
+        }
+        let stays = self.cells.stays(cell);
+        if !self.holds_as_before(cell, stays) {
+            changes.set(cell.component);
+        }
+        true
+    }
+
+    /// Whether each due cell of a cycle gets the state of the cell before, known without a step. The components of those that
+    /// hold another one are marked.
+    fn begins_alike(&self, cycle: u32, changes: &mut Row) -> bool
+        requires there { cycle ≤ self.now.horizon }
+        requires none { NoneDueBefore G.rules self.now cycle 0 }
+        requires width { length changes.old ≡ G.rules.components self.now.slots }
+        requires unmarked { (c : ℕ) → is_awake changes.old c ≡ false }
+        ensures len { length changes.new ≡ length changes.old }
+        ensures alike { result ≡ true → BeginsAlike G.rules self.now cycle changes.new }
+    {
+        if cycle < 2 {
+            return false;
+        }
+        // The number of a component is below this one, so that of the next fits.
+        let _count = changes.len();
+        let mut from = 0;
+        while let Some(component) = self.cells.next_due(cycle, from) {
+            if !self.is_alike(Cell { cycle, component }, changes) {
+                return false;
+            }
+            from = component + 1;
+        }
+        true
+    }
+
+    /// To before which cycle, `end` at most, a cell that reads a component gets what it got before, where that component doesn't
+    /// change.
+    fn alike_near(&self, component: u32, cycle: u32, changes: &Row, end: u32) -> u32
+        requires there { cycle ≤ self.now.horizon }
+        requires component { component < G.rules.components self.now.slots }
+        requires later { 2 ≤ cycle }
+        ensures before { result ≤ end }
+        ensures stays { StaysBefore G.rules self.now cycle changes.now result component }
+    {
+        if changes.has(component) {
+            return end;
+        }
+        let cycle = cycle - 1;
+        let last = self.cells.standing(Cell { cycle, component }, 0).end;
+        if last < end { last + 1 } else { end }
+    }
+
+    /// To before which cycle, `end` at most, a due cell's component holds the state that it holds here, and those near it
+    /// that don't change what they held a cycle earlier.
+    fn alike_to(&self, cell: Cell, changes: &Row, end: u32) -> u32
+        requires there { IsThere G.rules self.now cell.cycle cell.component }
+        requires later { 2 ≤ cell.cycle }
+        requires end { end ≤ self.now.horizon + 1 }
+        ensures before { result ≤ end }
+        ensures stays { StaysAlikeTo G.rules self.now cell.cycle changes.now cell.component result }
+    {
+        let mut to = end.min(self.cells.standing(cell, 0).end);
+        for component in self.near(cell.component) {
+            to = self.alike_near(*component, cell.cycle, changes, to);
+        }
+        to
+    }
+
+    /// The same of all due cells of a cycle.
+    fn alike_end(&self, cycle: u32, changes: &Row) -> u32
+        requires there { cycle ≤ self.now.horizon }
+        requires later { 2 ≤ cycle }
+        requires width { length changes.now ≡ G.rules.components self.now.slots }
+        ensures within { result ≤ self.now.horizon + 1 }
+        ensures stays { StaysAlike G.rules self.now cycle changes.now result }
+    {
+        let _count = changes.len();
+        let mut end = self.cells.cycles();
+        let mut from = 0;
+        while let Some(component) = self.cells.next_due(cycle, from) {
+            end = self.alike_to(Cell { cycle, component }, changes, end);
+            from = component + 1;
+        }
+        end
+    }
+
+    /// Marks the components that read one that changes.
+    fn reach(&self, changes: &Row, reached: &mut Row)
+        requires width { length changes.now ≡ G.rules.components self.now.slots }
+        requires len { length reached.old ≡ G.rules.components self.now.slots }
+        requires unmarked { (c : ℕ) → is_awake reached.old c ≡ false }
+        ensures len { length reached.new ≡ length reached.old }
+        ensures reached { (c : ℕ) → c < G.rules.components self.now.slots
+            → is_awake reached.new c ≡ any_changes changes.now (G.rules.near self.now.slots c) (G.rules.components self.now.slots) }
+    {
+        let _count = changes.len();
+        let mut from = 0;
+        while let Some(component) = changes.first_from(from) {
+            wake(reached, self.readers.of(component));
+            from = component + 1;
+        }
+    }
+
+    /// To before which cycle, `end` at most, the components due, or among those, are those due at a cycle.
+    fn due_alike_to(&self, cycle: u32, end: u32, reached: &Row) -> u32
+        requires before { cycle < end }
+        requires within { end ≤ self.now.horizon + 1 }
+        requires width { length reached.now ≡ G.rules.components self.now.slots }
+        ensures after { cycle < result }
+        ensures before { result ≤ end }
+        ensures alike { (c u : ℕ) → c < G.rules.components self.now.slots → cycle < u → u < result
+            → ((held_at self.now.rows u c).is_due || is_awake reached.now c) ≡ (held_at self.now.rows cycle c).is_due }
+    {
+        for to in cycle + 1..end {
+            if !self.cells.is_due_alike(to, reached, cycle) {
+                return to;
+            }
+        }
+        end
+    }
+
+    /// Settles at once the cycles from one on in which the same happens as in the one before, where there are two of them at
+    /// least: how many, and how many of their cells were computed. Only cells of the ranges may hold other states then.
+    pub(super) fn settle_alike(&mut self, cycle: u32, spare: &mut Spare) -> Option<Alike>
+        requires there { cycle ≤ self.old.horizon }
+        requires none { NoneDueBefore G.rules self.old cycle 0 }
+        requires changes { length spare.old.changes ≡ G.rules.components self.old.slots }
+        requires reached { length spare.old.reached ≡ G.rules.components self.old.slots }
+        ensures changes { length spare.new.changes ≡ length spare.old.changes }
+        ensures reached { length spare.new.reached ≡ length spare.old.reached }
+        ensures none { IfNone result (self.new ≡ self.old) }
+        ensures on { IfSome result (λ a. (first : Seen G.State G.Slots) (n : ℕ) → IsAt G.rules first self.old cycle 0 n → IsAt G.rules first self.new (cycle + a.cycles) 0 (n + a.computed)) }
+        ensures within { IfSome result (λ a. cycle + a.cycles ≤ self.old.horizon + 1) }
+        ensures but { IfSome result (λ a. HoldsBut G.rules self.old self.new spare.new.ranges.items) }
+    {
+        let count = G::components(&self.slots);
+        spare.changes.clear_all();
+        spare.reached.clear_all();
+        if !self.begins_alike(cycle, &mut spare.changes) {
+            return None;
+        }
+        let end = self.alike_end(cycle, &spare.changes);
+        if end.saturating_sub(cycle) < 2 {
+            return None;
+        }
+        self.reach(&spare.changes, &mut spare.reached);
+        let end = self.due_alike_to(cycle, end, &spare.reached);
+        let cycles = end - cycle;
+        if cycles < 2 || !has_room(self.clock, cycles - 1, count) {
+            return None;
+        }
+        match ranges_of(&spare.changes, cycle, end, &mut spare.ranges) {
+            Ok(()) => {}
+            Err(_) => return None,
+        }
+        let changed = spare.changes.count();
+        let due = self.cells.due_count(cycle);
+        match repeat_cells(&mut self.cells, &spare.changes, cycle, end) {
+            Ok(()) => {}
+            Err(_) => return None,
+        }
+        let before = clock_filled(self.clock, cycles - 1, changed);
+        mark_changed::<G>(
+            &mut self.cells,
+            &self.slots,
+            &self.readers,
+            &spare.changes,
+            end - 1,
+            before,
+        );
+        let clock = clock_filled(self.clock, cycles, changed);
+        self.clock = clock;
+        Some(Alike {
+            cycles,
+            computed: u64::from(cycles) * u64::from(due),
+        })
+    }
+
+    /// Where nothing is due any more at a cycle, settles at once those behind it as `settle_alike` does, and tells a watcher:
+    /// where to go on, and how many cells were computed.
+    pub(super) fn settle_on<W: Watcher<G>>(
+        &mut self,
+        from: Cell,
+        spare: &mut Spare,
+        watcher: &mut W,
+    ) -> Option<Passed>
+        requires none { NoneDueBefore G.rules self.old from.cycle from.component }
+        requires changes { length spare.old.changes ≡ G.rules.components self.old.slots }
+        requires reached { length spare.old.reached ≡ G.rules.components self.old.slots }
+        requires watched { W.keeps watcher.old self.old }
+        ensures changes { length spare.new.changes ≡ length spare.old.changes }
+        ensures reached { length spare.new.reached ≡ length spare.old.reached }
+        ensures watched { W.keeps watcher.new self.new }
+        ensures none { IfNone result (self.new ≡ self.old) }
+        ensures on { IfSome result (λ p. (first : Seen G.State G.Slots) (n : ℕ) → IsAt G.rules first self.old from.cycle from.component n → IsAt G.rules first self.new p.to.cycle p.to.component (n + p.computed)) }
+        ensures further { IfSome result (λ p. IsFurther self.old.horizon from.cycle from.component p.to.cycle p.to.component) }
+    {
+        // The cycles are as many as this number, so that of the one behind the last fits.
+        let _cycles = self.cells.cycles();
+        if from.cycle > self.horizon || self.is_row_due(from.cycle) {
+            return None;
+        }
+        if spare.wait > 0 {
+            spare.wait -= 1;
+            return None;
+        }
+        let cycle = match self.next_due(from) {
+            Some(cell) => cell.cycle,
+            None => return None,
+        };
+        let alike = match self.settle_alike(cycle, spare) {
+            Some(alike) => alike,
+            None => {
+                // Where something happens at each cycle, few of them are tried.
+                spare.failed = spare.failed.saturating_add(1);
+                spare.wait = (spare.failed / 2).min(LONGEST_WAIT);
+                return None;
+            }
+        };
+        spare.failed = 0;
+        watcher.refilled(self, spare.ranges.as_slice());
+        Some(Passed {
+            to: Cell {
+                cycle: cycle + alike.cycles,
+                component: 0,
+            },
+            computed: alike.computed,
+        })
+    }
+}
