@@ -1,3 +1,2 @@
 mod Seats
 mod Openings
-mod Starts
