@@ -1,9 +1,19 @@
 -- How a table keeps its cells: for each component a line of states, and by cycle marks of the due cells and versions.
-use Rattle.std.specs.Prelude.{◌≡◌, ℕ, ◌<◌, ◌==◌, ◌&&◌, ◌^◌, if◌then◌else◌, Bool, Option, None, false, List, [], map, length, slice_index_or}
+use Rattle.std.specs.Prelude.{◌≡◌, ℕ, ◌<◌, ◌==◌, ◌&&◌, ◌^◌, if◌then◌else◌, Bool, Option, None, false, List, [], ◌∷◌, map, length, replicate, slice_index_or}
 use Rattle.std.specs.List.{range_with_len}
 use Rattle.state_line.specs.Lined.{Lined}
 use Rattle.cell_marks.specs.Marked.{Marked, has as has_mark}
 use Rattle.cell_table.specs.Seen.{Held, row_at, held_at}
+
+-- the versions of so many components: one each, or one that all of them have
+abbrev pub versions_of : ℕ → ℕ → List ℕ → List ℕ
+versions_of count all [] = replicate count all
+versions_of count all (first ∷ others) = first ∷ others
+
+-- those of one each are as many
+abbrev pub IsEach : ℕ → List ℕ → Type 0
+IsEach count [] = Unit {0}
+IsEach count (first ∷ others) = length (first ∷ others) ≡ count
 
 -- the version of a cell
 abbrev pub version_at : List (List ℕ) → ℕ → ℕ → ℕ

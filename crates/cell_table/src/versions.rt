@@ -1,37 +1,62 @@
 //! The versions of the cells.
-ghost use Rattle.std.specs.Prelude.{◌≡◌, ℕ, ◌<◌, ◌++◌, IfOk, OnOk, OnErr, replicate, slice_index_or, slice_set, length, []};
+ghost use Rattle.std.specs.Prelude.{◌≡◌, ℕ, ◌<◌, ◌≤◌, ◌++◌, vec_capacity, IfOk, OnOk, OnErr, replicate, slice_index_or, slice_set, length, []};
 ghost use Rattle.cell_table.specs.Layout.{version_at};
 
 use grid_law::NoMemory;
 use std::alloc::Global;
 use std::marker::Model;
 
-/// A version for each component, at one cycle.
+/// A version for each component, at one cycle. While all have the same it stands once; the room for one each is taken at
+/// the start, so that a change takes no memory.
 #[derive(Drop)]
 pub(crate) struct Versions {
-    numbers: Vec<u64>,
+    count: u32,
+    all: u64,
+    each: Vec<u64>,
 }
 
 impl Model for Versions {
-    ghost use Rattle.std.specs.Prelude.{List, ℕ};
+    ghost use Rattle.std.specs.Prelude.{List, ℕ, ◌≤◌, vec_capacity};
+    ghost use Rattle.cell_table.specs.Layout.{versions_of, IsEach};
 
     ghost Value = { List ℕ };
 
-    ghost view = { λ v. v.numbers.items };
+    ghost view = { λ v. versions_of v.count v.all v.each.items };
+
+    ghost invariant = { λ v. (v.count ≤ vec_capacity v.each) × IsEach v.count v.each.items };
+}
+
+/// Adds a version for each of so many components.
+fn spread(each: &mut Vec<u64>, count: u32, version: u64)
+    requires none { each.old.items ≡ [] }
+    requires room { count ≤ vec_capacity each.old }
+    ensures capacity { vec_capacity each.new ≡ vec_capacity each.old }
+    ensures all { each.new.items ≡ replicate count version }
+{
+    for _c in 0..count {
+        each.push_reserved(version);
+    }
 }
 
 impl Versions {
     fn new(alloc: Global, count: u32, version: u64) -> Result<Versions, NoMemory>
         ensures { IfOk result (λ v. v ≡ replicate count version) }
     {
-        let numbers = vec![in alloc; version; count as usize]?;
-        Ok(Versions { numbers })
+        let each = Vec::with_capacity(alloc, count as usize)?;
+        Ok(Versions {
+            count,
+            all: version,
+            each,
+        })
     }
 
     pub(crate) fn of(&self, c: u32) -> u64
         ensures { result ≡ slice_index_or self.now c 0 }
     {
-        match self.numbers.get(c as usize) {
+        if self.each.is_empty() {
+            return if c < self.count { self.all } else { 0 };
+        }
+        match self.each.get(c as usize) {
             Some(version) => *version,
             None => 0,
         }
@@ -41,7 +66,10 @@ impl Versions {
         requires { c < length self.old }
         ensures { self.new ≡ slice_set self.old c version }
     {
-        self.numbers[c as usize] = version;
+        if self.each.is_empty() {
+            spread(&mut self.each, self.count, self.all);
+        }
+        self.each[c as usize] = version;
     }
 }
 

@@ -10,7 +10,7 @@ use Rattle.omega_net.specs.declared.component.Component.TheVariants.{Module, Swi
 use Rattle.omega_net.specs.declared.wire.Wire.{Wire}
 use Rattle.omega_net.specs.Numbers.{half, Exists}
 use Rattle.omega_net.specs.Wires.{IsWire, upper_at, upper_end, lower_end, input_of, wire_into, wire_out}
-use Rattle.omega_net.proofs.Numbering.{half_twice, half_some}
+use Rattle.omega_net.proofs.Numbering.{half_twice, half_some, by_no_half}
 
 -- the ends of a wire are there
 pub upper_exists : (k : ℕ) (w : Wire) → IsWire k w → Exists k (upper_end w)
@@ -55,3 +55,8 @@ input_port (suc k) w a pos =
     let lines_are : half (suc k) + half (suc k) ≡ 2 ^ suc k = half_twice (suc k) k (omega arith) in
     let line : w.line < 2 ^ suc k = a.1 in
     (div-lt_iff_lt-mul pos).1 (omega arith)
+
+-- also where there is no stage
+pub input_within : (k : ℕ) (w : Wire) → IsWire k w → input_of k w < 2
+input_within zero w a = let none : w.line / half 0 ≡ 0 = by_no_half w.line in omega arith
+input_within (suc k) w a = input_port (suc k) w a (half_some (suc k) k (omega arith))

@@ -4,7 +4,7 @@ use Rattle.std.specs.Prelude.{nat_lt}
 use Rattle.std.proofs.lemmas.Bool.{lt-ltb, le-ltb}
 use Rattle.std.proofs.lemmas.Bool.Decides.{nat_tests}
 use Rattle.std.proofs.lemmas.Nat.{pow_pos, mul-add-lt, div-mul-add, mod-mul-add}
-use Rattle.std.proofs.Math.Nat.{mod-lt, mod-add-div', mul-zero, div-lt_iff_lt-mul, mul-le-mul}
+use Rattle.std.proofs.Math.Nat.{div-zero, mod-lt, mod-add-div', mul-zero, div-lt_iff_lt-mul, mul-le-mul}
 use Rattle.omega_net.specs.declared.component.Net.{Net}
 use Rattle.omega_net.specs.declared.component.Net.TheVariants.{Low, Comb}
 use Rattle.omega_net.specs.declared.component.Component.{Component}
@@ -18,6 +18,14 @@ half_twice (suc k) s h = omega (arith, pow-suc 2 k)
 
 pub half_some : (k s : ℕ) → s < k → 0 < half k
 half_some k s h = omega (arith, half_twice k s h, pow_pos k)
+
+pub half_power : (k : ℕ) → 0 < k → half k ≡ 2 ^ (k - 1)
+half_power zero h = absurd (omega arith)
+half_power (suc k) h = let less : suc k - 1 ≡ k = omega arith in rw less (omega (arith, pow-suc 2 k))
+
+-- where there is no stage, none is counted
+pub by_no_half : (n : ℕ) → n / half 0 ≡ 0
+by_no_half n = div-zero n
 
 -- the switches of a network are at most this many
 pub few_switches : (k most lines_most h : ℕ) → k ≤ most → h + h ≤ lines_most → 2 * (k * h) ≤ most * lines_most

@@ -83,10 +83,11 @@ impl Shape {
         requires { distance < self * half self }
         ensures { result ≡ switch_at self net distance }
     {
+        let stage = self.by_half(distance);
         Component::Switch {
             net,
-            stage: (distance / self.half()) as u8,
-            index: (distance % self.half()) as u8,
+            stage: stage as u8,
+            index: (distance - stage * self.half()) as u8,
         }
     }
 }

@@ -1,5 +1,5 @@
 //! How large a machine is.
-ghost use Rattle.std.specs.Prelude.{◌≡◌, ◌≤◌, ◌+◌, ◌*◌, ◌^◌};
+ghost use Rattle.std.specs.Prelude.{◌≡◌, ◌≤◌, ◌+◌, ◌*◌, ◌/◌, ◌^◌};
 ghost use Rattle.std.specs.Option.{SomeIff};
 ghost use Rattle.omega_net.specs.Numbers.{lines, half, components};
 ghost use Rattle.page_map.specs.Limits.{max_k};
@@ -71,5 +71,17 @@ impl Shape {
         ensures within { result ≤ (2 + max_k) * 2 ^ max_k }
     {
         2 * self.lines() + 2 * (self.k() * self.half())
+    }
+
+    /// A number divided by the switches of a stage; 0 where there is no stage. They are a power of two, so it is shifted.
+    #[tactic(auto, using(crate::proofs::Numbering::half_power, crate::proofs::Numbering::by_no_half))]
+    pub(crate) fn by_half(self, number: u32) -> u32
+        ensures { result ≡ number / half self }
+    {
+        if self.stages == 0 {
+            0
+        } else {
+            number >> (self.stages - 1)
+        }
     }
 }

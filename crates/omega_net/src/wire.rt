@@ -65,14 +65,12 @@ impl Shape {
     }
 
     /// The input at which a wire meets a switch at that end: 0 or 1 on this machine's wires.
+    #[tactic(auto, using(crate::proofs::Ends::input_within))]
     pub fn input(self, wire: Wire) -> u8
         ensures value { result ≡ input_of self wire }
         ensures port { IsWire self wire → result < 2 }
     {
-        match u32::from(wire.line).checked_div(self.half()) {
-            Some(input) => input as u8,
-            None => 0,
-        }
+        self.by_half(u32::from(wire.line)) as u8
     }
 
     /// The wire of a processor in a network.
