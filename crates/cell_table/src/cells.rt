@@ -15,7 +15,7 @@ mod standing;
 use crate::Cell;
 use crate::fill::fill_lines;
 use crate::lines::{
-    are_empty_from, cut_ends, extend_changed, grow_ends, lines_of, put_state, repeat_state,
+    are_empty_from, bring_to, cut_ends, extend_changed, grow_ends, lines_of, put_state, repeat_state,
     reserve_changed, reserve_ends, shared_in, state_in, stays_in,
 };
 use crate::neighbours::Neighbours;
@@ -169,6 +169,15 @@ impl<S: Drop> Cells<S> {
         ensures { result ≡ true → (c : ℕ) → c < length among.now → ((held_at self.now cycle c).is_due || is_awake among.now c) ≡ (held_at self.now other c).is_due }
     {
         self.due.is_alike(cycle, among, other)
+    }
+
+    /// Gets these components ready for looks at what they hold at a cycle and the one before. No cell changes.
+    pub(crate) fn bring_to(&mut self, cycle: u32, components: &[u32])
+        requires cycle { cycle < length self.old }
+        requires there { All (λ c. c < length (row_at self.old cycle)) components.now }
+        ensures { self.new ≡ self.old }
+    {
+        bring_to(&mut self.lines, components, cycle);
     }
 
     /// Puts another state for a cell, which isn't due then. Where memory is wanting, nothing is

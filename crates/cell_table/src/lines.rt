@@ -1,5 +1,5 @@
 //! The lines of all components.
-ghost use Rattle.std.specs.Prelude.{◌≡◌, ℕ, ◌+◌, ◌++◌, ◌<◌, ◌≤◌, ◌-◌, ◌^◌, IfOk, OnOk, OnErr, IfErr, Some, None, length, replicate, take, option_map, true, false};
+ghost use Rattle.std.specs.Prelude.{◌≡◌, ℕ, ◌+◌, ◌++◌, ◌<◌, ◌≤◌, ◌-◌, ◌^◌, All, IfOk, OnOk, OnErr, IfErr, Some, None, length, replicate, take, option_map, true, false};
 ghost use Rattle.std.specs.Option.{option_copied};
 ghost use Rattle.std.specs.Arc.{arc_value};
 ghost use Rattle.state_line.specs.Lined.{GoesOn};
@@ -205,5 +205,21 @@ pub(crate) fn extend_changed<S: Drop>(lines: &mut Vec<Line<S>>, changes: &Row, f
         let line = &mut lines[c as usize];
         line.extend_to(to);
         next = c + 1;
+    }
+}
+
+/// Moves the places of these components' lines to a cycle, but for those that are there or one cycle further, so that what they
+/// hold around it is found at once. No state changes, also where memory is wanting.
+pub(crate) fn bring_to<S: Drop>(lines: &mut Vec<Line<S>>, components: &[u32], cycle: u32)
+    requires there { All (λ c. c < length lines.old.items) components.now }
+    requires within { (c : ℕ) → c < length lines.old.items → cycle < length (line_at lines.old.items c).states }
+    ensures { IsSameStates lines.old.items lines.new.items }
+{
+    for component in components {
+        let line = &mut lines[*component as usize];
+        let place = line.place();
+        if place < cycle || cycle < place.saturating_sub(1) {
+            let _ = line.reserve(cycle);
+        }
     }
 }

@@ -1,5 +1,6 @@
 //! What one cell counts.
-ghost use Rattle.std.specs.Prelude.{◌≡◌, ◌+◌, ◌<◌, ◌≤◌, length, None, Some, slice_index};
+ghost use Rattle.std.specs.Prelude.{◌≡◌, ◌+◌, ◌<◌, ◌≤◌, length, None, Some, slice_index, true};
+ghost use Rattle.monitor_sums.specs.declared.counter.Counter.{Counter as CounterIs};
 ghost use Rattle.std.specs.Option.{option_copied};
 ghost use Rattle.machine_cells.specs.declared.state.MachineState.TheVariants.{Proc, Module, Low, Comb};
 ghost use Rattle.monitor_sums.specs.Counts.{in_queues, lengths};
@@ -68,6 +69,17 @@ impl Counted {
             Counter::Combined => self.combined,
             Counter::Waiting => self.waiting,
         }
+    }
+
+    /// Whether another cell counts the same by each counter.
+    pub fn counts_as(&self, other: &Counted) -> bool
+        ensures { result ≡ true → (counter : CounterIs) → part counter self.now ≡ part counter other.now }
+    {
+        self.issued == other.issued
+            && self.answered == other.answered
+            && self.served == other.served
+            && self.combined == other.combined
+            && self.waiting == other.waiting
     }
 
     fn of_proc(state: &ProcState) -> Counted

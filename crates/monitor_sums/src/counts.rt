@@ -101,36 +101,32 @@ fn put(counts: &mut Vec<Counted>, from: u32, end: u32, new: Counted)
     ensures capacity { vec_capacity counts.new ≡ vec_capacity counts.old }
     ensures each { (t : ℕ) → slice_index_or counts.new.items t nothing ≡ (if nat_le from t && nat_lt t end then new else slice_index_or counts.old.items t nothing) }
 {
-    fill(counts, from as usize);
-    for cycle in from..end {
-        put_one(counts, cycle, new);
-    }
+    extend(counts, from as usize, Counted::nothing());
+    overwrite(counts, from as usize, end as usize, new);
+    extend(counts, end as usize, new);
 }
 
-/// The cell of one of the cycles that are there, or of the next, counts this now.
-fn put_one(counts: &mut Vec<Counted>, cycle: u32, new: Counted)
-    requires there { cycle ≤ length counts.old.items }
-    requires within { cycle ≤ max_horizon }
-    requires room { max_horizon < vec_capacity counts.old }
+/// The cells of the cycles from one on and before another, as far as there are such, count this now.
+fn overwrite(counts: &mut Vec<Counted>, from: usize, end: usize, new: Counted)
+    requires order { from ≤ end }
+    requires there { from ≤ length counts.old.items }
     ensures capacity { vec_capacity counts.new ≡ vec_capacity counts.old }
-    ensures there { cycle < length counts.new.items }
-    ensures each { (t : ℕ) → slice_index_or counts.new.items t nothing ≡ (if t == cycle then new else slice_index_or counts.old.items t nothing) }
+    ensures size { length counts.new.items ≡ length counts.old.items }
+    ensures each { (t : ℕ) → slice_index_or counts.new.items t nothing ≡ (if (nat_le from t && nat_lt t end) && nat_lt t (length counts.old.items) then new else slice_index_or counts.old.items t nothing) }
 {
-    if (cycle as usize) < counts.len() {
-        counts[cycle as usize] = new;
-    } else {
-        counts.push_reserved(new);
+    for cycle in from..end.min(counts.len()) {
+        counts[cycle] = new;
     }
 }
 
-/// Adds cells that count nothing, up to so many.
-fn fill(counts: &mut Vec<Counted>, size: usize)
+/// Adds cells that count this, up to so many.
+fn extend(counts: &mut Vec<Counted>, size: usize, new: Counted)
     requires room { size ≤ vec_capacity counts.old }
     ensures capacity { vec_capacity counts.new ≡ vec_capacity counts.old }
     ensures size { size ≤ length counts.new.items }
-    ensures each { (t : ℕ) → slice_index_or counts.new.items t nothing ≡ slice_index_or counts.old.items t nothing }
+    ensures each { (t : ℕ) → slice_index_or counts.new.items t nothing ≡ (if nat_le (length counts.old.items) t && nat_lt t size then new else slice_index_or counts.old.items t nothing) }
 {
     while counts.len() < size {
-        counts.push_reserved(Counted::nothing());
+        counts.push_reserved(new);
     }
 }

@@ -347,6 +347,9 @@ fn move_tally(tallies: &mut Vec<Tally>, place: usize, old: &Counted, new: &Count
     ensures moved { (counter : CounterIs) → tallied counter (tally_at tallies.new.items place) + part counter old.now * count ≡ tallied counter (tally_at tallies.old.items place) + part counter new.now * count }
     ensures others { (i : ℕ) → (i ≡ place → ⊥) → tally_at tallies.new.items i ≡ tally_at tallies.old.items i }
 {
+    if old.counts_as(new) {
+        return;
+    }
     let moved = tally_at(tallies, place).moved(old, new, count);
     tallies[place] = moved;
 }

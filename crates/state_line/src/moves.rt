@@ -225,7 +225,7 @@ pub(crate) fn put_at<S: Drop>(
     }
 }
 
-/// The stretch that covers a cycle: one at a top, or else it is searched by halves.
+/// The stretch that covers a cycle: one at a top or below that of `past`, or else it is searched by halves.
 #[tactic(auto, using(crate::proofs::Spans::covers_climb, crate::proofs::Spans::before_place, crate::proofs::Spans::from_place_alone))]
 pub(crate) fn stretch_at<'a, S>(
     past: &'a Stack<S>,
@@ -247,7 +247,10 @@ pub(crate) fn stretch_at<'a, S>(
     }
     match past.top() {
         Some(last) if last.from() <= t => Some(last),
-        _ => past.covering(at, t),
+        _ => match past.covering_from(at, t, past.len().saturating_sub(2)) {
+            Some(found) => Some(found.stretch),
+            None => None,
+        },
     }
 }
 

@@ -168,27 +168,4 @@ impl<S> Stack<S> {
             self.items[len - 1].from()
         }
     }
-
-    /// The first from the top that begins at t or before. Each begins before `end` and before the
-    /// one above it.
-    pub fn covering(&self, end: u32, t: u32) -> Option<&Stretch<S>>
-        requires { Falls self.now.spans end }
-        ensures { option_copied result ≡ covering self.now.spans t }
-    {
-        let mut low = 0;
-        let mut high = self.items.len();
-        while low < high {
-            let middle = low + (high - low) / 2;
-            if self.items[middle].from() <= t {
-                low = middle + 1;
-            } else {
-                high = middle;
-            }
-        }
-        if low == 0 {
-            None
-        } else {
-            Some(&self.items[low - 1])
-        }
-    }
 }

@@ -26,6 +26,10 @@ struct SettledCell {
     changed: bool,
 }
 
+/// How many cells of a cycle are due at least where all lines near them are moved along: to move one costs a step for each
+/// stretch that it is moved over, and to find a state without that a search by halves.
+const MANY_DUE: u32 = 16;
+
 impl<G: Grid> Table<G> {
     /// The first due cell of a cycle, from a component on.
     fn next_due_in(&self, cycle: u32, component: u32) -> Option<u32>
@@ -197,6 +201,16 @@ impl<G: Grid> Table<G> {
         }
     }
 
+    /// Gets the components near a cell ready for a look at them, where enough cells of its cycle are due for that to pay.
+    fn bring_near(&mut self, cell: Cell)
+        requires { IsThere G.rules self.old cell.cycle cell.component }
+        ensures { self.new ≡ self.old }
+    {
+        if self.cells.due_count(cell.cycle) >= MANY_DUE {
+            self.cells.bring_to(cell.cycle, self.neighbours.of(cell.component));
+        }
+    }
+
     /// Computes the cell and stores its state; tells whether the cell held no state or another one.
     pub(super) fn settle_cell(&mut self, cell: Cell) -> Result<bool, StoreFault>
         requires there { IsThere G.rules self.old cell.cycle cell.component }
@@ -208,6 +222,7 @@ impl<G: Grid> Table<G> {
         ensures spent { result ≡ Err StoreFault.ClockSpent → (self.old.clock ≡ 2 ^ 64 - 1)
             × ((held_at self.old.rows cell.cycle cell.component).state ≢ Some (current_of G.rules self.old.slots self.old.rows cell.cycle cell.component)) }
     {
+        self.bring_near(cell);
         match self.computed(cell) {
             Ok(Some(state)) => self.settle_to(cell, state),
             Ok(None) => self.settle_again(cell),

@@ -1,12 +1,11 @@
-use Rattle.std.proofs.Common.{◌≡◌, ℕ, ◌≤◌, length, vec_capacity, cond}
+use Rattle.std.proofs.Common.{◌≡◌, ℕ, length, vec_capacity, cond}
 use Rattle.std.specs.Prelude.{slice_index_or, nat_le, nat_lt, ◌&&◌}
 use Rattle.monitor_sums.specs.Kept.{nothing}
-use Rattle.monitor_sums.proofs.counts.put.Given as goal
+use Rattle.monitor_sums.proofs.counts.overwrite.Given as goal
 
 abbrev pub invariant-loop-cycle : goal.invariant-loop-cycle
 invariant-loop-cycle l = record {
-  began : l.from ≤ l.cycle;
   capacity : vec_capacity l.counts ≡ vec_capacity l.fn.counts;
-  there : l.cycle ≤ length l.counts.items;
+  size : length l.counts.items ≡ length l.fn.counts.items;
   each : (t : ℕ) → slice_index_or l.counts.items t nothing ≡ cond (nat_le l.from t && nat_lt t l.cycle) l.new (slice_index_or l.fn.counts.items t nothing);
 }
