@@ -15,8 +15,8 @@ mod standing;
 use crate::Cell;
 use crate::fill::fill_lines;
 use crate::lines::{
-    are_empty_from, bring_to, cut_ends, extend_changed, grow_ends, lines_of, put_state, repeat_state,
-    reserve_changed, reserve_ends, shared_in, state_in, stays_in,
+    are_empty_from, bring_to, cut_ends, extend_changed, grow_ends, lines_of, put_state,
+    repeat_state, reserve_changed, reserve_ends, shared_in, state_in, stays_in,
 };
 use crate::neighbours::Neighbours;
 use crate::readers::Readers;

@@ -207,7 +207,8 @@ impl<G: Grid> Table<G> {
         ensures { self.new ≡ self.old }
     {
         if self.cells.due_count(cell.cycle) >= MANY_DUE {
-            self.cells.bring_to(cell.cycle, self.neighbours.of(cell.component));
+            self.cells
+                .bring_to(cell.cycle, self.neighbours.of(cell.component));
         }
     }
 
