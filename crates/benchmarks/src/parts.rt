@@ -72,13 +72,13 @@ pub fn measure(rt: &HostRuntime, steps: u32) -> Result<Sums> {
     let served = module(rt.alloc(), steps)?;
     row(rt, "module, a step that serves", since, times)?;
     let since = Instant::now(rt)?;
-    let low = low_switch(steps);
+    let low = low_switch(rt.alloc(), steps)?;
     row(rt, "low switch, a step of one message", since, times)?;
     let since = Instant::now(rt)?;
-    let comb = comb_switch(steps);
+    let comb = comb_switch(rt.alloc(), steps)?;
     row(rt, "combining switch, a step of one message", since, times)?;
     let since = Instant::now(rt)?;
-    let combined = combining(steps);
+    let combined = combining(rt.alloc(), steps)?;
     row(
         rt,
         "combining switch, two combine or come back",
@@ -170,39 +170,39 @@ fn one_moves(waits: bool, issue: u32) -> Traffic {
 }
 
 /// A low switch through which one request goes after another: how many left it.
-fn low_switch(steps: u32) -> u32 {
-    let mut state = LowState::start();
+fn low_switch(alloc: Global, steps: u32) -> Result<u32> {
+    let mut state = LowState::start(alloc);
     let mut left: u32 = 0;
     for issue in 0..steps {
         let waits = state.offer_forward(0).is_some();
-        state = state.step(0, &one_moves(waits, issue));
+        state = state.step(alloc, 0, &one_moves(waits, issue))?;
         left = left.saturating_add(u32::from(waits));
     }
-    left
+    Ok(left)
 }
 
 /// A combining switch through which one request goes after another: how many left it.
-fn comb_switch(steps: u32) -> u32 {
-    let mut state = CombState::start();
+fn comb_switch(alloc: Global, steps: u32) -> Result<u32> {
+    let mut state = CombState::start(alloc);
     let mut left: u32 = 0;
     for issue in 0..steps {
         let waits = state.offer_forward(0).is_some();
-        state = state.step(&COMBINING, &one_moves(waits, issue));
+        state = state.step(alloc, &COMBINING, &one_moves(waits, issue))?;
         left = left.saturating_add(u32::from(waits));
     }
-    left
+    Ok(left)
 }
 
 /// A combining switch in which two requests combine, and their one reply comes back as two: how many
 /// were combined into others.
-fn combining(steps: u32) -> u32 {
-    let mut state = CombState::start();
+fn combining(alloc: Global, steps: u32) -> Result<u32> {
+    let mut state = CombState::start(alloc);
     let mut combined: u32 = 0;
     for issue in 0..steps {
-        state = state.step(&COMBINING, &two_meet(&state, issue));
+        state = state.step(alloc, &COMBINING, &two_meet(&state, issue))?;
         combined = combined.saturating_add(u32::from(state.combined));
     }
-    combined
+    Ok(combined)
 }
 
 /// Two requests come where none waits, and replies leave; else the one leaves, and its reply comes.

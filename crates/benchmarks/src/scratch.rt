@@ -2,10 +2,11 @@
 use crate::clock::row;
 use crate::load::hot_spot;
 use anyhow::Result;
-use comb_switch::CombState;
+use comb_switch::{CombState, Waiting};
 use low_switch::LowState;
 use machine_cells::{MachineState, from_scratch};
 use mem_module::{ModuleState, Stored};
+use omega_net::{Queue, Reply, Request};
 use std::fmt;
 use std::mem::size_of;
 use std::time::Instant;
@@ -96,13 +97,27 @@ fn row_bytes(before: &[MachineState], row: &[MachineState]) -> u64 {
 fn apart(state: &MachineState) -> u64 {
     match state {
         MachineState::Proc(_) => 0,
-        MachineState::Module(holder) => {
-            let words = (holder.words.as_slice().len() as u64).saturating_mul(
-                size_of::<Stored>() as u64,
-            );
-            words.saturating_add(size_of::<ModuleState>() as u64)
+        MachineState::Module(holder) => (size_of::<ModuleState>() as u64)
+            .saturating_add(room(holder.words.as_slice().len(), size_of::<Stored>()))
+            .saturating_add(waiting(&holder.requests, &holder.replies)),
+        MachineState::Low(switch) => {
+            (size_of::<LowState>() as u64).saturating_add(waiting(&switch.fwd, &switch.rev))
         }
-        MachineState::Low(_) => size_of::<LowState>() as u64,
-        MachineState::Comb(_) => size_of::<CombState>() as u64,
+        MachineState::Comb(switch) => (size_of::<CombState>() as u64)
+            .saturating_add(waiting(&switch.fwd, &switch.rev))
+            .saturating_add(room(switch.wait.len(), size_of::<Waiting>())),
     }
+}
+
+/// The bytes of the messages that wait at two ports each way.
+fn waiting(requests: &[Queue<Request>; 2], replies: &[Queue<Reply>; 2]) -> u64 {
+    room(requests[0].len(), size_of::<Request>())
+        .saturating_add(room(requests[1].len(), size_of::<Request>()))
+        .saturating_add(room(replies[0].len(), size_of::<Reply>()))
+        .saturating_add(room(replies[1].len(), size_of::<Reply>()))
+}
+
+/// The bytes of so many things of that size.
+fn room(count: usize, size: usize) -> u64 {
+    (count as u64).saturating_mul(size as u64)
 }

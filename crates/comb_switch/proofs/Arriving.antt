@@ -1,10 +1,9 @@
 -- Every request that arrives stands in its output queue or in the wait buffer afterwards.
-use Rattle.std.proofs.Common.{◌≡◌, ℕ, zero, suc, ◌+◌, ◌-◌, ◌<◌, ◌≤◌, ◌/◌, ◌%◌, ◌^◌, Bool, true, false, cond, List, [], ◌∷◌, ◌++◌, length, refl, ap, sym, ◌∙◌, subst, inl, inr, Option, None, Some, arith, ltb, length-append}
-use Rattle.std.specs.Prelude.{nat_lt, nat_le, ◌||◌, ◌&&◌, ◌==◌, IfSome, slice_index, slice_index_or, slice_set}
+use Rattle.std.proofs.Common.{◌≡◌, ℕ, zero, suc, ◌+◌, ◌-◌, ◌<◌, ◌≤◌, ◌/◌, ◌^◌, Bool, true, false, cond, List, [], ◌∷◌, ◌++◌, length, refl, ap, sym, ◌∙◌, subst, inl, inr, Option, None, Some, arith, length-append}
+use Rattle.std.specs.Prelude.{nat_lt, ◌&&◌, ◌==◌, IfSome, slice_index, slice_index_or, slice_set}
 use Rattle.std.proofs.Math.Nat.{mod-lt}
 use Rattle.std.proofs.lemmas.List.{length-set}
 use Rattle.std.proofs.lemmas.Bool.{ltb-true}
-use Rattle.std.proofs.lemmas.Bool.Decides.{nat_tests}
 use Rattle.arrayvec.specs.ArrayVec.{ArrayVec}
 use Rattle.omega_net.specs.declared.message.Request.{Request}
 use Rattle.omega_net.specs.declared.message.Traffic.{Traffic}
@@ -15,7 +14,7 @@ use Rattle.omega_net.specs.Ports.{queue_at, message_at, mark_at, joined_at}
 use Rattle.omega_net.proofs.Keeping.{joined_in, shorter, some_room, both_room}
 use Rattle.comb_switch.specs.declared.state.CombState.{CombState}
 use Rattle.comb_switch.specs.declared.settings.CombSettings.{CombSettings}
-use Rattle.comb_switch.specs.CombSwitch.{youngest_for, combines, both, waiting_for, last_in, combined_in, meets, arrives, departed, requests_in}
+use Rattle.comb_switch.specs.CombSwitch.{youngest_for, combines, both, waiting_for, last_in, combined_in, meets, arrives, departed}
 use Rattle.comb_switch.specs.Kept.{HasArrived, MayCome, RequestsAreKept}
 
 -- two output queues that hold these requests

@@ -1,5 +1,5 @@
 -- A combining switch has each message that came to it, and each request that it combined into another.
-use Rattle.std.proofs.Common.{◌≡◌, ◌≢◌, ℕ, zero, suc, ◌+◌, ◌-◌, ◌<◌, ◌/◌, ◌^◌, Bool, true, false, cond, List, [], ◌∷◌, ◌++◌, length, refl, ap, sym, ◌∙◌, subst, inl, inr, Option, None, Some, arith, get_or}
+use Rattle.std.proofs.Common.{◌≡◌, ◌≢◌, ℕ, zero, suc, ◌<◌, ◌/◌, ◌^◌, Bool, true, false, cond, List, [], ◌∷◌, ◌++◌, length, refl, ap, sym, ◌∙◌, subst, inl, inr, Option, None, Some, arith, get_or}
 use Rattle.std.specs.Prelude.{nat_lt, ◌==◌, ◌⊎◌, IfSome, position, filter, slice_index_or, slice_set}
 use Rattle.std.specs.List.{Contains, remove}
 use Rattle.std.proofs.Math.Nat.{mod-lt}

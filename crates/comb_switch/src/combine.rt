@@ -1,5 +1,5 @@
 //! Requests that arrive in an output queue, and combine with one that waits there.
-ghost use Rattle.std.specs.Prelude.{◌≡◌, ◌<◌, ◌≤◌, ◌+◌, if◌then◌else◌, slice_set, length, Some, None, IfSome};
+ghost use Rattle.std.specs.Prelude.{◌≡◌, ◌<◌, ◌≤◌, ◌+◌, if◌then◌else◌, length, Some, None, IfSome, OnOk};
 ghost use Rattle.omega_net.specs.Ports.{queue_at};
 ghost use Rattle.word_ops.specs.Words.{then_op};
 ghost use Rattle.comb_switch.specs.CombSwitch.{youngest_for, combines, last_in, combined_in, meets, arrives};
@@ -7,23 +7,28 @@ ghost use Rattle.comb_switch.specs.Kept.{RequestsAreKept};
 
 use crate::waiting::{is_first, join_waiting};
 use crate::{CombSettings, CombState, Waiting};
-use omega_net::{Queue, Request, bit_of, join};
+use omega_net::{Queue, Request, bit_of};
 use page_map::Place;
+use std::alloc::AllocError;
 use word_ops::Op;
 
 /// A request arrives in its output queue.
 #[inline(always)]
-pub(crate) fn arrives(settings: &CombSettings, request: Option<Request>, next: &mut CombState)
+pub(crate) fn arrives(
+    settings: &CombSettings,
+    request: Option<Request>,
+    next: &mut CombState,
+) -> Result<(), AllocError>
     requires few { next.old.combined < 2 }
-    ensures after { next.new ≡ arrives settings.now request next.old }
+    ensures after { OnOk result (next.new ≡ arrives settings.now request next.old) }
     ensures count { next.new.combined ≤ next.old.combined + 1 }
 {
     let Some(request) = request else {
-        return;
+        return Ok(());
     };
     let output = bit_of(request.place.module, settings.bit);
     let index = youngest_for(request.place, &next.fwd[output as usize]);
-    meets(settings, request, output, index, next);
+    meets(settings, request, output, index, next)
 }
 
 /// Where each request comes only from an input that may send, every request that comes stands in its output queue, or
@@ -54,21 +59,20 @@ fn meets(
     output: u8,
     index: Option<usize>,
     next: &mut CombState,
-)
+) -> Result<(), AllocError>
     requires output_there { output < 2 }
     requires index_there { IfSome index (λ i. i < length (queue_at next.old.fwd output).items) }
     requires few { next.old.combined < 2 }
-    ensures after { next.new ≡ meets settings.now request output index next.old }
+    ensures after { OnOk result (next.new ≡ meets settings.now request output index next.old) }
     ensures count { next.new.combined ≤ next.old.combined + 1 }
 {
     if let Some(i) = index {
         let queued = next.fwd[output as usize][i];
         if let Some(op) = joint_op(settings, &next.wait, &queued, &request) {
-            combined_in(request, op, output, i, queued, next);
-            return;
+            return combined_in(request, op, output, i, queued, next);
         }
     }
-    last_in(request, output, next);
+    last_in(request, output, next)
 }
 
 /// The operation that does that request and then this one, if this one combines into it.
@@ -90,11 +94,12 @@ fn joint_op(
 }
 
 /// Puts a request last into an output queue.
-fn last_in(request: Request, output: u8, next: &mut CombState)
+fn last_in(request: Request, output: u8, next: &mut CombState) -> Result<(), AllocError>
     requires { output < 2 }
-    ensures { next.new ≡ last_in request output next.old }
+    ensures after { OnOk result (next.new ≡ last_in request output next.old) }
+    ensures count { next.new.combined ≡ next.old.combined }
 {
-    join(&mut next.fwd[output as usize], Some(request));
+    next.fwd[output as usize].push(request)
 }
 
 /// Combines a request into the one at that index of an output queue, by the operation that does both.
@@ -105,30 +110,21 @@ fn combined_in(
     index: usize,
     queued: Request,
     next: &mut CombState,
-)
+) -> Result<(), AllocError>
     requires output_there { output < 2 }
     requires index_there { index < length (queue_at next.old.fwd output).items }
     requires does_both { Some op ≡ then_op queued.op request.op }
     requires few { next.old.combined < 2 }
-    ensures { next.new ≡ combined_in request output index queued next.old }
+    ensures after { OnOk result (next.new ≡ combined_in request output index queued next.old) }
+    ensures count { next.new.combined ≤ next.old.combined + 1 }
 {
-    put_at(
-        &mut next.fwd[output as usize],
-        index,
-        Request { op, ..queued },
-    );
+    next.fwd[output as usize].set(index, Request { op, ..queued });
     let waiting = Waiting {
         first: queued.tag,
         op: queued.op,
         second: request.tag,
     };
-    join_waiting(&mut next.wait, waiting);
+    join_waiting(&mut next.wait, waiting)?;
     next.combined += 1;
-}
-
-fn put_at(queue: &mut Queue<Request>, index: usize, request: Request)
-    requires { index < length queue.old.items }
-    ensures { queue.new.items ≡ slice_set queue.old.items index request }
-{
-    queue[index] = request;
+    Ok(())
 }

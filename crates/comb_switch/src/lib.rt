@@ -3,7 +3,8 @@
 //!
 //! Combining in a switch is taken from Gottlieb and others 1983 and Kruskal, Rudolph and Snir 1988. The crate stands
 //! on the messages and queues of `omega_net` and on `Op::then` of `word_ops`. It promises that `step` is `comb_after`
-//! of `specs/CombSwitch.antt`, for every state and all that may be handed to it, and takes no memory.
+//! of `specs/CombSwitch.antt`, for every state and all that may be handed to it. A step takes memory for the messages
+//! that wait afterwards.
 #![tactic(auto)]
 
 mod combine;

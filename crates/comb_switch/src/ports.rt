@@ -1,5 +1,6 @@
 //! What a combining switch takes in the coming step, and what it shows.
 ghost use Rattle.std.specs.Prelude.{◌≡◌};
+ghost use Rattle.std.specs.Option.{option_copied};
 ghost use Rattle.omega_net.specs.Wires.{bit as bit_at};
 ghost use Rattle.comb_switch.specs.CombSwitch.{comb_takes_request, comb_takes_reply, comb_request, comb_reply};
 
@@ -27,15 +28,15 @@ impl CombState {
     }
 
     /// The request at the head of an output; none from output 2 on.
-    pub fn offer_forward(&self, output: u8) -> Option<Request>
-        ensures { result ≡ comb_request self.now output }
+    pub fn offer_forward(&self, output: u8) -> Option<&Request>
+        ensures { option_copied result ≡ comb_request self.now output }
     {
         head(self.fwd.get(output as usize)?)
     }
 
     /// The reply at the head of an input; none from input 2 on.
-    pub fn offer_reverse(&self, input: u8) -> Option<Reply>
-        ensures { result ≡ comb_reply self.now input }
+    pub fn offer_reverse(&self, input: u8) -> Option<&Reply>
+        ensures { option_copied result ≡ comb_reply self.now input }
     {
         head(self.rev.get(input as usize)?)
     }

@@ -5,11 +5,10 @@ ghost use Rattle.comb_switch.specs.CombSwitch.{comb_start};
 use crate::Waiting;
 use crate::waiting::same_waiting;
 use omega_net::{Queue, Reply, Request, same_replies, same_requests};
+use std::alloc::Global;
 
 /// A combining switch: the requests that wait, by output; the replies that wait, by input; the wait buffer; the input
 /// whose turn it is, by output; the side whose turn it is; and how many requests the last step combined.
-///
-/// The large fields stand side by side, so that a new state is cleared in one piece.
 #[derive(PartialEq, Eq, Debug, Drop)]
 pub struct CombState {
     pub fwd: [Queue<Request>; 2],
@@ -22,13 +21,13 @@ pub struct CombState {
 
 impl CombState {
     /// A switch in which nothing waits, with all turns at 0.
-    pub fn start() -> CombState
+    pub fn start(alloc: Global) -> CombState
         ensures { result ≡ comb_start }
     {
         CombState {
-            fwd: [Queue::new(), Queue::new()],
-            rev: [Queue::new(), Queue::new()],
-            wait: Queue::new(),
+            fwd: [Queue::new(alloc), Queue::new(alloc)],
+            rev: [Queue::new(alloc), Queue::new(alloc)],
+            wait: Queue::new(alloc),
             turn: [0, 0],
             rturn: 0,
             combined: 0,

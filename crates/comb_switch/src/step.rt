@@ -1,47 +1,72 @@
 //! A combining switch's step.
-ghost use Rattle.std.specs.Prelude.{◌≡◌, ◌<◌, is_some};
+ghost use Rattle.std.specs.Prelude.{◌≡◌, ◌<◌, ◌≤◌, is_some, IfOk};
 ghost use Rattle.omega_net.specs.Ports.{request_to};
-ghost use Rattle.comb_switch.specs.CombSwitch.{comb_start, comb_after, departed, comb_turn_after};
+ghost use Rattle.omega_net.specs.Queues.{without_head};
+ghost use Rattle.comb_switch.specs.CombSwitch.{comb_after, departed, comb_turn_after};
 
 use crate::combine::arrives;
 use crate::returns::returns_to;
 use crate::{CombSettings, CombState};
-use omega_net::{Request, Traffic, bit_of, put_rest, turn_after};
+use omega_net::{Queue, Reply, Request, Traffic, bit_of, rest_of, turn_after};
+use std::alloc::{AllocError, Global};
 
 impl CombState {
     /// The state one cycle later: heads leave first, then requests arrive, from input 0 before input 1, then replies
-    /// return, from side 0 before side 1. The queues are filled in place, so the state is written once.
-    pub fn step(&self, settings: &CombSettings, traffic: &Traffic) -> CombState
-        ensures { result ≡ comb_after settings.now traffic.now self.now }
+    /// return, from side 0 before side 1.
+    ///
+    /// # Errors
+    ///
+    /// Where a growth was refused. The state is as before.
+    pub fn step(
+        &self,
+        alloc: Global,
+        settings: &CombSettings,
+        traffic: &Traffic,
+    ) -> Result<CombState, AllocError>
+        ensures { IfOk result (λ next. next ≡ comb_after settings.now traffic.now self.now) }
     {
-        let mut next = CombState::start();
-        self.put_departed(settings, traffic, &mut next);
-        arrives(settings, traffic.requests[0], &mut next);
-        arrives(settings, traffic.requests[1], &mut next);
-        returns_to(settings, traffic.replies[0], &mut next);
-        returns_to(settings, traffic.replies[1], &mut next);
-        next
+        let mut next = self.departed(alloc, settings, traffic)?;
+        arrives(settings, traffic.requests[0], &mut next)?;
+        arrives(settings, traffic.requests[1], &mut next)?;
+        returns_to(settings, traffic.replies[0], &mut next)?;
+        returns_to(settings, traffic.replies[1], &mut next)?;
+        Ok(next)
     }
 
-    /// Puts what stays when heads have left and turns have gone on.
-    fn put_departed(&self, settings: &CombSettings, traffic: &Traffic, next: &mut CombState)
-        requires { next.old ≡ comb_start }
-        ensures { next.new ≡ departed settings.now traffic.now self.now }
+    /// What stays when heads have left and turns have gone on, with room for what comes.
+    fn departed(
+        &self,
+        alloc: Global,
+        settings: &CombSettings,
+        traffic: &Traffic,
+    ) -> Result<CombState, AllocError>
+        ensures { IfOk result (λ next. next ≡ departed settings.now traffic.now self.now) }
     {
-        put_rest(&self.fwd[0], traffic.requests_leave[0], &mut next.fwd[0]);
-        put_rest(&self.fwd[1], traffic.requests_leave[1], &mut next.fwd[1]);
-        put_rest(&self.rev[0], traffic.replies_leave[0], &mut next.rev[0]);
-        put_rest(&self.rev[1], traffic.replies_leave[1], &mut next.rev[1]);
-        put_rest(&self.wait, false, &mut next.wait);
-        next.turn = [
-            self.turn_after(settings, traffic, 0),
-            self.turn_after(settings, traffic, 1),
-        ];
-        next.rturn = turn_after(
-            self.rturn,
-            traffic.replies[0].is_some(),
-            traffic.replies[1].is_some(),
-        );
+        let [leaves_0, leaves_1] = traffic.requests_leave;
+        let [returns_0, returns_1] = traffic.replies_leave;
+        let coming_0 = coming(settings.bit, 0, &traffic.requests);
+        let coming_1 = coming(settings.bit, 1, &traffic.requests);
+        Ok(CombState {
+            fwd: [
+                rest_of(alloc, &self.fwd[0], leaves_0, coming_0)?,
+                rest_of(alloc, &self.fwd[1], leaves_1, coming_1)?,
+            ],
+            rev: [
+                replies_of(alloc, &self.rev[0], returns_0, &traffic.replies)?,
+                replies_of(alloc, &self.rev[1], returns_1, &traffic.replies)?,
+            ],
+            wait: rest_of(alloc, &self.wait, false, 0)?,
+            turn: [
+                self.turn_after(settings, traffic, 0),
+                self.turn_after(settings, traffic, 1),
+            ],
+            rturn: turn_after(
+                self.rturn,
+                traffic.replies[0].is_some(),
+                traffic.replies[1].is_some(),
+            ),
+            combined: 0,
+        })
     }
 
     fn turn_after(&self, settings: &CombSettings, traffic: &Traffic, output: u8) -> u8
@@ -62,4 +87,26 @@ fn goes_to(bit: u32, output: u8, request: Option<Request>) -> bool
         Some(r) => bit_of(r.place.module, bit) == output,
         None => false,
     }
+}
+
+/// How many of the requests that come go to that output.
+fn coming(bit: u32, output: u8, requests: &[Option<Request>; 2]) -> usize
+    ensures { result ≤ 2 }
+{
+    usize::from(goes_to(bit, output, requests[0])) + usize::from(goes_to(bit, output, requests[1]))
+}
+
+/// What a queue of replies holds after its head left, if it leaves, with room for what may come: two of each reply. An
+/// empty one is left without room, since all of them may go to the other queue.
+fn replies_of(
+    alloc: Global,
+    queue: &Queue<Reply>,
+    leaves: bool,
+    replies: &[Option<Reply>; 2],
+) -> Result<Queue<Reply>, AllocError>
+    ensures { IfOk result (λ rest. rest ≡ without_head leaves queue.now) }
+{
+    let coming = usize::from(replies[0].is_some()) + usize::from(replies[1].is_some());
+    let room = if queue.is_empty() { 0 } else { 2 * coming };
+    rest_of(alloc, queue, leaves, room)
 }

@@ -1,10 +1,11 @@
 //! The wait buffer: what has to be known to make two replies of the one to a combined request.
-ghost use Rattle.std.specs.Prelude.{◌≡◌, ◌↔◌, IsTrue, position, Some};
+ghost use Rattle.std.specs.Prelude.{◌≡◌, ◌↔◌, IsTrue, OnOk, position, Some};
 ghost use Rattle.std.specs.List.{list_any};
 ghost use Rattle.omega_net.specs.Ports.{same_tag};
 ghost use Rattle.omega_net.specs.Queues.{joined};
 
-use omega_net::{Queue, Tag, join};
+use omega_net::{Queue, Tag};
+use std::alloc::AllocError;
 use word_ops::Op;
 
 /// A request that was combined into another: that one's tag, its operation before, and the tag of the request that
@@ -38,8 +39,8 @@ pub(crate) fn first_waiting(wait: &Queue<Waiting>, tag: Tag) -> Option<usize>
 }
 
 /// Puts an entry last, if there is room.
-pub(crate) fn join_waiting(wait: &mut Queue<Waiting>, waiting: Waiting)
-    ensures { wait.new ≡ joined wait.old (Some waiting) }
+pub(crate) fn join_waiting(wait: &mut Queue<Waiting>, waiting: Waiting) -> Result<(), AllocError>
+    ensures { OnOk result (wait.new ≡ joined wait.old (Some waiting)) }
 {
-    join(wait, Some(waiting));
+    wait.push(waiting)
 }

@@ -1,5 +1,6 @@
 //! What a low switch takes in the coming step, and what it shows.
 ghost use Rattle.std.specs.Prelude.{◌≡◌};
+ghost use Rattle.std.specs.Option.{option_copied};
 ghost use Rattle.omega_net.specs.Wires.{bit as bit_at};
 ghost use Rattle.low_switch.specs.LowSwitch.{low_takes_request, low_takes_reply, low_request, low_reply};
 
@@ -26,15 +27,15 @@ impl LowState {
     }
 
     /// The request at the head of an output; none from output 2 on.
-    pub fn offer_forward(&self, output: u8) -> Option<Request>
-        ensures { result ≡ low_request self.now output }
+    pub fn offer_forward(&self, output: u8) -> Option<&Request>
+        ensures { option_copied result ≡ low_request self.now output }
     {
         head(self.fwd.get(output as usize)?)
     }
 
     /// The reply at the head of an input; none from input 2 on.
-    pub fn offer_reverse(&self, input: u8) -> Option<Reply>
-        ensures { result ≡ low_reply self.now input }
+    pub fn offer_reverse(&self, input: u8) -> Option<&Reply>
+        ensures { option_copied result ≡ low_reply self.now input }
     {
         head(self.rev.get(input as usize)?)
     }

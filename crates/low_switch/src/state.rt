@@ -3,6 +3,7 @@ ghost use Rattle.std.specs.Prelude.{◌≡◌, ◌↔◌, IsTrue};
 ghost use Rattle.low_switch.specs.LowSwitch.{low_start};
 
 use omega_net::{Queue, Reply, Request, same_replies, same_requests};
+use std::alloc::Global;
 
 /// A low switch: by output, the requests that wait and the input whose turn it is; by input, the replies that wait and
 /// the side whose turn it is.
@@ -16,13 +17,13 @@ pub struct LowState {
 
 impl LowState {
     /// A switch in which nothing waits, with all turns at 0.
-    pub fn start() -> LowState
+    pub fn start(alloc: Global) -> LowState
         ensures { result ≡ low_start }
     {
         LowState {
-            fwd: [Queue::new(), Queue::new()],
+            fwd: [Queue::new(alloc), Queue::new(alloc)],
             turn: [0, 0],
-            rev: [Queue::new(), Queue::new()],
+            rev: [Queue::new(alloc), Queue::new(alloc)],
             rturn: [0, 0],
         }
     }

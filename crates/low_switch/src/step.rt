@@ -1,42 +1,56 @@
 //! A low switch's step.
-ghost use Rattle.std.specs.Prelude.{◌≡◌, ◌<◌, []};
+ghost use Rattle.std.specs.Prelude.{◌≡◌, ◌<◌, IfOk};
 ghost use Rattle.omega_net.specs.Ports.{request_to, reply_to};
 ghost use Rattle.low_switch.specs.LowSwitch.{low_after, fwd_after, fwd_turn_after, rev_after, rev_turn_after};
 
 use crate::LowState;
-use omega_net::{Queue, Reply, Request, Traffic, bit_of, put_after, turn_after};
+use omega_net::{Queue, Reply, Request, Traffic, bit_of, queue_after, turn_after};
+use std::alloc::{AllocError, Global};
 
 impl LowState {
     /// The state one cycle later, where its stage decides by that bit: heads leave first, then what comes from 0 joins
-    /// before what comes from 1. The queues are filled in place, so the state is written once.
-    pub fn step(&self, bit: u32, traffic: &Traffic) -> LowState
-        ensures { result ≡ low_after bit traffic.now self.now }
+    /// before what comes from 1.
+    ///
+    /// # Errors
+    ///
+    /// Where a growth was refused. The state is as before.
+    pub fn step(&self, alloc: Global, bit: u32, traffic: &Traffic) -> Result<LowState, AllocError>
+        ensures { IfOk result (λ next. next ≡ low_after bit traffic.now self.now) }
     {
-        let mut next = LowState::start();
-        self.put_fwd(bit, traffic, 0, &mut next.fwd[0]);
-        self.put_fwd(bit, traffic, 1, &mut next.fwd[1]);
-        self.put_rev(bit, traffic, 0, &mut next.rev[0]);
-        self.put_rev(bit, traffic, 1, &mut next.rev[1]);
-        next.turn = [
-            self.turn_after(bit, traffic, 0),
-            self.turn_after(bit, traffic, 1),
-        ];
-        next.rturn = [
-            self.rturn_after(bit, traffic, 0),
-            self.rturn_after(bit, traffic, 1),
-        ];
-        next
+        Ok(LowState {
+            fwd: [
+                self.fwd_after(alloc, bit, traffic, 0)?,
+                self.fwd_after(alloc, bit, traffic, 1)?,
+            ],
+            turn: [
+                self.turn_after(bit, traffic, 0),
+                self.turn_after(bit, traffic, 1),
+            ],
+            rev: [
+                self.rev_after(alloc, bit, traffic, 0)?,
+                self.rev_after(alloc, bit, traffic, 1)?,
+            ],
+            rturn: [
+                self.rturn_after(bit, traffic, 0),
+                self.rturn_after(bit, traffic, 1),
+            ],
+        })
     }
 
-    fn put_fwd(&self, bit: u32, traffic: &Traffic, output: u8, next: &mut Queue<Request>)
-        requires port { output < 2 }
-        requires empty { next.old.items ≡ [] }
-        ensures { next.new ≡ fwd_after bit traffic.now self.now output }
+    fn fwd_after(
+        &self,
+        alloc: Global,
+        bit: u32,
+        traffic: &Traffic,
+        output: u8,
+    ) -> Result<Queue<Request>, AllocError>
+        requires { output < 2 }
+        ensures { IfOk result (λ queue. queue ≡ fwd_after bit traffic.now self.now output) }
     {
         let first = request_to(bit, output, traffic.requests[0]);
         let second = request_to(bit, output, traffic.requests[1]);
         let leaves = traffic.requests_leave[output as usize];
-        put_after(&self.fwd[output as usize], leaves, first, second, next);
+        queue_after(alloc, &self.fwd[output as usize], leaves, first, second)
     }
 
     fn turn_after(&self, bit: u32, traffic: &Traffic, output: u8) -> u8
@@ -49,15 +63,20 @@ impl LowState {
         turn_after(turn, first.is_some(), second.is_some())
     }
 
-    fn put_rev(&self, bit: u32, traffic: &Traffic, input: u8, next: &mut Queue<Reply>)
-        requires port { input < 2 }
-        requires empty { next.old.items ≡ [] }
-        ensures { next.new ≡ rev_after bit traffic.now self.now input }
+    fn rev_after(
+        &self,
+        alloc: Global,
+        bit: u32,
+        traffic: &Traffic,
+        input: u8,
+    ) -> Result<Queue<Reply>, AllocError>
+        requires { input < 2 }
+        ensures { IfOk result (λ queue. queue ≡ rev_after bit traffic.now self.now input) }
     {
         let first = reply_to(bit, input, traffic.replies[0]);
         let second = reply_to(bit, input, traffic.replies[1]);
         let leaves = traffic.replies_leave[input as usize];
-        put_after(&self.rev[input as usize], leaves, first, second, next);
+        queue_after(alloc, &self.rev[input as usize], leaves, first, second)
     }
 
     fn rturn_after(&self, bit: u32, traffic: &Traffic, input: u8) -> u8

@@ -9,5 +9,6 @@ pub mod laws
 pub mod GridLaws
 pub mod Runs
 pub mod Texts
+pub mod Pulls
 pub mod Quiet
 pub mod Kept

@@ -1,5 +1,5 @@
 -- The run of a project: its first states, then one cycle after another.
-use Rattle.std.specs.Prelude.{ℕ, zero, suc, ◌==◌, ◌&&◌, nat_lt, Bool, if◌then◌else◌, List, [], ◌∷◌, map, Option, None, Some}
+use Rattle.std.specs.Prelude.{ℕ, zero, suc, ◌==◌, ◌&&◌, nat_lt, Bool, if◌then◌else◌, List, [], ◌∷◌, map, Option, Some}
 use Rattle.omega_net.specs.declared.component.Component.{Component}
 use Rattle.omega_net.specs.declared.component.Component.TheVariants.{Module as ModuleAt}
 use Rattle.omega_net.specs.Numbers.{components, component_of}

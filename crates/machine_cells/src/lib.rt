@@ -39,6 +39,7 @@ mod grid;
 mod laws;
 mod near;
 mod pull;
+mod pulls;
 mod readers;
 mod reads;
 mod rest;

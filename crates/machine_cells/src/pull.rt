@@ -1,18 +1,17 @@
 //! What goes over a component's wires, pulled from its near states.
-ghost use Rattle.std.specs.Prelude.{◌≡◌, ◌≤◌, ◌-◌, IsTrue, None, map};
-ghost use Rattle.omega_net.specs.Queues.{head};
-ghost use Rattle.omega_net.specs.Ports.{queue_at};
+ghost use Rattle.std.specs.Prelude.{◌≡◌, ◌≤◌, ◌-◌, map};
+ghost use Rattle.std.specs.Option.{option_copied};
 ghost use Rattle.machine_cells.specs.Moves.{request_on, reply_on, takes_request, takes_reply};
 ghost use Rattle.machine_cells.specs.Cells.{request_pulled, reply_pulled};
 
 use crate::MachineState;
 use crate::near::{NearState, state_at};
-use omega_net::{Component, Net, Queue, Reply, Request, Shape, Wire};
+use omega_net::{Component, Net, Reply, Request, Shape, Wire};
 use project_book::{Depths, Project};
 
 /// The request that a component shows on a wire at its memory side.
-fn request_on(wire: Wire, state: &MachineState) -> Option<Request>
-    ensures { result ≡ request_on wire state.now }
+fn request_on(wire: Wire, state: &MachineState) -> Option<&Request>
+    ensures { option_copied result ≡ request_on wire state.now }
 {
     match state {
         MachineState::Proc(s) => s.offer(wire.net),
@@ -23,48 +22,14 @@ fn request_on(wire: Wire, state: &MachineState) -> Option<Request>
 }
 
 /// The reply that a component shows on a wire at its processor side.
-fn reply_on(shape: Shape, wire: Wire, state: &MachineState) -> Option<Reply>
-    ensures { result ≡ reply_on shape wire state.now }
+fn reply_on(shape: Shape, wire: Wire, state: &MachineState) -> Option<&Reply>
+    ensures { option_copied result ≡ reply_on shape wire state.now }
 {
     match state {
         MachineState::Proc(_) => None,
         MachineState::Module(s) => s.offer(wire.net),
         MachineState::Low(s) => s.offer_reverse(shape.input(wire)),
         MachineState::Comb(s) => s.offer_reverse(shape.input(wire)),
-    }
-}
-
-/// Whether one of two queues has no message; there is no third.
-fn lacks_head<T>(queues: &[Queue<T>; 2], port: u8) -> bool
-    ensures { IsTrue result → head (queue_at queues.now port) ≡ None }
-{
-    match queues.get(usize::from(port)) {
-        Some(queue) => queue.is_empty(),
-        None => true,
-    }
-}
-
-/// Whether a component shows no request on such a wire. Most wires have none, and this copies nothing.
-fn shows_no_request(wire: Wire, state: &MachineState) -> bool
-    ensures { IsTrue result → request_on wire state.now ≡ None }
-{
-    match state {
-        MachineState::Proc(s) => s.out.is_none(),
-        MachineState::Module(_) => true,
-        MachineState::Low(s) => lacks_head(&s.fwd, wire.output()),
-        MachineState::Comb(s) => lacks_head(&s.fwd, wire.output()),
-    }
-}
-
-/// Whether a component shows no reply on such a wire.
-fn shows_no_reply(shape: Shape, wire: Wire, state: &MachineState) -> bool
-    ensures { IsTrue result → reply_on shape wire state.now ≡ None }
-{
-    match state {
-        MachineState::Proc(_) => true,
-        MachineState::Module(s) => s.offer(wire.net).is_none(),
-        MachineState::Low(s) => lacks_head(&s.rev, shape.input(wire)),
-        MachineState::Comb(s) => lacks_head(&s.rev, shape.input(wire)),
     }
 }
 
@@ -146,25 +111,22 @@ fn takes_reply(
 
 /// The request that goes over a wire between the near states at these two places.
 #[inline(always)]
-pub(crate) fn request_pulled<S: NearState>(
+pub(crate) fn request_pulled<'a, S: NearState>(
     project: &Project,
     shape: Shape,
-    near: &[S],
+    near: &'a [S],
     wire: Wire,
     upper: usize,
     lower: usize,
-) -> Option<Request>
+) -> Option<&'a Request>
     requires shape { shape ≡ project.now.k }
     requires stage { wire.stage ≤ shape }
-    ensures { result ≡ request_pulled project.now (map S.state near.now) wire upper lower }
+    ensures { option_copied result ≡ request_pulled project.now (map S.state near.now) wire upper lower }
 {
     let from = state_at(near, upper)?;
     let to = state_at(near, lower)?;
-    if shows_no_request(wire, from) {
-        return None;
-    }
     let request = request_on(wire, from)?;
-    if takes_request(project, shape, wire, &request, to) {
+    if takes_request(project, shape, wire, request, to) {
         Some(request)
     } else {
         None
@@ -173,24 +135,21 @@ pub(crate) fn request_pulled<S: NearState>(
 
 /// The reply that goes over a wire between the near states at these two places.
 #[inline(always)]
-pub(crate) fn reply_pulled<S: NearState>(
+pub(crate) fn reply_pulled<'a, S: NearState>(
     project: &Project,
     shape: Shape,
-    near: &[S],
+    near: &'a [S],
     wire: Wire,
     upper: usize,
     lower: usize,
-) -> Option<Reply>
+) -> Option<&'a Reply>
     requires { shape ≡ project.now.k }
-    ensures { result ≡ reply_pulled project.now (map S.state near.now) wire upper lower }
+    ensures { option_copied result ≡ reply_pulled project.now (map S.state near.now) wire upper lower }
 {
     let to = state_at(near, upper)?;
     let from = state_at(near, lower)?;
-    if shows_no_reply(shape, wire, from) {
-        return None;
-    }
     let reply = reply_on(shape, wire, from)?;
-    if takes_reply(project, shape, wire, &reply, to) {
+    if takes_reply(project, shape, wire, reply, to) {
         Some(reply)
     } else {
         None

@@ -4,14 +4,15 @@ ghost use Rattle.low_switch.specs.LowSwitch.{low_after};
 ghost use Rattle.comb_switch.specs.declared.settings.CombSettings.{CombSettings as Settings};
 ghost use Rattle.comb_switch.specs.CombSwitch.{comb_after};
 ghost use Rattle.mem_module.specs.MemModule.{module_after};
-ghost use Rattle.machine_cells.specs.Quiet.{quiet, quiet_module, IsNextOf};
+ghost use Rattle.machine_cells.specs.Pulls.{traffic, module_traffic};
+ghost use Rattle.machine_cells.specs.Quiet.{IsNextOf};
 
 use crate::Shared;
+use crate::pulls::{ModulePulls, SwitchPulls};
 use comb_switch::{CombSettings, CombState};
 use grid_law::NoMemory;
 use low_switch::LowState;
-use mem_module::{ModuleState, ModuleTraffic};
-use omega_net::Traffic;
+use mem_module::ModuleState;
 use std::alloc::Global;
 
 /// A low switch one cycle later. It takes memory only where something moves.
@@ -19,14 +20,14 @@ pub(crate) fn low_next(
     alloc: Global,
     own: &LowState,
     bit: u32,
-    traffic: &Traffic,
+    pulls: &SwitchPulls,
 ) -> Result<Option<Shared<LowState>>, NoMemory>
-    ensures { IfOk result (IsNextOf own.now (low_after bit traffic.now own.now)) }
+    ensures { IfOk result (IsNextOf own.now (low_after bit (traffic pulls.now) own.now)) }
 {
-    if low_rests(own, traffic) {
+    if low_rests(own, pulls) {
         Ok(None)
     } else {
-        Ok(Some(Shared::new(alloc, own.step(bit, traffic))?))
+        Ok(Some(Shared::new(alloc, own.step(alloc, bit, &pulls.traffic())?)?))
     }
 }
 
@@ -36,14 +37,14 @@ pub(crate) fn comb_next(
     alloc: Global,
     own: &CombState,
     settings: &CombSettings,
-    traffic: &Traffic,
+    pulls: &SwitchPulls,
 ) -> Result<Option<Shared<CombState>>, NoMemory>
-    ensures { IfOk result (IsNextOf own.now (comb_after settings.now traffic.now own.now)) }
+    ensures { IfOk result (IsNextOf own.now (comb_after settings.now (traffic pulls.now) own.now)) }
 {
-    if comb_rests(own, traffic) {
+    if comb_rests(own, pulls) {
         Ok(None)
     } else {
-        Ok(Some(Shared::new(alloc, own.step(settings, traffic))?))
+        Ok(Some(Shared::new(alloc, own.step(alloc, settings, &pulls.traffic())?)?))
     }
 }
 
@@ -53,14 +54,14 @@ pub(crate) fn module_next(
     alloc: Global,
     own: &ModuleState,
     depth: u32,
-    traffic: &ModuleTraffic,
+    pulls: &ModulePulls,
 ) -> Result<Option<Shared<ModuleState>>, NoMemory>
-    ensures { IfOk result (IsNextOf own.now (module_after depth traffic.now own.now)) }
+    ensures { IfOk result (IsNextOf own.now (module_after depth (module_traffic pulls.now) own.now)) }
 {
-    if module_rests(own, traffic) {
+    if module_rests(own, pulls) {
         Ok(None)
     } else {
-        Ok(Some(Shared::new(alloc, own.step(alloc, depth, traffic)?)?))
+        Ok(Some(Shared::new(alloc, own.step(alloc, depth, &pulls.traffic())?)?))
     }
 }
 
@@ -71,64 +72,33 @@ fn pair<T>(items: &[T; 2])
 
 /// Whether a low switch stays as it is.
 #[tactic(auto, using(crate::proofs::Resting::low_rests))]
-fn low_rests(own: &LowState, traffic: &Traffic) -> bool
-    ensures { IsTrue result → (bit : ℕ) → low_after bit traffic.now own.now ≡ own.now }
+fn low_rests(own: &LowState, pulls: &SwitchPulls) -> bool
+    ensures { IsTrue result → (bit : ℕ) → low_after bit (traffic pulls.now) own.now ≡ own.now }
 {
     pair(&own.fwd);
     pair(&own.turn);
     pair(&own.rev);
     pair(&own.rturn);
-    is_quiet(traffic)
+    pulls.is_quiet()
 }
 
 /// Whether a combining switch stays as it is.
 #[tactic(auto, using(crate::proofs::Resting::comb_rests))]
-fn comb_rests(own: &CombState, traffic: &Traffic) -> bool
-    ensures { IsTrue result → (settings : Settings) → comb_after settings traffic.now own.now ≡ own.now }
+fn comb_rests(own: &CombState, pulls: &SwitchPulls) -> bool
+    ensures { IsTrue result → (settings : Settings) → comb_after settings (traffic pulls.now) own.now ≡ own.now }
 {
     pair(&own.fwd);
     pair(&own.turn);
     pair(&own.rev);
-    own.combined == 0 && is_quiet(traffic)
+    own.combined == 0 && pulls.is_quiet()
 }
 
 /// Whether a module stays as it is: where nothing waits, nothing can be served.
 #[tactic(auto, using(crate::proofs::Resting::module_rests))]
-fn module_rests(own: &ModuleState, traffic: &ModuleTraffic) -> bool
-    ensures { IsTrue result → (depth : ℕ) → module_after depth traffic.now own.now ≡ own.now }
+fn module_rests(own: &ModuleState, pulls: &ModulePulls) -> bool
+    ensures { IsTrue result → (depth : ℕ) → module_after depth (module_traffic pulls.now) own.now ≡ own.now }
 {
     pair(&own.requests);
     pair(&own.replies);
-    !own.served
-        && own.requests[0].is_empty()
-        && own.requests[1].is_empty()
-        && is_quiet_module(traffic)
-}
-
-/// Whether nothing comes to a switch and nothing leaves it.
-fn is_quiet(traffic: &Traffic) -> bool
-    ensures { IsTrue result → traffic.now ≡ quiet }
-{
-    match traffic {
-        Traffic {
-            requests: [None, None],
-            replies: [None, None],
-            requests_leave: [false, false],
-            replies_leave: [false, false],
-        } => true,
-        _ => false,
-    }
-}
-
-/// Whether nothing comes to a module and nothing leaves it.
-fn is_quiet_module(traffic: &ModuleTraffic) -> bool
-    ensures { IsTrue result → traffic.now ≡ quiet_module }
-{
-    match traffic {
-        ModuleTraffic {
-            requests: [None, None],
-            replies_leave: [false, false],
-        } => true,
-        _ => false,
-    }
+    !own.served && own.requests[0].is_empty() && own.requests[1].is_empty() && pulls.is_quiet()
 }

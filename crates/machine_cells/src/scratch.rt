@@ -16,8 +16,8 @@ use std::alloc::Global;
 /// Every state of a project's run: by cycle from 0 to the horizon, and by component number.
 ///
 /// Each cycle is computed whole from the one before. A module or a switch in which nothing moves shares
-/// its state with the cycle before, so a cell takes some 100 bytes, and one in which something moves up
-/// to 1.5 KB more. It is what ways that keep what an edit leaves alone are compared with.
+/// its state with the cycle before, so a cell takes some 100 bytes, and one in which something moves
+/// as much again, and its messages. It is what ways that keep what an edit leaves alone are compared with.
 ///
 /// # Errors
 ///

@@ -43,10 +43,10 @@ pub(crate) fn blank_of(alloc: Global, component: Component) -> Result<MachineSta
         Component::Proc(_) => Ok(MachineState::Proc(ProcState::start())),
         Component::Module(_) => module_with(alloc, Words::new(alloc)),
         Component::Switch { net: Net::Low, .. } => {
-            Ok(MachineState::Low(Shared::new(alloc, LowState::start())?))
+            Ok(MachineState::Low(Shared::new(alloc, LowState::start(alloc))?))
         },
         Component::Switch { net: Net::Comb, .. } => {
-            Ok(MachineState::Comb(Shared::new(alloc, CombState::start())?))
+            Ok(MachineState::Comb(Shared::new(alloc, CombState::start(alloc))?))
         },
     }
 }

@@ -10,19 +10,21 @@ ghost use Rattle.mem_module.specs.MemModule.{module_after};
 ghost use Rattle.project_book.specs.Project.{depth_of};
 ghost use Rattle.project_book.specs.declared.edit.Depths.TheVariants.{ModuleQueue};
 ghost use Rattle.machine_cells.specs.Quiet.{IsNextOf};
+ghost use Rattle.machine_cells.specs.Pulls.{traffic, module_traffic};
 ghost use Rattle.machine_cells.specs.Cycle.{proc_settings, comb_settings};
 ghost use Rattle.machine_cells.specs.Cells.{beside_on, proc_pulls, module_pulls, switch_pulls, pulled};
 
 use crate::near::NearState;
 use crate::pull::{reply_pulled, request_pulled};
+use crate::pulls::{ModulePulls, SwitchPulls};
 use crate::rest::{comb_next, low_next, module_next};
 use crate::start::blank_of;
 use crate::{MachineState, Shared};
 use comb_switch::{CombSettings, CombState};
 use grid_law::NoMemory;
 use low_switch::LowState;
-use mem_module::{ModuleState, ModuleTraffic};
-use omega_net::{Component, Net, ScriptEntry, Shape, Traffic};
+use mem_module::ModuleState;
+use omega_net::{Component, Net, ScriptEntry, Shape};
 use page_map::Place;
 use project_book::{Depths, Project};
 use ref_proc::{ProcSettings, ProcState, ProcTraffic};
@@ -52,75 +54,76 @@ fn proc_pulls<S: NearState>(project: &Project, shape: Shape, near: &[S], proc: u
     let on_comb = request_pulled(project, shape, near, comb, 0, comb_at).is_some();
     ProcTraffic {
         replies: [
-            reply_pulled(project, shape, near, low, 0, low_at),
-            reply_pulled(project, shape, near, comb, 0, comb_at),
+            reply_pulled(project, shape, near, low, 0, low_at).copied(),
+            reply_pulled(project, shape, near, comb, 0, comb_at).copied(),
         ],
         request_leaves: on_low || on_comb,
     }
 }
 
 /// What the near states are to a module.
-fn module_pulls<S: NearState>(
+#[inline(always)]
+fn module_pulls<'a, S: NearState>(
     project: &Project,
     shape: Shape,
-    near: &[S],
+    near: &'a [S],
     number: u8,
-) -> ModuleTraffic
+) -> ModulePulls<'a>
     requires shape { shape ≡ project.now.k }
     requires there { Exists shape (Component.Module number) }
-    ensures { result ≡ module_pulls project.now (map S.state near.now) number }
+    ensures { module_traffic result ≡ module_pulls project.now (map S.state near.now) number }
 {
     let low = shape.exit(Net::Low, number);
     let comb = shape.exit(Net::Comb, number);
     let low_at = beside_on(shape, Net::Low);
     let comb_at = beside_on(shape, Net::Comb);
-    ModuleTraffic {
-        requests: [
+    ModulePulls {
+        requests: (
             request_pulled(project, shape, near, low, low_at, 0),
             request_pulled(project, shape, near, comb, comb_at, 0),
-        ],
-        replies_leave: [
+        ),
+        replies_leave: (
             reply_pulled(project, shape, near, low, low_at, 0).is_some(),
             reply_pulled(project, shape, near, comb, comb_at, 0).is_some(),
-        ],
+        ),
     }
 }
 
 /// What the near states are to a switch.
 #[inline(always)]
-fn switch_pulls<S: NearState>(
+fn switch_pulls<'a, S: NearState>(
     project: &Project,
     shape: Shape,
-    near: &[S],
+    near: &'a [S],
     net: Net,
     stage: u8,
     index: u8,
-) -> Traffic
+) -> SwitchPulls<'a>
     requires shape { shape ≡ project.now.k }
     requires there { Exists shape (Component.Switch net stage index) }
-    ensures { result ≡ switch_pulls project.now (map S.state near.now) net stage index }
+    ensures { traffic result ≡ switch_pulls project.now (map S.state near.now) net stage index }
 {
     let in_0 = shape.before(net, stage, index, 0);
     let in_1 = shape.before(net, stage, index, 1);
     let out_0 = shape.after(net, stage, index, 0);
     let out_1 = shape.after(net, stage, index, 1);
-    Traffic {
-        requests: [
+    SwitchPulls {
+        requests: (
             request_pulled(project, shape, near, in_0, 1, 0),
             request_pulled(project, shape, near, in_1, 2, 0),
-        ],
-        replies: [
+        ),
+        replies: (
             reply_pulled(project, shape, near, out_0, 0, 3),
             reply_pulled(project, shape, near, out_1, 0, 4),
-        ],
-        requests_leave: [
+        ),
+        requests_leave: (
             request_pulled(project, shape, near, out_0, 0, 3).is_some(),
             request_pulled(project, shape, near, out_1, 0, 4).is_some(),
-        ],
-        replies_leave: [
+        ),
+        replies_leave: (
             reply_pulled(project, shape, near, in_0, 1, 0).is_some(),
             reply_pulled(project, shape, near, in_1, 2, 0).is_some(),
-        ],
+        ),
     }
 }
 
@@ -176,8 +179,8 @@ fn low_step<S: NearState>(
     requires there { Exists shape (Component.Switch Net.Low stage index) }
     ensures { IfOk result (IsNextOf own.now (low_after (project.now.k - 1 - stage) (switch_pulls project.now (map S.state near.now) Net.Low stage index) own.now)) }
 {
-    let traffic = switch_pulls(project, shape, near, Net::Low, stage, index);
-    low_next(alloc, own, shape.deciding_bit(stage), &traffic)
+    let pulls = switch_pulls(project, shape, near, Net::Low, stage, index);
+    low_next(alloc, own, shape.deciding_bit(stage), &pulls)
 }
 
 fn comb_step<S: NearState>(
@@ -193,8 +196,8 @@ fn comb_step<S: NearState>(
     requires there { Exists shape (Component.Switch Net.Comb stage index) }
     ensures { IfOk result (IsNextOf own.now (comb_after (comb_settings project.now stage) (switch_pulls project.now (map S.state near.now) Net.Comb stage index) own.now)) }
 {
-    let traffic = switch_pulls(project, shape, near, Net::Comb, stage, index);
-    comb_next(alloc, own, &comb_settings(project, shape, stage), &traffic)
+    let pulls = switch_pulls(project, shape, near, Net::Comb, stage, index);
+    comb_next(alloc, own, &comb_settings(project, shape, stage), &pulls)
 }
 
 fn proc_step<S: NearState>(
@@ -225,8 +228,8 @@ fn module_step<S: NearState>(
     requires there { Exists shape (Component.Module number) }
     ensures { IfOk result (IsNextOf own.now (module_after (depth_of project.now ModuleQueue) (module_pulls project.now (map S.state near.now) number) own.now)) }
 {
-    let traffic = module_pulls(project, shape, near, number);
-    module_next(alloc, own, project.depth(Depths::ModuleQueue), &traffic)
+    let pulls = module_pulls(project, shape, near, number);
+    module_next(alloc, own, project.depth(Depths::ModuleQueue), &pulls)
 }
 
 /// A component's state one cycle later, from its own state and the near states, its own first; nothing

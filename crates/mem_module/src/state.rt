@@ -1,5 +1,6 @@
 //! What a module holds between two cycles, and what it shows and takes.
 ghost use Rattle.std.specs.Prelude.{◌≡◌, ◌<◌, ◌↔◌, IsTrue, IfOk};
+ghost use Rattle.std.specs.Option.{option_copied};
 ghost use Rattle.omega_net.specs.Wires.{net_number};
 ghost use Rattle.mem_module.specs.Memory.{word_at};
 ghost use Rattle.mem_module.specs.MemModule.{module_start, module_takes_request, module_reply};
@@ -32,20 +33,13 @@ impl ModuleState {
     pub fn start(alloc: Global, words: Words) -> Result<ModuleState, NoMemory>
         ensures { IfOk result (λ first. first ≡ module_start words) }
     {
-        Ok(ModuleState::holding(SharedWords::new(alloc, words)?))
-    }
-
-    /// The same, where its words are shared already.
-    pub(crate) fn holding(words: SharedWords) -> ModuleState
-        ensures { result ≡ module_start words }
-    {
-        ModuleState {
-            words,
-            requests: [Queue::new(), Queue::new()],
-            replies: [Queue::new(), Queue::new()],
+        Ok(ModuleState {
+            words: SharedWords::new(alloc, words)?,
+            requests: [Queue::new(alloc), Queue::new(alloc)],
+            replies: [Queue::new(alloc), Queue::new(alloc)],
             turn: Net::Low,
             served: false,
-        }
+        })
     }
 
     /// The word of a row.
@@ -63,8 +57,8 @@ impl ModuleState {
     }
 
     /// The reply that it shows on a network.
-    pub fn offer(&self, net: Net) -> Option<Reply>
-        ensures { result ≡ module_reply self.now net }
+    pub fn offer(&self, net: Net) -> Option<&Reply>
+        ensures { option_copied result ≡ module_reply self.now net }
     {
         head(&self.replies[port_of(net)])
     }

@@ -1,12 +1,12 @@
 //! One cycle of a module.
-ghost use Rattle.std.specs.Prelude.{◌≡◌, [], IfOk};
+ghost use Rattle.std.specs.Prelude.{◌≡◌, IfOk};
 ghost use Rattle.mem_module.specs.MemModule.{can_serve, served_net, is_net, served_on, answer_to, answer_if, words_after, turn_from, requests_after, replies_from, module_after};
 
 use crate::state::port_of;
 use crate::{ModuleState, SharedWords};
 use grid_law::NoMemory;
-use omega_net::{Net, Queue, Reply, Request, free, head, put_after};
-use std::alloc::Global;
+use omega_net::{Net, Queue, Reply, Request, free, head, queue_after};
+use std::alloc::{AllocError, Global};
 
 /// What a module is handed in one step, by network, the low one first: the requests that arrive, and whether the
 /// head of its replies leaves.
@@ -33,14 +33,19 @@ impl ModuleState {
     {
         let served = self.served_net(depth);
         let (words, answer) = self.serving(alloc, self.served_on(served))?;
-        let mut next = ModuleState::holding(words);
-        self.put_requests(traffic, served, Net::Low, &mut next.requests[0]);
-        self.put_requests(traffic, served, Net::Comb, &mut next.requests[1]);
-        self.put_replies(traffic, served, answer, Net::Low, &mut next.replies[0]);
-        self.put_replies(traffic, served, answer, Net::Comb, &mut next.replies[1]);
-        next.turn = turn_from(self.turn, served);
-        next.served = served.is_some();
-        Ok(next)
+        Ok(ModuleState {
+            words,
+            requests: [
+                self.requests_after(alloc, traffic, served, Net::Low)?,
+                self.requests_after(alloc, traffic, served, Net::Comb)?,
+            ],
+            replies: [
+                self.replies_after(alloc, traffic, served, answer, Net::Low)?,
+                self.replies_after(alloc, traffic, served, answer, Net::Comb)?,
+            ],
+            turn: turn_from(self.turn, served),
+            served: served.is_some(),
+        })
     }
 
     /// Whether it can serve a network.
@@ -72,7 +77,7 @@ impl ModuleState {
     pub fn served_on(&self, served: Option<Net>) -> Option<Request>
         ensures { result ≡ served_on self.now served }
     {
-        head(&self.requests[port_of(served?)])
+        head(&self.requests[port_of(served?)]).copied()
     }
 
     /// The words with the new one, and the reply with the old one.
@@ -91,47 +96,45 @@ impl ModuleState {
         Ok((words, Some(Reply { tag, word })))
     }
 
-    fn put_requests(
+    fn requests_after(
         &self,
+        alloc: Global,
         traffic: &ModuleTraffic,
         served: Option<Net>,
         net: Net,
-        next: &mut Queue<Request>,
-    )
-        requires { next.old.items ≡ [] }
-        ensures { next.new ≡ requests_after traffic.now self.now served net }
+    ) -> Result<Queue<Request>, AllocError>
+        ensures { IfOk result (λ queue. queue ≡ requests_after traffic.now self.now served net) }
     {
         let port = port_of(net);
         let leaves = is_net(net, served);
-        put_after(
+        queue_after(
+            alloc,
             &self.requests[port],
             leaves,
             traffic.requests[port],
             None,
-            next,
-        );
+        )
     }
 
-    fn put_replies(
+    fn replies_after(
         &self,
+        alloc: Global,
         traffic: &ModuleTraffic,
         served: Option<Net>,
         answer: Option<Reply>,
         net: Net,
-        next: &mut Queue<Reply>,
-    )
-        requires { next.old.items ≡ [] }
-        ensures { next.new ≡ replies_from traffic.now self.now served answer net }
+    ) -> Result<Queue<Reply>, AllocError>
+        ensures { IfOk result (λ queue. queue ≡ replies_from traffic.now self.now served answer net) }
     {
         let port = port_of(net);
         let reply = answer_if(is_net(net, served), answer);
-        put_after(
+        queue_after(
+            alloc,
             &self.replies[port],
             traffic.replies_leave[port],
             reply,
             None,
-            next,
-        );
+        )
     }
 }
 

@@ -1,12 +1,10 @@
 -- What a queue is ready for finds a place in it.
-use Rattle.std.proofs.Common.{◌≡◌, ℕ, ◌+◌, ◌-◌, ◌<◌, ◌≤◌, Bool, true, false, cond, List, [], ◌∷◌, ◌++◌, length, drop, refl, ap, sym, ◌∙◌, Option, None, Some, arith, ltb, length-append, length-drop, append-nil}
-use Rattle.std.specs.Prelude.{is_some, nat_lt, nat_le, ◌||◌, ◌&&◌, ◌==◌}
-use Rattle.std.specs.Option.{option_to_list}
+use Rattle.std.proofs.Common.{◌≡◌, ℕ, ◌+◌, ◌-◌, ◌<◌, ◌≤◌, Bool, true, false, cond, [], ◌∷◌, ◌++◌, length, refl, ap, sym, ◌∙◌, None, Some, arith, length-append, length-drop, append-nil}
+use Rattle.std.specs.Prelude.{nat_lt, nat_le, ◌||◌, ◌&&◌, ◌==◌}
 use Rattle.std.proofs.lemmas.Bool.Decides.{nat_tests}
-use Rattle.std.proofs.lemmas.Grind.{common_steps}
 use Rattle.arrayvec.specs.ArrayVec.{ArrayVec}
 use Rattle.omega_net.specs.Limits.{queue_places}
-use Rattle.omega_net.specs.Queues.{free, has_room, without_head, joined, queue_after}
+use Rattle.omega_net.specs.Queues.{without_head, joined}
 use Rattle.omega_net.specs.Kept.{KeepsAll, NothingIsLost}
 
 -- with room there are free places: one, or two where both senders may send

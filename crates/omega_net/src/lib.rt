@@ -5,8 +5,8 @@
 //! Each network has k stages of two-by-two switches with a perfect shuffle before each stage
 //! (Lawrie 1975). Having two networks, one of which combines requests, follows the RP3 (Pfister
 //! and others 1985). The crate stands on `word_ops` for the operation of a request, on `page_map`
-//! for its place, on `arrayvec` for queues and near lists, and on `line_words` for the numbers in a
-//! name. No call takes memory.
+//! for its place, on `arrayvec` for near lists, and on `line_words` for the numbers in a name. Only a
+//! queue in which messages wait takes memory.
 //!
 //! It promises model-routes. [`Shape::number`] and [`Shape::component`] are inverse to each other.
 //! By the bits of [`Shape::forward_bit`] the wires lead from each processor to each module along
@@ -22,6 +22,7 @@ mod message;
 mod name;
 mod near;
 mod number;
+mod queue;
 mod queues;
 mod route;
 mod script;
@@ -30,11 +31,12 @@ mod wire;
 
 pub use component::{Component, Net};
 pub use listed::Listed;
-pub use message::{QUEUE_PLACES, Queue, Reply, Request, Tag, Traffic};
+pub use message::{Reply, Request, Tag, Traffic};
 pub use name::{Name, names_are_read_back};
 pub use near::near_is_mutual;
+pub use queue::{QUEUE_PLACES, Queue};
 pub use queues::{
-    bit_of, free, has_room, head, join, nothing_is_lost, put_after, put_rest, same_replies,
+    bit_of, free, has_room, head, join, nothing_is_lost, queue_after, rest_of, same_replies,
     same_requests, turn_after,
 };
 pub use route::routes_arrive;

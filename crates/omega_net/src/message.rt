@@ -2,7 +2,6 @@
 ghost use Rattle.std.specs.Prelude.{Some};
 ghost use Rattle.omega_net.specs.Texts.{tag_text, request_text, reply_text};
 
-use arrayvec::ArrayVec;
 use page_map::Place;
 use std::fmt;
 use word_ops::Op;
@@ -58,12 +57,6 @@ impl fmt::Display for Reply {
         write!(f, "{tag}={word}")
     }
 }
-
-/// How many messages a queue can hold, whatever depth its machine gives it.
-pub const QUEUE_PLACES: usize = 16;
-
-/// A queue of messages.
-pub type Queue<T> = ArrayVec<T, QUEUE_PLACES>;
 
 /// What a switch is handed in one step: what arrives, by port, and which heads leave, by port.
 #[derive(Clone, Copy, PartialEq, Eq, Debug)]

@@ -1,10 +1,12 @@
 //! What components do with their queues and turns in a step.
-ghost use Rattle.std.specs.Prelude.{◌≡◌, ◌↔◌, IsTrue, []};
+ghost use Rattle.std.specs.Prelude.{◌≡◌, ◌↔◌, IsTrue, IfOk, OnOk};
+ghost use Rattle.std.specs.Option.{option_copied};
 ghost use Rattle.omega_net.specs.Queues.{free, has_room, head, joined, queue_after, turn_after, without_head};
 ghost use Rattle.omega_net.specs.Kept.{NothingIsLost};
 ghost use Rattle.omega_net.specs.Wires.{bit as bit_at};
 
 use crate::{Queue, Reply, Request};
+use std::alloc::{AllocError, Global};
 
 /// Bit `bit` of a number, the lowest being bit 0.
 pub fn bit_of(number: u8, bit: u32) -> u8
@@ -29,40 +31,50 @@ pub fn has_room<T>(queue: &Queue<T>, depth: u32, turn: u8, sender: u8) -> bool
 }
 
 /// The head of a queue.
-pub fn head<T: Copy>(queue: &Queue<T>) -> Option<T>
-    ensures { result ≡ head queue.now }
+pub fn head<T>(queue: &Queue<T>) -> Option<&T>
+    ensures { option_copied result ≡ head queue.now }
 {
-    queue.first().copied()
+    queue.as_slice().first()
 }
 
-/// Puts what a queue holds one cycle later into an empty one: its head leaves where it does, and the messages that
-/// come go last. A queue takes room for [`QUEUE_PLACES`](crate::QUEUE_PLACES) messages, so a state is made once and its queues are filled where they
-/// stand.
-pub fn put_after<T: Copy>(
+/// What a queue holds one cycle later: its head leaves where it does, and the messages that come go last.
+///
+/// # Errors
+///
+/// Where a growth was refused.
+pub fn queue_after<T: Copy>(
+    alloc: Global,
     queue: &Queue<T>,
     leaves: bool,
     first: Option<T>,
     second: Option<T>,
-    next: &mut Queue<T>,
-)
-    requires { next.old.items ≡ [] }
-    ensures { next.new ≡ queue_after leaves first second queue.now }
+) -> Result<Queue<T>, AllocError>
+    ensures { IfOk result (λ next. next ≡ queue_after leaves first second queue.now) }
 {
-    put_rest(queue, leaves, next);
-    join(next, first);
-    join(next, second);
+    let coming = usize::from(first.is_some()) + usize::from(second.is_some());
+    let mut next = rest_of(alloc, queue, leaves, coming)?;
+    join(&mut next, first)?;
+    join(&mut next, second)?;
+    Ok(next)
 }
 
-/// Puts what a queue holds after its head left, if it leaves, into an empty one.
-pub fn put_rest<T: Copy>(queue: &Queue<T>, leaves: bool, next: &mut Queue<T>)
-    requires { next.old.items ≡ [] }
-    ensures { next.new ≡ without_head leaves queue.now }
+/// What a queue holds after its head left, if it leaves, with room for so many more messages.
+///
+/// # Errors
+///
+/// Where the growth was refused.
+pub fn rest_of<T: Copy>(
+    alloc: Global,
+    queue: &Queue<T>,
+    leaves: bool,
+    more: usize,
+) -> Result<Queue<T>, AllocError>
+    ensures { IfOk result (λ rest. rest ≡ without_head leaves queue.now) }
 {
-    let stays = match queue.as_slice() {
-        [_, rest @ ..] if leaves => rest,
-        all => all,
-    };
-    let _fits = next.try_extend_from_slice(stays);
+    match queue.as_slice() {
+        [_, rest @ ..] if leaves => Queue::holding(alloc, rest, more),
+        all => Queue::holding(alloc, all, more),
+    }
 }
 
 /// Whether the queues of two ports hold the same requests in the same order.
@@ -80,11 +92,16 @@ pub fn same_replies(replies: &[Queue<Reply>; 2], others: &[Queue<Reply>; 2]) -> 
 }
 
 /// Puts a message last, if one comes and there is room.
-pub fn join<T: Copy>(queue: &mut Queue<T>, message: Option<T>)
-    ensures { queue.new ≡ joined queue.old message }
+///
+/// # Errors
+///
+/// Where the growth was refused.
+pub fn join<T: Copy>(queue: &mut Queue<T>, message: Option<T>) -> Result<(), AllocError>
+    ensures { OnOk result (queue.new ≡ joined queue.old message) }
 {
-    if let Some(message) = message {
-        let _ = queue.try_push(message);
+    match message {
+        Some(message) => queue.push(message),
+        None => Ok(()),
     }
 }
 

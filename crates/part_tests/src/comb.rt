@@ -29,17 +29,19 @@ fn request(proc: u8, kind: Kind, operand: u32) -> Request {
 
 // The youngest request for the word is an `or`, so an `add` does not combine, although an older `add` waits.
 #[test]
-fn only_the_youngest_combines(rt: HostRuntime) {
+fn only_the_youngest_combines(rt: HostRuntime) -> Result<(), Fail> {
     let older = request(0, Kind::Add, 1);
     let youngest = request(1, Kind::Or, 2);
     let last = request(2, Kind::Add, 4);
-    let mut state = CombState::start();
-    state = state.step(&SETTINGS, &arriving(older));
-    state = state.step(&SETTINGS, &arriving(youngest));
-    state = state.step(&SETTINGS, &arriving(last));
+    let alloc = rt.alloc();
+    let mut state = CombState::start(alloc);
+    state = state.step(alloc, &SETTINGS, &arriving(older))?;
+    state = state.step(alloc, &SETTINGS, &arriving(youngest))?;
+    state = state.step(alloc, &SETTINGS, &arriving(last))?;
     assert_eq!(rt; state.fwd[0].as_slice(), [older, youngest, last].as_slice());
     assert_eq!(rt; state.wait.len(), 0);
     assert_eq!(rt; state.combined, 0);
+    Ok(())
 }
 
 fn arriving(request: Request) -> Traffic {
@@ -59,7 +61,8 @@ fn a_pair_is_answered_in_turn(rt: HostRuntime) -> Result<(), Fail> {
         requests: [Some(first), Some(second)],
         ..QUIET
     };
-    let combined = CombState::start().step(&SETTINGS, &together);
+    let alloc = rt.alloc();
+    let combined = CombState::start(alloc).step(alloc, &SETTINGS, &together)?;
     assert_eq!(rt;
         combined.fwd[0].as_slice(),
         [request(0, Kind::Add, 3)].as_slice()
@@ -89,16 +92,16 @@ fn a_pair_is_answered_in_turn(rt: HostRuntime) -> Result<(), Fail> {
         requests_leave: [true, false],
         ..QUIET
     };
-    let split = combined.step(&SETTINGS, &answer);
+    let split = combined.step(alloc, &SETTINGS, &answer)?;
     assert_eq!(rt;
-        split.offer_reverse(0),
+        split.offer_reverse(0).copied(),
         Some(Reply {
             tag: first.tag,
             word: 10
         })
     );
     assert_eq!(rt;
-        split.offer_reverse(1),
+        split.offer_reverse(1).copied(),
         Some(Reply {
             tag: second.tag,
             word: 11

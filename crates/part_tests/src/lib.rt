@@ -22,4 +22,6 @@ mod places;
 #[cfg(test)]
 mod processors;
 #[cfg(test)]
+mod queues;
+#[cfg(test)]
 mod words;

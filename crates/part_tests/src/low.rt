@@ -30,7 +30,8 @@ fn two_wait_and_one_leaves(rt: HostRuntime) -> Result<(), Fail> {
         requests: [Some(add(0, 1)), Some(add(1, 2))],
         ..QUIET
     };
-    let waiting = LowState::start().step(0, &together);
+    let alloc = rt.alloc();
+    let waiting = LowState::start(alloc).step(alloc, 0, &together)?;
     let text = format!(in rt.alloc(); "{waiting}")?;
     assert_eq!(rt;
         text.as_str(),
@@ -49,7 +50,7 @@ fn two_wait_and_one_leaves(rt: HostRuntime) -> Result<(), Fail> {
         requests_leave: [true, false],
         ..QUIET
     };
-    let next = waiting.step(0, &traffic);
+    let next = waiting.step(alloc, 0, &traffic)?;
     let text = format!(in rt.alloc(); "{next}")?;
     assert_eq!(rt;
         text.as_str(),

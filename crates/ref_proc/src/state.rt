@@ -1,5 +1,6 @@
 //! What a processor holds between two cycles, and what it shows of it.
 ghost use Rattle.std.specs.Prelude.{◌≡◌, ◌↔◌, IsTrue};
+ghost use Rattle.std.specs.Option.{option_copied};
 ghost use Rattle.ref_proc.specs.RefProc.{proc_start, proc_takes_reply, proc_request};
 
 use omega_net::{Net, Reply, Request};
@@ -54,11 +55,11 @@ impl ProcState {
     }
 
     /// The request that it shows on a network.
-    pub fn offer(&self, net: Net) -> Option<Request>
-        ensures { result ≡ proc_request self.now net }
+    pub fn offer(&self, net: Net) -> Option<&Request>
+        ensures { option_copied result ≡ proc_request self.now net }
     {
-        match self.out {
-            Some(out) if out.net == net => Some(out.request),
+        match &self.out {
+            Some(out) if out.net == net => Some(&out.request),
             _ => None,
         }
     }

@@ -366,7 +366,7 @@ fn examples_4_17_states(rt: HostRuntime) -> Result<(), Fail> {
 /// 8: the youngest request for the word is an `or`, so an `add` does not combine, although an older `add`
 /// waits.
 #[test]
-fn example_8(rt: HostRuntime) {
+fn example_8(rt: HostRuntime) -> Result<(), Fail> {
     let settings = CombSettings {
         bit: 0,
         combine: true,
@@ -377,7 +377,8 @@ fn example_8(rt: HostRuntime) {
         request(1, Kind::Or, 2),
         request(2, Kind::Add, 4),
     ];
-    let mut state = CombState::start();
+    let alloc = rt.alloc();
+    let mut state = CombState::start(alloc);
     for request in requests {
         let arriving = Traffic {
             requests: [Some(request), None],
@@ -385,10 +386,11 @@ fn example_8(rt: HostRuntime) {
             requests_leave: [false, false],
             replies_leave: [false, false],
         };
-        state = state.step(&settings, &arriving);
+        state = state.step(alloc, &settings, &arriving)?;
     }
     assert_eq!(rt; state.fwd[0].as_slice(), requests.as_slice());
     assert_eq!(rt; (state.wait.len(), state.combined), (0, 0));
+    Ok(())
 }
 
 /// The first request of a processor, for row 0 of module 0.
