@@ -1,7 +1,7 @@
 -- The counters count the states that are held, and these are the run's.
-use Rattle.std.proofs.Common.{◌≡◌, ℕ, ◌+◌, ◌<◌, ◌≤◌, ◌∙◌, sym, ap, subst, refl, arith, Bool, true, false, cond, Option, None, List, [], ◌∷◌, map}
-use Rattle.std.specs.Prelude.{nat_lt, nat_le, ◌&&◌, ◌==◌}
-use Rattle.std.specs.Option.{ForSome}
+use Rattle.std.proofs.Common.{◌≡◌, ℕ, ◌+◌, ◌<◌, ◌≤◌, ◌∙◌, sym, ap, subst, refl, arith, Bool, true, false, cond, Option, None, Some, List, [], ◌∷◌, map}
+use Rattle.std.specs.Prelude.{nat_lt, nat_le, ◌&&◌, ◌==◌, is_some}
+use Rattle.std.specs.Option.{ForSome, IfSome}
 use Rattle.std.proofs.lemmas.Bool.{eqb-true, and_parts}
 use Rattle.std.proofs.lemmas.Bool.Decides.{nat_tests}
 use Rattle.omega_net.specs.Numbers.{components}
@@ -23,7 +23,7 @@ use Rattle.monitor_sums.specs.Sums.{States, sum_of, in_profile, pairs_of, profil
 use Rattle.project_book.specs.Project.{Project}
 use Rattle.project_book.specs.declared.slot.Slot.{Slot}
 use Rattle.project_book.specs.Limits.{max_horizon}
-use Rattle.bench_core.specs.Shown.{Shown, IsBench, IsCounted, project_of, held, present}
+use Rattle.bench_core.specs.Shown.{Shown, IsBench, IsCounted, AreCounted, project_of, held, present}
 use Rattle.bench_core.specs.Asks.{HoldsRunTo}
 use Rattle.monitor_sums.proofs.Over.{same_over}
 use Rattle.bench_core.proofs.Looking.{run_held}
@@ -56,11 +56,6 @@ counts_held sums at v shape stands there past = record {
     by_place t c lt true e = there t c (record { cycle = grind (arith, nat_tests); component = lt })
     by_place t c lt false e = past t c (grind (arith, nat_tests))
 
--- a new table holds nothing
-pub counted_new : (sums : Kept) (v : Seen MachineState Project) → sums.k ≡ v.slots.k → StandsFor sums (λ t c. None) → (clock : ℕ)
-    → ((t c : ℕ) → IsThere rp3_rules v t c → held_at v.rows t c ≡ fresh clock) → IsCounted sums v
-counted_new sums v shape stands clock cells = counts_held sums (λ t c. None) v shape stands (λ t c there. sym (ap (λ h. h.state) (cells t c there))) (λ t c past. refl)
-
 -- where no state changes, they go on counting what is held
 pub counted_kept : (sums : Kept) (old new : Seen MachineState Project) → IsCounted sums old → HoldsSame rp3_rules old new → IsCounted sums new
 counted_kept sums old new counts same =
@@ -69,6 +64,11 @@ counted_kept sums old new counts same =
     let was : IsThere rp3_rules old t c = record { cycle = omega (arith, there.cycle, same.horizon); component = rw same.slots at there.component } in
     present_at old t c was.cycle ∙ sym (same.states t c was))
     (λ t c past. present_past old t c (omega (arith, past, same.horizon)))
+
+-- the same, where there may be none yet
+pub are_kept : (sums : Option Kept) (old new : Seen MachineState Project) → AreCounted sums old → HoldsSame rp3_rules old new → AreCounted sums new
+are_kept None old new counts same = tt
+are_kept (Some sums) old new counts same = counted_kept sums old new counts same
 
 module _ (sums next : Kept) (old new : Seen MachineState Project) (counts : IsCounted sums old) (shape : next.k ≡ sums.k) where
   -- a store
@@ -114,6 +114,14 @@ module _ (sums next : Kept) (old new : Seen MachineState Project) (counts : IsCo
 
       behind : (u d : ℕ) → new.horizon < u → cleared (present old) (new.horizon + 1) old.horizon u d ≡ None
       behind u d past = grind (arith, nat_tests, present_past old u d)
+
+-- the same, where there may be none yet
+pub are_touched : (sums next : Option Kept) (old new : Seen MachineState Project) → AreCounted sums old → is_some next ≡ is_some sums → IfSome sums (λ s. IfSome next (λ n. n.k ≡ s.k))
+    → (to : ℕ) (P : Project) (listed : List Slot) → P.k ≡ old.slots.k → IsAfterTouch rp3_rules old new P listed to
+    → IfSome sums (λ s. IfSome next (λ n. (at : States) → StandsFor s at → StandsFor n (cleared at (new.horizon + 1) old.horizon))) → AreCounted next new
+are_touched sums None old new counts there shape to P listed size after clears = tt
+are_touched None (Some next) old new counts there shape to P listed size after clears = absurd (cc there)
+are_touched (Some sums) (Some next) old new counts there shape to P listed size after clears = counted_touched sums next old new counts shape to P listed size after clears
 
 -- where the cells hold the run, the counters are those of the run
 module _ (b : Shown) (sums : Kept) (bench : IsBench b.table b.journal) (counts : IsCounted sums b.table) where

@@ -50,6 +50,14 @@ stands_start sums at states from to stands = stands_along sums at (filled_to at 
 same_outside : (at states : States) (n from to u d : ℕ) → d < n → ((u < from) ⊎ (to ≤ u) → at u d ≡ states u d) → filled_to at states n from to u d ≡ states u d
 same_outside at states n from to u d lt same = grind (arith, nat_tests)
 
+-- counters that counted nothing count a table, once all components were counted up to its horizon
+pub counted_whole : (sums : Kept) (v : Seen MachineState Project) (n end : ℕ) → sums.k ≡ v.slots.k → n ≡ components v.slots.k → end ≡ v.horizon + 1
+    → StandsFor sums (filled_to (λ t c. None) (held v) n 0 end) → IsCounted sums v
+counted_whole sums v n end shape all last stands =
+    counts_held sums (filled_to (λ t c. None) (held v) n 0 end) v shape stands
+    (λ u d there. let cycle = there.cycle in let lt : d < n = rw all there.component in grind (arith, nat_tests))
+    (λ u d past. grind (arith, nat_tests))
+
 -- the counters of the table before count the one after, once all components were counted
 pub counted_filled : (sums next : Kept) (old new : Seen MachineState Project) (from m n : ℕ) → IsCounted sums old → HoldsOutside rp3_rules old new from m → next.k ≡ sums.k → n ≡ components sums.k
     → StandsFor next (filled_to (present old) (held new) n from (from + m)) → IsCounted next new

@@ -23,7 +23,7 @@ use Rattle.machine_cells.specs.declared.state.MachineState.{MachineState}
 use Rattle.monitor_sums.specs.Kept.{Kept}
 use Rattle.bench_core.specs.declared.noted.Noted.{Noted}
 use Rattle.bench_core.specs.Stands.{HasHistory}
-use Rattle.bench_core.specs.Shown.{Shown, IsBench, IsCounted, project_of, version_of}
+use Rattle.bench_core.specs.Shown.{Shown, IsBench, AreCounted, project_of, version_of}
 use Rattle.bench_core.specs.Asks.{told, TellsRun}
 use Rattle.bench_core.specs.Recent.{Entry, AreTold}
 
@@ -73,16 +73,16 @@ module _ (P : Project) (v : ℕ) (kept : List Entry) (told : AreTold P v kept) w
   told_later next a there = let before = (told a there).0 in (omega (arith, before), λ now. absurd (omega (arith, before, now)))
 
 -- what is true inside of every bench
-abbrev pub IsInside : Seen MachineState Project → Kept → List Noted → List Entry → Type 0
-IsInside table sums journal recent = IsBench table journal × IsCounted sums table × HasHistory (record { table = table; journal = journal }) × AreTold table.slots (length journal) recent
+abbrev pub IsInside : Seen MachineState Project → Option Kept → List Noted → List Entry → Type 0
+IsInside table sums journal recent = IsBench table journal × AreCounted sums table × HasHistory (record { table = table; journal = journal }) × AreTold table.slots (length journal) recent
 
 -- it stays so of an equal table and an equal journal
-pub holds_still : (old new : Seen MachineState Project) (sums : Kept) (before after : List Noted) (recent : List Entry) → new ≡ old → after ≡ before → IsInside old sums before recent → IsInside new sums after recent
+pub holds_still : (old new : Seen MachineState Project) (sums : Option Kept) (before after : List Noted) (recent : List Entry) → new ≡ old → after ≡ before → IsInside old sums before recent → IsInside new sums after recent
 holds_still old new sums before after recent same noted inside = rw (same, noted) inside
 
 -- and where neither the project nor its horizon changes, and the rest is kept
-pub inside_still : (old new : Seen MachineState Project) (sums next : Kept) (journal : List Noted) (recent : List Entry) → IsInside old sums journal recent → new.slots ≡ old.slots → new.horizon ≡ old.horizon
-    → IsCounted next new → HasHistory (record { table = new; journal = journal }) → IsInside new next journal recent
+pub inside_still : (old new : Seen MachineState Project) (sums next : Option Kept) (journal : List Noted) (recent : List Entry) → IsInside old sums journal recent → new.slots ≡ old.slots → new.horizon ≡ old.horizon
+    → AreCounted next new → HasHistory (record { table = new; journal = journal }) → IsInside new next journal recent
 inside_still old new sums next journal recent inside slots horizon counts history = (
   record { horizon = horizon ∙ inside.0.horizon ∙ ap (λ (p : Project). p.horizon) (sym slots); short = rw horizon inside.0.short; few = inside.0.few },
   counts,

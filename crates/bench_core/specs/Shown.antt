@@ -1,5 +1,5 @@
 -- What a contract sees of a bench.
-use Rattle.std.specs.Prelude.{◌≡◌, ℕ, ◌≤◌, nat_le, if◌then◌else◌, Option, None, List, length}
+use Rattle.std.specs.Prelude.{◌≡◌, ℕ, ◌≤◌, nat_le, if◌then◌else◌, Option, None, Some, List, length}
 use Rattle.cell_table.specs.Seen.{Seen, held_at}
 use Rattle.machine_cells.specs.declared.state.MachineState.{MachineState}
 use Rattle.monitor_sums.specs.Kept.{Kept, StandsFor}
@@ -34,7 +34,12 @@ pub record IsBench (table : Seen MachineState Project) (journal : List Noted) : 
   pub short : table.horizon ≤ max_horizon
   pub few : length journal ≤ max_edits
 
--- and its counters count the states that are held now
+-- counters count the states that are held now
 pub record IsCounted (sums : Kept) (table : Seen MachineState Project) : Type 0 where
   pub shape : sums.k ≡ table.slots.k
   pub counts : StandsFor sums (present table)
+
+-- and so do those of every bench, where there are any yet
+abbrev pub AreCounted : Option Kept → Seen MachineState Project → Type 0
+AreCounted None table = Unit {0}
+AreCounted (Some sums) table = IsCounted sums table

@@ -19,13 +19,12 @@ use crate::counters::Counters;
 use crate::recent::Recent;
 use cell_table::Table;
 use machine_cells::Rp3;
-use omega_net::Shape;
 use project_book::Project;
 use std::alloc::Global;
 use std::marker::Model;
 
-/// A project, its run as far as it was computed, its counters, the edits that were accepted, and the answers that were
-/// told last.
+/// A project, its run as far as it was computed, the edits that were accepted, the answers that were told last, and, once
+/// a counter or a profile was asked, the counters.
 #[derive(Drop)]
 pub struct Bench {
     table: Table<Rp3>,
@@ -35,7 +34,7 @@ pub struct Bench {
 }
 
 impl Model for Bench {
-    ghost use Rattle.bench_core.specs.Shown.{Shown, IsBench, IsCounted};
+    ghost use Rattle.bench_core.specs.Shown.{Shown, IsBench, AreCounted};
     ghost use Rattle.bench_core.specs.Stands.{HasHistory};
     ghost use Rattle.bench_core.specs.Recent.{AreTold};
     ghost use Rattle.std.specs.Prelude.{length};
@@ -44,7 +43,7 @@ impl Model for Bench {
 
     ghost view = { λ b. record { table = b.table; journal = b.journal.items } };
 
-    ghost invariant = { λ b. IsBench b.table b.journal.items × IsCounted b.counters b.table × HasHistory (record { table = b.table; journal = b.journal.items }) × AreTold b.table.slots (length b.journal.items) b.recent };
+    ghost invariant = { λ b. IsBench b.table b.journal.items × AreCounted b.counters b.table × HasHistory (record { table = b.table; journal = b.journal.items }) × AreTold b.table.slots (length b.journal.items) b.recent };
 }
 
 impl Bench {
@@ -64,16 +63,13 @@ impl Bench {
         ensures err { IfErr result (λ p. p ≡ project) }
     {
         let horizon = project.horizon();
-        let Ok(counters) = Counters::new(alloc, Shape::new(project.k()).unwrap()) else {
-            return Err(project);
-        };
         let Ok(recent) = Recent::new(alloc) else {
             return Err(project);
         };
         match Table::new(alloc, project, horizon, clock) {
             Ok(table) => Ok(Bench {
                 table,
-                counters,
+                counters: Counters::none(),
                 journal: Vec::new(alloc),
                 recent,
             }),

@@ -1,8 +1,9 @@
 //! The counters of a bench.
-ghost use Rattle.std.specs.Prelude.{◌≡◌, ◌+◌, ◌<◌, ◌≤◌, All, IfOk, None};
+ghost use Rattle.std.specs.Prelude.{◌≡◌, ◌+◌, ◌<◌, ◌≤◌, All, IfOk, OnOk, OnErr, None, Some, is_some};
+ghost use Rattle.std.specs.Option.{IsSome, IfSome};
 ghost use Rattle.omega_net.specs.Numbers.{components};
 ghost use Rattle.cell_table.specs.Touches.{IsWithin};
-ghost use Rattle.bench_core.specs.Shown.{held};
+ghost use Rattle.bench_core.specs.Shown.{held, IsCounted, AreCounted};
 ghost use Rattle.bench_core.specs.Filling.{filled_in, filled_to, filled_over};
 ghost use Rattle.monitor_sums.specs.Kept.{StandsFor};
 ghost use Rattle.monitor_sums.specs.Sums.{States, cleared};
@@ -16,47 +17,80 @@ use omega_net::Shape;
 use std::alloc::Global;
 use std::marker::Model;
 
-/// Sums over the states that a bench's table holds.
+/// Sums over the states that a bench's table holds, made when they are first asked for.
 #[derive(Drop)]
 pub(crate) struct Counters {
-    sums: Sums,
+    sums: Option<Sums>,
 }
 
 impl Model for Counters {
+    ghost use Rattle.std.specs.Prelude.{Option};
     ghost use Rattle.monitor_sums.specs.Kept.{Kept};
 
-    ghost Value = { Kept };
+    ghost Value = { Option Kept };
 
     ghost view = { λ c. c.sums };
 }
 
 impl Counters {
-    /// The counters of a table that holds no state yet.
-    pub(crate) fn new(alloc: Global, shape: Shape) -> Result<Counters, NoMemory>
-        ensures shape { IfOk result (λ c. c.k ≡ shape) }
-        ensures stands { IfOk result (λ c. StandsFor c (λ t c. None)) }
+    /// No sums yet.
+    pub(crate) fn none() -> Counters
+        ensures { result ≡ None }
     {
-        let sums = Sums::new(alloc, shape)?;
-        Ok(Counters { sums })
+        Counters { sums: None }
     }
 
-    pub(crate) fn sums(&self) -> &Sums
-        ensures { result.now ≡ self.now }
+    /// Where there are no sums yet, all that the table holds is counted.
+    ///
+    /// # Errors
+    ///
+    /// Where a growth was refused. Nothing is changed.
+    pub(crate) fn count(&mut self, alloc: Global, table: &Table<Rp3>) -> Result<(), NoMemory>
+        requires short { table.now.horizon ≤ max_horizon }
+        requires counted { AreCounted self.old table.now }
+        ensures counted { AreCounted self.new table.now }
+        ensures there { OnOk result (IsSome self.new) }
+        ensures err { OnErr result (self.new ≡ self.old) }
     {
-        &self.sums
+        if self.sums.is_none() {
+            self.sums = Some(count_table(alloc, table)?);
+        }
+        Ok(())
+    }
+
+    /// The sums, where there are any.
+    pub(crate) fn sums(&self) -> &Sums
+        requires { IsSome self.now }
+        ensures { self.now ≡ Some result.now }
+    {
+        self.sums.as_ref().unwrap()
     }
 
     /// Counts no more what the cells past a horizon held, where those up to another were counted.
     #[tactic(auto, using(crate::proofs::Counting::none_cleared))]
     pub(crate) fn forget(&mut self, to: u32, before: u32)
         requires { before ≤ max_horizon }
-        ensures shape { self.new.k ≡ self.old.k }
-        ensures stands { (at : States) → StandsFor self.old at → StandsFor self.new (cleared at (to + 1) before) }
+        ensures there { is_some self.new ≡ is_some self.old }
+        ensures shape { IfSome self.old (λ old. IfSome self.new (λ new. new.k ≡ old.k)) }
+        ensures stands { IfSome self.old (λ old. IfSome self.new (λ new. (at : States) → StandsFor old at → StandsFor new (cleared at (to + 1) before))) }
     {
-        if to < before {
-            self.sums.clear(to + 1, before);
+        if let Some(sums) = &mut self.sums {
+            if to < before {
+                sums.clear(to + 1, before);
+            }
         }
     }
+}
+
+/// The sums over what a table holds.
+fn count_table(alloc: Global, table: &Table<Rp3>) -> Result<Sums, NoMemory>
+    requires { table.now.horizon ≤ max_horizon }
+    ensures { IfOk result (λ sums. IsCounted sums table.now) }
+{
+    let shape = Shape::new(table.slots().k()).unwrap();
+    let mut sums = Sums::new(alloc, shape)?;
+    count_all_filled(&mut sums, table, 0, table.horizon() + 1);
+    Ok(sums)
 }
 
 /// Counts what a component holds at the cycles from one on to before another: each stretch of equal states
@@ -109,13 +143,14 @@ fn count_ranges(sums: &mut Sums, table: &Table<Rp3>, ranges: &[CellRange])
 }
 
 impl Watcher<Rp3> for Counters {
-    ghost use Rattle.bench_core.specs.Shown.{IsCounted};
+    ghost use Rattle.bench_core.specs.Shown.{AreCounted};
 
-    ghost keeps = { λ counters table. (table.horizon ≤ max_horizon) × IsCounted counters table };
+    ghost keeps = { λ counters table. (table.horizon ≤ max_horizon) × AreCounted counters table };
 
     fn stored(&mut self, table: &Table<Rp3>, cell: Cell) {
-        self.sums
-            .change(cell.component, cell.cycle, table.state(cell));
+        if let Some(sums) = &mut self.sums {
+            sums.change(cell.component, cell.cycle, table.state(cell));
+        }
     }
 
     fn kept(&mut self, table: &Table<Rp3>, cell: Cell) {
@@ -124,10 +159,14 @@ impl Watcher<Rp3> for Counters {
     }
 
     fn filled(&mut self, table: &Table<Rp3>, from: u32, cycles: u32) {
-        count_all_filled(&mut self.sums, table, from, from + cycles);
+        if let Some(sums) = &mut self.sums {
+            count_all_filled(sums, table, from, from + cycles);
+        }
     }
 
     fn refilled(&mut self, table: &Table<Rp3>, ranges: &[CellRange]) {
-        count_ranges(&mut self.sums, table, ranges);
+        if let Some(sums) = &mut self.sums {
+            count_ranges(sums, table, ranges);
+        }
     }
 }

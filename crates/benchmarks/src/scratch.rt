@@ -9,6 +9,7 @@ use mem_module::{ModuleState, Stored};
 use omega_net::{Queue, Reply, Request};
 use std::fmt;
 use std::mem::size_of;
+use std::sync::Arc;
 use std::time::Instant;
 
 /// A run that was simulated: its size, its cells, and the word of address 0 at the horizon.
@@ -52,7 +53,7 @@ pub fn measure(rt: &HostRuntime, k: u32, horizon: u32) -> Result<Run> {
     })
 }
 
-pub fn cells_of(rows: &[Vec<MachineState>]) -> u64 {
+pub fn cells_of(rows: &[Vec<Arc<MachineState>>]) -> u64 {
     let mut cells: u64 = 0;
     for row in rows {
         cells = cells.saturating_add(row.len() as u64);
@@ -61,20 +62,23 @@ pub fn cells_of(rows: &[Vec<MachineState>]) -> u64 {
 }
 
 /// The word of address 0, which stands in row 0 of the first module.
-fn word_of(row: &[MachineState], k: u32) -> u32 {
+fn word_of(row: &[Arc<MachineState>], k: u32) -> u32 {
     let first = 1usize.checked_shl(k).unwrap_or(0);
     match row.get(first) {
-        Some(MachineState::Module(holder)) => holder.word(0),
-        _ => 0,
+        Some(state) => match &**state {
+            MachineState::Module(module) => module.word(0),
+            _ => 0,
+        },
+        None => 0,
     }
 }
 
 /// The bytes that a run holds: cells × the size of a cell's state, which for modules and switches is the
 /// owning of one that is kept apart; and the size of each of those that isn't that of the cycle before,
 /// for a module with its words. What the allocator takes beside isn't counted.
-pub fn bytes_of(rows: &[Vec<MachineState>]) -> u64 {
+pub fn bytes_of(rows: &[Vec<Arc<MachineState>>]) -> u64 {
     let mut bytes: u64 = 0;
-    let mut before: &[MachineState] = &[];
+    let mut before: &[Arc<MachineState>] = &[];
     for row in rows {
         bytes = bytes.saturating_add(row_bytes(before, row));
         before = row;
@@ -82,7 +86,7 @@ pub fn bytes_of(rows: &[Vec<MachineState>]) -> u64 {
     bytes
 }
 
-fn row_bytes(before: &[MachineState], row: &[MachineState]) -> u64 {
+fn row_bytes(before: &[Arc<MachineState>], row: &[Arc<MachineState>]) -> u64 {
     let mut bytes: u64 = 0;
     for (c, state) in row.iter().enumerate() {
         bytes = bytes.saturating_add(size_of::<MachineState>() as u64);

@@ -1,5 +1,5 @@
 -- A cell's state is that of the cell before it.
-use Rattle.std.proofs.Common.{◌≡◌, ℕ, ◌-◌, ◌<◌, ◌∙◌, sym, ap, arith, false, Option, None, Some, MatchOption, unwrap_or, List, [], ◌∷◌, All, is_some, Result, Ok, Err, IfOk, true}
+use Rattle.std.proofs.Common.{◌≡◌, ℕ, ◌-◌, ◌<◌, ◌∙◌, sym, ap, arith, false, Option, None, Some, MatchOption, option_map, unwrap_or, List, [], ◌∷◌, All, is_some, Result, Ok, Err, IfOk, true}
 use Rattle.std.specs.Prelude.{slice_get}
 use Rattle.grid_law.specs.Rules.{Rules, Laws, result_of, IsNext}
 use Rattle.cell_table.specs.Seen.{Seen, row_at, held_in, held_at}
@@ -64,6 +64,11 @@ module _ {State Slots Slot : Type 0} (R : Rules State Slots Slot) (v : Seen Stat
       let parts = parts_of (held_in (row_at v.rows (t - 1)) c).state (states_of (row_at v.rows (t - 1)) own.0) _ (ap (states_of (row_at v.rows (t - 1))) (sym own.1) ∙ near) in
       let bad : None ≡ Some parts.first = e ∙ parts.first_is in
       cc
+
+-- what is told of something that was mapped, told of it itself
+pub match_mapped : {X Y : Type 0} (N : Type 0) (S : Y → Type 0) (f : X → Y) (o : Option X) → MatchOption (option_map f o) N S → MatchOption o N (λ x. S (f x))
+match_mapped N S f None h = h
+match_mapped N S f (Some x) h = h
 
 -- of an answer
 pub ok_along : {X E : Type 0} {P Q : X → Type 0} → ((x : X) → P x → Q x) → (r : Result X E) → IfOk r P → IfOk r Q

@@ -5,7 +5,7 @@ ghost use Rattle.grid_law.specs.Rules.{Agrees};
 ghost use Rattle.cell_table.specs.Claims.{result_for};
 
 use crate::Cell;
-use grid_law::Grid;
+use grid_law::{Grid, NoMemory};
 use std::alloc::Global;
 use std::marker::Model;
 use std::sync::Arc;
@@ -117,18 +117,20 @@ impl<G: Grid> Claim<G> {
         ensures model_compute { IfOk result (λ done. done.state ≡ result_for G.rules self) }
         ensures err { IfErr result (λ claim. claim ≡ self) }
     {
+        match self.computed() {
+            Ok(state) => Ok(Done { claim: self, state }),
+            Err(NoMemory) => Err(self),
+        }
+    }
+
+    fn computed(&self) -> Result<Arc<G::State>, NoMemory>
+        ensures { IfOk result (λ state. arc_value state ≡ result_for G.rules self.now) }
+    {
         let alloc = *self.near.allocator();
-        let computed = if self.near.is_empty() {
+        if self.near.is_empty() {
             G::start(alloc, &self.slots, self.cell.component)
         } else {
             G::step(alloc, &self.slots, &self.near, self.cell.component)
-        };
-        match computed {
-            Ok(state) => match Arc::new(alloc, state) {
-                Ok(state) => Ok(Done { claim: self, state }),
-                Err(_) => Err(self),
-            },
-            Err(_) => Err(self),
         }
     }
 }

@@ -81,13 +81,13 @@ fn stepped<G: Grid>(
     neighbours: &Neighbours,
     cycle: u32,
     component: u32,
-) -> Result<Option<G::State>, NoMemory>
+) -> Result<Option<Arc<G::State>>, NoMemory>
     requires near { AreNear G.rules slots.now neighbours.now }
     requires component { component < G.rules.components slots.now }
     requires later { 0 < cycle }
     requires count { length lines.now.items ≡ G.rules.components slots.now }
     requires trails { (c : ℕ) → c < length lines.now.items → Trails G.rules slots.now (length (line_at lines.now.items c).states) cycle c (line_at lines.now.items c) }
-    ensures { IfOk result (λ o. MatchOption o (Stays G.rules slots.now cycle component) (λ x. x ≡ run G.rules slots.now cycle component)) }
+    ensures { IfOk result (λ o. MatchOption o (Stays G.rules slots.now cycle component) (λ x. arc_value x ≡ run G.rules slots.now cycle component)) }
 {
     let alloc = *lines.allocator();
     let near = neighbours.of(component);
@@ -115,15 +115,10 @@ fn next_of<G: Grid>(
     requires trails { (c : ℕ) → c < length lines.now.items → Trails G.rules slots.now (length (line_at lines.now.items c).states) cycle c (line_at lines.now.items c) }
     ensures { IfOk result (λ o. MatchOption o (Stays G.rules slots.now cycle component) (λ x. arc_value x ≡ run G.rules slots.now cycle component)) }
 {
-    let alloc = *lines.allocator();
     if cycle == 0 {
-        let start = G::start(alloc, slots, component)?;
-        return Ok(Some(Arc::new(alloc, start)?));
+        return Ok(Some(G::start(*lines.allocator(), slots, component)?));
     }
-    match stepped::<G>(lines, slots, neighbours, cycle, component)? {
-        Some(state) => Ok(Some(Arc::new(alloc, state)?)),
-        None => Ok(None),
-    }
+    stepped::<G>(lines, slots, neighbours, cycle, component)
 }
 
 /// Lets the last state of a component go on to before a cycle.

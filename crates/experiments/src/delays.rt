@@ -1,6 +1,7 @@
 //! How long references wait for their replies.
 ghost use Rattle.std.specs.Prelude.{◌≡◌, ◌<◌, ◌≤◌, ◌^◌, ◌+◌, ◌++◌, IfOk, IfSome, OnOk, map, option_to_list, sum};
 ghost use Rattle.std.specs.List.{AllZip};
+ghost use Rattle.std.specs.Arc.{arc_value};
 ghost use Rattle.std.specs.Option.{option_copied};
 ghost use Rattle.machine_cells.specs.Run.{run};
 ghost use Rattle.machine_cells.specs.Runs.{state_in};
@@ -17,6 +18,7 @@ use project_book::{MAX_HORIZON, Project};
 use rayon::prelude::*;
 use run_queries::has_sent;
 use std::alloc::{AllocError, Global};
+use std::sync::Arc;
 use std::thread::Threads;
 
 /// How many replies came to references that aren't hot, and how many cycles they took in all.
@@ -39,11 +41,11 @@ fn is_cold(entry: Option<ScriptEntry>) -> bool
 /// The cycles of the states in which a processor had just issued a reference, in order of their issue.
 fn issue_cycles(
     alloc: Global,
-    rows: &[Vec<MachineState>],
+    rows: &[Vec<Arc<MachineState>>],
     proc: u32,
     before: u32,
 ) -> Result<Vec<u32>, AllocError>
-    ensures { IfOk result (λ v. v.items ≡ issue_cycles (state_in (map (λ row. row.items) rows.now)) proc before) }
+    ensures { IfOk result (λ v. v.items ≡ issue_cycles (state_in (map (λ row. map arc_value row.items) rows.now)) proc before) }
 {
     let mut cycles = Vec::new(alloc);
     for cycle in 0..before {
@@ -112,13 +114,13 @@ fn add_waits(
 fn waits_of(
     alloc: Global,
     project: &Project,
-    rows: &[Vec<MachineState>],
+    rows: &[Vec<Arc<MachineState>>],
     proc: u32,
     window: Window,
 ) -> Result<Vec<u32>, AllocError>
     requires window { window.from ≤ window.to }
     requires short { window.to < 1000000 }
-    ensures { IfOk result (λ v. v.items ≡ waits_of project.now (state_in (map (λ row. row.items) rows.now)) window.from window.to proc) }
+    ensures { IfOk result (λ v. v.items ≡ waits_of project.now (state_in (map (λ row. map arc_value row.items) rows.now)) window.from window.to proc) }
 {
     let issued = issue_cycles(alloc, rows, proc, window.to)?;
     let mut numbers = Vec::new(alloc);

@@ -1,6 +1,7 @@
 //! Tree saturation, queue by queue and cycle by cycle.
 ghost use Rattle.std.specs.Prelude.{◌≡◌, ◌<◌, ◌≤◌, ◌+◌, ◌-◌, IfOk, map, length, slice_get};
 ghost use Rattle.page_map.specs.Limits.{max_k};
+ghost use Rattle.std.specs.Arc.{arc_value};
 ghost use Rattle.omega_net.specs.Numbers.{lines, components};
 ghost use Rattle.omega_net.specs.Wires.{below};
 ghost use Rattle.machine_cells.specs.Run.{run};
@@ -16,6 +17,7 @@ use omega_net::Net;
 use project_book::Project;
 use saturation::level;
 use std::alloc::{AllocError, Global};
+use std::sync::Arc;
 
 /// The cycles from one to another, both included.
 #[derive(Clone, Copy, PartialEq, Eq, Debug)]
@@ -45,7 +47,7 @@ pub struct SaturationMap {
 /// The lengths of one queue, cycle by cycle.
 fn queue_lengths(
     alloc: Global,
-    rows: &[Vec<MachineState>],
+    rows: &[Vec<Arc<MachineState>>],
     switch: u32,
     output: usize,
     window: Window,
@@ -53,7 +55,7 @@ fn queue_lengths(
     requires output { output < 2 }
     requires window { window.from ≤ window.to }
     requires short { window.to < 1000000 }
-    ensures { IfOk result (λ v. v.items ≡ map (λ i. length_in output (state_in (map (λ row. row.items) rows.now) (i + window.from) switch)) (below (window.to + 1 - window.from))) }
+    ensures { IfOk result (λ v. v.items ≡ map (λ i. length_in output (state_in (map (λ row. map arc_value row.items) rows.now) (i + window.from) switch)) (below (window.to + 1 - window.from))) }
 {
     let mut lengths = Vec::new(alloc);
     for i in 0..window.to + 1 - window.from {
@@ -66,7 +68,7 @@ fn queue_lengths(
 fn lengths_towards(
     alloc: Global,
     project: &Project,
-    rows: &[Vec<MachineState>],
+    rows: &[Vec<Arc<MachineState>>],
     net: Net,
     module: u32,
     stage: u32,
@@ -78,7 +80,7 @@ fn lengths_towards(
     requires place { place < queues_at project.now.k stage }
     requires window { window.from ≤ window.to }
     requires short { window.to < 1000000 }
-    ensures { IfOk result (λ s. s ≡ queue_lengths project.now.k net (state_in (map (λ row. row.items) rows.now)) window.from window.to stage (line_towards project.now.k «module» stage place)) }
+    ensures { IfOk result (λ s. s ≡ queue_lengths project.now.k net (state_in (map (λ row. map arc_value row.items) rows.now)) window.from window.to stage (line_towards project.now.k «module» stage place)) }
 {
     let line = line_towards(project.k(), module, stage, place);
     let switch = switch_number(project, net, stage, line);
@@ -90,7 +92,7 @@ fn lengths_towards(
 fn stage_lengths(
     alloc: Global,
     project: &Project,
-    rows: &[Vec<MachineState>],
+    rows: &[Vec<Arc<MachineState>>],
     net: Net,
     module: u32,
     stage: u32,
@@ -100,7 +102,7 @@ fn stage_lengths(
     requires stage { stage < project.now.k }
     requires window { window.from ≤ window.to }
     requires short { window.to < 1000000 }
-    ensures { IfOk result (λ v. v.items ≡ stage_lengths project.now.k net «module» (state_in (map (λ row. row.items) rows.now)) window.from window.to stage) }
+    ensures { IfOk result (λ v. v.items ≡ stage_lengths project.now.k net «module» (state_in (map (λ row. map arc_value row.items) rows.now)) window.from window.to stage) }
 {
     let k = project.k();
     let mut queues = Vec::new(alloc);
@@ -114,7 +116,7 @@ fn stage_lengths(
 fn stages_lengths(
     alloc: Global,
     project: &Project,
-    rows: &[Vec<MachineState>],
+    rows: &[Vec<Arc<MachineState>>],
     net: Net,
     module: u32,
     window: Window,
@@ -122,7 +124,7 @@ fn stages_lengths(
     requires there { «module» < lines project.now.k }
     requires window { window.from ≤ window.to }
     requires short { window.to < 1000000 }
-    ensures { IfOk result (λ v. v.items ≡ stages_lengths project.now.k net «module» (state_in (map (λ row. row.items) rows.now)) window.from window.to) }
+    ensures { IfOk result (λ v. v.items ≡ stages_lengths project.now.k net «module» (state_in (map (λ row. map arc_value row.items) rows.now)) window.from window.to) }
 {
     let k = project.k();
     let mut stages = Vec::new(alloc);
@@ -138,10 +140,14 @@ fn stages_lengths(
 }
 
 /// The states of a cycle, lent.
-fn lent(alloc: Global, row: &[MachineState]) -> Result<Vec<&MachineState>, AllocError>
-    ensures { IfOk result (λ v. map (λ r. r.now) v.items ≡ row.now) }
+fn lent(alloc: Global, row: &[Arc<MachineState>]) -> Result<Vec<&MachineState>, AllocError>
+    ensures { IfOk result (λ v. map (λ r. r.now) v.items ≡ map arc_value row.now) }
 {
-    row.iter().collect(alloc)
+    let mut lent = Vec::new(alloc);
+    for state in row {
+        lent.push(&**state)?;
+    }
+    Ok(lent)
 }
 
 /// The level of one cycle.
@@ -149,14 +155,14 @@ fn lent(alloc: Global, row: &[MachineState]) -> Result<Vec<&MachineState>, Alloc
 fn level_at(
     alloc: Global,
     project: &Project,
-    rows: &[Vec<MachineState>],
+    rows: &[Vec<Arc<MachineState>>],
     net: Net,
     module: u32,
     cycle: u32,
 ) -> Result<u8, AllocError>
     requires there { «module» < lines project.now.k }
     requires within { cycle < length rows.now }
-    ensures { IfOk result (λ n. n ≡ level project.now net «module» (state_in (map (λ row. row.items) rows.now) cycle)) }
+    ensures { IfOk result (λ n. n ≡ level project.now net «module» (state_in (map (λ row. map arc_value row.items) rows.now) cycle)) }
 {
     let row = lent(alloc, &rows[cycle as usize])?;
     Ok(level(project, row.as_slice(), net, module))
@@ -166,7 +172,7 @@ fn level_at(
 fn levels_over(
     alloc: Global,
     project: &Project,
-    rows: &[Vec<MachineState>],
+    rows: &[Vec<Arc<MachineState>>],
     net: Net,
     module: u32,
     window: Window,
@@ -175,7 +181,7 @@ fn levels_over(
     requires window { window.from ≤ window.to }
     requires within { window.to < length rows.now }
     requires short { window.to < 1000000 }
-    ensures { IfOk result (λ v. v.items ≡ levels_over project.now net «module» (state_in (map (λ row. row.items) rows.now)) window.from window.to) }
+    ensures { IfOk result (λ v. v.items ≡ levels_over project.now net «module» (state_in (map (λ row. map arc_value row.items) rows.now)) window.from window.to) }
 {
     let mut levels = Vec::new(alloc);
     for i in 0..window.to + 1 - window.from {
@@ -187,13 +193,13 @@ fn levels_over(
 /// Whether the module of that component number served a request, cycle by cycle.
 fn served_over(
     alloc: Global,
-    rows: &[Vec<MachineState>],
+    rows: &[Vec<Arc<MachineState>>],
     component: u32,
     window: Window,
 ) -> Result<Vec<bool>, AllocError>
     requires window { window.from ≤ window.to }
     requires short { window.to < 1000000 }
-    ensures { IfOk result (λ v. v.items ≡ served_over (state_in (map (λ row. row.items) rows.now)) component window.from window.to) }
+    ensures { IfOk result (λ v. v.items ≡ served_over (state_in (map (λ row. map arc_value row.items) rows.now)) component window.from window.to) }
 {
     let mut served = Vec::new(alloc);
     for i in 0..window.to + 1 - window.from {

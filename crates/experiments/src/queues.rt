@@ -1,5 +1,6 @@
 //! The queues towards a module, and what they hold.
 ghost use Rattle.std.specs.Prelude.{◌≡◌, ◌<◌, ◌≤◌, ◌+◌, ◌-◌, ◌*◌, ◌/◌, ◌^◌, map};
+ghost use Rattle.std.specs.Arc.{arc_value};
 ghost use Rattle.std.specs.Option.{option_copied};
 ghost use Rattle.omega_net.specs.declared.component.Component.TheVariants.{Switch};
 ghost use Rattle.omega_net.specs.Numbers.{lines, half, number_of};
@@ -10,6 +11,7 @@ ghost use Rattle.experiments.specs.Maps.{length_in, has_served, line_towards, qu
 use machine_cells::MachineState;
 use omega_net::{Component, Net};
 use project_book::Project;
+use std::sync::Arc;
 
 /// How many messages the queue at an output of a switch holds; 0 where the state is no switch's.
 pub(crate) fn length_in(state: Option<&MachineState>, output: usize) -> u8
@@ -35,14 +37,17 @@ pub(crate) fn has_served(state: Option<&MachineState>) -> bool
 
 /// The state of a component at a cycle, where there is one.
 pub(crate) fn state_at(
-    rows: &[Vec<MachineState>],
+    rows: &[Vec<Arc<MachineState>>],
     cycle: u32,
     component: u32,
 ) -> Option<&MachineState>
-    ensures { option_copied result ≡ state_in (map (λ row. row.items) rows.now) cycle component }
+    ensures { option_copied result ≡ state_in (map (λ row. map arc_value row.items) rows.now) cycle component }
 {
     match rows.get(cycle as usize) {
-        Some(row) => row.get(component as usize),
+        Some(row) => match row.get(component as usize) {
+            Some(state) => Some(state),
+            None => None,
+        },
         None => None,
     }
 }

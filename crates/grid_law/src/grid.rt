@@ -1,5 +1,5 @@
 //! The trait of machines that are simulated cell by cell.
-ghost use Rattle.std.specs.Prelude.{◌≡◌, ◌<◌, ◌↔◌, IsTrue, IfOk, map, ◌∷◌, []};
+ghost use Rattle.std.specs.Prelude.{◌≡◌, ◌<◌, ◌↔◌, IsTrue, IfOk, map, option_map, ◌∷◌, []};
 ghost use Rattle.std.specs.Arc.{arc_value};
 ghost use Rattle.grid_law.specs.Rules.{Rules, Laws, Agrees, IsNext};
 
@@ -69,23 +69,24 @@ pub trait Grid {
     /// # Errors
     ///
     /// Where a growth was refused. What was taken is given back.
-    fn start(alloc: Global, s: &Self::Slots, c: u32) -> Result<Self::State, NoMemory>
+    fn start(alloc: Global, s: &Self::Slots, c: u32) -> Result<Arc<Self::State>, NoMemory>
         requires { c < rules.components s.now }
-        ensures { IfOk result (λ x. x ≡ rules.start s.now c) };
+        ensures { IfOk result (λ x. arc_value x ≡ rules.start s.now c) };
 
-    /// The state of `c` one cycle after these near states.
+    /// The state of `c` one cycle after these near states. Where that is the component's own one, it may be the same, with one
+    /// more owner.
     ///
     /// # Errors
     ///
-    /// Where a growth was refused. The near states are as before.
+    /// Where a growth was refused, or the state has as many owners as can be counted. The near states are as before.
     fn step(
         alloc: Global,
         s: &Self::Slots,
         near: &[Arc<Self::State>],
         c: u32,
-    ) -> Result<Self::State, NoMemory>
+    ) -> Result<Arc<Self::State>, NoMemory>
         requires { c < rules.components s.now }
-        ensures { IfOk result (λ x. x ≡ rules.step s.now (map arc_value near.now) c) };
+        ensures { IfOk result (λ x. arc_value x ≡ rules.step s.now (map arc_value near.now) c) };
 
     /// As `step`, from near states that are lent; nothing where the next state is the component's own
     /// one, the first of them.
@@ -98,9 +99,9 @@ pub trait Grid {
         s: &Self::Slots,
         near: &[&Self::State],
         c: u32,
-    ) -> Result<Option<Self::State>, NoMemory>
+    ) -> Result<Option<Arc<Self::State>>, NoMemory>
         requires { c < rules.components s.now }
-        ensures { IfOk result (λ next. IsNext rules s.now (map (λ state. state.now) near.now) c next) };
+        ensures { IfOk result (λ next. IsNext rules s.now (map (λ state. state.now) near.now) c (option_map arc_value next)) };
 
     /// Whether two states are equal.
     fn same(a: &Self::State, b: &Self::State) -> bool

@@ -70,25 +70,31 @@ impl Grid for Line {
         Ok(readers)
     }
 
-    fn start(_alloc: Global, s: &Numbers, c: u32) -> Result<u32, NoMemory> {
-        Ok(s.at(c).seed)
+    fn start(alloc: Global, s: &Numbers, c: u32) -> Result<Arc<u32>, NoMemory> {
+        Ok(Arc::new(alloc, s.at(c).seed)?)
     }
 
-    fn step(_alloc: Global, s: &Numbers, near: &[Arc<u32>], c: u32) -> Result<u32, NoMemory> {
-        match own_state(near) {
-            Some(own) if own % 2 == 1 => Ok(own.wrapping_add(s.at(c).add)),
-            _ => Ok(wrapping_sum(near)),
-        }
+    fn step(alloc: Global, s: &Numbers, near: &[Arc<u32>], c: u32) -> Result<Arc<u32>, NoMemory> {
+        let next = match own_state(near) {
+            Some(own) if own % 2 == 1 => own.wrapping_add(s.at(c).add),
+            _ => wrapping_sum(near),
+        };
+        Ok(Arc::new(alloc, next)?)
     }
 
-    fn next(_alloc: Global, s: &Numbers, near: &[&u32], c: u32) -> Result<Option<u32>, NoMemory> {
+    fn next(
+        alloc: Global,
+        s: &Numbers,
+        near: &[&u32],
+        c: u32,
+    ) -> Result<Option<Arc<u32>>, NoMemory> {
         let next = match near.first() {
             Some(own) if **own % 2 == 1 => own.wrapping_add(s.at(c).add),
             _ => lent_sum(near),
         };
         match near.first() {
             Some(own) if **own == next => Ok(None),
-            _ => Ok(Some(next)),
+            _ => Ok(Some(Arc::new(alloc, next)?)),
         }
     }
 

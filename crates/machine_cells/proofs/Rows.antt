@@ -155,3 +155,23 @@ pulled_is_part P S N c x own s size lt states is found e =
 
     own_first : states_at S (near P.k c) ≡ own ∷ others
     own_first = sym (ap (states_at S) (near_is P.k c lt)) ∙ ap (λ o. cons_option o others) found
+
+-- the step from near states whose first is this
+pub pulled_next : (P : Project) (N : List MachineState) (c : ℕ) (x : Component) (own : MachineState) → slice_get N 0 ≡ Some own → component_of P.k c ≡ Some x
+    → pulled P N (Some x) own ≡ next_state P N c
+pulled_next P [] c x own e is = cc
+pulled_next P (first ∷ others) c x own e is =
+    let same : first ≡ own = cc in
+    ap (λ y. pulled P (first ∷ others) y own) (sym is) ∙ ap (pulled P (first ∷ others) (component_of P.k c)) (sym same)
+
+-- the first of the near states is the component's own
+pub own_first : (P : Project) (S N : List MachineState) (c : ℕ) (own : MachineState) → c < components P.k → N ≡ states_at S (near P.k c) → slice_get S c ≡ Some own
+    → slice_get N 0 ≡ Some own
+own_first P S N c own lt states found =
+    ap (λ M. slice_get M 0) (states ∙ sym (ap (states_at S) (near_is P.k c lt)) ∙ ap (λ o. cons_option o (states_at S (beside_numbers P.k (component_of P.k c)))) found)
+
+-- past a list's end stands what is given for that
+pub get_or_missing : (S : List MachineState) (n : ℕ) (d : MachineState) → slice_get S n ≡ None → get_or S n d ≡ d
+get_or_missing [] n d e = refl
+get_or_missing (x ∷ xs) zero d e = cc
+get_or_missing (x ∷ xs) (suc n) d e = get_or_missing xs n d e

@@ -1,14 +1,15 @@
 //! The machine as a grid of cells.
-ghost use Rattle.std.specs.Prelude.{◌≡◌, ◌<◌, ◌↔◌, IsTrue, IfOk, Some, map};
+ghost use Rattle.std.specs.Prelude.{◌≡◌, ◌<◌, ◌↔◌, IsTrue, IfOk, Some, map, option_map, length, slice_get};
+ghost use Rattle.std.specs.Arc.{arc_value};
 ghost use Rattle.omega_net.specs.Numbers.{components, component_of, number_of, Exists};
 ghost use Rattle.grid_law.specs.Rules.{IsNext};
-ghost use Rattle.machine_cells.specs.GridRules.{rp3_rules, next_state};
+ghost use Rattle.machine_cells.specs.GridRules.{rp3_rules};
+ghost use Rattle.machine_cells.specs.Run.{start_of};
 ghost use Rattle.machine_cells.specs.Reads.{reads, SameStart};
-ghost use Rattle.machine_cells.specs.Cells.{pulled};
 
 use crate::MachineState;
 use crate::agree::{agree_later, same_memory};
-use crate::near::{NearState, state_at};
+use crate::near::state_at;
 use crate::readers::readers;
 use crate::reads::{later_reads, start_reads};
 use crate::start::start_of;
@@ -37,40 +38,17 @@ pub(crate) fn component_at(shape: Shape, c: u32) -> Component
     shape.component(c).unwrap()
 }
 
-/// A component's state after these near states, its own first; its first state where there are none.
-pub(crate) fn next_state<S: NearState>(
+/// A component's first state.
+#[inline(never)]
+pub(crate) fn first_state(
     alloc: Global,
     project: &Project,
-    near: &[S],
-    c: u32,
-) -> Result<MachineState, NoMemory>
-    requires { c < components project.now.k }
-    ensures { IfOk result (λ s. s ≡ next_state project.now (map S.state near.now) c) }
+    component: Component,
+) -> Result<Arc<MachineState>, NoMemory>
+    ensures { IfOk result (λ state. arc_value state ≡ start_of project.now (Some component)) }
 {
-    let shape = project.shape();
-    let component = component_at(shape, c);
-    match near.first() {
-        Some(own) => pulled(alloc, project, shape, near, component, own.state()),
-        None => start_of(alloc, project, component),
-    }
-}
-
-/// The same, and nothing where it is the component's own state.
-fn next_or_own<S: NearState>(
-    alloc: Global,
-    project: &Project,
-    near: &[S],
-    c: u32,
-) -> Result<Option<MachineState>, NoMemory>
-    requires { c < components project.now.k }
-    ensures { IfOk result (IsNext rp3_rules project.now (map S.state near.now) c) }
-{
-    let shape = project.shape();
-    let component = component_at(shape, c);
-    match near.first() {
-        Some(own) => moved(alloc, project, shape, near, component, own.state()),
-        None => Ok(Some(start_of(alloc, project, component)?)),
-    }
+    let start = start_of(alloc, project, component)?;
+    Ok(Arc::new(alloc, start)?)
 }
 
 impl Grid for Rp3 {
@@ -118,8 +96,8 @@ impl Grid for Rp3 {
         readers(alloc, s, *slot)
     }
 
-    fn start(alloc: Global, s: &Project, c: u32) -> Result<MachineState, NoMemory> {
-        start_of(alloc, s, component_at(s.shape(), c))
+    fn start(alloc: Global, s: &Project, c: u32) -> Result<Arc<MachineState>, NoMemory> {
+        first_state(alloc, s, component_at(s.shape(), c))
     }
 
     fn step(
@@ -127,8 +105,13 @@ impl Grid for Rp3 {
         s: &Project,
         near: &[Arc<MachineState>],
         c: u32,
-    ) -> Result<MachineState, NoMemory> {
-        next_state(alloc, s, near, c)
+    ) -> Result<Arc<MachineState>, NoMemory> {
+        let shape = s.shape();
+        let component = component_at(shape, c);
+        match near.first() {
+            Some(own) => pulled(alloc, s, shape, near, component, own),
+            None => first_state(alloc, s, component),
+        }
     }
 
     fn next(
@@ -136,8 +119,13 @@ impl Grid for Rp3 {
         s: &Project,
         near: &[&MachineState],
         c: u32,
-    ) -> Result<Option<MachineState>, NoMemory> {
-        next_or_own(alloc, s, near, c)
+    ) -> Result<Option<Arc<MachineState>>, NoMemory> {
+        let shape = s.shape();
+        let component = component_at(shape, c);
+        match near.first() {
+            Some(own) => moved(alloc, s, shape, near, component, own),
+            None => first_state(alloc, s, component).map(|state| Some(state)),
+        }
     }
 
     fn same(a: &MachineState, b: &MachineState) -> bool {

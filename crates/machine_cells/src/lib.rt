@@ -15,8 +15,7 @@
 //!   which is also what the cells of the grid are, computed one from another ([`runs_are_one`]).
 //! - No message is lost ([`no_message_is_lost`], `specs/Kept.antt`).
 //!
-//! The states of modules and switches are [`Shared`]: where nothing moves, the next state is the one
-//! before, with one more owner.
+//! A state is made where something changes. Where nothing does, the next state is the one before, with one more owner.
 //!
 //! What a cell reads of the project, beside its shape, which no edit changes:
 //!
@@ -44,14 +43,13 @@ mod readers;
 mod reads;
 mod rest;
 mod scratch;
-mod shared;
 mod start;
 mod state;
 mod step;
+mod switch;
 mod text;
 
 pub use grid::Rp3;
 pub use laws::{no_message_is_lost, runs_are_one, steps_are_parts};
 pub use scratch::{first_row, from_scratch, next_row};
-pub use shared::Shared;
 pub use state::MachineState;

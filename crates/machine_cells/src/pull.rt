@@ -1,11 +1,14 @@
 //! What goes over a component's wires, pulled from its near states.
-ghost use Rattle.std.specs.Prelude.{◌≡◌, ◌≤◌, ◌-◌, map};
+ghost use Rattle.std.specs.Prelude.{◌≡◌, ℕ, ◌≤◌, ◌-◌, map, Some, is_some};
 ghost use Rattle.std.specs.Option.{option_copied};
-ghost use Rattle.machine_cells.specs.Moves.{request_on, reply_on, takes_request, takes_reply};
+ghost use Rattle.omega_net.specs.Wires.{lower_end, upper_end, input_of, output_of};
+ghost use Rattle.omega_net.specs.declared.component.Component.TheVariants.{Switch as SwitchAt};
+ghost use Rattle.machine_cells.specs.Moves.{request_on, reply_on, takes_request, takes_reply, request_between, reply_between, at_ends};
 ghost use Rattle.machine_cells.specs.Cells.{request_pulled, reply_pulled};
 
 use crate::MachineState;
 use crate::near::{NearState, state_at};
+use crate::switch::Switch;
 use omega_net::{Component, Net, Reply, Request, Shape, Wire};
 use project_book::{Depths, Project};
 
@@ -153,5 +156,93 @@ pub(crate) fn reply_pulled<'a, S: NearState>(
         Some(reply)
     } else {
         None
+    }
+}
+
+/// The request that comes to a switch by one of its inputs, from the component above it.
+#[inline(always)]
+pub(crate) fn request_in<'a, W: Switch>(
+    project: &Project,
+    shape: Shape,
+    wire: Wire,
+    input: u8,
+    upper: Option<&'a MachineState>,
+    own: &W,
+) -> Option<&'a Request>
+    requires shape { shape ≡ project.now.k }
+    requires end { (index : ℕ) × (lower_end shape wire ≡ SwitchAt W.net wire.stage index) }
+    requires input { input_of shape wire ≡ input }
+    ensures { option_copied result ≡ at_ends (request_between project.now wire) (option_copied upper.entry) (Some (W.state own.now)) }
+{
+    let request = request_on(wire, upper?)?;
+    if own.takes_request(project, shape, wire.stage, input, request) {
+        Some(request)
+    } else {
+        None
+    }
+}
+
+/// Whether the request at the head of an output of a switch goes on to the component below it.
+#[inline(always)]
+pub(crate) fn request_leaves<W: Switch>(
+    project: &Project,
+    shape: Shape,
+    wire: Wire,
+    output: u8,
+    own: &W,
+    lower: Option<&MachineState>,
+) -> bool
+    requires shape { shape ≡ project.now.k }
+    requires stage { wire.stage ≤ shape }
+    requires output { output_of wire ≡ output }
+    ensures { result ≡ is_some (at_ends (request_between project.now wire) (Some (W.state own.now)) (option_copied lower.entry)) }
+{
+    match (own.shown_forward(output), lower) {
+        (Some(request), Some(lower)) => takes_request(project, shape, wire, request, lower),
+        _ => false,
+    }
+}
+
+/// The reply that comes to a switch by one of its outputs, from the component below it.
+#[inline(always)]
+pub(crate) fn reply_in<'a, W: Switch>(
+    project: &Project,
+    shape: Shape,
+    wire: Wire,
+    stage: u8,
+    output: u8,
+    own: &W,
+    lower: Option<&'a MachineState>,
+) -> Option<&'a Reply>
+    requires shape { shape ≡ project.now.k }
+    requires end { (index : ℕ) × (upper_end wire ≡ SwitchAt W.net stage index) }
+    requires output { output_of wire ≡ output }
+    ensures { option_copied result ≡ at_ends (reply_between project.now wire) (Some (W.state own.now)) (option_copied lower.entry) }
+{
+    let reply = reply_on(shape, wire, lower?)?;
+    if own.takes_reply(project, shape, stage, output, reply) {
+        Some(reply)
+    } else {
+        None
+    }
+}
+
+/// Whether the reply at the head of an input of a switch goes on to the component above it.
+#[inline(always)]
+pub(crate) fn reply_leaves<W: Switch>(
+    project: &Project,
+    shape: Shape,
+    wire: Wire,
+    input: u8,
+    upper: Option<&MachineState>,
+    own: &W,
+) -> bool
+    requires shape { shape ≡ project.now.k }
+    requires input { input_of shape wire ≡ input }
+    ensures { result ≡ is_some (at_ends (reply_between project.now wire) (option_copied upper.entry) (Some (W.state own.now))) }
+{
+    match (own.shown_back(input), upper) {
+        (Some(reply), Some(upper)) => takes_reply(project, shape, wire, reply, upper),
+        _ => false,
     }
 }

@@ -7,7 +7,7 @@ ghost use Rattle.page_map.specs.Limits.{max_k, page_count, page_words};
 ghost use Rattle.project_book.specs.Project.{page_of};
 ghost use Rattle.machine_cells.specs.Putting.{IsPut, lane};
 
-use crate::{MachineState, Shared};
+use crate::MachineState;
 use comb_switch::CombState;
 use grid_law::NoMemory;
 use low_switch::LowState;
@@ -42,12 +42,8 @@ pub(crate) fn blank_of(alloc: Global, component: Component) -> Result<MachineSta
     match component {
         Component::Proc(_) => Ok(MachineState::Proc(ProcState::start())),
         Component::Module(_) => module_with(alloc, Words::new(alloc)),
-        Component::Switch { net: Net::Low, .. } => {
-            Ok(MachineState::Low(Shared::new(alloc, LowState::start(alloc))?))
-        },
-        Component::Switch { net: Net::Comb, .. } => {
-            Ok(MachineState::Comb(Shared::new(alloc, CombState::start(alloc))?))
-        },
+        Component::Switch { net: Net::Low, .. } => Ok(MachineState::Low(LowState::start(alloc))),
+        Component::Switch { net: Net::Comb, .. } => Ok(MachineState::Comb(CombState::start(alloc))),
     }
 }
 
@@ -55,8 +51,7 @@ pub(crate) fn blank_of(alloc: Global, component: Component) -> Result<MachineSta
 fn module_with(alloc: Global, words: Words) -> Result<MachineState, NoMemory>
     ensures { IfOk result (λ s. s ≡ MachineState.Module (module_start words)) }
 {
-    let state = ModuleState::start(alloc, words)?;
-    Ok(MachineState::Module(Shared::new(alloc, state)?))
+    Ok(MachineState::Module(ModuleState::start(alloc, words)?))
 }
 
 /// The first words that stand in a module, by row. Each page's that do are looked up alone.

@@ -1,5 +1,6 @@
 //! A component's state one cycle later, from its near states.
-ghost use Rattle.std.specs.Prelude.{◌≡◌, ◌-◌, map, IfOk, IfSome, Some};
+ghost use Rattle.std.specs.Prelude.{◌≡◌, ◌-◌, map, option_map, slice_get, IfOk, IfSome, Some};
+ghost use Rattle.std.specs.Arc.{arc_value};
 ghost use Rattle.omega_net.specs.Numbers.{Exists};
 ghost use Rattle.project_book.specs.Project.{place_for};
 ghost use Rattle.project_book.specs.Scripts.{IsEntry};
@@ -11,15 +12,18 @@ ghost use Rattle.project_book.specs.Project.{depth_of};
 ghost use Rattle.project_book.specs.declared.edit.Depths.TheVariants.{ModuleQueue};
 ghost use Rattle.machine_cells.specs.Quiet.{IsNextOf};
 ghost use Rattle.machine_cells.specs.Pulls.{traffic, module_traffic};
-ghost use Rattle.machine_cells.specs.Cycle.{proc_settings, comb_settings};
+ghost use Rattle.machine_cells.specs.Cycle.{blank_of, proc_settings, comb_settings};
 ghost use Rattle.machine_cells.specs.Cells.{beside_on, proc_pulls, module_pulls, switch_pulls, pulled};
 
-use crate::near::NearState;
-use crate::pull::{reply_pulled, request_pulled};
+use crate::MachineState;
+use crate::near::{NearState, state_at};
+use crate::pull::{
+    reply_in, reply_leaves, reply_pulled, request_in, request_leaves, request_pulled,
+};
 use crate::pulls::{ModulePulls, SwitchPulls};
-use crate::rest::{comb_next, low_next, module_next};
+use crate::rest::{comb_rests, low_rests, module_rests};
 use crate::start::blank_of;
-use crate::{MachineState, Shared};
+use crate::switch::Switch;
 use comb_switch::{CombSettings, CombState};
 use grid_law::NoMemory;
 use low_switch::LowState;
@@ -29,6 +33,7 @@ use page_map::Place;
 use project_book::{Depths, Project};
 use ref_proc::{ProcSettings, ProcState, ProcTraffic};
 use std::alloc::Global;
+use std::sync::Arc;
 
 /// The place of a network's neighbour among the near states of a processor or a module.
 fn beside_on(shape: Shape, net: Net) -> usize
@@ -89,40 +94,47 @@ fn module_pulls<'a, S: NearState>(
     }
 }
 
-/// What the near states are to a switch.
+/// What the near states are to a switch, which is the first of them.
 #[inline(always)]
-fn switch_pulls<'a, S: NearState>(
+fn switch_pulls<'a, S: NearState, W: Switch>(
     project: &Project,
     shape: Shape,
     near: &'a [S],
     net: Net,
     stage: u8,
     index: u8,
+    own: &W,
 ) -> SwitchPulls<'a>
     requires shape { shape ≡ project.now.k }
     requires there { Exists shape (Component.Switch net stage index) }
+    requires net { net ≡ W.net }
+    requires own { slice_get (map S.state near.now) 0 ≡ Some (W.state own.now) }
     ensures { traffic result ≡ switch_pulls project.now (map S.state near.now) net stage index }
 {
     let in_0 = shape.before(net, stage, index, 0);
     let in_1 = shape.before(net, stage, index, 1);
     let out_0 = shape.after(net, stage, index, 0);
     let out_1 = shape.after(net, stage, index, 1);
+    let above_0 = state_at(near, 1);
+    let above_1 = state_at(near, 2);
+    let below_0 = state_at(near, 3);
+    let below_1 = state_at(near, 4);
     SwitchPulls {
         requests: (
-            request_pulled(project, shape, near, in_0, 1, 0),
-            request_pulled(project, shape, near, in_1, 2, 0),
+            request_in(project, shape, in_0, 0, above_0, own),
+            request_in(project, shape, in_1, 1, above_1, own),
         ),
         replies: (
-            reply_pulled(project, shape, near, out_0, 0, 3),
-            reply_pulled(project, shape, near, out_1, 0, 4),
+            reply_in(project, shape, out_0, stage, 0, own, below_0),
+            reply_in(project, shape, out_1, stage, 1, own, below_1),
         ),
         requests_leave: (
-            request_pulled(project, shape, near, out_0, 0, 3).is_some(),
-            request_pulled(project, shape, near, out_1, 0, 4).is_some(),
+            request_leaves(project, shape, out_0, 0, own, below_0),
+            request_leaves(project, shape, out_1, 1, own, below_1),
         ),
         replies_leave: (
-            reply_pulled(project, shape, near, in_0, 1, 0).is_some(),
-            reply_pulled(project, shape, near, in_1, 2, 0).is_some(),
+            reply_leaves(project, shape, in_0, 0, above_0, own),
+            reply_leaves(project, shape, in_1, 1, above_1, own),
         ),
     }
 }
@@ -166,6 +178,7 @@ fn comb_settings(project: &Project, shape: Shape, stage: u8) -> CombSettings
     }
 }
 
+/// A low switch one cycle later; nothing where it stays as it is.
 fn low_step<S: NearState>(
     alloc: Global,
     project: &Project,
@@ -174,15 +187,21 @@ fn low_step<S: NearState>(
     stage: u8,
     index: u8,
     own: &LowState,
-) -> Result<Option<Shared<LowState>>, NoMemory>
+) -> Result<Option<Arc<MachineState>>, NoMemory>
     requires shape { shape ≡ project.now.k }
     requires there { Exists shape (Component.Switch Net.Low stage index) }
-    ensures { IfOk result (IsNextOf own.now (low_after (project.now.k - 1 - stage) (switch_pulls project.now (map S.state near.now) Net.Low stage index) own.now)) }
+    requires own { slice_get (map S.state near.now) 0 ≡ Some (MachineState.Low own.now) }
+    ensures { IfOk result (λ next. IsNextOf (MachineState.Low own.now) (MachineState.Low (low_after (project.now.k - 1 - stage) (switch_pulls project.now (map S.state near.now) Net.Low stage index) own.now)) (option_map arc_value next)) }
 {
-    let pulls = switch_pulls(project, shape, near, Net::Low, stage, index);
-    low_next(alloc, own, shape.deciding_bit(stage), &pulls)
+    let pulls = switch_pulls(project, shape, near, Net::Low, stage, index, own);
+    if low_rests(own, &pulls) {
+        return Ok(None);
+    }
+    let next = own.step(alloc, shape.deciding_bit(stage), &pulls.traffic())?;
+    Ok(Some(Arc::new(alloc, MachineState::Low(next))?))
 }
 
+/// A combining switch one cycle later; nothing where it stays as it is.
 fn comb_step<S: NearState>(
     alloc: Global,
     project: &Project,
@@ -191,31 +210,43 @@ fn comb_step<S: NearState>(
     stage: u8,
     index: u8,
     own: &CombState,
-) -> Result<Option<Shared<CombState>>, NoMemory>
+) -> Result<Option<Arc<MachineState>>, NoMemory>
     requires shape { shape ≡ project.now.k }
     requires there { Exists shape (Component.Switch Net.Comb stage index) }
-    ensures { IfOk result (IsNextOf own.now (comb_after (comb_settings project.now stage) (switch_pulls project.now (map S.state near.now) Net.Comb stage index) own.now)) }
+    requires own { slice_get (map S.state near.now) 0 ≡ Some (MachineState.Comb own.now) }
+    ensures { IfOk result (λ next. IsNextOf (MachineState.Comb own.now) (MachineState.Comb (comb_after (comb_settings project.now stage) (switch_pulls project.now (map S.state near.now) Net.Comb stage index) own.now)) (option_map arc_value next)) }
 {
-    let pulls = switch_pulls(project, shape, near, Net::Comb, stage, index);
-    comb_next(alloc, own, &comb_settings(project, shape, stage), &pulls)
+    let pulls = switch_pulls(project, shape, near, Net::Comb, stage, index, own);
+    if comb_rests(own, &pulls) {
+        return Ok(None);
+    }
+    let settings = comb_settings(project, shape, stage);
+    let next = own.step(alloc, &settings, &pulls.traffic())?;
+    Ok(Some(Arc::new(alloc, MachineState::Comb(next))?))
 }
 
+/// A processor one cycle later; nothing where it stays as it is.
 fn proc_step<S: NearState>(
+    alloc: Global,
     project: &Project,
     shape: Shape,
     near: &[S],
     proc: u8,
     own: &ProcState,
-) -> Option<ProcState>
+) -> Result<Option<Arc<MachineState>>, NoMemory>
     requires shape { shape ≡ project.now.k }
     requires there { Exists shape (Component.Proc proc) }
-    ensures { IsNextOf own.now (proc_after (proc_settings project.now proc own.now.index) (proc_pulls project.now (map S.state near.now) proc) own.now) result }
+    ensures { IfOk result (λ next. IsNextOf (MachineState.Proc own.now) (MachineState.Proc (proc_after (proc_settings project.now proc own.now.index) (proc_pulls project.now (map S.state near.now) proc) own.now)) (option_map arc_value next)) }
 {
     let settings = proc_settings(project, proc, own.index);
     let next = own.step(&settings, &proc_pulls(project, shape, near, proc));
-    if next.same(own) { None } else { Some(next) }
+    if next.same(own) {
+        return Ok(None);
+    }
+    Ok(Some(Arc::new(alloc, MachineState::Proc(next))?))
 }
 
+/// A module one cycle later; nothing where it stays as it is.
 fn module_step<S: NearState>(
     alloc: Global,
     project: &Project,
@@ -223,17 +254,30 @@ fn module_step<S: NearState>(
     near: &[S],
     number: u8,
     own: &ModuleState,
-) -> Result<Option<Shared<ModuleState>>, NoMemory>
+) -> Result<Option<Arc<MachineState>>, NoMemory>
     requires shape { shape ≡ project.now.k }
     requires there { Exists shape (Component.Module number) }
-    ensures { IfOk result (IsNextOf own.now (module_after (depth_of project.now ModuleQueue) (module_pulls project.now (map S.state near.now) number) own.now)) }
+    ensures { IfOk result (λ next. IsNextOf (MachineState.Module own.now) (MachineState.Module (module_after (depth_of project.now ModuleQueue) (module_pulls project.now (map S.state near.now) number) own.now)) (option_map arc_value next)) }
 {
     let pulls = module_pulls(project, shape, near, number);
-    module_next(alloc, own, project.depth(Depths::ModuleQueue), &pulls)
+    if module_rests(own, &pulls) {
+        return Ok(None);
+    }
+    let next = own.step(alloc, project.depth(Depths::ModuleQueue), &pulls.traffic())?;
+    Ok(Some(Arc::new(alloc, MachineState::Module(next))?))
+}
+
+/// The blank state of a component that holds one of another kind.
+#[inline(never)]
+fn blank(alloc: Global, component: Component) -> Result<Option<Arc<MachineState>>, NoMemory>
+    ensures { IfOk result (λ next. option_map arc_value next ≡ Some (blank_of (Some component))) }
+{
+    let blank = blank_of(alloc, component)?;
+    Ok(Some(Arc::new(alloc, blank)?))
 }
 
 /// A component's state one cycle later, from its own state and the near states, its own first; nothing
-/// where it stays as it is. A module or a switch takes memory only where something happens in it.
+/// where it stays as it is. It takes memory only for another state.
 pub(crate) fn moved<S: NearState>(
     alloc: Global,
     project: &Project,
@@ -241,18 +285,16 @@ pub(crate) fn moved<S: NearState>(
     near: &[S],
     component: Component,
     own: &MachineState,
-) -> Result<Option<MachineState>, NoMemory>
+) -> Result<Option<Arc<MachineState>>, NoMemory>
     requires shape { shape ≡ project.now.k }
     requires there { Exists shape component }
-    ensures { IfOk result (IsNextOf own.now (pulled project.now (map S.state near.now) (Some component) own.now)) }
+    requires own { slice_get (map S.state near.now) 0 ≡ Some own.now }
+    ensures { IfOk result (λ next. IsNextOf own.now (pulled project.now (map S.state near.now) (Some component) own.now) (option_map arc_value next)) }
 {
     match (component, own) {
-        (Component::Proc(p), MachineState::Proc(s)) => {
-            Ok(proc_step(project, shape, near, p, s).map(|state| MachineState::Proc(state)))
-        }
+        (Component::Proc(p), MachineState::Proc(s)) => proc_step(alloc, project, shape, near, p, s),
         (Component::Module(m), MachineState::Module(s)) => {
-            let next = module_step(alloc, project, shape, near, m, s)?;
-            Ok(next.map(|state| MachineState::Module(state)))
+            module_step(alloc, project, shape, near, m, s)
         }
         (
             Component::Switch {
@@ -261,10 +303,7 @@ pub(crate) fn moved<S: NearState>(
                 index,
             },
             MachineState::Low(s),
-        ) => {
-            let next = low_step(alloc, project, shape, near, stage, index, s)?;
-            Ok(next.map(|state| MachineState::Low(state)))
-        }
+        ) => low_step(alloc, project, shape, near, stage, index, s),
         (
             Component::Switch {
                 net: Net::Comb,
@@ -272,29 +311,27 @@ pub(crate) fn moved<S: NearState>(
                 index,
             },
             MachineState::Comb(s),
-        ) => {
-            let next = comb_step(alloc, project, shape, near, stage, index, s)?;
-            Ok(next.map(|state| MachineState::Comb(state)))
-        }
-        _ => Ok(Some(blank_of(alloc, component)?)),
+        ) => comb_step(alloc, project, shape, near, stage, index, s),
+        _ => blank(alloc, component),
     }
 }
 
-/// The same, shared with the own state where that stays.
+/// The same, and where it stays as it is the own state, with one more owner.
 pub(crate) fn pulled<S: NearState>(
     alloc: Global,
     project: &Project,
     shape: Shape,
     near: &[S],
     component: Component,
-    own: &MachineState,
-) -> Result<MachineState, NoMemory>
+    own: &Arc<MachineState>,
+) -> Result<Arc<MachineState>, NoMemory>
     requires shape { shape ≡ project.now.k }
     requires there { Exists shape component }
-    ensures { IfOk result (λ s. s ≡ pulled project.now (map S.state near.now) (Some component) own.now) }
+    requires own { slice_get (map S.state near.now) 0 ≡ Some (arc_value own.now) }
+    ensures { IfOk result (λ next. arc_value next ≡ pulled project.now (map S.state near.now) (Some component) (arc_value own.now)) }
 {
     match moved(alloc, project, shape, near, component, own)? {
-        Some(state) => Ok(state),
-        None => own.share(),
+        Some(next) => Ok(next),
+        None => Ok(Arc::try_clone(own)?),
     }
 }

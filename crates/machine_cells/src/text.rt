@@ -11,9 +11,9 @@ impl fmt::Display for MachineState {
     fn fmt<W: fmt::Write>(&self, f: &mut fmt::Formatter<W>) -> fmt::Result {
         match self {
             MachineState::Proc(state) => write!(f, "{state}"),
-            MachineState::Module(state) => write!(f, "{}", **state),
-            MachineState::Low(state) => write!(f, "{}", **state),
-            MachineState::Comb(state) => write!(f, "{}", **state),
+            MachineState::Module(state) => write!(f, "{state}"),
+            MachineState::Low(state) => write!(f, "{state}"),
+            MachineState::Comb(state) => write!(f, "{state}"),
         }
     }
 }

@@ -82,7 +82,7 @@ fn lent_gives(
 /// The text of a component's state at a cycle; empty where it isn't there.
 fn printed(
     alloc: Global,
-    rows: &[Vec<MachineState>],
+    rows: &[Vec<Arc<MachineState>>],
     cycle: usize,
     component: usize,
 ) -> Result<String, Fail> {
@@ -126,7 +126,7 @@ fn cells_give_the_run(rt: HostRuntime) -> Result<(), Fail> {
     let rows = from_scratch(alloc, &project)?;
     let mut row = Vec::new(alloc);
     for c in 0..Rp3::components(&project) {
-        row.push(Arc::new(alloc, Rp3::start(alloc, &project, c)?)?)?;
+        row.push(Rp3::start(alloc, &project, c)?)?;
     }
     for states in &rows {
         assert_eq!(rt; states.len(), row.len());
@@ -138,7 +138,7 @@ fn cells_give_the_run(rt: HostRuntime) -> Result<(), Fail> {
             let near = near_states(alloc, &project, &row, c)?;
             let state = Rp3::step(alloc, &project, &near, c)?;
             assert!(rt; lent_gives(alloc, &project, &near, c, &state)?);
-            next.push(Arc::new(alloc, state)?)?;
+            next.push(state)?;
         }
         row = next;
     }

@@ -5,6 +5,7 @@ use omega_net::{Net, ScriptEntry};
 use project_book::{Depths, Edit, Project};
 use saturation::{Tree, bound, tree};
 use std::alloc::Global;
+use std::sync::Arc;
 use std::test::Fail;
 use std::thread::Threads;
 use word_ops::{Kind, Op};
@@ -46,12 +47,15 @@ fn entry(proc: u32, index: u32, entry: ScriptEntry) -> Edit {
 }
 
 /// The states of each cycle, by reference.
-fn borrowed(alloc: Global, rows: &[Vec<MachineState>]) -> Result<Vec<Vec<&MachineState>>, Fail> {
+fn borrowed(
+    alloc: Global,
+    rows: &[Vec<Arc<MachineState>>],
+) -> Result<Vec<Vec<&MachineState>>, Fail> {
     let mut all = Vec::new(alloc);
     for row in rows {
         let mut states = Vec::new(alloc);
         for state in row {
-            states.push(state)?;
+            states.push(&**state)?;
         }
         all.push(states)?;
     }

@@ -1,5 +1,5 @@
 //! Messages that wait.
-ghost use Rattle.std.specs.Prelude.{◌≡◌, ◌<◌, ◌≤◌, [], length, remove, slice_set, slice_index_or, ◌==◌, IfOk, OnOk, Some};
+ghost use Rattle.std.specs.Prelude.{◌≡◌, ◌<◌, ◌≤◌, [], length, remove, slice_set, slice_index_or, ◌==◌, IfOk, OnErr, OnOk, Some};
 ghost use Rattle.std.specs.Cmp.{on_equiv, on_per};
 ghost use Rattle.std.specs.Cmp.Lexicographic.{pointwise, lists_per, lists_equiv};
 ghost use Rattle.omega_net.specs.Limits.{queue_places};
@@ -99,7 +99,8 @@ impl<T: Copy> Queue<T> {
     ///
     /// Where the growth was refused. The queue is as before.
     pub fn push(&mut self, message: T) -> Result<(), AllocError>
-        ensures { OnOk result (self.new ≡ joined self.old (Some message)) }
+        ensures ok { OnOk result (self.new ≡ joined self.old (Some message)) }
+        ensures err { OnErr result (self.new ≡ self.old) }
     {
         if self.messages.len() < QUEUE_PLACES {
             self.messages.push(message)?;

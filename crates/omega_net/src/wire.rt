@@ -106,6 +106,7 @@ impl Shape {
         ensures value { result ≡ wire_out net stage index output }
         ensures there { IsWire self result }
         ensures end { upper_end result ≡ Component.Switch net stage index }
+        ensures output { output_of result ≡ output }
     {
         Wire {
             net,
@@ -121,6 +122,7 @@ impl Shape {
         ensures value { result ≡ wire_into self net stage index input }
         ensures there { IsWire self result }
         ensures end { lower_end self result ≡ Component.Switch net stage index }
+        ensures input { input_of self result ≡ input }
     {
         Wire {
             net,

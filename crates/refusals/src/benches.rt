@@ -10,6 +10,7 @@ use project_book::{Edit, EditFault};
 use run_queries::{Body, Query};
 use serial_order::Ordered;
 use std::alloc::Global;
+use std::sync::Arc;
 use std::thread::Threads;
 
 /// How a bench looks: version, journal, clock, horizon, and how many cells are due.
@@ -147,7 +148,12 @@ pub(crate) fn is_simulated<R: Threads + Sync>(rt: &R, alloc: Global, bench: &mut
 }
 
 /// Whether the bench answers these states of a cycle.
-fn is_row<R: Threads + Sync>(rt: &R, bench: &mut Bench, cycle: u32, row: &[MachineState]) -> bool {
+fn is_row<R: Threads + Sync>(
+    rt: &R,
+    bench: &mut Bench,
+    cycle: u32,
+    row: &[Arc<MachineState>],
+) -> bool {
     let mut component = 0u32;
     for state in row {
         let told = answer(rt, bench, Query::State { component, cycle });

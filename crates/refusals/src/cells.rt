@@ -14,14 +14,14 @@ use std::thread::Threads;
 fn near_states(
     alloc: Global,
     project: &Project,
-    row: &[MachineState],
+    row: &[Arc<MachineState>],
     c: u32,
 ) -> Result<Vec<Arc<MachineState>>, NoMemory> {
     let mut near = Vec::new(alloc);
     if c < Rp3::components(project) {
         for number in &Rp3::near(project, c) {
             if let Some(state) = row.get(*number as usize) {
-                near.push(Arc::new(alloc, state.share()?)?)?;
+                near.push(Arc::try_clone(state)?)?;
             }
         }
     }
@@ -52,7 +52,7 @@ fn starts(alloc: Global, project: &Project, c: u32, want: &MachineState) -> bool
 fn steps(
     alloc: Global,
     project: &Project,
-    row: &[MachineState],
+    row: &[Arc<MachineState>],
     c: u32,
     want: &MachineState,
 ) -> bool {
@@ -124,7 +124,7 @@ fn shared(alloc: Global) -> Option<Project> {
 }
 
 /// Whether the components start so.
-fn all_start(alloc: Global, project: &Project, first: &[MachineState]) -> bool {
+fn all_start(alloc: Global, project: &Project, first: &[Arc<MachineState>]) -> bool {
     let mut c = 0u32;
     for want in first {
         if !starts(alloc, project, c, want) {
@@ -136,7 +136,7 @@ fn all_start(alloc: Global, project: &Project, first: &[MachineState]) -> bool {
 }
 
 /// Whether each row's components step to the next row.
-fn all_step(alloc: Global, project: &Project, rows: &[Vec<MachineState>]) -> bool {
+fn all_step(alloc: Global, project: &Project, rows: &[Vec<Arc<MachineState>>]) -> bool {
     for pair in rows.windows(2) {
         if let [row, next] = pair {
             if !steps_to(alloc, project, row, next) {
@@ -148,7 +148,12 @@ fn all_step(alloc: Global, project: &Project, rows: &[Vec<MachineState>]) -> boo
 }
 
 /// Whether each component steps from one row to the next.
-fn steps_to(alloc: Global, project: &Project, row: &[MachineState], next: &[MachineState]) -> bool {
+fn steps_to(
+    alloc: Global,
+    project: &Project,
+    row: &[Arc<MachineState>],
+    next: &[Arc<MachineState>],
+) -> bool {
     let mut c = 0u32;
     for want in next {
         if !steps(alloc, project, row, c, want) {
@@ -180,13 +185,13 @@ fn has_readers(alloc: Global, project: &Project, slot: Slot, count: usize) -> bo
 /// The states of each cycle, lent.
 fn lent_rows(
     alloc: Global,
-    rows: &[Vec<MachineState>],
+    rows: &[Vec<Arc<MachineState>>],
 ) -> Result<Vec<Vec<&MachineState>>, NoMemory> {
     let mut all = Vec::new(alloc);
     for row in rows {
         let mut states = Vec::new(alloc);
         for state in row {
-            states.push(state)?;
+            states.push(&**state)?;
         }
         all.push(states)?;
     }
@@ -222,7 +227,7 @@ fn is_reported_lent<R: Threads + Sync>(
     rt: &R,
     alloc: Global,
     project: &Project,
-    rows: &[Vec<MachineState>],
+    rows: &[Vec<Arc<MachineState>>],
 ) -> Result<bool, NoMemory> {
     let rows = lent_rows(alloc, rows)?;
     Ok(is_reported(rt, alloc, project, &rows))

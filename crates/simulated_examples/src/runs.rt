@@ -3,10 +3,11 @@ use crate::setups::Setup;
 use machine_cells::{MachineState, from_scratch};
 use std::alloc::Global;
 use std::fmt;
+use std::sync::Arc;
 use std::test::Fail;
 
 /// The states of a run, by cycle and component.
-type Rows<'a> = &'a [Vec<MachineState>];
+type Rows<'a> = &'a [Vec<Arc<MachineState>>];
 
 /// The run of a machine in which page 0 stands whole in module 0. Its text has the replies that each
 /// processor received, as CYCLE:WORD, then how many references were issued, requests served and requests
@@ -14,7 +15,7 @@ type Rows<'a> = &'a [Vec<MachineState>];
 #[derive(Drop)]
 pub(crate) struct Run {
     processors: usize,
-    rows: Vec<Vec<MachineState>>,
+    rows: Vec<Vec<Arc<MachineState>>>,
 }
 
 impl Run {
@@ -28,7 +29,7 @@ impl Run {
 
     /// A component's state at a cycle.
     pub(crate) fn state(&self, component: usize, cycle: usize) -> Option<&MachineState> {
-        self.rows.get(cycle)?.get(component)
+        held(self.rows.get(cycle)?, component)
     }
 
     /// The output queues of a low switch.
@@ -48,7 +49,7 @@ impl Run {
         let mut answers: usize = 0;
         for row in &self.rows {
             for state in row {
-                if let MachineState::Proc(s) = state {
+                if let MachineState::Proc(s) = &**state {
                     answers = answers.saturating_add(s.got.iter().flatten().count());
                 }
             }
@@ -57,7 +58,7 @@ impl Run {
     }
 
     pub(crate) fn last_word(&self) -> Option<u32> {
-        match self.rows.last()?.get(self.processors)? {
+        match held(self.rows.last()?, self.processors)? {
             MachineState::Module(module) => Some(module.word(0)),
             _ => None,
         }
@@ -79,6 +80,14 @@ impl fmt::Display for Run {
     }
 }
 
+/// The state of a component among those of a cycle.
+fn held(row: &[Arc<MachineState>], component: usize) -> Option<&MachineState> {
+    match row.get(component) {
+        Some(state) => Some(state),
+        None => None,
+    }
+}
+
 /// The replies that a processor received.
 #[derive(Clone, Copy)]
 struct Replies<'a> {
@@ -89,7 +98,7 @@ struct Replies<'a> {
 impl fmt::Display for Replies<'_> {
     fn fmt<W: fmt::Write>(&self, f: &mut fmt::Formatter<W>) -> fmt::Result {
         for (cycle, row) in self.rows.iter().enumerate() {
-            if let Some(MachineState::Proc(state)) = row.get(self.proc) {
+            if let Some(MachineState::Proc(state)) = held(row, self.proc) {
                 for reply in state.got.iter().flatten() {
                     write!(f, " {cycle}:{}", reply.word)?;
                 }
@@ -171,7 +180,7 @@ impl Queues<'_> {
         output: usize,
     ) -> fmt::Result {
         for row in self.rows {
-            if let Some(MachineState::Low(state)) = row.get(self.switch) {
+            if let Some(MachineState::Low(state)) = held(row, self.switch) {
                 if let Some(queue) = state.fwd.get(output) {
                     write!(f, " {}", queue.len())?;
                 }

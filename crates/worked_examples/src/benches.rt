@@ -4,6 +4,7 @@ use machine_cells::{MachineState, from_scratch};
 use omega_net::Net;
 use page_map::Place;
 use run_queries::{Body, Query};
+use std::sync::Arc;
 use std::test::Fail;
 use std::thread::Threads;
 
@@ -31,7 +32,7 @@ fn same_in_cycle(
     rt: &impl Host,
     bench: &mut Bench,
     cycle: u32,
-    row: &[MachineState],
+    row: &[Arc<MachineState>],
 ) -> Result<usize, Fail> {
     let mut same = 0usize;
     for (component, want) in row.iter().enumerate() {

@@ -3,10 +3,11 @@ use machine_cells::MachineState;
 use run_queries::{has_sent, word_got};
 use std::alloc::Global;
 use std::fmt;
+use std::sync::Arc;
 use std::test::Fail;
 
 /// The states of a run of four processors, by cycle and component.
-type Rows<'a> = &'a [Vec<MachineState>];
+type Rows<'a> = &'a [Vec<Arc<MachineState>>];
 
 /// How many references each of the four processors is asked for.
 const ASKED: u32 = 8;
@@ -47,6 +48,14 @@ pub(crate) fn answers(alloc: Global, rows: Rows) -> Result<String, Fail> {
     Ok(lines)
 }
 
+/// The state of a component among those of a cycle.
+fn held(row: &[Arc<MachineState>], component: usize) -> Option<&MachineState> {
+    match row.get(component) {
+        Some(state) => Some(state),
+        None => None,
+    }
+}
+
 /// The reply to a processor's reference of that issue number. It prints as an answer line.
 #[derive(Clone, Copy)]
 struct Reply<'a> {
@@ -60,7 +69,7 @@ impl Reply<'_> {
     fn issued(&self) -> u32 {
         let mut issued = 0u32;
         for row in self.rows {
-            if has_sent(row.get(self.proc)) {
+            if has_sent(held(row, self.proc)) {
                 issued = issued.saturating_add(1);
             }
         }
@@ -74,7 +83,7 @@ impl fmt::Display for Reply<'_> {
             return f.write_str("bad 4");
         }
         for (cycle, row) in self.rows.iter().enumerate() {
-            if let Some(word) = word_got(row.get(self.proc), self.issue) {
+            if let Some(word) = word_got(held(row, self.proc), self.issue) {
                 return write!(f, "ok 1 at {cycle} word {word}");
             }
         }
@@ -123,7 +132,7 @@ impl Lengths<'_> {
         let mut times = 0usize;
         for row in self.rows {
             for state in row.iter().skip(self.first).take(2) {
-                if let MachineState::Low(switch) = state {
+                if let MachineState::Low(switch) = &**state {
                     let equal = switch.fwd.iter().filter(|queue| queue.len() == length);
                     times = times.saturating_add(equal.count());
                 }

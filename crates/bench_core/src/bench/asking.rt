@@ -57,10 +57,11 @@ impl Bench {
 
     /// What the run says to a query.
     #[tactic(auto, using(run_queries::proofs::Good::good_place))]
-    fn found<R: Threads + Sync>(&self, rt: &R, query: Query) -> Asked
-        requires good { bad_query (project_of self.now) query ≡ None }
-        requires there { IsUpToDate self.now query }
-        ensures { TellsRun self.now query result }
+    fn found<R: Threads + Sync>(&mut self, rt: &R, query: Query) -> Asked
+        requires good { bad_query (project_of self.old) query ≡ None }
+        requires there { IsUpToDate self.old query }
+        ensures tells { TellsRun self.old query result }
+        ensures unchanged { self.new ≡ self.old }
     {
         match query {
             Query::Reply { proc, issue } => self.reply(proc, issue),
@@ -71,10 +72,14 @@ impl Bench {
                 who,
                 from,
                 to,
-            } => self.answered(Body::Count(self.counted(counter, who, from, to))),
-            Query::Profile { net, stage } => {
-                self.answered(Body::Profile(self.profile(net, stage)))
-            }
+            } => match self.counted(counter, who, from, to) {
+                Ok(total) => self.answered(Body::Count(total)),
+                Err(NoMemory) => Asked::Memory,
+            },
+            Query::Profile { net, stage } => match self.profile(net, stage) {
+                Ok(profile) => self.answered(Body::Profile(profile)),
+                Err(NoMemory) => Asked::Memory,
+            },
             Query::Tree { net, module } => self.tree(rt, net, module),
             Query::Level { net, module, cycle } => self.level(net, module, cycle),
             Query::Bound { a, b, p } => match bound(a, b, p) {
@@ -174,8 +179,9 @@ impl Bench {
     /// only in the place of an answer or of Pending.
     ///
     /// A state or a word waits for the cells that it rests on alone, a counter or a level for the cycles up to its last
-    /// one, a reply, a profile or a tree for the whole run. A counter over the whole run and a profile are looked up; a
-    /// counter over a window adds up its cells; a reply looks at each stretch of its processor's equal states once at
+    /// one, a reply, a profile or a tree for the whole run. The first counter or profile that a bench is asked counts all
+    /// its cells; stores and edits keep the counts from then on. A counter over the whole run and a profile are looked up;
+    /// a counter over a window adds up its cells; a reply looks at each stretch of its processor's equal states once at
     /// most, up to where the answer is known; a tree looks at each state, in several threads. The 64 answers that were
     /// told last are kept, and told again where the same is asked at the same version.
     pub fn ask<R: Threads + Sync>(&mut self, rt: &R, query: Query) -> Asked

@@ -21,28 +21,42 @@ use saturation::{level, tree};
 use std::thread::Threads;
 
 impl Bench {
-    /// The total of a counter over a window of cycles: looked up where the window is the whole run, else added up.
-    pub(super) fn counted(&self, counter: Counter, who: Option<u32>, from: u32, to: u32) -> u64
-        requires who { ForSome who (λ c. c < components (project_of self.now).k) }
+    /// The total of a counter over a window of cycles: looked up where the window is the whole run, else added up. The
+    /// first that is asked counts all cells.
+    pub(super) fn counted(
+        &mut self,
+        counter: Counter,
+        who: Option<u32>,
+        from: u32,
+        to: u32,
+    ) -> Result<u64, NoMemory>
+        requires who { ForSome who (λ c. c < components (project_of self.old).k) }
         requires window { from ≤ to }
-        requires within { to ≤ (project_of self.now).horizon }
-        requires there { HoldsRunTo self.now to }
-        ensures { result ≡ sum_of (project_of self.now).k counter (state_in (run (project_of self.now))) who from to }
+        requires within { to ≤ (project_of self.old).horizon }
+        requires there { HoldsRunTo self.old to }
+        ensures total { IfOk result (λ n. n ≡ sum_of (project_of self.old).k counter (state_in (run (project_of self.old))) who from to) }
+        ensures unchanged { self.new ≡ self.old }
     {
         let horizon = self.project().horizon();
+        let alloc = *self.journal.allocator();
+        self.counters.count(alloc, &self.table)?;
+        let sums = self.counters.sums();
         if from == 0 && to == horizon {
-            self.counters.sums().total(counter, who)
-        } else {
-            self.counters.sums().sum(counter, who, from, to)
+            return Ok(sums.total(counter, who));
         }
+        Ok(sums.sum(counter, who, from, to))
     }
 
-    pub(super) fn profile(&self, net: Net, stage: u32) -> [u64; 17]
-        requires stage { stage < (project_of self.now).k }
-        requires there { HoldsRunTo self.now (project_of self.now).horizon }
-        ensures { result ≡ profile_of (project_of self.now).k (state_in (run (project_of self.now))) net stage (project_of self.now).horizon }
+    /// The profile of a stage, looked up. The first that is asked counts all cells.
+    pub(super) fn profile(&mut self, net: Net, stage: u32) -> Result<[u64; 17], NoMemory>
+        requires stage { stage < (project_of self.old).k }
+        requires there { HoldsRunTo self.old (project_of self.old).horizon }
+        ensures profile { IfOk result (λ ns. ns ≡ profile_of (project_of self.old).k (state_in (run (project_of self.old))) net stage (project_of self.old).horizon) }
+        ensures unchanged { self.new ≡ self.old }
     {
-        self.counters.sums().profile(net, stage)
+        let alloc = *self.journal.allocator();
+        self.counters.count(alloc, &self.table)?;
+        Ok(self.counters.sums().profile(net, stage))
     }
 
     /// The states of a cycle, by component.

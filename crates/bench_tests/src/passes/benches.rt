@@ -74,5 +74,6 @@ pub(super) fn begun(alloc: Global) -> Result<Box<Bench>, Fail> {
 pub(super) fn simulated(alloc: Global, project: &Project) -> Result<u32, Fail> {
     let rows = from_scratch(alloc, project)?;
     let last = rows.last().ok_or("a row")?;
-    Ok(word_in(last.get(2), 0))
+    let state = last.get(2).ok_or("a state")?;
+    Ok(word_in(Some(&**state), 0))
 }

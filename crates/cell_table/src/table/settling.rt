@@ -88,12 +88,12 @@ impl<G: Grid> Table<G> {
 
     /// The state that the present slots and near states give a cell, or none where it is that of
     /// the cell before.
-    fn stepped(&self, cell: Cell) -> Result<Option<G::State>, NoMemory>
+    fn stepped(&self, cell: Cell) -> Result<Option<Arc<G::State>>, NoMemory>
         requires there { IsThere G.rules self.now cell.cycle cell.component }
         requires ready { is_some (inputs_of G.rules self.now.slots self.now.rows cell.cycle cell.component) ≡ true }
         requires later { 0 < cell.cycle }
         ensures { IfOk result (λ o. MatchOption o (IsAsBefore G.rules self.now cell.cycle cell.component)
-            (λ x. x ≡ current_of G.rules self.now.slots self.now.rows cell.cycle cell.component)) }
+            (λ x. arc_value x ≡ current_of G.rules self.now.slots self.now.rows cell.cycle cell.component)) }
     {
         let alloc = self.cells.allocator();
         let near = self.near(cell.component);
@@ -119,18 +119,14 @@ impl<G: Grid> Table<G> {
         ensures { IfOk result (λ o. MatchOption o (IsAsBefore G.rules self.now cell.cycle cell.component)
             (λ x. arc_value x ≡ current_of G.rules self.now.slots self.now.rows cell.cycle cell.component)) }
     {
-        let alloc = self.cells.allocator();
         if cell.cycle == 0 {
-            let start = G::start(alloc, &self.slots, cell.component)?;
-            return Ok(Some(Arc::new(alloc, start)?));
+            let alloc = self.cells.allocator();
+            return Ok(Some(G::start(alloc, &self.slots, cell.component)?));
         }
         if self.is_as_before(cell) {
             return Ok(None);
         }
-        match self.stepped(cell)? {
-            Some(state) => Ok(Some(Arc::new(alloc, state)?)),
-            None => Ok(None),
-        }
+        self.stepped(cell)
     }
 
     /// Whether a cell holds the state of the cell before it, where it may be known that it does.

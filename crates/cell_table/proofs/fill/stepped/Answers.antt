@@ -1,8 +1,10 @@
 use Rattle.std.proofs.Common.{◌≡◌, ◌-◌, ◌∙◌, ap, sym, arith, map, take, length, ◌≤◌, Bor}
+use Rattle.std.specs.Prelude.{option_map}
+use Rattle.std.specs.Arc.{arc_value}
 use Rattle.std.proofs.lemmas.List.{length-map}
 use Rattle.grid_law.specs.Run.{run}
 use Rattle.cell_table.proofs.States.{first_five}
-use Rattle.cell_table.proofs.Shortcut.{ok_along}
+use Rattle.cell_table.proofs.Shortcut.{match_mapped, ok_along}
 use Rattle.cell_table.proofs.Trailing.{no_last, next_runs}
 use Rattle.cell_table.proofs.fill.stepped.Goals as goal
 
@@ -25,4 +27,4 @@ returns g c =
     let all : lent ≡ xs = c.first-lent.ensures
     ∙ ap (take n) (c.five_last-five.ensures xs (ap (map (run R s (t - 1))) near))
     ∙ first_five xs n c.in-Some.own.now (length-map (R.near s d) (run R s (t - 1)) ∙ sym count) (omega (arith, count, few)) in
-    ok_along (next_runs R s g.G.Grid.laws t d c.requires.later lent all) c.next.result c.next.ensures
+    ok_along (λ o is. match_mapped _ _ arc_value o (next_runs R s g.G.Grid.laws t d c.requires.later lent all (option_map arc_value o) is)) c.next.result c.next.ensures

@@ -1,4 +1,6 @@
 use Rattle.std.proofs.Common.{◌∙◌, ◌++◌, List, ℕ, ap, sym, map, Vec, Global}
+use Rattle.std.specs.Arc.{arc_value}
+use Rattle.std.specs.declared.sync.Arc.{Arc}
 use Rattle.std.specs.List.{flat_map}
 use Rattle.omega_net.specs.Wires.{below}
 use Rattle.machine_cells.specs.declared.state.MachineState.{MachineState}
@@ -10,7 +12,7 @@ use Rattle.experiments.proofs.delays.cold_waits.Goals as goal
 
 pub loop-proc-preserved : goal.loop-proc-preserved
 loop-proc-preserved c =
-    let items = λ (r : Vec MachineState Global). r.items in
+    let items = λ (r : Vec (Arc MachineState Global) Global). map arc_value r.items in
     let each = waits_of c.args.project.now (state_in (run c.args.project.now)) c.args.window.from c.args.window.to in
     c.in_ok-extend_from_slice.ensures.items
     ∙ ap (λ (xs : List ℕ). xs ++ c.as_slice-in-loop-proc.result.now) c.loop-proc.invariant

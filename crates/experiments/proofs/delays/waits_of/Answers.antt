@@ -1,4 +1,6 @@
 use Rattle.std.proofs.Common.{◌∙◌, ◌+◌, ◌++◌, ℕ, List, Option, ap, sym, map, Vec, Global}
+use Rattle.std.specs.Arc.{arc_value}
+use Rattle.std.specs.declared.sync.Arc.{Arc}
 use Rattle.std.specs.List.{flat_map}
 use Rattle.std.specs.Option.{option_copied}
 use Rattle.omega_net.specs.Wires.{below}
@@ -10,7 +12,7 @@ use Rattle.experiments.proofs.delays.waits_of.Goals as goal
 
 pub loop-i-preserved : goal.loop-i-preserved
 loop-i-preserved c =
-    let at = state_in (map (λ (r : Vec MachineState Global). r.items) c.args.rows.now) in
+    let at = state_in (map (λ (r : Vec (Arc MachineState Global) Global). map arc_value r.items) c.args.rows.now) in
     let p = c.args.proc in
     let issued = issue_cycles at p c.args.window.to in
     let each = λ (i : ℕ). waits_in c.args.project.now p issued (i + c.args.window.from) (at (i + c.args.window.from) p) in

@@ -1,4 +1,6 @@
 use Rattle.std.proofs.Common.{◌≡◌, ◌∙◌, ◌+◌, ap, sym, map, length, Vec, Global, List, arith}
+use Rattle.std.specs.Arc.{arc_value}
+use Rattle.std.specs.declared.sync.Arc.{Arc}
 use Rattle.std.proofs.lemmas.List.{length-map}
 use Rattle.machine_cells.specs.declared.state.MachineState.{MachineState}
 use Rattle.machine_cells.specs.Run.{first_states}
@@ -9,7 +11,7 @@ use Rattle.experiments.proofs.map.saturation_map.Goals as goal
 
 pub levels_over-requires-clause-within : goal.levels_over-requires-clause-within
 levels_over-requires-clause-within c =
-    let items = λ (r : Vec MachineState Global). r.items in
+    let items = λ (r : Vec (Arc MachineState Global) Global). map arc_value r.items in
     let size : length c.as_slice-rows.result.now ≡ c.args.project.now.horizon + 1 =
     sym (length-map c.as_slice-rows.result.now items)
     ∙ ap length (ap (map items) c.as_slice-rows.ensures.value ∙ c.in_ok-rows.ensures)
@@ -18,7 +20,7 @@ levels_over-requires-clause-within c =
 
 pub returns-clause-levels : goal.returns-clause-levels
 returns-clause-levels c =
-    let items = λ (r : Vec MachineState Global). r.items in
+    let items = λ (r : Vec (Arc MachineState Global) Global). map arc_value r.items in
     c.from_vec.ensures ∙ c.in_ok-levels.ensures
     ∙ ap (λ (R : List (List MachineState)). levels_over c.args.project.now c.args.net c.args.module (state_in R) c.args.window.from c.args.window.to)
     (ap (map items) c.as_slice-rows.ensures.value ∙ c.in_ok-rows.ensures)

@@ -5,17 +5,12 @@ use Rattle.bench_core.specs.Shown.{IsBench, IsCounted, project_of, present}
 use Rattle.bench_core.proofs.Counting.{none_past, sum_is_run}
 use Rattle.bench_core.proofs.bench.Bench.counted.Goals as goal
 
-pub sum-requires-clause-within : goal.sum-requires-clause-within
-sum-requires-clause-within c =
-    let end : c.horizon-horizon.result ≡ (project_of c.args.self.now).horizon = rw c.project.ensures at c.horizon-horizon.ensures.horizon in
-    omega (arith, end, c.horizon-horizon.ensures.short, c.requires.within)
-
-pub returns-then-to-horizon : goal.returns-then-to-horizon
-returns-then-to-horizon c =
+pub returns-then-to-horizon-clause-total : goal.returns-then-to-horizon-clause-total
+returns-then-to-horizon-clause-total c =
     let b = c.args.self.now in
-    let sums = c.sums.result.now in
+    let sums = c.sums-sums.result.now in
     let bench : IsBench b.table b.journal = rw (← c.self.view_is) c.self.invariant.0 in
-    let counts : IsCounted sums b.table = rw (c.sums.ensures, ← c.self.view_is) c.self.invariant.1 in
+    let counts : IsCounted sums b.table = rw (← c.self.view_is) (rw c.sums-sums.ensures at c.count.ensures.counted) in
     let end : c.horizon-horizon.result ≡ (project_of b).horizon = rw c.project.ensures at c.horizon-horizon.ensures.horizon in
     let to_end : c.args.to ≡ (project_of b).horizon = c.if-to-horizon.true ∙ end in
     let short : (project_of b).horizon ≤ max_horizon = omega (arith, bench.horizon, bench.short) in
@@ -24,10 +19,10 @@ returns-then-to-horizon c =
     let is : c.total.result ≡ sum_of sums.k c.args.counter (present b.table) c.args.who c.args.from c.args.to = rw (c.if-from-eq0.true, to_end) total in
     sum_is_run b sums bench counts c.args.counter c.args.who c.args.from c.args.to c.total.result c.requires.who c.requires.within c.requires.there is
 
-pub returns-else-from-eq0 : goal.returns-else-from-eq0
-returns-else-from-eq0 c =
+pub returns-clause-total : goal.returns-clause-total
+returns-clause-total c =
     let b = c.args.self.now in
-    let sums = c.sums-else-from-eq0.result.now in
+    let sums = c.sums-sums.result.now in
     let bench : IsBench b.table b.journal = rw (← c.self.view_is) c.self.invariant.0 in
-    let counts : IsCounted sums b.table = rw (c.sums-else-from-eq0.ensures, ← c.self.view_is) c.self.invariant.1 in
+    let counts : IsCounted sums b.table = rw (← c.self.view_is) (rw c.sums-sums.ensures at c.count.ensures.counted) in
     sum_is_run b sums bench counts c.args.counter c.args.who c.args.from c.args.to c.sum.result c.requires.who c.requires.within c.requires.there (c.sum.ensures (present b.table) counts.counts)

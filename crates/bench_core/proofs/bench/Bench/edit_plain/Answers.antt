@@ -1,6 +1,6 @@
 use Rattle.std.proofs.Common.{rules, ◌≡◌, ◌+◌, ◌∙◌, sym, arith, refl, [], ◌∷◌, ◌++◌, length}
 use Rattle.std.proofs.lemmas.List.{length_push}
-use Rattle.std.specs.Option.{unwrap_or}
+use Rattle.std.specs.Option.{unwrap_or, IfSome}
 use Rattle.cell_table.specs.Touches.{IsAfterTouch}
 use Rattle.machine_cells.specs.GridRules.{rp3_rules}
 use Rattle.monitor_sums.specs.Kept.{StandsFor}
@@ -15,7 +15,7 @@ use Rattle.bench_core.proofs.Standing.{stands_edited}
 use Rattle.bench_core.specs.Recent.{AreTold}
 use Rattle.bench_core.proofs.Keeping.{told_later, holds_still}
 use Rattle.bench_core.proofs.Touching.{bench_edited, after_edit, to}
-use Rattle.bench_core.proofs.Counting.{counted_touched}
+use Rattle.bench_core.proofs.Counting.{are_touched}
 use Rattle.bench_core.proofs.bench.Bench.edit_plain.Goals as goal
 
 pub forget-requires : goal.forget-requires
@@ -52,5 +52,5 @@ invariant_of-self-2 c =
     let recent : AreTold new.slots (length c.push_reserved.new.self.items) c.self.inside.recent =
     rw (noted, length_push c.self.inside.journal.items (record { author = c.args.author; edit = c.args.edit })) (told_later old.slots (length c.self.inside.journal.items) c.self.inside.recent c.self.invariant.3 new.slots) in
     let at_end : c.horizon-to.result ≡ new.horizon = c.horizon-to.ensures.horizon ∙ sym (touched.horizon ∙ end) in
-    let clears : (at : States) → StandsFor c.self.inside.counters at → StandsFor c.forget.new.self (cleared at (new.horizon + 1) old.horizon) = rw (at_end, c.horizon-before.ensures) at c.forget.ensures.stands in
-    (bench, counted_touched c.self.inside.counters c.forget.new.self old new c.self.invariant.1 c.forget.ensures.shape (unwrap_or horizon old.horizon) next listed (sym touches.shape) touched clears, history, recent)
+    let clears : IfSome c.self.inside.counters (λ s. IfSome c.forget.new.self (λ n. (at : States) → StandsFor s at → StandsFor n (cleared at (new.horizon + 1) old.horizon))) = rw (at_end, c.horizon-before.ensures) at c.forget.ensures.stands in
+    (bench, are_touched c.self.inside.counters c.forget.new.self old new c.self.invariant.1 c.forget.ensures.there c.forget.ensures.shape (unwrap_or horizon old.horizon) next listed (sym touches.shape) touched clears, history, recent)

@@ -30,26 +30,23 @@ invariant_of-self-2 g c =
 
 pub invariant_of-self-in-Answer : goal.invariant_of-self-in-Answer
 invariant_of-self-in-Answer g c =
-    let i = c.self.inside in
+    let i = c.self-2.inside in
     let b : Shown = record { table = i.table; journal = i.journal.items } in
     let q = c.args.query in
     let asking : Asking = record { version = c.version-version.result; query = q } in
-    let at : c.version-version.result ≡ length i.journal.items = c.version-version.ensures ∙ ap version_of (sym c.self.view_is) in
-    let good : bad_query (project_of b) q ≡ None = subst (λ (s : Shown). bad_query (project_of s) q ≡ None) (sym c.self.view_is) c.requires.good in
-    let is : answer i.table.slots q ≡ Ok c.in-Answer.body = answer_told b q c.in-Answer.body good c.in-Answer.version (subst (λ (r : Asked). TellsRun b q r) c.in-Answer.is c.found-told.ensures) in
-    let before = told_kept i.table.slots (length i.journal.items) i.recent c.self.invariant.3 c.answer.new.self c.answer.ensures.stays in
-    (c.self.invariant.0, c.self.invariant.1, c.self.invariant.2, told_more i.table.slots (length i.journal.items) c.answer.new.self before c.keep.new.self (asking, c.in-Answer.body) c.keep.ensures at is)
-
-pub invariant_of-self-in_default-told : goal.invariant_of-self-in_default-told
-invariant_of-self-in_default-told g c =
-    let i = c.self.inside in
-    (c.self.invariant.0, c.self.invariant.1, c.self.invariant.2, told_kept i.table.slots (length i.journal.items) i.recent c.self.invariant.3 c.answer.new.self c.answer.ensures.stays)
+    let found : b ≡ record { table = c.self.inside.table; journal = c.self.inside.journal.items } = c.self-2.view_is ∙ c.found-told.ensures.unchanged in
+    let same : b ≡ c.args.self.now = found ∙ c.self.view_is in
+    let at : c.version-version.result ≡ length i.journal.items = c.version-version.ensures ∙ ap version_of (sym same) in
+    let good : bad_query (project_of b) q ≡ None = subst (λ (s : Shown). bad_query (project_of s) q ≡ None) (sym same) c.requires.good in
+    let tells : TellsRun b q c.found-told.result = subst (λ (s : Shown). TellsRun s q c.found-told.result) (sym found) c.found-told.ensures.tells in
+    let is : answer i.table.slots q ≡ Ok c.in-Answer.body = answer_told b q c.in-Answer.body good c.in-Answer.version (subst (λ (r : Asked). TellsRun b q r) c.in-Answer.is tells) in
+    (c.self-2.invariant.0, c.self-2.invariant.1, c.self-2.invariant.2, told_more i.table.slots (length i.journal.items) i.recent c.self-2.invariant.3 c.keep.new.self (asking, c.in-Answer.body) c.keep.ensures at is)
 
 pub returns-in-Answer-clause-tells : goal.returns-in-Answer-clause-tells
-returns-in-Answer-clause-tells g c = subst (λ (s : Shown). TellsRun s c.args.query c.found-told.result) c.self.view_is c.found-told.ensures
+returns-in-Answer-clause-tells g c = subst (λ (s : Shown). TellsRun s c.args.query c.found-told.result) c.self.view_is c.found-told.ensures.tells
 
 pub returns-in_default-told : goal.returns-in_default-told
 returns-in_default-told g c = record {
-  tells = subst (λ (s : Shown). TellsRun s c.args.query c.found-told.result) c.self.view_is c.found-told.ensures;
-  unchanged = c.self.view_is;
+  tells = subst (λ (s : Shown). TellsRun s c.args.query c.found-told.result) c.self.view_is c.found-told.ensures.tells;
+  unchanged = c.found-told.ensures.unchanged ∙ c.self.view_is;
 }

@@ -1,8 +1,10 @@
 use Rattle.std.proofs.Common.{◌≡◌, ◌-◌, ◌∙◌, ap, sym, arith, map, take, length, ◌≤◌, List, Some, Bor}
+use Rattle.std.specs.Prelude.{option_map}
+use Rattle.std.specs.Arc.{arc_value}
 use Rattle.cell_table.specs.Seen.{Seen, row_at}
 use Rattle.cell_table.specs.Inputs.{states_of}
 use Rattle.cell_table.proofs.States.{length_states_of, first_five}
-use Rattle.cell_table.proofs.Shortcut.{stepped_as, ok_along, own_there}
+use Rattle.cell_table.proofs.Shortcut.{stepped_as, match_mapped, ok_along, own_there}
 use Rattle.cell_table.proofs.table.Table.stepped.Goals as goal
 
 pub unreachable-requires : goal.unreachable-requires
@@ -27,4 +29,4 @@ returns g c =
     c.first-lent.ensures
     ∙ ap (take n) (c.five_lent-five.ensures xs (ap (states_of (row_at i.cells (t - 1))) near ∙ e))
     ∙ first_five xs n c.in-Some.own.now (length_states_of (row_at i.cells (t - 1)) (R.near i.slots d) xs e ∙ sym count) (omega (arith, count, few)) in
-    rw (← c.self.view_is) (ok_along (stepped_as R v t d g.G.Grid.laws c.requires.later (rw (← c.self.view_is) at c.requires.ready) lent is) c.next.result c.next.ensures)
+    rw (← c.self.view_is) (ok_along (λ o h. match_mapped _ _ arc_value o (stepped_as R v t d g.G.Grid.laws c.requires.later (rw (← c.self.view_is) at c.requires.ready) lent is (option_map arc_value o) h)) c.next.result c.next.ensures)
