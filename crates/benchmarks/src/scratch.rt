@@ -2,10 +2,9 @@
 use crate::clock::row;
 use crate::load::hot_spot;
 use anyhow::Result;
-use comb_switch::{CombState, Waiting};
-use low_switch::LowState;
+use comb_switch::Waiting;
 use machine_cells::{MachineState, from_scratch};
-use mem_module::{ModuleState, Stored};
+use mem_module::Stored;
 use omega_net::{Queue, Reply, Request};
 use std::fmt;
 use std::mem::size_of;
@@ -73,9 +72,8 @@ fn word_of(row: &[Arc<MachineState>], k: u32) -> u32 {
     }
 }
 
-/// The bytes that a run holds: cells × the size of a cell's state, which for modules and switches is the
-/// owning of one that is kept apart; and the size of each of those that isn't that of the cycle before,
-/// for a module with its words. What the allocator takes beside isn't counted.
+/// The bytes that a run holds: cells × the size of an owner, and for each state that isn't that of the cycle before its own
+/// size, and for a module that of its words. What the allocator takes beside isn't counted.
 pub fn bytes_of(rows: &[Vec<Arc<MachineState>>]) -> u64 {
     let mut bytes: u64 = 0;
     let mut before: &[Arc<MachineState>] = &[];
@@ -89,7 +87,7 @@ pub fn bytes_of(rows: &[Vec<Arc<MachineState>>]) -> u64 {
 fn row_bytes(before: &[Arc<MachineState>], row: &[Arc<MachineState>]) -> u64 {
     let mut bytes: u64 = 0;
     for (c, state) in row.iter().enumerate() {
-        bytes = bytes.saturating_add(size_of::<MachineState>() as u64);
+        bytes = bytes.saturating_add(size_of::<Arc<MachineState>>() as u64);
         if !before.get(c).map_or(false, |old| old.same(state)) {
             bytes = bytes.saturating_add(apart(state));
         }
@@ -97,20 +95,23 @@ fn row_bytes(before: &[Arc<MachineState>], row: &[Arc<MachineState>]) -> u64 {
     bytes
 }
 
-/// The bytes that are kept apart for a state.
+/// The bytes of a state, with what is kept apart for it.
 fn apart(state: &MachineState) -> u64 {
-    match state {
+    let kept = match state {
         MachineState::Proc(_) => 0,
-        MachineState::Module(holder) => (size_of::<ModuleState>() as u64)
-            .saturating_add(room(holder.words.as_slice().len(), size_of::<Stored>()))
-            .saturating_add(waiting(&holder.requests, &holder.replies)),
-        MachineState::Low(switch) => {
-            (size_of::<LowState>() as u64).saturating_add(waiting(&switch.fwd, &switch.rev))
+        MachineState::Module(module) => {
+            room(module.words.as_slice().len(), size_of::<Stored>()).saturating_add(waiting(
+                &module.requests,
+                &module.replies,
+            ))
         }
-        MachineState::Comb(switch) => (size_of::<CombState>() as u64)
-            .saturating_add(waiting(&switch.fwd, &switch.rev))
-            .saturating_add(room(switch.wait.len(), size_of::<Waiting>())),
-    }
+        MachineState::Low(switch) => waiting(&switch.fwd, &switch.rev),
+        MachineState::Comb(switch) => waiting(&switch.fwd, &switch.rev).saturating_add(room(
+            switch.wait.len(),
+            size_of::<Waiting>(),
+        )),
+    };
+    kept.saturating_add(size_of::<MachineState>() as u64)
 }
 
 /// The bytes of the messages that wait at two ports each way.

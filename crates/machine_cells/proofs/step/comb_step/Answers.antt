@@ -1,4 +1,4 @@
-use Rattle.std.proofs.Common.{◌≡◌, ◌∙◌, ap, sym}
+use Rattle.std.proofs.Common.{◌∙◌, ap, sym}
 use Rattle.comb_switch.specs.CombSwitch.{comb_after}
 use Rattle.machine_cells.specs.declared.state.MachineState.TheVariants.{Comb}
 use Rattle.machine_cells.specs.Cycle.{comb_settings}

@@ -1,7 +1,6 @@
-use Rattle.std.proofs.Common.{◌≡◌, ◌∙◌, ◌-◌, ap, sym}
+use Rattle.std.proofs.Common.{◌∙◌, ◌-◌, ap, sym}
 use Rattle.low_switch.specs.LowSwitch.{low_after}
 use Rattle.machine_cells.specs.declared.state.MachineState.TheVariants.{Low}
-use Rattle.machine_cells.specs.Pulls.{traffic}
 use Rattle.machine_cells.proofs.step.low_step.Goals as goal
 
 pub returns-then-low_rests : goal.returns-then-low_rests
