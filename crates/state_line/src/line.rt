@@ -15,6 +15,9 @@ use std::alloc::{AllocError, Global};
 use std::marker::Model;
 use std::sync::Arc;
 
+/// How many stretches a new line has room for. To get there by doubling would cost four growths, for each of the two stacks.
+const ROOM: usize = 16;
+
 /// One component's states over the cycles from 0 on, kept as stretches of equal states.
 ///
 /// The stretches lie in two stacks, split at a place: those before it and those from it on. A move
@@ -42,7 +45,7 @@ impl<S> Model for Line<S> {
 fn nothing<S: Drop>(alloc: Global, n: u32) -> Result<Stack<S>, AllocError>
     ensures { IfOk result (λ s. (s.spans ≡ nothing_for n) × (length s.spans ≤ s.capacity) × (length s.spans ≤ 1)) }
 {
-    let mut next = Stack::new(alloc, 1)?;
+    let mut next = Stack::new(alloc, ROOM)?;
     if n > 0 {
         next.push(Stretch::new(0, None));
     }
@@ -60,7 +63,7 @@ impl<S: Drop> Line<S> {
         ensures states { IfOk result (λ l. l.states ≡ replicate n None) }
         ensures place { IfOk result (λ l. l.place ≡ 0) }
     {
-        let past = Stack::new(alloc, 1)?;
+        let past = Stack::new(alloc, ROOM)?;
         let next = nothing(alloc, n)?;
         Ok(Line {
             len: n,
