@@ -1,12 +1,12 @@
 //! Benches: what stands after a refusal, and that the same call then does its work.
 use crate::again::again;
-use crate::projects::{EDITS, FILE, is_order, project_of};
+use crate::projects::{EDITS, FILE, is_order, project, project_of};
 use bench_core::{Asked, Bench};
 use cell_table::{Cell, Claim, Done, Given, SettleFault};
 use machine_cells::{MachineState, Rp3, from_scratch};
 use monitor_sums::Counter;
 use omega_net::Net;
-use project_book::{Edit, EditFault};
+use project_book::{Edit, EditFault, Project};
 use run_queries::{Body, Query};
 use serial_order::Ordered;
 use std::alloc::Global;
@@ -15,8 +15,8 @@ use std::thread::Threads;
 
 /// How a bench looks: version, journal, clock, horizon, and how many cells are due.
 #[derive(Clone, Copy, PartialEq, Eq)]
-pub(crate) struct Looks {
-    pub version: u32,
+struct Looks {
+    version: u32,
     edits: usize,
     clock: u64,
     horizon: u32,
@@ -25,27 +25,27 @@ pub(crate) struct Looks {
 
 /// How many requests were served up to a cycle.
 pub(crate) fn served(to: u32) -> Query {
+    counter(Counter::Served, None, 0, to)
+}
+
+pub(crate) fn counter(counter: Counter, who: Option<u32>, from: u32, to: u32) -> Query {
     Query::Counter {
-        counter: Counter::Served,
-        who: None,
-        from: 0,
+        counter,
+        who,
+        from,
         to,
     }
 }
 
-pub(crate) fn look_at<R: Threads + Sync>(rt: &R, bench: &mut Bench) -> Looks {
-    let query = served(bench.project().horizon());
-    let due = match bench.ask(rt, query) {
-        Asked::Pending(due) => due,
-        Asked::Answer { .. } => 0,
-        _ => u64::MAX,
-    };
+/// It asks nothing, so it takes no memory, and no counters are made by it.
+fn look_at(bench: &Bench) -> Looks {
+    let horizon = bench.project().horizon();
     Looks {
         version: bench.version(),
         edits: bench.journal().len(),
         clock: bench.clock(),
-        horizon: bench.project().horizon(),
-        due,
+        horizon,
+        due: bench.cells().due_to(horizon),
     }
 }
 
@@ -57,7 +57,12 @@ pub(crate) fn fresh(alloc: Global) -> Option<Box<Bench>> {
 /// A bench of the project of a file, with no cell computed. It stands in a box, since each way out of a function costs its
 /// proof something for every field that it lets go.
 pub(crate) fn bench_of(alloc: Global, file: &str) -> Option<Box<Bench>> {
-    let bench = match Bench::new(alloc, project_of(alloc, file)?, 0) {
+    opened(alloc, project_of(alloc, file)?)
+}
+
+/// A bench of a project, with no cell computed.
+fn opened(alloc: Global, project: Project) -> Option<Box<Bench>> {
+    let bench = match Bench::new(alloc, project, 0) {
         Ok(bench) => bench,
         Err(project) => Bench::new(alloc, project, 0).ok()?,
     };
@@ -67,9 +72,14 @@ pub(crate) fn bench_of(alloc: Global, file: &str) -> Option<Box<Bench>> {
     }
 }
 
-/// The same, with every cell computed.
-fn whole(alloc: Global) -> Option<Box<Bench>> {
-    let mut bench = fresh(alloc)?;
+/// A bench of the project of the file, with every cell computed.
+pub(crate) fn whole(alloc: Global) -> Option<Box<Bench>> {
+    whole_of(alloc, project(alloc)?)
+}
+
+/// A bench of a project, with every cell computed.
+pub(crate) fn whole_of(alloc: Global, project: Project) -> Option<Box<Bench>> {
+    let mut bench = opened(alloc, project)?;
     match settles(&mut bench) {
         Some(_) => Some(bench),
         None => None,
@@ -83,31 +93,29 @@ pub(crate) fn made(alloc: Global) -> bool {
     }
 }
 
-pub(crate) fn edited<R: Threads + Sync>(rt: &R, alloc: Global) -> bool {
-    let Some(mut bench) = whole(alloc) else {
-        return false;
-    };
-    are_made(rt, &mut bench, &EDITS)
+pub(crate) fn edited(alloc: Global) -> bool {
+    match whole(alloc) {
+        Some(mut bench) => are_made(&mut bench, &EDITS),
+        None => false,
+    }
 }
 
 /// Whether each edit is made.
-pub(crate) fn are_made<R: Threads + Sync>(rt: &R, bench: &mut Bench, edits: &[Edit]) -> bool {
+pub(crate) fn are_made(bench: &mut Bench, edits: &[Edit]) -> bool {
     let mut all = true;
     for edit in edits {
-        all &= is_made(rt, bench, *edit);
+        all &= is_made(bench, *edit);
     }
     all
 }
 
 /// Whether an edit is made; where memory is wanting the bench is as before, and the edit is made again.
-fn is_made<R: Threads + Sync>(rt: &R, bench: &mut Bench, edit: Edit) -> bool {
-    let before = look_at(rt, bench);
+pub(crate) fn is_made(bench: &mut Bench, edit: Edit) -> bool {
+    let before = look_at(bench);
     let next = before.version.saturating_add(1);
     match bench.edit(0, edit) {
         Ok(version) => version == next,
-        Err(EditFault::Memory) => {
-            look_at(rt, bench) == before && bench.edit(0, edit) == Ok(next)
-        }
+        Err(EditFault::Memory) => look_at(bench) == before && bench.edit(0, edit) == Ok(next),
         Err(_) => false,
     }
 }
@@ -170,11 +178,11 @@ fn is_row<R: Threads + Sync>(
 }
 
 /// What a query is answered; where memory is wanting the bench is as before, and it is asked again.
-fn answer<R: Threads + Sync>(rt: &R, bench: &mut Bench, query: Query) -> Option<Body> {
-    let before = look_at(rt, bench);
+pub(crate) fn answer<R: Threads + Sync>(rt: &R, bench: &mut Bench, query: Query) -> Option<Body> {
+    let before = look_at(bench);
     match bench.ask(rt, query) {
         Asked::Answer { body, .. } => Some(body),
-        Asked::Memory if look_at(rt, bench) == before => match bench.ask(rt, query) {
+        Asked::Memory if look_at(bench) == before => match bench.ask(rt, query) {
             Asked::Answer { body, .. } => Some(body),
             _ => None,
         },
@@ -187,22 +195,30 @@ pub(crate) fn given<R: Threads + Sync>(rt: &R, alloc: Global) -> bool {
     let Some(mut bench) = fresh(alloc) else {
         return false;
     };
-    let from = Cell {
-        cycle: 0,
-        component: 0,
-    };
+    are_done(&mut bench, 42)
+        && matches!(again!(bench.claim(FIRST)), Some(None))
+        && is_simulated(rt, alloc, &mut bench)
+}
+
+const FIRST: Cell = Cell {
+    cycle: 0,
+    component: 0,
+};
+
+/// Whether so many cells are claimed, and their results are stored.
+fn are_done(bench: &mut Bench, cells: u32) -> bool {
     let mut all = true;
-    for _ in 0..42 {
-        all &= is_done(rt, &mut bench, from);
+    for _ in 0..cells {
+        all &= is_done(bench);
     }
-    all && matches!(again!(bench.claim(from)), Some(None)) && is_simulated(rt, alloc, &mut bench)
+    all
 }
 
 /// Whether the result of the first claimable cell is stored.
-fn is_done<R: Threads + Sync>(rt: &R, bench: &mut Bench, from: Cell) -> bool {
-    match again!(bench.claim(from)) {
+pub(crate) fn is_done(bench: &mut Bench) -> bool {
+    match again!(bench.claim(FIRST)) {
         Some(Some(claim)) => match computed(claim) {
-            Some(done) => is_stored(rt, bench, done),
+            Some(done) => is_stored(bench, done),
             None => false,
         },
         _ => false,
@@ -218,12 +234,12 @@ pub(crate) fn computed(claim: Claim<Rp3>) -> Option<Done<Rp3>> {
 }
 
 /// Whether a result is stored; where memory is wanting it comes back, the bench is as before, and it is given again.
-fn is_stored<R: Threads + Sync>(rt: &R, bench: &mut Bench, done: Done<Rp3>) -> bool {
-    let before = look_at(rt, bench);
+fn is_stored(bench: &mut Bench, done: Done<Rp3>) -> bool {
+    let before = look_at(bench);
     match bench.give(done) {
         Given::Stored { .. } => true,
         Given::Memory(done) => {
-            look_at(rt, bench) == before && matches!(bench.give(done), Given::Stored { .. })
+            look_at(bench) == before && matches!(bench.give(done), Given::Stored { .. })
         }
         _ => false,
     }

@@ -38,11 +38,11 @@ const EDITS: [Edit; 4] = [
 ];
 
 /// 12.2: a refused edit leaves version, journal, clock and the number of due cells, and is then accepted as the next version.
-pub(crate) fn edited<R: Threads + Sync>(rt: &R, alloc: Global) -> bool {
+pub(crate) fn edited(alloc: Global) -> bool {
     let Some(mut bench) = bench_of(alloc, BASE) else {
         return false;
     };
-    settles(&mut bench) == Some(66) && are_made(rt, &mut bench, &EDITS)
+    settles(&mut bench) == Some(66) && are_made(&mut bench, &EDITS)
 }
 
 /// The lines of example 18, which begin with the horizon here.

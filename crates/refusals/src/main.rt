@@ -10,6 +10,7 @@
 mod again;
 mod benches;
 mod cells;
+mod counts;
 mod examples;
 mod lines;
 mod passes;
@@ -48,7 +49,7 @@ fn main(rt: HostRuntime) -> ExitCode {
     held &= tell(&rt, "Rp3::readers", cells::listed(alloc));
     held &= tell(&rt, "tree", cells::reported(&rt, alloc));
     held &= tell(&rt, "Bench::new", benches::made(alloc));
-    held &= tell(&rt, "Bench::edit", benches::edited(&rt, alloc));
+    held &= tell(&rt, "Bench::edit", benches::edited(alloc));
     held &= tell(&rt, "Bench::settle", benches::settled(&rt, alloc));
     held &= tell(
         &rt,
@@ -57,8 +58,28 @@ fn main(rt: HostRuntime) -> ExitCode {
     );
     held &= tell(&rt, "Bench::ask", benches::asked(&rt, alloc));
     held &= tell(&rt, "Bench::order", benches::ordered(alloc));
+    held &= tell(
+        &rt,
+        "Bench::ask, a first counter",
+        counts::counted(&rt, alloc),
+    );
+    held &= tell(
+        &rt,
+        "Bench::ask, a first profile",
+        counts::profiled(&rt, alloc),
+    );
+    held &= tell(
+        &rt,
+        "Bench::ask, no counters",
+        counts::uncounted(&rt, alloc),
+    );
+    held &= tell(
+        &rt,
+        "Bench::edit, give, settle, with counters",
+        counts::kept(&rt, alloc),
+    );
     held &= tell(&rt, "12.1, Bench::settle", examples::settled(&rt, alloc));
-    held &= tell(&rt, "12.2, Bench::edit", examples::edited(&rt, alloc));
+    held &= tell(&rt, "12.2, Bench::edit", examples::edited(alloc));
     held &= tell(&rt, "12.3, run", examples::answered(&rt, alloc));
     held &= tell(&rt, "12.3, open, split", passes::opened(alloc));
     held &= tell(
