@@ -3,12 +3,13 @@ use crate::clock::{Beside, Times, bytes_beside, resident, row_beside, taken};
 use crate::edits::{edited, opened, replied, settled};
 use crate::load::{LOADS, Load, loaded};
 use crate::scratch::bytes_of;
-use anyhow::Result;
-use bench_core::Bench;
+use anyhow::{Error, Result};
+use bench_core::{Asked, Bench};
 use machine_cells::from_scratch;
+use monitor_sums::Counter;
 use omega_net::ScriptEntry;
 use project_book::{Depths, Edit, Project};
-use run_queries::Received;
+use run_queries::{Body, Query, Received};
 use std::fmt;
 use std::thread::Threads;
 use std::time::Instant;
@@ -189,6 +190,7 @@ fn one_load<T: Threads + Sync>(
     let project = loaded(rt.alloc(), load, k, horizon)?;
     let plain = simulated(rt, &project)?;
     let fresh = opened_often(rt, load, &project, plain)?;
+    first_counters(rt, threads, load, &project, plain)?;
     let mut bench = opened(rt.alloc(), project)?;
     edited_told(rt, threads, load, &mut bench, fresh, plain)
 }
@@ -261,6 +263,45 @@ fn once_more(rt: &HostRuntime, project: &Project, times: Opening) -> Result<Open
         dropping: times.dropping.and(taken(rt, since)?),
         cells,
     })
+}
+
+/// The first counter of a settled bench, a fresh one each time: it counts all that the bench holds.
+fn first_counters<T: Threads + Sync>(
+    rt: &HostRuntime,
+    threads: &T,
+    load: Load,
+    project: &Project,
+    plain: Plain,
+) -> Result<()> {
+    let mut times = Times::none();
+    for _ in 0..TIMES {
+        times = times.and(first_counter(rt, threads, project)?);
+    }
+    row_beside(rt, load, "a first counter", times, 1, plain.of(1))
+}
+
+/// How long it takes to ask a settled bench first how many requests module 0 served up to the horizon.
+fn first_counter<T: Threads + Sync>(
+    rt: &HostRuntime,
+    threads: &T,
+    project: &Project,
+) -> Result<u64> {
+    let mut bench = opened(rt.alloc(), project.share()?)?;
+    settled(&mut bench)?;
+    let query = Query::Counter {
+        counter: Counter::Served,
+        who: Some(bench.project().processors()),
+        from: 0,
+        to: bench.project().horizon(),
+    };
+    let since = Instant::now(rt)?;
+    match bench.ask(threads, query) {
+        Asked::Answer {
+            body: Body::Count(_),
+            ..
+        } => taken(rt, since),
+        _ => Err(Error::msg("no counter")),
+    }
 }
 
 /// A kind of edit that is made again and again, to one value and back.

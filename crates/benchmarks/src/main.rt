@@ -4,10 +4,10 @@
 //! the plain simulation of 2^K processors up to horizon H; `benchmarks parts N` N steps of each
 //! component by itself; `benchmarks bench K H` a bench that is settled and edited; `benchmarks words N`
 //! N edits of one word, each with a question after it; `benchmarks turns N` N questions in turns of a shared bench, and a
-//! thread that waits for its turn; `benchmarks loads K H` what a fresh settling, edits, answers and memory cost on four loads,
-//! each row beside the plain simulation; `benchmarks workers K H` the cells that workers and waves compute, and edits beside
-//! workers. Standard output gets one line of what was computed, which hangs on nothing but the words given; standard error
-//! gets the figures, a row each.
+//! thread that waits for its turn; `benchmarks loads K H` what a fresh settling, the first counter of a settled bench, edits,
+//! answers and memory cost on four loads, each row beside the plain simulation; `benchmarks workers K H` the cells that
+//! workers and waves compute, and edits beside workers. Standard output gets one line of what was computed, which hangs on
+//! nothing but the words given; standard error gets the figures, a row each.
 //!
 //! A further group of rows is a module with a call that takes the runtime and the group's numbers,
 //! writes its rows, and returns its part of the line; [`Asked`] gets its word.
