@@ -6,9 +6,9 @@
 //! 64 marks at a time.
 //!
 //! Callers see the list of rows, each a list of booleans; nothing of words. Only `grow` takes
-//! memory.
+//! memory, and a row of up to 255 components none besides that of the list.
 //!
-//! The crate stands on std alone.
+//! The crate stands on `smallvec`, for rows that hold few words in themselves.
 #![tactic(auto)]
 
 mod marks;

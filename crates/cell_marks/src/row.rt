@@ -4,13 +4,14 @@ ghost use Rattle.cell_marks.specs.Marked.{is_set, count_in, IsFirstFrom};
 
 use crate::word::word_of;
 use crate::words::{clear_all_in, clear_in, first_in, has_in, is_union_in, set_in};
+use smallvec::{SmallVec, smallvec};
 use std::alloc::{AllocError, Global};
 use std::marker::Model;
 
-/// A mark for each component, and how many are set.
+/// A mark for each component, and how many are set. Four words lie in the row itself, more in a piece of memory of their own.
 #[derive(Drop)]
 pub struct Row {
-    words: Vec<u64>,
+    words: SmallVec<u64, 4>,
     len: u32,
     count: u32,
 }
@@ -38,7 +39,7 @@ impl Row {
         ensures { IfOk result (λ r. r ≡ replicate n is_marked) }
     {
         let word = word_of(is_marked);
-        let words = vec![in alloc; word; n as usize / 64 + 1]?;
+        let words = smallvec![in alloc; word; n as usize / 64 + 1]?;
         Ok(Row {
             words,
             len: n,

@@ -52,8 +52,8 @@
 //! the same happens as in the one before, since each due cell gets the state of the cell before it, are
 //! settled at once.
 //!
-//! The crate stands on `grid_law` for grids and their laws, on `state_line` and `cell_marks`, and on
-//! `arrayvec` for lists of near components.
+//! The crate stands on `grid_law` for grids and their laws, on `state_line` and `cell_marks`, on
+//! `arrayvec` for lists of near components, and on `smallvec` for short lists of versions.
 #![tactic(auto)]
 
 mod cell;

@@ -1,36 +1,37 @@
 //! The versions of the cells.
-ghost use Rattle.std.specs.Prelude.{◌≡◌, ℕ, ◌<◌, ◌≤◌, ◌++◌, vec_capacity, IfOk, OnOk, OnErr, replicate, slice_index_or, slice_set, length, []};
+ghost use Rattle.std.specs.Prelude.{◌≡◌, ℕ, ◌<◌, ◌≤◌, ◌++◌, IfOk, OnOk, OnErr, replicate, slice_index_or, slice_set, length, []};
 ghost use Rattle.cell_table.specs.Layout.{version_at};
 
 use grid_law::NoMemory;
+use smallvec::SmallVec;
 use std::alloc::Global;
 use std::marker::Model;
 
 /// A version for each component, at one cycle. While all have the same it stands once; the room for one each is taken at
-/// the start, so that a change takes no memory.
+/// the start, so that a change takes no memory; that of eight lies in the row itself.
 #[derive(Drop)]
 pub(crate) struct Versions {
     count: u32,
     all: u64,
-    each: Vec<u64>,
+    each: SmallVec<u64, 8>,
 }
 
 impl Model for Versions {
-    ghost use Rattle.std.specs.Prelude.{List, ℕ, ◌≤◌, vec_capacity};
+    ghost use Rattle.std.specs.Prelude.{List, ℕ, ◌≤◌};
     ghost use Rattle.cell_table.specs.Layout.{versions_of, IsEach};
 
     ghost Value = { List ℕ };
 
     ghost view = { λ v. versions_of v.count v.all v.each.items };
 
-    ghost invariant = { λ v. (v.count ≤ vec_capacity v.each) × IsEach v.count v.each.items };
+    ghost invariant = { λ v. (v.count ≤ v.each.capacity) × IsEach v.count v.each.items };
 }
 
 /// Adds a version for each of so many components.
-fn spread(each: &mut Vec<u64>, count: u32, version: u64)
+fn spread(each: &mut SmallVec<u64, 8>, count: u32, version: u64)
     requires none { each.old.items ≡ [] }
-    requires room { count ≤ vec_capacity each.old }
-    ensures capacity { vec_capacity each.new ≡ vec_capacity each.old }
+    requires room { count ≤ each.old.capacity }
+    ensures capacity { each.new.capacity ≡ each.old.capacity }
     ensures all { each.new.items ≡ replicate count version }
 {
     for _c in 0..count {
@@ -42,7 +43,7 @@ impl Versions {
     fn new(alloc: Global, count: u32, version: u64) -> Result<Versions, NoMemory>
         ensures { IfOk result (λ v. v ≡ replicate count version) }
     {
-        let each = Vec::with_capacity(alloc, count as usize)?;
+        let each = SmallVec::with_capacity(alloc, count as usize)?;
         Ok(Versions {
             count,
             all: version,

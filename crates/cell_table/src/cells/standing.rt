@@ -9,6 +9,7 @@ use crate::Cell;
 use state_line::{Line, Standing};
 
 /// The state of a cell, and how long it stands.
+#[inline(always)]
 fn standing_in<S: Drop>(lines: &Vec<Line<S>>, cell: Cell, hint: usize) -> Standing<'_, S>
     requires component { cell.component < length lines.now.items }
     requires cycle { cell.cycle < length (line_at lines.now.items cell.component).states }
@@ -24,6 +25,7 @@ fn standing_in<S: Drop>(lines: &Vec<Line<S>>, cell: Cell, hint: usize) -> Standi
 impl<S: Drop> Cells<S> {
     /// The state that a cell holds, and to before which cycle those of its component hold it. The hint
     /// is the number of the stretch in which the cell may be.
+    #[inline(always)]
     pub(crate) fn standing(&self, cell: Cell, hint: usize) -> Standing<'_, S>
         requires cycle { cell.cycle < length self.now }
         requires component { cell.component < length (row_at self.now cell.cycle) }

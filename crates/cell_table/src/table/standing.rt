@@ -13,6 +13,7 @@ impl<G: Grid> Table<G> {
     /// The state that the cell holds, up to date or not, and to before which cycle the cells of its
     /// component hold it. The hint is the number of the stretch in which the cell may be: with one more
     /// than that of the stretch before, a walk over a component's states looks each stretch up once.
+    #[inline(always)]
     pub fn standing(&self, cell: Cell, hint: usize) -> Standing<'_, G::State>
         requires { IsThere G.rules self.now cell.cycle cell.component }
         ensures state { option_copied result.state ≡ (held_at self.now.rows cell.cycle cell.component).state }

@@ -78,6 +78,7 @@ impl<G: Grid> Table<G> {
 
     /// Adds the cells of later cycles, up to the last, at which a component reads the slot. It is
     /// asked once for each stretch of its own states.
+    #[inline(never)]
     fn add_later(
         &self,
         component: u32,

@@ -18,6 +18,7 @@ impl<S: Drop> Line<S> {
     /// The state at a cycle, and to before which cycle it stands. The hint is the number of the
     /// stretch in which the cycle may be, which is then found in one step; where it isn't there, it is
     /// searched by halves.
+    #[inline(always)]
     pub fn standing(&self, t: u32, hint: usize) -> Standing<'_, S>
         requires { t < length self.now.states }
         ensures state { option_copied result.state ≡ slice_index_or self.now.states t None }
@@ -31,6 +32,7 @@ impl<S: Drop> Line<S> {
         self.next_standing(t, hint)
     }
 
+    #[inline(always)]
     fn past_standing(&self, t: u32, hint: usize) -> Standing<'_, S>
         requires { t < self.now.place }
         ensures state { option_copied result.state ≡ slice_index_or self.now.states t None }

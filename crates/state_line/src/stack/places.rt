@@ -14,6 +14,7 @@ pub(crate) struct Found<'a, S> {
 }
 
 /// Whether n of the stretches begin at t or before, where each begins later than the one before it.
+#[inline(always)]
 fn has_begun<S>(items: &[Stretch<S>], t: u32, n: usize) -> bool
     ensures { IsTrue result ↔ HasBegun items.now t n }
 {
@@ -22,14 +23,11 @@ fn has_begun<S>(items: &[Stretch<S>], t: u32, n: usize) -> bool
         && (n == items.len() || t < items[n].from())
 }
 
-/// How many of the stretches begin at t or before. The hint is tried first; else they are searched
-/// by halves.
-fn begun<S>(items: &[Stretch<S>], t: u32, hint: usize) -> usize
+/// How many of the stretches begin at t or before, searched by halves.
+#[inline(never)]
+fn begun_searched<S>(items: &[Stretch<S>], t: u32) -> usize
     ensures { HasBegun items.now t result }
 {
-    if has_begun(items, t, hint) {
-        return hint;
-    }
     let mut low = 0;
     let mut high = items.len();
     while low < high {
@@ -43,7 +41,19 @@ fn begun<S>(items: &[Stretch<S>], t: u32, hint: usize) -> usize
     low
 }
 
+/// How many of the stretches begin at t or before. The hint is tried first.
+#[inline(always)]
+fn begun<S>(items: &[Stretch<S>], t: u32, hint: usize) -> usize
+    ensures { HasBegun items.now t result }
+{
+    if has_begun(items, t, hint) {
+        return hint;
+    }
+    begun_searched(items, t)
+}
+
 /// Whether n of the stretches begin later than t, where each begins earlier than the one before it.
+#[inline(always)]
 fn is_later<S>(items: &[Stretch<S>], t: u32, n: usize) -> bool
     ensures { IsTrue result ↔ IsLater items.now t n }
 {
@@ -52,14 +62,11 @@ fn is_later<S>(items: &[Stretch<S>], t: u32, n: usize) -> bool
         && (n == items.len() || items[n].from() <= t)
 }
 
-/// How many of the stretches begin later than t. The hint is tried first; else they are searched by
-/// halves.
-fn later<S>(items: &[Stretch<S>], t: u32, hint: usize) -> usize
+/// How many of the stretches begin later than t, searched by halves.
+#[inline(never)]
+fn later_searched<S>(items: &[Stretch<S>], t: u32) -> usize
     ensures { IsLater items.now t result }
 {
-    if is_later(items, t, hint) {
-        return hint;
-    }
     let mut low = 0;
     let mut high = items.len();
     while low < high {
@@ -73,7 +80,19 @@ fn later<S>(items: &[Stretch<S>], t: u32, hint: usize) -> usize
     low
 }
 
+/// How many of the stretches begin later than t. The hint is tried first.
+#[inline(always)]
+fn later<S>(items: &[Stretch<S>], t: u32, hint: usize) -> usize
+    ensures { IsLater items.now t result }
+{
+    if is_later(items, t, hint) {
+        return hint;
+    }
+    later_searched(items, t)
+}
+
 /// Where the stretch at a place begins, or `end` where there is none.
+#[inline(always)]
 fn begin_or<S>(items: &[Stretch<S>], place: usize, end: u32) -> u32
     ensures there { (d : Span S) → place < length items.now → result ≡ (slice_index_or items.now place d).from }
     ensures none { length items.now ≤ place → result ≡ end }
@@ -86,6 +105,7 @@ fn begin_or<S>(items: &[Stretch<S>], place: usize, end: u32) -> u32
 }
 
 /// Where the stretch before a place begins, or `end` where there is none.
+#[inline(always)]
 fn before_or<S>(items: &[Stretch<S>], place: usize, end: u32) -> u32
     requires { place ≤ length items.now }
     ensures there { (d : Span S) → 0 < place → result ≡ (slice_index_or items.now (place - 1) d).from }
@@ -101,6 +121,7 @@ fn before_or<S>(items: &[Stretch<S>], place: usize, end: u32) -> u32
 impl<S> Stack<S> {
     /// The stretch that covers t, where the stretches end before `end` and each begins before the one
     /// above it. The hint is a place at which it may be.
+    #[inline(always)]
     pub fn covering_from(&self, end: u32, t: u32, hint: usize) -> Option<Found<'_, S>>
         requires falls { Falls self.now.spans end }
         requires within { t < end }
@@ -124,6 +145,7 @@ impl<S> Stack<S> {
 
     /// The stretch that covers t, where the top begins at `at` or before, t isn't before `at`, and the
     /// others begin each later than the one above it. The hint is a place at which it may be.
+    #[inline(always)]
     pub fn lasting_from(&self, at: u32, end: u32, t: u32, hint: usize) -> Option<Found<'_, S>>
         requires climbs { Climbs at self.now.spans end }
         requires within { t < end }

@@ -4,6 +4,6 @@ use Rattle.cell_marks.proofs.words.clear_all_in.Given as goal
 
 abbrev pub invariant-loop-at : goal.invariant-loop-at
 invariant-loop-at l = record {
-  len : length l.words.items ≡ length l.initial.words.items;
-  done : (k : ℕ) → k < 64 * l.at → bit_in l.words.items k ≡ false;
+  len : length l.words ≡ length l.initial.words;
+  done : (k : ℕ) → k < 64 * l.at → bit_in l.words k ≡ false;
 }

@@ -1,6 +1,6 @@
 use Rattle.std.proofs.Common.{◌-◌, ◌<◌, ◌≤◌, length, slice_index_or}
 use Rattle.state_line.specs.Spans.{Span}
-use Rattle.state_line.proofs.stack.places.later.Given as goal
+use Rattle.state_line.proofs.stack.places.later_searched.Given as goal
 
 abbrev pub invariant-loop-low : goal.invariant-loop-low
 invariant-loop-low g l = record {
