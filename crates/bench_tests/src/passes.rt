@@ -5,8 +5,9 @@ mod benches;
 mod doing;
 mod many;
 
+use crate::base::{base, bench_of, fresh, word};
 use bench_core::{Asked, Bench};
-use benches::{add, begun, fresh, word};
+use benches::{add, begun};
 use cell_table::{Cell, Claim};
 use doing::{Came, Task, does, together};
 use machine_cells::Rp3;
@@ -78,7 +79,7 @@ fn example_11(rt: HostRuntime) -> Result<(), Fail> {
 /// 14: two claims of one cell, computed and given in two threads. One result is stored, and then the cell isn't due.
 #[test]
 fn example_14(rt: HostRuntime) -> Result<(), Fail> {
-    let mut a = opened(rt.alloc(), fresh(rt.alloc(), 0)?, 2)?;
+    let mut a = opened(rt.alloc(), fresh(rt.alloc())?, 2)?;
     assert!(rt; matches!(a.look(&rt, FIRST_STATE), Asked::Pending(1)));
     let mut b = split(&mut a)?;
     let one = Task::Give(claimed(&rt, &mut a, 0)?);
@@ -94,11 +95,11 @@ fn example_14(rt: HostRuntime) -> Result<(), Fail> {
 /// 16: a pass that was split after an edit answers by it; one that was split before answers by the version that it finds.
 #[test]
 fn example_16(rt: HostRuntime) -> Result<(), Fail> {
-    let mut a = opened(rt.alloc(), fresh(rt.alloc(), 0)?, 3)?;
+    let mut a = opened(rt.alloc(), fresh(rt.alloc())?, 3)?;
     assert_eq!(rt; (a.base(), a.k()), (0, 1));
     let early = split(&mut a)?;
     let asks = Task::Ask(FIRST_WORD);
-    let ((mut a, edited), (early, raced)) = together(&rt, a, Task::Edit(word(20)), early, asks);
+    let ((mut a, edited), (early, raced)) = together(&rt, a, Task::Edit(word(0, 20)), early, asks);
     assert_eq!(rt; edited, Came::Version(1));
     let now = Came::Word {
         version: 1,
@@ -131,10 +132,14 @@ fn example_16(rt: HostRuntime) -> Result<(), Fail> {
 /// 20: with the clock at its last value a pass is told so, and its edits are refused.
 #[test]
 fn example_20(rt: HostRuntime) -> Result<(), Fail> {
-    let pass = opened(rt.alloc(), fresh(rt.alloc(), u64::MAX)?, 1)?;
+    let pass = opened(
+        rt.alloc(),
+        bench_of(rt.alloc(), base(rt.alloc())?, u64::MAX)?,
+        1,
+    )?;
     let (pass, told) = does(&rt, pass, Task::Ask(FIRST_STATE));
     assert_eq!(rt; told, Came::ClockSpent);
-    let (pass, edited) = does(&rt, pass, Task::Edit(word(10)));
+    let (pass, edited) = does(&rt, pass, Task::Edit(word(0, 10)));
     assert_eq!(rt; edited, Came::Refused(EditFault::ClockSpent));
     assert!(rt; pass.close().is_ok());
     Ok(())
@@ -143,7 +148,7 @@ fn example_20(rt: HostRuntime) -> Result<(), Fail> {
 /// Each of 800 answers between 800 edits is that of the simulation of the journal that the pass had seen then.
 #[test]
 fn four_at_once(rt: HostRuntime) -> Result<(), Fail> {
-    let mut a = opened(rt.alloc(), fresh(rt.alloc(), 0)?, 4)?;
+    let mut a = opened(rt.alloc(), fresh(rt.alloc())?, 4)?;
     let (b, c, d) = (split(&mut a)?, split(&mut a)?, split(&mut a)?);
     let (pass, heard) = four(&rt, rt.alloc(), ((a, b), (c, d)));
     let Ok(bench) = pass.close() else {

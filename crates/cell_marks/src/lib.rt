@@ -5,8 +5,8 @@
 //! "is any cell marked?" looks at no cell. The first marked component of a row is found a word of
 //! 64 marks at a time.
 //!
-//! Callers see the list of rows, each a list of booleans; nothing of words. Only `grow` takes
-//! memory, and a row of up to 255 components none besides that of the list.
+//! Callers see the list of rows, each a list of booleans; nothing of words. Memory is taken by
+//! `grow` alone, and by `Row::new` past 255 components: up to that many lie in the row itself.
 //!
 //! The crate stands on `smallvec`, for rows that hold few words in themselves.
 #![tactic(auto)]

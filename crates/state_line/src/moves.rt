@@ -225,9 +225,10 @@ pub(crate) fn put_at<S: Drop>(
     }
 }
 
-/// The stretch that covers a cycle: one at a top or below that of `past`, or else it is searched by halves.
+/// The stretch that covers a cycle: one below a top, or else it is searched by halves.
+#[inline(never)]
 #[tactic(auto, using(crate::proofs::Spans::covers_climb, crate::proofs::Spans::before_place, crate::proofs::Spans::from_place_alone))]
-pub(crate) fn stretch_at<'a, S>(
+fn stretch_searched<'a, S>(
     past: &'a Stack<S>,
     next: &'a Stack<S>,
     len: u32,
@@ -245,13 +246,34 @@ pub(crate) fn stretch_at<'a, S>(
             None => None,
         };
     }
-    match past.top() {
-        Some(last) if last.from() <= t => Some(last),
-        _ => match past.covering_from(at, t, past.len().saturating_sub(2)) {
-            Some(found) => Some(found.stretch),
-            None => None,
-        },
+    match past.covering_from(at, t, past.len().saturating_sub(2)) {
+        Some(found) => Some(found.stretch),
+        None => None,
     }
+}
+
+/// The stretch that covers a cycle. One look finds it at the top of `past`, where it is for the cycle before the place; else it
+/// is searched.
+#[inline(always)]
+#[tactic(auto, using(crate::proofs::Spans::before_place))]
+pub(crate) fn stretch_at<'a, S>(
+    past: &'a Stack<S>,
+    next: &'a Stack<S>,
+    len: u32,
+    at: u32,
+    t: u32,
+) -> Option<&'a Stretch<S>>
+    requires line { IsLine len at past.now next.now }
+    requires within { t < len }
+    ensures { option_copied result ≡ span_of past.now.spans next.now.spans t }
+{
+    if t < at {
+        match past.top() {
+            Some(last) if last.from() <= t => return Some(last),
+            _ => {}
+        }
+    }
+    stretch_searched(past, next, len, at, t)
 }
 
 /// Adds m cycles of nothing behind the last cycle, which is the place.

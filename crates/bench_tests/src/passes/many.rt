@@ -1,8 +1,9 @@
 //! Four passes that edit and ask at once.
 ghost use Rattle.std.specs.Prelude.{◌≡◌};
 
-use super::benches::{base, simulated, word};
+use super::benches::simulated;
 use super::doing::{Came, Host, told};
+use crate::base::{base, word};
 use bench_core::Noted;
 use run_queries::Query;
 use shared_bench::Pass;
@@ -26,7 +27,7 @@ type Heard = Vec<(u32, u32)>;
 fn edits_and_asks<R: Host>(rt: &R, pass: &mut Pass, next: u32) -> Option<(u32, u32)>
     ensures { pass.new.opening ≡ pass.old.opening }
 {
-    let made = pass.edit(rt, word(next));
+    let made = pass.edit(rt, word(0, next));
     let asked = told(pass.ask(rt, LAST_WORD));
     match (made, asked) {
         (Ok(made), Came::Word { version, word }) if version >= made => Some((version, word)),

@@ -1,7 +1,8 @@
 //! Waves: benches that are settled by several threads.
 use super::answers::answer_the_same;
-use super::benches::{contended, fresh};
+use super::benches::contended;
 use super::gates::{Board, Counting, Meeting};
+use crate::base::{entry, fresh, word};
 use bench_core::Bench;
 use cell_table::Settled;
 use omega_net::ScriptEntry;
@@ -40,15 +41,8 @@ fn waved<R: AllocGlobal + Threads + Sync>(rt: &R, bench: &mut Bench) -> Result<u
 #[test]
 fn example_9_by_waves(rt: HostRuntime) -> Result<(), Fail> {
     let alloc = rt.alloc();
-    let word = Edit::Word {
-        address: 300,
-        word: 5,
-    };
-    let fence = Edit::Entry {
-        proc: 0,
-        index: 0,
-        entry: ScriptEntry::Fence,
-    };
+    let word = word(300, 5);
+    let fence = entry(0, 0, ScriptEntry::Fence);
     for (edit, then, cells) in [
         (word, word, (32, 0)),
         (fence, fence, (28, 0)),

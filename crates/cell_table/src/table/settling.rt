@@ -26,10 +26,6 @@ struct SettledCell {
     changed: bool,
 }
 
-/// How many cells of a cycle are due at least where all lines near them are moved along: to move one costs a step for each
-/// stretch that it is moved over, and to find a state without that a search by halves.
-const MANY_DUE: u32 = 16;
-
 impl<G: Grid> Table<G> {
     /// The first due cell of a cycle, from a component on.
     fn next_due_in(&self, cycle: u32, component: u32) -> Option<u32>
@@ -197,15 +193,15 @@ impl<G: Grid> Table<G> {
         }
     }
 
-    /// Gets the components near a cell ready for a look at them, where enough cells of its cycle are due for that to pay.
+    /// Gets the components near a cell ready for a look at them: their states a cycle earlier are found at once then. To move a
+    /// line along costs a step for each stretch that it is moved over, but mostly it is there, from the cycle before or from the
+    /// edit before.
     fn bring_near(&mut self, cell: Cell)
         requires { IsThere G.rules self.old cell.cycle cell.component }
         ensures { self.new ≡ self.old }
     {
-        if self.cells.due_count(cell.cycle) >= MANY_DUE {
-            self.cells
-                .bring_to(cell.cycle, self.neighbours.of(cell.component));
-        }
+        self.cells
+            .bring_to(cell.cycle, self.neighbours.of(cell.component));
     }
 
     /// Computes the cell and stores its state; tells whether the cell held no state or another one.

@@ -126,7 +126,7 @@ fn misheard(
 }
 
 /// 22, settled: component 6 and processor 2 aren't there, the last cycle is 10, the last address 16,383;
-/// a window from 3 to 2 is empty, and 2/1 is no fraction of references.
+/// a window from 3 to 2 is empty, one to 11 too long, 2/1 is no fraction of references, and processor 0 issued none.
 #[test]
 fn example_22_settled(rt: HostRuntime) -> Result<(), Fail> {
     let far = Query::Memory {
@@ -138,8 +138,10 @@ fn example_22_settled(rt: HostRuntime) -> Result<(), Fail> {
         (state(0, 11), Heard::Bad(2)),
         (far, Heard::Bad(3)),
         (served(3, 2), Heard::Bad(5)),
+        (served(3, 11), Heard::Bad(2)),
         (Query::Bound { a: 2, b: 1, p: 4 }, Heard::Bad(6)),
         (Query::Reply { proc: 2, issue: 0 }, Heard::Bad(1)),
+        (Query::Reply { proc: 0, issue: 0 }, Heard::Bad(4)),
     ];
     let mut stage = Stage::settled(rt.alloc(), base(rt.alloc())?)?;
     assert_eq!(rt; misheard(&rt, &mut stage.bench, &queries), None);
@@ -157,6 +159,7 @@ fn example_22_fresh(rt: HostRuntime) -> Result<(), Fail> {
     let queries = [
         (state(0, 0), Heard::Pending(1)),
         (state(0, 1), Heard::Pending(4)),
+        (served(0, 1), Heard::Pending(12)),
         (served(0, 10), Heard::Pending(66)),
         (Query::Place { address: 300 }, Heard::Place(place)),
         (Query::Reply { proc: 0, issue: 0 }, Heard::Pending(66)),
