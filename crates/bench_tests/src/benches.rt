@@ -2,6 +2,7 @@
 
 use crate::base::{adds, entry, fresh, word};
 use bench_core::{Asked, Bench, Noted};
+use expect::equal;
 use monitor_sums::Counter;
 use omega_net::Net;
 use project_book::Edit;
@@ -47,9 +48,12 @@ fn text<R: Threads + Sync>(
 fn two_authors_are_noted(rt: HostRuntime) -> Result<(), Fail> {
     let mut bench = settled(rt.alloc())?;
     let (first, second) = (add(0, 1), add(1, 2));
-    assert_eq!(rt;
-        (bench.edit(7, first), bench.edit(8, second)),
-        (Ok(1), Ok(2))
+    assert!(rt;
+        equal(
+            &rt,
+            (bench.edit(7, first), bench.edit(8, second)),
+            (Ok(1), Ok(2))
+        )
     );
     let noted = [
         Noted {
@@ -61,8 +65,8 @@ fn two_authors_are_noted(rt: HostRuntime) -> Result<(), Fail> {
             edit: second,
         },
     ];
-    assert_eq!(rt; bench.journal(), noted.as_slice());
-    assert_eq!(rt; (bench.version(), bench.project().length(1)), (2, 1));
+    assert!(rt; equal(&rt, bench.journal(), noted.as_slice()));
+    assert!(rt; equal(&rt, (bench.version(), bench.project().length(1)), (2, 1)));
     Ok(())
 }
 
@@ -131,12 +135,12 @@ fn questions_asked_again(rt: HostRuntime) -> Result<(), Fail> {
     bench.edit(0, add(0, 1))?;
     settle(&mut bench)?;
     let (first, later) = again_after_many(&rt, alloc, &mut bench, SERVED)?;
-    assert_eq!(rt; (first.as_str(), later.as_str()), ("1 1", "1 1"));
-    assert_eq!(rt; same_again(&rt, alloc, &mut bench, &KEPT)?, 5);
+    assert!(rt; equal(&rt, (first.as_str(), later.as_str()), ("1 1", "1 1")));
+    assert!(rt; equal(&rt, same_again(&rt, alloc, &mut bench, &KEPT)?, 5));
     bench.edit(0, word(300, 5))?;
-    assert_eq!(rt; text(&rt, alloc, &mut bench, SERVED)?.as_str(), "2 due");
+    assert!(rt; equal(&rt, text(&rt, alloc, &mut bench, SERVED)?.as_str(), "2 due"));
     settle(&mut bench)?;
-    assert_eq!(rt; text(&rt, alloc, &mut bench, SERVED)?.as_str(), "2 1");
+    assert!(rt; equal(&rt, text(&rt, alloc, &mut bench, SERVED)?.as_str(), "2 1"));
     Ok(())
 }
 
@@ -156,10 +160,10 @@ fn an_order_due_or_settled(rt: HostRuntime) -> Result<(), Fail> {
     for edit in [add(0, 1), add(1, 2), Edit::Horizon(5)] {
         bench.edit(0, edit)?;
     }
-    assert_eq!(rt; ordered(alloc, &bench)?.as_str(), "order 0.0 1.0");
+    assert!(rt; equal(&rt, ordered(alloc, &bench)?.as_str(), "order 0.0 1.0"));
     settle(&mut bench)?;
-    assert_eq!(rt; ordered(alloc, &bench)?.as_str(), "order 0.0 1.0");
+    assert!(rt; equal(&rt, ordered(alloc, &bench)?.as_str(), "order 0.0 1.0"));
     bench.edit(0, Edit::Horizon(3))?;
-    assert_eq!(rt; ordered(alloc, &bench)?.as_str(), "order");
+    assert!(rt; equal(&rt, ordered(alloc, &bench)?.as_str(), "order"));
     Ok(())
 }

@@ -9,13 +9,16 @@ use crate::base::{base, bench_of, fresh, word};
 use bench_core::{Asked, Bench};
 use benches::{add, begun};
 use cell_table::{Cell, Claim};
-use doing::{Came, Task, does, together};
+use doing::{Came, Host, Task, does, together};
+use expect::equal;
 use machine_cells::Rp3;
 use many::{four, right, simulated_versions};
 use project_book::EditFault;
 use run_queries::Query;
 use shared_bench::{Pass, SplitFault, open};
 use std::alloc::Global;
+use std::io::Eprint;
+use std::process::Abort;
 use std::sync::Wait;
 use std::test::*;
 
@@ -70,8 +73,8 @@ fn example_11(rt: HostRuntime) -> Result<(), Fail> {
     let b = split(&mut a)?;
     let claim = claimed(&rt, &mut a, 1)?;
     let ((a, given), (b, edited)) = together(&rt, a, Task::Give(claim), b, Task::Edit(add(1)));
-    assert_eq!(rt; given, Came::Stored { changed: true });
-    assert_eq!(rt; edited, Came::Version(1));
+    assert!(rt; equal(&rt, given, Came::Stored { changed: true }));
+    assert!(rt; equal(&rt, edited, Came::Version(1)));
     assert!(rt; a.join(b).close().is_ok());
     Ok(())
 }
@@ -92,70 +95,96 @@ fn example_14(rt: HostRuntime) -> Result<(), Fail> {
     Ok(())
 }
 
-/// 16: a pass that was split after an edit answers by it; one that was split before answers by the version that it finds.
-#[test]
-fn example_16(rt: HostRuntime) -> Result<(), Fail> {
-    let mut a = opened(rt.alloc(), fresh(rt.alloc())?, 3)?;
-    assert_eq!(rt; (a.base(), a.k()), (0, 1));
-    let early = split(&mut a)?;
-    let asks = Task::Ask(FIRST_WORD);
-    let ((mut a, edited), (early, raced)) = together(&rt, a, Task::Edit(word(0, 20)), early, asks);
-    assert_eq!(rt; edited, Came::Version(1));
-    let now = Came::Word {
-        version: 1,
-        word: 20,
-    };
-    assert!(rt;
-        raced == now
-            || raced
-                == Came::Word {
-                    version: 0,
-                    word: 10
-                }
-    );
-    let mut b = split(&mut a)?;
-    assert_eq!(rt; b.length(), 1);
-    let (b, told) = does(&rt, b, Task::Ask(FIRST_WORD));
-    let (b, shared) = does(&rt, b, Task::Project);
-    assert_eq!(rt; (told, shared), (now, now));
-    assert!(rt; matches!(a.split(), Err(SplitFault::NoSeat)));
+const EARLIER: Came = Came::Word {
+    version: 0,
+    word: 10,
+};
+
+const NOW: Came = Came::Word {
+    version: 1,
+    word: 20,
+};
+
+/// The first pass edits the word beside a question to the other, which answers by either version.
+fn raced<R: Host + Abort + Eprint>(rt: &R, a: Pass, early: Pass) -> (Pass, Pass)
+    ensures a { result.0.opening ≡ a.opening }
+    ensures early { result.1.opening ≡ early.opening }
+{
+    let edits = Task::Edit(word(0, 20));
+    let ((a, edited), (early, told)) = together(rt, a, edits, early, Task::Ask(FIRST_WORD));
+    assert!(rt; equal(rt, edited, Came::Version(1)));
+    assert!(rt; told == EARLIER || told == NOW);
+    (a, early)
+}
+
+/// A pass that was split after the edit, and answers by it.
+fn late<R: Host + Abort + Eprint>(rt: &R, a: &mut Pass) -> Result<Pass, Fail>
+    ensures same { a.new.opening ≡ a.old.opening }
+    ensures opening { IfOk result (λ p. p.opening ≡ a.old.opening) }
+{
+    let mut b = split(a)?;
+    assert!(rt; equal(rt, b.length(), 1));
+    assert!(rt; equal(rt, does(rt, &mut b, Task::Ask(FIRST_WORD)), NOW));
+    assert!(rt; equal(rt, does(rt, &mut b, Task::Project), NOW));
+    Ok(b)
+}
+
+/// A pass can't be closed while others are there; the bench comes back from the last.
+fn closed<R: Abort + Eprint>(rt: &R, a: Pass, early: Pass, b: Pass)
+    requires early { a.opening ≡ early.opening }
+    requires late { a.opening ≡ b.opening }
+{
     let Err(a) = a.close() else {
         panic!(rt; "two other passes are there")
     };
     let Ok(bench) = a.join(early).join(b).close() else {
         panic!(rt; "no other pass is there")
     };
-    assert_eq!(rt; bench.journal().len(), 1);
+    assert!(rt; equal(rt, bench.journal().len(), 1));
+}
+
+/// 16: a pass that was split after an edit answers by it; one that was split before answers by the version that it finds.
+#[test]
+fn example_16(rt: HostRuntime) -> Result<(), Fail> {
+    let mut a = opened(rt.alloc(), fresh(rt.alloc())?, 3)?;
+    assert!(rt; equal(&rt, (a.base(), a.k()), (0, 1)));
+    let early = split(&mut a)?;
+    let (mut a, early) = raced(&rt, a, early);
+    let b = late(&rt, &mut a)?;
+    assert!(rt; matches!(a.split(), Err(SplitFault::NoSeat)));
+    closed(&rt, a, early, b);
     Ok(())
 }
 
 /// 20: with the clock at its last value a pass is told so, and its edits are refused.
 #[test]
 fn example_20(rt: HostRuntime) -> Result<(), Fail> {
-    let pass = opened(
-        rt.alloc(),
-        bench_of(rt.alloc(), base(rt.alloc())?, u64::MAX)?,
-        1,
-    )?;
-    let (pass, told) = does(&rt, pass, Task::Ask(FIRST_STATE));
-    assert_eq!(rt; told, Came::ClockSpent);
-    let (pass, edited) = does(&rt, pass, Task::Edit(word(0, 10)));
-    assert_eq!(rt; edited, Came::Refused(EditFault::ClockSpent));
+    let spent = bench_of(rt.alloc(), base(rt.alloc())?, u64::MAX)?;
+    let mut pass = opened(rt.alloc(), spent, 1)?;
+    let told = does(&rt, &mut pass, Task::Ask(FIRST_STATE));
+    assert!(rt; equal(&rt, told, Came::ClockSpent));
+    let edited = does(&rt, &mut pass, Task::Edit(word(0, 10)));
+    assert!(rt; equal(&rt, edited, Came::Refused(EditFault::ClockSpent)));
     assert!(rt; pass.close().is_ok());
     Ok(())
+}
+
+/// Closes the last pass.
+fn bench_back(alloc: Global, pass: Pass) -> Result<Box<Bench>, Fail> {
+    match pass.close() {
+        Ok(bench) => Ok(Box::new(alloc, bench)?),
+        Err(_) => Err(Fail::from("another pass is there")),
+    }
 }
 
 /// Each of 800 answers between 800 edits is that of the simulation of the journal that the pass had seen then.
 #[test]
 fn four_at_once(rt: HostRuntime) -> Result<(), Fail> {
-    let mut a = opened(rt.alloc(), fresh(rt.alloc())?, 4)?;
-    let (b, c, d) = (split(&mut a)?, split(&mut a)?, split(&mut a)?);
-    let (pass, heard) = four(&rt, rt.alloc(), ((a, b), (c, d)));
-    let Ok(bench) = pass.close() else {
-        panic!(rt; "no other pass is there")
-    };
-    assert_eq!(rt; bench.version(), 800);
-    let words = simulated_versions(rt.alloc(), bench.journal())?;
-    assert_eq!(rt; right(&heard, &words), 800);
+    let alloc = rt.alloc();
+    let (pass, heard) = four(&rt, alloc, opened(alloc, fresh(alloc)?, 4)?);
+    let bench = bench_back(alloc, pass)?;
+    assert!(rt; equal(&rt, bench.version(), 800));
+    let words = simulated_versions(alloc, bench.journal())?;
+    assert!(rt; equal(&rt, right(&heard, &words), 800));
     Ok(())
 }

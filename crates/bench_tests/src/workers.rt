@@ -7,12 +7,16 @@ mod waves;
 
 use bench_core::Asked;
 use benches::opened;
+use expect::equal;
 use gates::{Board, Meeting};
 use monitor_sums::Counter;
 use run_queries::{Body, Query};
-use std::sync::Arc;
+use shared_bench::Pass;
+use std::process::Abort;
+use std::sync::{Arc, Wait};
 use std::test::*;
-use wave_workers::{Ungated, WorkFault, work};
+use std::thread::Threads;
+use wave_workers::{Gate, Ungated, WorkFault, work};
 
 /// How many references all modules have served.
 const SERVED: Query = Query::Counter {
@@ -22,29 +26,35 @@ const SERVED: Query = Query::Counter {
     to: 10,
 };
 
+/// What comes of workers with these gates: how many results were given, how many stored, and why they ended before their
+/// turns were over. The pass is closed.
+fn worked<R, G>(rt: &R, pass: Pass, gates: Vec<G>, turns: u64) -> (u64, u64, Option<WorkFault>)
+where
+    R: Threads + Wait + Abort + Sync + Send + Copy + 'static,
+    G: Gate + Send + Drop + 'static,
+{
+    let worked = work(rt, pass, gates, turns);
+    assert!(rt; worked.pass.close().is_ok());
+    (worked.given, worked.stored, worked.fault)
+}
+
 /// 27: the opening has one seat, which the pass has.
 #[test]
 fn example_27_no_seat(rt: HostRuntime) -> Result<(), Fail> {
-    let alloc = rt.alloc();
-    let worked = work(&rt, opened(alloc, 1)?, vec![in alloc; Ungated]?, 1);
-    assert_eq!(rt; worked.fault, Some(WorkFault::NoSeat));
-    assert_eq!(rt; (worked.given, worked.stored), (0, 0));
-    assert!(rt; worked.pass.close().is_ok());
+    let gates = vec![in rt.alloc(); Ungated]?;
+    let came = worked(&rt, opened(rt.alloc(), 1)?, gates, 1);
+    assert!(rt; equal(&rt, came, (0, 0, Some(WorkFault::NoSeat))));
     Ok(())
 }
 
 /// 27: the first worker ends its computation only once the second has ended one, so both are at work.
 #[test]
 fn example_27_at_once(rt: HostRuntime) -> Result<(), Fail> {
-    let alloc = rt.alloc();
-    let board = Arc::new(alloc, Board::new())?;
-    let first = Meeting::new(Arc::try_clone(&board)?, true);
-    let second = Meeting::new(Arc::try_clone(&board)?, false);
-    let worked = work(&rt, opened(alloc, 3)?, vec![in alloc; first, second]?, 1);
-    assert_eq!(rt; board.both_met(), true);
-    assert_eq!(rt; board.first_cells(), (0, 1));
-    assert_eq!(rt; (worked.given, worked.stored, worked.fault), (2, 2, None));
-    assert!(rt; worked.pass.close().is_ok());
+    let board = Arc::new(rt.alloc(), Board::new())?;
+    let gates = Meeting::both(rt.alloc(), &board)?;
+    let came = worked(&rt, opened(rt.alloc(), 3)?, gates, 1);
+    assert!(rt; equal(&rt, came, (2, 2, None)));
+    assert!(rt; equal(&rt, (board.both_met(), board.first_cells()), (true, (0, 1))));
     Ok(())
 }
 
@@ -55,7 +65,7 @@ fn example_27_all_cells(rt: HostRuntime) -> Result<(), Fail> {
     let mut pass = opened(alloc, 3)?;
     assert!(rt; matches!(pass.look(&rt, SERVED), Asked::Pending(66)));
     let worked = work(&rt, pass, vec![in alloc; Ungated, Ungated]?, 66);
-    assert_eq!(rt; (worked.stored, worked.fault), (66, None));
+    assert!(rt; equal(&rt, (worked.stored, worked.fault), (66, None)));
     let mut pass = worked.pass;
     let asked = pass.look(&rt, SERVED);
     assert!(rt;

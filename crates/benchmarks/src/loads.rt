@@ -17,7 +17,7 @@ use std::time::Instant;
 /// How often each thing is done.
 const TIMES: u32 = 7;
 
-/// How often all replies are asked for again.
+/// How often all replies are asked for, anew and again.
 const AGAIN: u32 = 100;
 
 /// What came of a load: how many cells were computed at first, and after the last of each kind of edit; the last
@@ -369,8 +369,8 @@ fn edits<T: Threads + Sync>(
     Ok(cells)
 }
 
-/// The first replies of all processors on a settled bench, asked for anew, after an edit that changes nothing, and again:
-/// the last one.
+/// The first replies of all processors on a settled bench, asked for anew, each time after an edit that changes nothing, and
+/// again: the last one.
 fn replies<T: Threads + Sync>(
     rt: &HostRuntime,
     threads: &T,
@@ -382,20 +382,33 @@ fn replies<T: Threads + Sync>(
     let (mut anew, mut again) = (Times::none(), Times::none());
     let mut reply = None;
     for _ in 0..TIMES {
+        anew = anew.and(asked_anew(rt, threads, bench, count)?);
+        let since = Instant::now(rt)?;
+        reply = all_replied(threads, bench, count, AGAIN)?;
+        again = again.and(taken(rt, since)?);
+    }
+    let count = u64::from(count).saturating_mul(u64::from(AGAIN));
+    row_beside(rt, load, "a reply, asked anew", anew, count, plain.of(1))?;
+    row_beside(rt, load, "a reply, asked again", again, count, plain.of(1))?;
+    Ok(reply)
+}
+
+/// How long the first replies of so many processors take, asked for often, each time after an edit that changes nothing.
+fn asked_anew<T: Threads + Sync>(
+    rt: &HostRuntime,
+    threads: &T,
+    bench: &mut Bench,
+    count: u32,
+) -> Result<u64> {
+    let mut all = 0u64;
+    for _ in 0..AGAIN {
         let same = Edit::Window(bench.project().window());
         edited(bench, same)?;
         let since = Instant::now(rt)?;
-        reply = all_replied(threads, bench, count, 1)?;
-        anew = anew.and(taken(rt, since)?);
-        let since = Instant::now(rt)?;
-        all_replied(threads, bench, count, AGAIN)?;
-        again = again.and(taken(rt, since)?);
+        all_replied(threads, bench, count, 1)?;
+        all = all.saturating_add(taken(rt, since)?);
     }
-    let count = u64::from(count);
-    row_beside(rt, load, "a reply, asked anew", anew, count, plain.of(1))?;
-    let count = count.saturating_mul(u64::from(AGAIN));
-    row_beside(rt, load, "a reply, asked again", again, count, plain.of(1))?;
-    Ok(reply)
+    Ok(all)
 }
 
 /// Asks for the first replies of so many processors so often: the last one.

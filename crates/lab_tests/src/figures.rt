@@ -1,5 +1,6 @@
 //! Figures of small machines, worked out by hand.
 use bench_core::Bench;
+use expect::equal;
 use experiments::{
     Fault, Load, Window, cold_waits, project_of, saturation_map, served, served_each, sweep_row,
 };
@@ -27,14 +28,14 @@ const WHOLE: Window = Window { from: 0, to: 16 };
 fn one_processor_is_served_each_cycle(rt: HostRuntime) -> Result<(), Fail> {
     let project = project_of(rt.alloc(), ONE)?;
     let map = saturation_map(rt.alloc(), &project, Net::Low, 0, WHOLE)?;
-    assert_eq!(rt; map.stages.len(), 0);
-    assert_eq!(rt; map.levels.as_slice(), [0; 17].as_slice());
+    assert!(rt; equal(&rt, map.stages.len(), 0));
+    assert!(rt; equal(&rt, map.levels.as_slice(), [0; 17].as_slice()));
     for (cycle, is_served) in map.served.iter().enumerate() {
-        assert_eq!(rt; *is_served, cycle >= 3);
+        assert!(rt; equal(&rt, *is_served, cycle >= 3));
     }
     let waits = cold_waits(rt.alloc(), &project, WHOLE)?;
-    assert_eq!(rt; waits.as_slice(), [3; 13].as_slice());
-    assert_eq!(rt; served(&rt, rt.alloc(), project, WHOLE).ok(), Some(14));
+    assert!(rt; equal(&rt, waits.as_slice(), [3; 13].as_slice()));
+    assert!(rt; equal(&rt, served(&rt, rt.alloc(), project, WHOLE).ok(), Some(14)));
     Ok(())
 }
 
@@ -42,7 +43,7 @@ fn one_processor_is_served_each_cycle(rt: HostRuntime) -> Result<(), Fail> {
 #[test]
 fn hot_references_are_left_out(rt: HostRuntime) -> Result<(), Fail> {
     let project = project_of(rt.alloc(), Load { hot: 100, ..ONE })?;
-    assert_eq!(rt; cold_waits(rt.alloc(), &project, WHOLE)?.len(), 0);
+    assert!(rt; equal(&rt, cold_waits(rt.alloc(), &project, WHOLE)?.len(), 0));
     Ok(())
 }
 
@@ -58,14 +59,14 @@ fn scripts_are_drawn(rt: HostRuntime) -> Result<(), Fail> {
             ..ONE
         },
     )?;
-    assert_eq!(rt; project.length(1), 256);
+    assert!(rt; equal(&rt, project.length(1), 256));
     let mut addresses = Vec::new(rt.alloc());
     for index in 0..3 {
         if let Some(ScriptEntry::Reference { address, .. }) = project.entry(1, index) {
             addresses.push(address)?;
         }
     }
-    assert_eq!(rt; addresses.as_slice(), [478, 0, 499].as_slice());
+    assert!(rt; equal(&rt, addresses.as_slice(), [478, 0, 499].as_slice()));
     Ok(())
 }
 

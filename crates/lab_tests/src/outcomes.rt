@@ -1,4 +1,5 @@
 //! What tasks print, and which files they write.
+use expect::equal;
 use lab_tasks::{Outcome, Silent, perform, read_words};
 use std::test::Fail;
 use std::thread::Threads;
@@ -41,8 +42,8 @@ hot words: 260 (6) 5 (3)
 #[test]
 fn a_project_is_summed_up(rt: HostRuntime) -> Result<(), Fail> {
     let outcome = made(&rt, &["check", "two.toml"], TWO)?;
-    assert_eq!(rt; outcome.printed.as_slice(), SUMMARY.as_bytes());
-    assert_eq!(rt; outcome.files.len(), 0);
+    assert!(rt; equal(&rt, outcome.printed.as_slice(), SUMMARY.as_bytes()));
+    assert!(rt; equal(&rt, outcome.files.len(), 0));
     Ok(())
 }
 
@@ -89,7 +90,7 @@ fn depths_are_gone_through(rt: HostRuntime) -> Result<(), Fail> {
 3,4,0,0
 3,5,0,0
 ";
-    assert_eq!(rt; outcome.printed.as_slice(), table.as_slice());
+    assert!(rt; equal(&rt, outcome.printed.as_slice(), table.as_slice()));
     Ok(())
 }
 
@@ -97,13 +98,13 @@ fn depths_are_gone_through(rt: HostRuntime) -> Result<(), Fail> {
 fn a_project_is_converted(rt: HostRuntime) -> Result<(), Fail> {
     let old = b"format = 1\nk = 1\nhorizon = 8\npage = [{number = 0, amount = 0, base = 1}]\n";
     let first = made(&rt, &["convert", "old.toml", "--out", "new.toml"], old)?;
-    assert_eq!(rt; first.printed.len(), 0);
+    assert!(rt; equal(&rt, first.printed.len(), 0));
     let file = first.files.first().ok_or("a file")?;
-    assert_eq!(rt; file.name.as_str(), "new.toml");
+    assert!(rt; equal(&rt, file.name.as_str(), "new.toml"));
     let text = std::str::from_utf8(file.bytes.as_slice())?;
     assert!(rt; text.contains("format = 2"));
     let again = made(&rt, &["convert", "new.toml"], file.bytes.as_slice())?;
-    assert_eq!(rt; again.printed.as_slice(), file.bytes.as_slice());
+    assert!(rt; equal(&rt, again.printed.as_slice(), file.bytes.as_slice()));
     Ok(())
 }
 
@@ -112,7 +113,7 @@ fn a_project_is_converted(rt: HostRuntime) -> Result<(), Fail> {
 fn a_map_is_drawn(rt: HostRuntime) -> Result<(), Fail> {
     let outcome = made(&rt, &["map", "there/two.toml", "--out", "two.svg"], TWO)?;
     let file = outcome.files.first().ok_or("a file")?;
-    assert_eq!(rt; file.name.as_str(), "two.svg");
+    assert!(rt; equal(&rt, file.name.as_str(), "two.svg"));
     let text = std::str::from_utf8(file.bytes.as_slice())?;
     assert!(rt; text.starts_with("<svg "));
     assert!(rt; text.ends_with("</svg>\n"));
@@ -128,8 +129,8 @@ fn rates_are_tabled(rt: HostRuntime) -> Result<(), Fail> {
         "--keep", "kept",
     ];
     let outcome = made(&rt, &words, b"")?;
-    assert_eq!(rt; outcome.printed.len(), 0);
-    assert_eq!(rt; outcome.folder.ok_or("a folder")?.as_str(), "kept");
+    assert!(rt; equal(&rt, outcome.printed.len(), 0));
+    assert!(rt; equal(&rt, outcome.folder.ok_or("a folder")?.as_str(), "kept"));
     let mut names = Vec::new(rt.alloc());
     for file in &outcome.files {
         names.push(file.name.as_str())?;
@@ -142,12 +143,12 @@ fn rates_are_tabled(rt: HostRuntime) -> Result<(), Fail> {
         "kept/k1-hot0-off.toml",
         "kept/k1-hot0-on.toml",
     ];
-    assert_eq!(rt; names.as_slice(), all.as_slice());
+    assert!(rt; equal(&rt, names.as_slice(), all.as_slice()));
     let table = outcome.files.get(1).ok_or("a table")?;
     let text = std::str::from_utf8(table.bytes.as_slice())?;
     assert!(rt;
         text.starts_with(
-            "processors,combining,hot_percent,served,cycles,served_per_cycle,bound\n1,off,0,8,8,1.000,1.000\n1,on,0,8,8,1.000,1.000\n2,off,0,"
+            "processors,combining,hot_percent,served,cycles,served_per_cycle,bound\n1,off,0,8,8,1.000,1.000\n1,on,0,8,8,1.000,1.000\n2,off,0,",
         )
     );
     Ok(())

@@ -1,4 +1,5 @@
 //! Scales, ticks, texts and documents, by numbers worked out by hand.
+use expect::equal;
 use std::test::Fail;
 use svg_plots::{
     Anchor, Axis, CellGroup, CellMap, Crossing, Curve, Curves, Escaped, Mark, Panel, Picture,
@@ -14,7 +15,7 @@ fn scales_place_values(rt: HostRuntime) {
         end: 300,
     };
     for (value, place) in [(10, 100), (15, 150), (30, 300), (9, 100), (31, 300)] {
-        assert_eq!(rt; across.place(value), place);
+        assert!(rt; equal(&rt, across.place(value), place));
     }
     let up = Scale {
         from: 0,
@@ -23,7 +24,7 @@ fn scales_place_values(rt: HostRuntime) {
         end: 0,
     };
     for (value, place) in [(0, 100), (1, 67), (2, 34), (3, 0)] {
-        assert_eq!(rt; up.place(value), place);
+        assert!(rt; equal(&rt, up.place(value), place));
     }
 }
 
@@ -38,7 +39,7 @@ fn ticks_are_few(rt: HostRuntime) {
         (4_294_967_295, 4, 2_000_000_000),
         (4_294_967_295, 2, 4_294_967_295),
     ] {
-        assert_eq!(rt; tick_step(span, most), step);
+        assert!(rt; equal(&rt, tick_step(span, most), step));
     }
 }
 
@@ -55,21 +56,24 @@ fn logarithms_are_rounded_down(rt: HostRuntime) {
         (1, 2, 0),
         (1, 0, 0),
     ] {
-        assert_eq!(rt; log2_hundredths(numerator, denominator), hundredths);
+        assert!(rt; equal(&rt, log2_hundredths(numerator, denominator), hundredths));
     }
 }
 
 #[test]
 fn texts_are_escaped(rt: HostRuntime) -> Result<(), Fail> {
     let text = Escaped("a<b> & \"c\" 'd' é");
-    assert_eq!(rt;
-        format!(in rt.alloc(); "{text}")?.as_str(),
-        "a&lt;b&gt; &amp; &quot;c&quot; &#39;d&#39; é"
+    assert!(rt;
+        equal(
+            &rt,
+            format!(in rt.alloc(); "{text}")?.as_str(),
+            "a&lt;b&gt; &amp; &quot;c&quot; &#39;d&#39; é"
+        )
     );
     let lengths = [(0, "0"), (10, "1"), (125, "12.5")];
     for (length, text) in lengths {
         let length = Tenths(length);
-        assert_eq!(rt; format!(in rt.alloc(); "{length}")?.as_str(), text);
+        assert!(rt; equal(&rt, format!(in rt.alloc(); "{length}")?.as_str(), text));
     }
     Ok(())
 }
@@ -113,7 +117,7 @@ fn elements_are_written(rt: HostRuntime) -> Result<(), Fail> {
     picture.path(&[from, to], plain)?;
     picture.path(&[from], plain)?;
     picture.mark(to, Mark::Square, "#000000")?;
-    assert_eq!(rt; picture.close()?.as_str(), DRAWN);
+    assert!(rt; equal(&rt, picture.close()?.as_str(), DRAWN));
     Ok(())
 }
 

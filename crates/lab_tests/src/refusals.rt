@@ -1,4 +1,5 @@
 //! Words that no task takes: how the program ends, and what it says.
+use expect::equal;
 use lab_tasks::{Silent, perform, read_words, status};
 use std::test::Fail;
 use std::thread::Threads;
@@ -43,8 +44,8 @@ fn maps_are_refused(rt: HostRuntime) -> Result<(), Fail> {
         words.push("two.toml")?;
         words.extend_from_slice(more)?;
         let (told, text) = ending(&rt, words.as_slice(), TWO)?;
-        assert_eq!(rt; told, number);
-        assert_eq!(rt; text.as_str(), line);
+        assert!(rt; equal(&rt, told, number));
+        assert!(rt; equal(&rt, text.as_str(), line));
     }
     Ok(())
 }
@@ -95,8 +96,8 @@ fn curves_are_refused(rt: HostRuntime) -> Result<(), Fail> {
     ];
     for (words, number, line) in refused {
         let (told, text) = ending(&rt, words, b"")?;
-        assert_eq!(rt; told, number);
-        assert_eq!(rt; text.as_str(), line);
+        assert!(rt; equal(&rt, told, number));
+        assert!(rt; equal(&rt, text.as_str(), line));
     }
     Ok(())
 }
@@ -140,10 +141,13 @@ fn sweeps_are_refused(rt: HostRuntime) -> Result<(), Fail> {
     for (depth, ask, number, at, reason) in refused {
         let words = ["sweep", "two.toml", "--depth", depth, "--ask", ask];
         let (told, text) = ending(&rt, &words, TWO)?;
-        assert_eq!(rt; told, number);
-        assert_eq!(rt;
-            text.as_str(),
-            format!(in rt.alloc(); "lab: {at} {reason}")?.as_str()
+        assert!(rt; equal(&rt, told, number));
+        assert!(rt;
+            equal(
+                &rt,
+                text.as_str(),
+                format!(in rt.alloc(); "lab: {at} {reason}")?.as_str()
+            )
         );
     }
     Ok(())
@@ -167,10 +171,13 @@ fn a_table_has_at_most_ten_thousand_rows(rt: HostRuntime) -> Result<(), Fail> {
         "place 0",
     ];
     let (told, text) = ending(&rt, &words, TWO)?;
-    assert_eq!(rt; told, 7);
-    assert_eq!(rt;
-        text.as_str(),
-        "lab: --depth: each with each is not within 1 to 10000"
+    assert!(rt; equal(&rt, told, 7));
+    assert!(rt;
+        equal(
+            &rt,
+            text.as_str(),
+            "lab: --depth: each with each is not within 1 to 10000"
+        )
     );
     Ok(())
 }
@@ -179,8 +186,8 @@ fn a_table_has_at_most_ten_thousand_rows(rt: HostRuntime) -> Result<(), Fail> {
 fn projects_are_refused(rt: HostRuntime) -> Result<(), Fail> {
     for task in ["map", "check", "convert"] {
         let (told, text) = ending(&rt, &[task, "a.toml"], b"format = 2\nhorizon = 8\n")?;
-        assert_eq!(rt; told, 4);
-        assert_eq!(rt; text.as_str(), "lab: project refused: 5");
+        assert!(rt; equal(&rt, told, 4));
+        assert!(rt; equal(&rt, text.as_str(), "lab: project refused: 5"));
     }
     Ok(())
 }

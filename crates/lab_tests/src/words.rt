@@ -1,14 +1,15 @@
 //! Which words are a command line, and what they say.
+use expect::equal;
 use lab_tasks::{Asked, End, read_words, refusal, status};
+use std::io::Eprint;
 use std::process::Abort;
 use std::test::Fail;
 
-/// Compares what was told at some options, nothing where nothing was.
-fn compare<R: Abort>(rt: &R, told: &[Option<&str>], texts: &[&str]) {
-    assert_eq!(rt; told.len(), texts.len());
+/// Compares what was told at some options, "-" where nothing was.
+fn compare<R: Abort + Eprint>(rt: &R, told: &[Option<&str>], texts: &[&str]) {
+    assert!(rt; equal(rt, told.len(), texts.len()));
     for (word, text) in told.iter().zip(texts) {
-        let word = word.unwrap_or("-");
-        assert!(rt; word == *text);
+        assert!(rt; equal(rt, word.unwrap_or("-"), *text));
     }
 }
 
@@ -121,7 +122,7 @@ const REFUSED: [(&[&str], u8); 12] = [
 fn words_are_refused(rt: HostRuntime) -> Result<(), Fail> {
     for (words, number) in &REFUSED {
         let error = read_words(rt.alloc(), words).err().ok_or("a refusal")?;
-        assert_eq!(rt; status(&refusal(&error)), *number);
+        assert!(rt; equal(&rt, status(&refusal(&error)), *number));
     }
     Ok(())
 }
@@ -131,7 +132,13 @@ fn the_version_is_told(rt: HostRuntime) -> Result<(), Fail> {
     let error = read_words(rt.alloc(), &["--version"])
         .err()
         .ok_or("a text")?;
-    assert_eq!(rt; format!(in rt.alloc(); "{error}")?.as_str(), "lab 1.0.0\n");
+    assert!(rt;
+        equal(
+            &rt,
+            format!(in rt.alloc(); "{error}")?.as_str(),
+            "lab 1.0.0\n"
+        )
+    );
     Ok(())
 }
 
@@ -145,7 +152,7 @@ const ENDS: [(End<'static>, u8, &str); 4] = [
 #[test]
 fn ends_have_statuses_and_lines(rt: HostRuntime) -> Result<(), Fail> {
     for (end, number, line) in &ENDS {
-        assert_eq!(rt; status(end), *number);
+        assert!(rt; equal(&rt, status(end), *number));
         let text = format!(in rt.alloc(); "{end}")?;
         assert!(rt; text.as_str() == *line);
     }

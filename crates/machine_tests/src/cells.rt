@@ -1,5 +1,6 @@
 //! A worked example, and each call that takes memory.
 
+use expect::{equal, equal_at};
 use grid_law::{Grid, Reader};
 use machine_cells::{MachineState, Rp3, from_scratch};
 use omega_net::ScriptEntry;
@@ -96,7 +97,7 @@ fn printed(
 fn one_reference_is_answered_at_cycle_4(rt: HostRuntime) -> Result<(), Fail> {
     let alloc = rt.alloc();
     let rows = from_scratch(alloc, &one_reference(alloc)?)?;
-    assert_eq!(rt; rows.len(), 9);
+    assert!(rt; equal(&rt, rows.len(), 9));
     for (cycle, component, text) in [
         (
             3,
@@ -114,33 +115,52 @@ fn one_reference_is_answered_at_cycle_4(rt: HostRuntime) -> Result<(), Fail> {
             "mod q0 [] q1 [] a0 [] a1 [] turn 0 served 0 mem [0=21]",
         ),
     ] {
-        assert_eq!(rt; printed(alloc, &rows, cycle, component)?.as_str(), text);
+        assert!(rt; equal(&rt, printed(alloc, &rows, cycle, component)?.as_str(), text));
     }
     Ok(())
+}
+
+/// The states of all components at cycle 0.
+fn started(alloc: Global, project: &Project) -> Result<Vec<Arc<MachineState>>, Fail> {
+    let mut row = Vec::new(alloc);
+    for c in 0..Rp3::components(project) {
+        row.push(Rp3::start(alloc, project, c)?)?;
+    }
+    Ok(row)
+}
+
+/// The states one cycle after a row of states.
+fn stepped(
+    alloc: Global,
+    project: &Project,
+    row: &[Arc<MachineState>],
+) -> Result<Vec<Arc<MachineState>>, Fail> {
+    let mut next = Vec::new(alloc);
+    for c in 0..Rp3::components(project) {
+        let near = near_states(alloc, project, row, c)?;
+        let state = Rp3::step(alloc, project, &near, c)?;
+        if !lent_gives(alloc, project, &near, c, &state)? {
+            return Err(Fail::from("another state where the near states are lent"));
+        }
+        next.push(state)?;
+    }
+    Ok(next)
+}
+
+/// Whether two rows have the same states.
+fn alike(one: &[Arc<MachineState>], other: &[Arc<MachineState>]) -> bool {
+    let mut both = one.iter().zip(other);
+    one.len() == other.len() && both.all(|(plain, cell)| Rp3::same(plain, cell))
 }
 
 #[test]
 fn cells_give_the_run(rt: HostRuntime) -> Result<(), Fail> {
     let alloc = rt.alloc();
     let project = Rp3::share(alloc, &one_reference(alloc)?)?;
-    let rows = from_scratch(alloc, &project)?;
-    let mut row = Vec::new(alloc);
-    for c in 0..Rp3::components(&project) {
-        row.push(Rp3::start(alloc, &project, c)?)?;
-    }
-    for states in &rows {
-        assert_eq!(rt; states.len(), row.len());
-        for (plain, cell) in states.iter().zip(&row) {
-            assert!(rt; Rp3::same(plain, cell));
-        }
-        let mut next = Vec::new(alloc);
-        for c in 0..Rp3::components(&project) {
-            let near = near_states(alloc, &project, &row, c)?;
-            let state = Rp3::step(alloc, &project, &near, c)?;
-            assert!(rt; lent_gives(alloc, &project, &near, c, &state)?);
-            next.push(state)?;
-        }
-        row = next;
+    let mut row = started(alloc, &project)?;
+    for states in &from_scratch(alloc, &project)? {
+        assert!(rt; alike(states, &row));
+        row = stepped(alloc, &project, &row)?;
     }
     Ok(())
 }
@@ -176,10 +196,13 @@ fn readers_of_slots(rt: HostRuntime) -> Result<(), Fail> {
         (Slot::Depth(Depths::ModuleQueue), queues.as_slice()),
         (Slot::Wait, [at_later(5)].as_slice()),
     ] {
-        assert_eq!(rt;
-            Rp3::readers(alloc, &project, &slot)?.as_slice(),
-            readers,
-            "{slot:?}"
+        assert!(rt;
+            equal_at(
+                &rt,
+                slot,
+                Rp3::readers(alloc, &project, &slot)?.as_slice(),
+                readers
+            )
         );
     }
     Ok(())

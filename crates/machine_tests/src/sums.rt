@@ -1,5 +1,6 @@
 //! The counts of worked examples, and each call that takes memory.
 
+use expect::{equal, equal_at};
 use machine_cells::{MachineState, from_scratch};
 use monitor_sums::{Counter, Sums};
 use omega_net::{Net, ScriptEntry, Shape};
@@ -105,12 +106,12 @@ fn two_adds(alloc: Global, combine: bool) -> Result<Project, Fail> {
 #[test]
 fn two_requests_are_served(rt: HostRuntime) -> Result<(), Fail> {
     let sums = counters(rt.alloc(), &two_adds(rt.alloc(), false)?)?;
-    assert_eq!(rt; sums.total(Counter::Issued, None), 2);
-    assert_eq!(rt; sums.total(Counter::Served, None), 2);
-    assert_eq!(rt; sums.total(Counter::Combined, None), 0);
-    assert_eq!(rt; sums.total(Counter::Answered, None), 2);
+    assert!(rt; equal(&rt, sums.total(Counter::Issued, None), 2));
+    assert!(rt; equal(&rt, sums.total(Counter::Served, None), 2));
+    assert!(rt; equal(&rt, sums.total(Counter::Combined, None), 0));
+    assert!(rt; equal(&rt, sums.total(Counter::Answered, None), 2));
     // the replies come at cycles 6 and 7
-    assert_eq!(rt; sums.sum(Counter::Answered, None, 0, 6), 1);
+    assert!(rt; equal(&rt, sums.sum(Counter::Answered, None, 0, 6), 1));
     Ok(())
 }
 
@@ -118,10 +119,10 @@ fn two_requests_are_served(rt: HostRuntime) -> Result<(), Fail> {
 #[test]
 fn a_combined_request_is_served_once(rt: HostRuntime) -> Result<(), Fail> {
     let sums = counters(rt.alloc(), &two_adds(rt.alloc(), true)?)?;
-    assert_eq!(rt; sums.total(Counter::Served, None), 1);
-    assert_eq!(rt; sums.total(Counter::Combined, None), 1);
+    assert!(rt; equal(&rt, sums.total(Counter::Served, None), 1));
+    assert!(rt; equal(&rt, sums.total(Counter::Combined, None), 1));
     // both replies come at cycle 6
-    assert_eq!(rt; sums.sum(Counter::Answered, None, 6, 6), 2);
+    assert!(rt; equal(&rt, sums.sum(Counter::Answered, None, 6, 6), 2));
     Ok(())
 }
 
@@ -148,18 +149,11 @@ fn windows_of_blocks(rt: HostRuntime) -> Result<(), Fail> {
         (41, 100, 1),
         (42, 100, 0),
     ] {
-        assert_eq!(rt;
-            sums.sum(Counter::Issued, None, from, to),
-            issued,
-            "{from} to {to}"
-        );
-        assert_eq!(rt;
-            sums.sum(Counter::Issued, Some(0), from, to),
-            issued,
-            "{from} to {to}"
-        );
+        let all = sums.sum(Counter::Issued, None, from, to);
+        let first = sums.sum(Counter::Issued, Some(0), from, to);
+        assert!(rt; equal_at(&rt, (from, to), (all, first), (issued, issued)));
     }
-    assert_eq!(rt; sums.total(Counter::Issued, Some(0)), 1);
+    assert!(rt; equal(&rt, sums.total(Counter::Issued, Some(0)), 1));
     Ok(())
 }
 
@@ -182,19 +176,19 @@ fn hot_spot(alloc: Global) -> Result<Project, Fail> {
 #[test]
 fn queues_fill_towards_a_hot_spot(rt: HostRuntime) -> Result<(), Fail> {
     let sums = counters(rt.alloc(), &hot_spot(rt.alloc())?)?;
-    assert_eq!(rt; sums.total(Counter::Issued, Some(0)), 6);
-    assert_eq!(rt; sums.total(Counter::Served, None), 2);
+    assert!(rt; equal(&rt, sums.total(Counter::Issued, Some(0)), 6));
+    assert!(rt; equal(&rt, sums.total(Counter::Served, None), 2));
     let mut last = [0; 17];
     last[0] = 24;
     last[2] = 1;
     last[3] = 3;
-    assert_eq!(rt; profile(&sums, Net::Low, 1), Some(last));
+    assert!(rt; equal(&rt, profile(&sums, Net::Low, 1), Some(last)));
     let mut first = [0; 17];
     first[0] = 18;
     first[1] = 7;
     first[2] = 1;
     first[3] = 2;
-    assert_eq!(rt; profile(&sums, Net::Low, 0), Some(first));
+    assert!(rt; equal(&rt, profile(&sums, Net::Low, 0), Some(first)));
     Ok(())
 }
 
@@ -202,27 +196,33 @@ fn queues_fill_towards_a_hot_spot(rt: HostRuntime) -> Result<(), Fail> {
 #[test]
 fn a_cell_without_a_state_counts_nothing(rt: HostRuntime) -> Result<(), Fail> {
     let mut sums = counters(rt.alloc(), &two_adds(rt.alloc(), false)?)?;
-    assert_eq!(rt; sums.total(Counter::Issued, Some(0)), 1);
+    assert!(rt; equal(&rt, sums.total(Counter::Issued, Some(0)), 1));
     for cycle in 0..11 {
         sums.change(0, cycle, None);
     }
-    assert_eq!(rt; sums.total(Counter::Issued, Some(0)), 0);
-    assert_eq!(rt; sums.total(Counter::Issued, None), 1);
+    assert!(rt; equal(&rt, sums.total(Counter::Issued, Some(0)), 0));
+    assert!(rt; equal(&rt, sums.total(Counter::Issued, None), 1));
     Ok(())
 }
 
 #[test]
 fn names_are_read_back(rt: HostRuntime) -> Result<(), Fail> {
     for counter in Counter::ALL {
-        assert_eq!(rt;
-            Counter::from_name(counter.name().as_bytes()),
-            Some(counter)
+        assert!(rt;
+            equal(
+                &rt,
+                Counter::from_name(counter.name().as_bytes()),
+                Some(counter)
+            )
         );
-        assert_eq!(rt;
-            format!(in rt.alloc(); "{counter}")?.as_str(),
-            counter.name()
+        assert!(rt;
+            equal(
+                &rt,
+                format!(in rt.alloc(); "{counter}")?.as_str(),
+                counter.name()
+            )
         );
     }
-    assert_eq!(rt; Counter::from_name(b"idle".as_slice()), None);
+    assert!(rt; equal(&rt, Counter::from_name(b"idle".as_slice()), None));
     Ok(())
 }

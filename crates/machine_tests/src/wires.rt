@@ -1,5 +1,6 @@
 //! Worked examples of numbers, near lists and a route, and of the texts.
 use arrayvec::ArrayVec;
+use expect::{equal, equal_at};
 use omega_net::{Component, Listed, Name, Net, Reply, Shape, Tag};
 use page_map::Place;
 use std::test::Fail;
@@ -30,8 +31,8 @@ fn numbers_the_components_by_kind_network_and_stage(rt: HostRuntime) {
         (2, 13, switch(Net::Comb, 0, 1)),
     ] {
         let Some(shape) = Shape::new(k) else { continue };
-        assert_eq!(rt; shape.number(component), Some(number), "at k {k}");
-        assert_eq!(rt; shape.component(number), Some(component), "at k {k}");
+        assert!(rt; equal_at(&rt, k, shape.number(component), Some(number)));
+        assert!(rt; equal_at(&rt, k, shape.component(number), Some(component)));
     }
     assert!(rt; Shape::new(6).is_some());
     assert!(rt; Shape::new(7).is_none());
@@ -55,7 +56,7 @@ fn lists_neighbours_by_input_then_by_output(rt: HostRuntime) {
     ];
     for (k, list) in cases {
         let [number, ..] = list else { continue };
-        assert_eq!(rt; near(k, *number).as_slice(), list, "at k {k}");
+        assert!(rt; equal_at(&rt, k, near(k, *number).as_slice(), list));
     }
 }
 
@@ -69,30 +70,42 @@ fn leads_from_processor_1_to_module_2_and_back(rt: HostRuntime) {
     };
     // Lines in two bits: 01 meets switch 1 at input 0; 11 meets switch 1 at input 1; 10 is module 2.
     let first = shape.entry(Net::Low, 1);
-    assert_eq!(rt;
-        (shape.lower_end(first), shape.input(first)),
-        (switch(0), 0)
+    assert!(rt;
+        equal(
+            &rt,
+            (shape.lower_end(first), shape.input(first)),
+            (switch(0), 0)
+        )
     );
     let second = shape.after(Net::Low, 0, 1, shape.forward_bit(0, 2));
-    assert_eq!(rt; second.line, 3);
-    assert_eq!(rt;
-        (shape.lower_end(second), shape.input(second)),
-        (switch(1), 1)
+    assert!(rt; equal(&rt, second.line, 3));
+    assert!(rt;
+        equal(
+            &rt,
+            (shape.lower_end(second), shape.input(second)),
+            (switch(1), 1)
+        )
     );
     let last = shape.after(Net::Low, 1, 1, shape.forward_bit(1, 2));
-    assert_eq!(rt; shape.lower_end(last), Component::Module(2));
-    assert_eq!(rt; last, shape.exit(Net::Low, 2));
-    assert_eq!(rt; (last.upper_end(), last.output()), (switch(1), 0));
-    assert_eq!(rt;
-        second,
-        shape.before(Net::Low, 1, 1, shape.reverse_bit(1, 1))
+    assert!(rt; equal(&rt, shape.lower_end(last), Component::Module(2)));
+    assert!(rt; equal(&rt, last, shape.exit(Net::Low, 2)));
+    assert!(rt; equal(&rt, (last.upper_end(), last.output()), (switch(1), 0)));
+    assert!(rt;
+        equal(
+            &rt,
+            second,
+            shape.before(Net::Low, 1, 1, shape.reverse_bit(1, 1))
+        )
     );
-    assert_eq!(rt; (second.upper_end(), second.output()), (switch(0), 1));
-    assert_eq!(rt;
-        first,
-        shape.before(Net::Low, 0, 1, shape.reverse_bit(0, 1))
+    assert!(rt; equal(&rt, (second.upper_end(), second.output()), (switch(0), 1)));
+    assert!(rt;
+        equal(
+            &rt,
+            first,
+            shape.before(Net::Low, 0, 1, shape.reverse_bit(0, 1))
+        )
     );
-    assert_eq!(rt; first.upper_end(), Component::Proc(1));
+    assert!(rt; equal(&rt, first.upper_end(), Component::Proc(1)));
 }
 
 #[test]
@@ -100,9 +113,12 @@ fn prints(rt: HostRuntime) -> Result<(), Fail> {
     let alloc = rt.alloc();
     let tag = Tag { proc: 3, issue: 17 };
     let reply = Reply { tag, word: 20 };
-    assert_eq!(rt;
-        format!(in alloc; "{tag} {reply}")?.as_str(),
-        "3.17 3.17=20"
+    assert!(rt;
+        equal(
+            &rt,
+            format!(in alloc; "{tag} {reply}")?.as_str(),
+            "3.17 3.17=20"
+        )
     );
     let low = Component::Switch {
         net: Net::Low,
@@ -115,15 +131,21 @@ fn prints(rt: HostRuntime) -> Result<(), Fail> {
         index: 2,
     };
     let (proc, module) = (Component::Proc(0), Component::Module(31));
-    assert_eq!(rt;
-        format!(in alloc; "{proc} {module} {low} {comb}")?.as_str(),
-        "p0 m31 l1.0 c0.2"
+    assert!(rt;
+        equal(
+            &rt,
+            format!(in alloc; "{proc} {module} {low} {comb}")?.as_str(),
+            "p0 m31 l1.0 c0.2"
+        )
     );
     let lists = (Listed::<Tag>(&[]), Listed(&[tag]), Listed(&[reply, reply]));
     let (none, one, two) = lists;
-    assert_eq!(rt;
-        format!(in alloc; "{none}{one}{two}")?.as_str(),
-        "[][3.17][3.17=20,3.17=20]"
+    assert!(rt;
+        equal(
+            &rt,
+            format!(in alloc; "{none}{one}{two}")?.as_str(),
+            "[][3.17][3.17=20,3.17=20]"
+        )
     );
     Ok(())
 }

@@ -1,4 +1,5 @@
 use arrayvec::ArrayVec;
+use expect::{equal, equal_at};
 use grid_law::{Grid, Line, LineSlot, NoMemory, Number, Numbers, Reader, SlotFault};
 use std::alloc::Global;
 use std::sync::Arc;
@@ -41,15 +42,11 @@ fn rows_of_three(rt: HostRuntime) -> Result<(), Fail> {
         ([4294967295, 0, 0], [1, 4294967295, 0]),
     ] {
         for (c, state) in want.iter().enumerate() {
-            assert_eq!(rt;
-                next(alloc, &line, &row, c as u32)?,
-                *state,
-                "place {c} after {row:?}"
-            );
+            assert!(rt; equal_at(&rt, (row, c), next(alloc, &line, &row, c as u32)?, *state));
         }
     }
-    assert_eq!(rt; Line::components(&line), 3);
-    assert_eq!(rt; *Line::start(alloc, &line, 2)?, 4);
+    assert!(rt; equal(&rt, Line::components(&line), 3));
+    assert!(rt; equal(&rt, *Line::start(alloc, &line, 2)?, 4));
     Ok(())
 }
 
@@ -58,7 +55,7 @@ fn one_to_sixty_four(rt: HostRuntime) -> Result<(), Fail> {
     let alloc = rt.alloc();
     for (places, fits) in [(0, false), (1, true), (64, true), (65, false)] {
         let numbers = Numbers::new(vec![in alloc; Number { seed: 7, add: 0 }; places]?);
-        assert_eq!(rt; numbers.is_some(), fits, "{places} places");
+        assert!(rt; equal_at(&rt, places, numbers.is_some(), fits));
     }
     Ok(())
 }
@@ -68,13 +65,22 @@ fn sets_one_slot(rt: HostRuntime) -> Result<(), Fail> {
     let alloc = rt.alloc();
     let line = three(alloc)?;
     let (six, changed) = line.with(alloc, LineSlot::Seed(2), 6)?;
-    assert_eq!(rt; six.value(LineSlot::Seed(2)), Some(6));
-    assert_eq!(rt; changed.slots.as_slice(), [LineSlot::Seed(2)].as_slice());
+    assert!(rt; equal(&rt, six.value(LineSlot::Seed(2)), Some(6)));
+    assert!(rt;
+        equal(
+            &rt,
+            changed.slots.as_slice(),
+            [LineSlot::Seed(2)].as_slice()
+        )
+    );
     let (_, changed) = six.with(alloc, LineSlot::Seed(2), 6)?;
     assert!(rt; changed.slots.is_empty());
-    assert_eq!(rt;
-        line.with(alloc, LineSlot::Add(3), 1).err(),
-        Some(SlotFault::NoSuchSlot)
+    assert!(rt;
+        equal(
+            &rt,
+            line.with(alloc, LineSlot::Add(3), 1).err(),
+            Some(SlotFault::NoSuchSlot)
+        )
     );
     Ok(())
 }
@@ -84,9 +90,12 @@ fn texts(rt: HostRuntime) -> Result<(), Fail> {
     let alloc = rt.alloc();
     let missing = SlotFault::NoSuchSlot;
     let memory = SlotFault::Memory;
-    assert_eq!(rt;
-        format!(in alloc; "{NoMemory}, {memory}, {missing}")?.as_str(),
-        "no memory, no memory, no such slot"
+    assert!(rt;
+        equal(
+            &rt,
+            format!(in alloc; "{NoMemory}, {memory}, {missing}")?.as_str(),
+            "no memory, no memory, no such slot"
+        )
     );
     Ok(())
 }
@@ -99,9 +108,12 @@ fn readers_of_slots(rt: HostRuntime) -> Result<(), Fail> {
     for (slot, first) in [(LineSlot::Seed(1), true), (LineSlot::Add(1), false)] {
         let readers = Line::readers(alloc, &line, &slot)?;
         let component = 1;
-        assert_eq!(rt;
-            readers.as_slice(),
-            [Reader { component, first }].as_slice()
+        assert!(rt;
+            equal(
+                &rt,
+                readers.as_slice(),
+                [Reader { component, first }].as_slice()
+            )
         );
     }
     assert!(rt; Line::readers(alloc, &line, &LineSlot::Add(3))?.is_empty());
@@ -118,6 +130,6 @@ fn next_states(rt: HostRuntime) -> Result<(), Fail> {
     }
     assert!(rt; Line::next(alloc, &line, &[&7, &3, &5], 1)?.is_none());
     let next = Line::next(alloc, &line, &[&2, &3, &5], 1)?.ok_or("another state")?;
-    assert_eq!(rt; *next, 10);
+    assert!(rt; equal(&rt, *next, 10));
     Ok(())
 }

@@ -1,3 +1,4 @@
+use expect::equal;
 use state_line::Line;
 use std::alloc::Global;
 use std::sync::Arc;
@@ -65,45 +66,108 @@ fn extend_to(line: &mut Line<u32>, t: u32, to: u32) -> Result<(), Fail> {
     Ok(())
 }
 
+/// What is done to a line.
+#[derive(Clone, Copy)]
+enum Step {
+    Put { t: u32, state: u32 },
+    Extend(u32),
+    ExtendTo { t: u32, to: u32 },
+    Truncate(u32),
+    Grow(u32),
+}
+
+fn done(alloc: Global, line: &mut Line<u32>, step: Step) -> Result<(), Fail> {
+    match step {
+        Step::Put { t, state } => put(alloc, line, t, state),
+        Step::Extend(t) => extend(line, t),
+        Step::ExtendTo { t, to } => extend_to(line, t, to),
+        Step::Truncate(to) => {
+            line.truncate(to);
+            Ok(())
+        }
+        Step::Grow(cycles) => grow(line, cycles),
+    }
+}
+
+fn grow(line: &mut Line<u32>, cycles: u32) -> Result<(), Fail> {
+    let end = line.len();
+    if end.checked_add(cycles).is_none() {
+        return Err(Fail::from("too many cycles"));
+    }
+    line.reserve(end)?;
+    line.grow(cycles);
+    Ok(())
+}
+
+/// Steps, each with the states of a line of six cycles behind it.
+type Story<'a> = &'a [(Step, &'a [Option<u32>])];
+
+const TEN: Option<u32> = Some(10);
+
+const THIRTY: Option<u32> = Some(30);
+
 // A state that is put in the middle of a stretch splits it; one that goes on joins the next cycle
 // to it.
+const CUT_AND_GROWN: Story = &[
+    (Step::Put { t: 3, state: 30 }, &[NO, NO, NO, THIRTY, NO, NO]),
+    (
+        Step::Put { t: 1, state: 10 },
+        &[NO, TEN, NO, THIRTY, NO, NO],
+    ),
+    (Step::Extend(4), &[NO, TEN, NO, THIRTY, THIRTY, NO]),
+    (Step::Truncate(4), &[NO, TEN, NO, THIRTY]),
+    (Step::Truncate(9), &[NO, TEN, NO, THIRTY]),
+    (Step::Grow(2), &[NO, TEN, NO, THIRTY, NO, NO]),
+    (Step::Truncate(1), &[NO]),
+];
+
+// A state goes on over all of one stretch and into the next ones.
+const GOES_ON: Story = &[
+    (Step::Put { t: 0, state: 10 }, &[TEN, NO, NO, NO, NO, NO]),
+    (
+        Step::Put { t: 1, state: 20 },
+        &[TEN, Some(20), NO, NO, NO, NO],
+    ),
+    (
+        Step::Put { t: 3, state: 30 },
+        &[TEN, Some(20), NO, THIRTY, NO, NO],
+    ),
+    (
+        Step::ExtendTo { t: 1, to: 5 },
+        &[TEN, TEN, TEN, TEN, TEN, NO],
+    ),
+];
+
 #[test]
 fn states_of_a_line(rt: HostRuntime) -> Result<(), Fail> {
     let alloc = rt.alloc();
-    let mut line = Line::new(alloc, 6)?;
-    shows(&line, &[NO, NO, NO, NO, NO, NO])?;
-    put(alloc, &mut line, 3, 30)?;
-    put(alloc, &mut line, 1, 10)?;
-    shows(&line, &[NO, Some(10), NO, Some(30), NO, NO])?;
-    extend(&mut line, 4)?;
-    shows(&line, &[NO, Some(10), NO, Some(30), Some(30), NO])?;
-    assert_eq!(rt; line.same_as_before(4), true);
-    assert_eq!(rt; line.same_as_before(3), false);
-    if line.len() > 3 {
-        assert_eq!(rt; (line.standing(0, 0).end, line.standing(3, 3).end), (1, 5));
+    for story in [CUT_AND_GROWN, GOES_ON] {
+        let mut line = Line::new(alloc, 6)?;
+        shows(&line, &[NO, NO, NO, NO, NO, NO])?;
+        for (step, states) in story {
+            done(alloc, &mut line, *step)?;
+            shows(&line, states)?;
+        }
     }
-    line.truncate(4);
-    shows(&line, &[NO, Some(10), NO, Some(30)])?;
-    line.truncate(9);
-    let end = line.len();
-    line.reserve(end)?;
-    if end == 4 {
-        line.grow(2);
-    }
-    shows(&line, &[NO, Some(10), NO, Some(30), NO, NO])?;
-    line.truncate(1);
-    shows(&line, &[NO])
+    Ok(())
 }
 
-// A state goes on over all of one stretch and into the next ones.
 #[test]
-fn a_state_goes_on(rt: HostRuntime) -> Result<(), Fail> {
+fn a_state_stands(rt: HostRuntime) -> Result<(), Fail> {
     let alloc = rt.alloc();
     let mut line = Line::new(alloc, 6)?;
-    put(alloc, &mut line, 0, 10)?;
-    put(alloc, &mut line, 1, 20)?;
-    put(alloc, &mut line, 3, 30)?;
-    extend_to(&mut line, 1, 5)?;
-    let ten = Some(10);
-    shows(&line, &[ten, ten, ten, ten, ten, NO])
+    for step in [
+        Step::Put { t: 3, state: 30 },
+        Step::Put { t: 1, state: 10 },
+        Step::Extend(4),
+    ] {
+        done(alloc, &mut line, step)?;
+    }
+    let before = (line.same_as_before(4), line.same_as_before(3));
+    assert!(rt; equal(&rt, before, (true, false)));
+    if line.len() > 3 {
+        let ends = (line.standing(0, 0).end, line.standing(3, 3).end);
+        assert!(rt; equal(&rt, ends, (1, 5)));
+    }
+    Ok(())
 }

@@ -1,6 +1,7 @@
 ghost use Rattle.std.specs.Prelude.{◌≡◌, ◌<◌, length};
 
 use cell_marks::Marks;
+use expect::equal;
 use std::test::Fail;
 
 /// Sets a mark of the second row.
@@ -28,28 +29,34 @@ fn marks_of_two_words(rt: HostRuntime) -> Result<(), Fail> {
     let mut from = 0;
     for want in [Some(3), Some(63), Some(64), Some(69), None] {
         let first = marks.first_from(1, from);
-        assert_eq!(rt; first, want);
+        assert!(rt; equal(&rt, first, want));
         from = first.unwrap_or(0).wrapping_add(1);
     }
     marks.grow(rt.alloc(), 1, true)?;
     if marks.len() == 3 {
         marks.clear(1, 63);
     }
-    assert_eq!(rt;
-        (
-            marks.has(1, 63),
-            marks.has(1, 64),
-            marks.has(2, 69),
-            marks.has(2, 70)
-        ),
-        (false, true, true, false)
+    assert!(rt;
+        equal(
+            &rt,
+            (
+                marks.has(1, 63),
+                marks.has(1, 64),
+                marks.has(2, 69),
+                marks.has(2, 70),
+            ),
+            (false, true, true, false)
+        )
     );
-    assert_eq!(rt; (marks.row_count(1), marks.total()), (3, 73));
-    assert_eq!(rt;
-        (marks.count_to(0), marks.count_to(1), marks.count_to(9)),
-        (0, 3, 73)
+    assert!(rt; equal(&rt, (marks.row_count(1), marks.total()), (3, 73)));
+    assert!(rt;
+        equal(
+            &rt,
+            (marks.count_to(0), marks.count_to(1), marks.count_to(9)),
+            (0, 3, 73)
+        )
     );
     marks.truncate(2);
-    assert_eq!(rt; (marks.len(), marks.total()), (2, 3));
+    assert!(rt; equal(&rt, (marks.len(), marks.total()), (2, 3)));
     Ok(())
 }

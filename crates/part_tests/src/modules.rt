@@ -1,5 +1,6 @@
 //! Worked examples, printed texts, and calls that take memory.
 
+use expect::equal;
 use mem_module::{ModuleState, ModuleTraffic, SharedWords, Words};
 use omega_net::{Net, Reply, Request, Tag};
 use page_map::Place;
@@ -61,7 +62,7 @@ fn serves_one_request(rt: HostRuntime) -> Result<(), Fail> {
             replies_leave: [false, leaves],
         };
         state = state.step(alloc, 4, &traffic)?;
-        assert_eq!(rt; format!(in alloc; "{state}")?.as_str(), text);
+        assert!(rt; equal(&rt, format!(in alloc; "{state}")?.as_str(), text));
     }
     Ok(())
 }
@@ -73,9 +74,12 @@ fn lists_words_by_rows(rt: HostRuntime) -> Result<(), Fail> {
     let puts = [(300, 7), (5, 1), (16_383, 4_294_967_295), (5, 0), (0, 2)];
     let mut state = ModuleState::start(alloc, words(alloc, &puts)?)?;
     state.turn = Net::Comb;
-    assert_eq!(rt;
-        format!(in alloc; "{state}")?.as_str(),
-        "mod q0 [] q1 [] a0 [] a1 [] turn 1 served 0 mem [0=2,300=7,16383=4294967295]"
+    assert!(rt;
+        equal(
+            &rt,
+            format!(in alloc; "{state}")?.as_str(),
+            "mod q0 [] q1 [] a0 [] a1 [] turn 1 served 0 mem [0=2,300=7,16383=4294967295]"
+        )
     );
     Ok(())
 }
@@ -92,11 +96,14 @@ fn fetches_and_leaves_shared_words(rt: HostRuntime) -> Result<(), Fail> {
     let shared = SharedWords::new(alloc, words(alloc, &[(1, 4_294_967_295), (2, 8)])?)?;
     let (old, next) = shared.fetch_and_op(alloc, 1, ADD_ONE)?;
     let (loaded, again) = next.fetch_and_op(alloc, 2, load)?;
-    assert_eq!(rt;
-        (old, next.word(1), shared.word(1)),
-        (4_294_967_295, 0, 4_294_967_295)
+    assert!(rt;
+        equal(
+            &rt,
+            (old, next.word(1), shared.word(1)),
+            (4_294_967_295, 0, 4_294_967_295)
+        )
     );
-    assert_eq!(rt; (loaded, again.as_slice().len()), (8, 1));
+    assert!(rt; equal(&rt, (loaded, again.as_slice().len()), (8, 1)));
     assert!(rt; again.share()?.same(&next) && !next.same(&shared));
     Ok(())
 }

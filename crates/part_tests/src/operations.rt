@@ -1,5 +1,6 @@
 //! Worked examples, and printed texts.
 
+use expect::{equal, equal_at};
 use std::test::Fail;
 use word_ops::{Kind, Op};
 
@@ -29,12 +30,13 @@ fn each_kind_leaves_its_word(rt: HostRuntime) {
             kind,
             operand: next,
         };
-        assert_eq!(rt; op.apply(word), left, "{op}");
-        assert_eq!(rt; then.apply(left), both, "{op} then {then}");
-        assert_eq!(rt;
-            op.then(then),
-            Some(Op { kind, operand }),
-            "{op} then {then}"
+        assert!(rt;
+            equal_at(
+                &rt,
+                (op, then),
+                (op.apply(word), then.apply(left), op.then(then)),
+                (left, both, Some(Op { kind, operand }))
+            )
         );
     }
 }
@@ -50,15 +52,15 @@ fn store_if_zero_keeps_the_first(rt: HostRuntime) {
         kind: Kind::StoreIfZero,
         operand: 7,
     };
-    assert_eq!(rt; first.then(second), Some(first));
+    assert!(rt; equal(&rt, first.then(second), Some(first)));
     // the second is answered the word that the first leaves
-    assert_eq!(rt; first.apply(0), 3);
-    assert_eq!(rt; second.apply(3), 3);
+    assert!(rt; equal(&rt, first.apply(0), 3));
+    assert!(rt; equal(&rt, second.apply(3), 3));
     let load = Op {
         kind: Kind::Load,
         operand: 7,
     };
-    assert_eq!(rt; first.then(load), None);
+    assert!(rt; equal(&rt, first.then(load), None));
 }
 
 #[test]
@@ -74,14 +76,14 @@ fn prints_and_reads_names(rt: HostRuntime) -> Result<(), Fail> {
         "store-if-zero",
     ] {
         let kind = Kind::from_name(name.as_bytes()).ok_or("no kind")?;
-        assert_eq!(rt; format!(in rt.alloc(); "{kind}")?.as_str(), name);
+        assert!(rt; equal(&rt, format!(in rt.alloc(); "{kind}")?.as_str(), name));
     }
-    assert_eq!(rt; Kind::from_name(b"Load".as_slice()), None);
-    assert_eq!(rt; Kind::from_name(b"".as_slice()), None);
+    assert!(rt; equal(&rt, Kind::from_name(b"Load".as_slice()), None));
+    assert!(rt; equal(&rt, Kind::from_name(b"".as_slice()), None));
     let op = Op {
         kind: Kind::Add,
         operand: 3,
     };
-    assert_eq!(rt; format!(in rt.alloc(); "{op}")?.as_str(), "add:3");
+    assert!(rt; equal(&rt, format!(in rt.alloc(); "{op}")?.as_str(), "add:3"));
     Ok(())
 }

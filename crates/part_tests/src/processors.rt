@@ -1,5 +1,6 @@
 //! Worked examples, and printed texts.
 
+use expect::equal;
 use omega_net::{Net, Reply, Request, ScriptEntry, Tag};
 use page_map::Place;
 use ref_proc::{Outgoing, ProcSettings, ProcState, ProcTraffic};
@@ -65,7 +66,7 @@ fn issues_once_and_takes_the_reply(rt: HostRuntime) -> Result<(), Fail> {
             request_leaves,
         };
         state = state.step(&settings, &traffic);
-        assert_eq!(rt; format!(in rt.alloc(); "{state}")?.as_str(), text);
+        assert!(rt; equal(&rt, format!(in rt.alloc(); "{state}")?.as_str(), text));
     }
     Ok(())
 }
@@ -101,9 +102,12 @@ fn prints_what_came_and_waits_on_the_low_network(rt: HostRuntime) -> Result<(), 
         ],
         sent: true,
     };
-    assert_eq!(rt;
-        format!(in rt.alloc(); "{state}")?.as_str(),
-        "proc index 2 spent 6 issued 5 pending 1 out low:3.4>1:300=store-if-zero:7 got 2=9 - sent 1"
+    assert!(rt;
+        equal(
+            &rt,
+            format!(in rt.alloc(); "{state}")?.as_str(),
+            "proc index 2 spent 6 issued 5 pending 1 out low:3.4>1:300=store-if-zero:7 got 2=9 - sent 1"
+        )
     );
     Ok(())
 }

@@ -1,6 +1,7 @@
 //! Worked examples, printed texts, and growths that are refused.
 
 use crate::words::has_words;
+use expect::{equal, equal_at};
 use omega_net::Net;
 use page_map::Place;
 use project_book::{
@@ -71,30 +72,44 @@ fn add(address: u32, times: u32) -> ScriptEntry {
 fn blank_projects(rt: HostRuntime) -> Result<(), Fail> {
     let alloc = rt.alloc();
     let project = Project::new(alloc, 6, 2_000)?.ok_or("within the limits")?;
-    assert_eq!(rt; (project.k(), project.processors()), (6, 64));
-    assert_eq!(rt;
-        (project.horizon(), project.window(), project.wait()),
-        (2_000, 1, 4)
+    assert!(rt; equal(&rt, (project.k(), project.processors()), (6, 64)));
+    assert!(rt;
+        equal(
+            &rt,
+            (project.horizon(), project.window(), project.wait()),
+            (2_000, 1, 4)
+        )
     );
-    for net in [Net::Low, Net::Comb] {
-        assert_eq!(rt; project.depth(Depths::forward(net)), 4);
+    for (queue, depth) in [
+        (Depths::forward(Net::Low), 4),
+        (Depths::forward(Net::Comb), 4),
+        (Depths::LowReverse, 4),
+        (Depths::CombReverse, 8),
+        (Depths::ModuleQueue, 4),
+    ] {
+        assert!(rt; equal_at(&rt, queue, project.depth(queue), depth));
     }
-    assert_eq!(rt; project.depth(Depths::LowReverse), 4);
-    assert_eq!(rt; project.depth(Depths::CombReverse), 8);
-    assert_eq!(rt; project.depth(Depths::ModuleQueue), 4);
     assert!(rt; (0..7).all(|stage| !project.combine(stage)));
+    let built_in = Project::built_in(alloc)?;
+    assert!(rt; equal(&rt, (built_in.k(), built_in.horizon()), (0, 8)));
+    Ok(())
+}
+
+/// Its pages go round all modules, and hold no words.
+#[test]
+fn blank_pages(rt: HostRuntime) -> Result<(), Fail> {
+    let alloc = rt.alloc();
+    let project = Project::new(alloc, 6, 2_000)?.ok_or("within the limits")?;
     // the 256 words of a page go round the 64 modules, 4 to each
     let last = Place { module: 63, row: 3 };
-    assert_eq!(rt; project.place(255), Some(last));
-    assert_eq!(rt; project.place(16_384), None);
-    assert_eq!(rt; project.pages().page(63), Some((6, 0)));
+    assert!(rt; equal(&rt, project.place(255), Some(last)));
+    assert!(rt; equal(&rt, project.place(16_384), None));
+    assert!(rt; equal(&rt, project.pages().page(63), Some((6, 0))));
     assert!(rt; has_words(&project, &[]));
-    assert_eq!(rt; (project.word(0), project.length(63)), (0, 0));
-    assert_eq!(rt; project.entry(0, 0), None);
+    assert!(rt; equal(&rt, (project.word(0), project.length(63)), (0, 0)));
+    assert!(rt; equal(&rt, project.entry(0, 0), None));
     assert!(rt; Project::new(alloc, 7, 0)?.is_none());
     assert!(rt; Project::new(alloc, 0, 2_001)?.is_none());
-    let built_in = Project::built_in(alloc)?;
-    assert_eq!(rt; (built_in.k(), built_in.horizon()), (0, 8));
     Ok(())
 }
 
@@ -121,7 +136,7 @@ fn refusals(rt: HostRuntime) -> Result<(), Fail> {
         (entry(0, 0, add(0, 1_001)), 11),
         (Edit::Horizon(2_001), 12),
     ] {
-        assert_eq!(rt; refused(&project, edit), Some(number), "{edit:?}");
+        assert!(rt; equal_at(&rt, edit, refused(&project, edit), Some(number)));
     }
     Ok(())
 }
@@ -163,9 +178,9 @@ fn limits(rt: HostRuntime) -> Result<(), Fail> {
         (Edit::Horizon(0), None),
         (Edit::Horizon(2_000), None),
     ] {
-        assert_eq!(rt; refused(&project, edit), number, "{edit:?}");
+        assert!(rt; equal_at(&rt, edit, refused(&project, edit), number));
     }
-    assert_eq!(rt; MAX_EDITS, 65_535);
+    assert!(rt; equal(&rt, MAX_EDITS, 65_535));
     Ok(())
 }
 
@@ -177,70 +192,96 @@ fn full_script(rt: HostRuntime) -> Result<(), Fail> {
     for index in 0..256 {
         project = after(&project, entry(0, index, ScriptEntry::Fence))?;
     }
-    assert_eq!(rt; project.length(0), 256);
+    assert!(rt; equal(&rt, project.length(0), 256));
     let fence = ScriptEntry::Fence;
-    assert_eq!(rt; refused(&project, entry(0, 256, fence)), Some(4));
-    assert_eq!(rt; refused(&project, entry(0, 257, fence)), Some(3));
-    assert_eq!(rt; refused(&project, entry(0, 256, add(16_384, 1))), Some(4));
+    assert!(rt; equal(&rt, refused(&project, entry(0, 256, fence)), Some(4)));
+    assert!(rt; equal(&rt, refused(&project, entry(0, 257, fence)), Some(3)));
+    assert!(rt;
+        equal(
+            &rt,
+            refused(&project, entry(0, 256, add(16_384, 1))),
+            Some(4)
+        )
+    );
     let project = after(&project, entry(0, 255, ScriptEntry::Idle(7)))?;
-    assert_eq!(rt; project.entry(0, 255), Some(ScriptEntry::Idle(7)));
+    assert!(rt; equal(&rt, project.entry(0, 255), Some(ScriptEntry::Idle(7))));
     let (project, changed) = project.apply(Edit::Cut {
         proc: 0,
         length: 254,
     })?;
-    assert_eq!(rt; project.length(0), 254);
+    assert!(rt; equal(&rt, project.length(0), 254));
     let cut = [Slot::Entry(0, 254), Slot::Entry(0, 255)];
-    assert_eq!(rt; changed.slots.as_slice(), cut.as_slice());
+    assert!(rt; equal(&rt, changed.slots.as_slice(), cut.as_slice()));
     Ok(())
 }
 
 /// A slot is listed where its value changes, and only there; the given project stays.
 #[test]
-fn changes(rt: HostRuntime) -> Result<(), Fail> {
-    let alloc = rt.alloc();
-    let project = base(alloc)?;
+fn a_word_changes(rt: HostRuntime) -> Result<(), Fail> {
+    let project = base(rt.alloc())?;
     let (next, changed) = project.apply(word(300, 5))?;
-    assert_eq!(rt; changed.slots.as_slice(), [Slot::Word(300)].as_slice());
-    assert_eq!(rt; changed.horizon, None);
-    assert_eq!(rt; (next.word(300), project.word(300)), (5, 0));
+    assert!(rt; equal(&rt, changed.slots.as_slice(), [Slot::Word(300)].as_slice()));
+    assert!(rt; equal(&rt, changed.horizon, None));
+    assert!(rt; equal(&rt, (next.word(300), project.word(300)), (5, 0)));
     assert!(rt; next.apply(word(300, 5))?.1.slots.is_empty());
-    let listed = [
-        FirstWord {
-            address: 0,
-            word: 10,
-        },
-        FirstWord {
-            address: 300,
-            word: 5,
-        },
-    ];
-    assert!(rt; has_words(&next, &listed));
-    // the last page, and then an earlier one again: no other page changes, nor does the given project
+    Ok(())
+}
+
+const FIRST: FirstWord = FirstWord {
+    address: 0,
+    word: 10,
+};
+
+const NEXT: FirstWord = FirstWord {
+    address: 300,
+    word: 5,
+};
+
+const LAST: FirstWord = FirstWord {
+    address: 16_383,
+    word: 9,
+};
+
+/// The first words of the last page, and then of an earlier one again: no other page changes, nor does the given project.
+#[test]
+fn first_words_change(rt: HostRuntime) -> Result<(), Fail> {
+    let project = base(rt.alloc())?;
+    let next = after(&project, word(300, 5))?;
     let far = after(&next, word(16_383, 9))?;
     let back = after(&far, word(300, 0))?;
-    let last = FirstWord {
-        address: 16_383,
-        word: 9,
-    };
-    assert!(rt; has_words(&far, &[listed[0], listed[1], last]));
-    assert!(rt; has_words(&back, &[listed[0], last]) && has_words(&next, &listed));
-    assert!(rt; after(&back, word(16_383, 0))?.same(&project) && !back.same(&project));
-    // an edited page takes its first words with it
+    assert!(rt; has_words(&next, &[FIRST, NEXT]));
+    assert!(rt; has_words(&far, &[FIRST, NEXT, LAST]));
+    assert!(rt; has_words(&back, &[FIRST, LAST]));
+    assert!(rt; after(&back, word(16_383, 0))?.same(&project));
+    assert!(rt; !back.same(&project));
+    Ok(())
+}
+
+/// An edited page takes its first words with it.
+#[test]
+fn a_page_changes(rt: HostRuntime) -> Result<(), Fail> {
+    let next = after(&base(rt.alloc())?, word(300, 5))?;
     let (moved, changed) = next.apply(page(1, 1, 0))?;
-    assert_eq!(rt; changed.slots.as_slice(), [Slot::Page(1)].as_slice());
+    assert!(rt; equal(&rt, changed.slots.as_slice(), [Slot::Page(1)].as_slice()));
     // 300 is offset 44 of page 1: module 44 mod 2, row 256 + 44 div 2
     let place = Place {
         module: 0,
         row: 278,
     };
-    assert_eq!(rt; moved.place(300), Some(place));
-    assert_eq!(rt; moved.word(300), 5);
-    let (longer, changed) = moved.apply(Edit::Horizon(12))?;
+    assert!(rt; equal(&rt, moved.place(300), Some(place)));
+    assert!(rt; equal(&rt, moved.word(300), 5));
+    assert!(rt; moved.share()?.same_at(&moved, Slot::Page(1)));
+    assert!(rt; !moved.same_at(&next, Slot::Page(1)));
+    Ok(())
+}
+
+/// The horizon is no slot.
+#[test]
+fn the_horizon_changes(rt: HostRuntime) -> Result<(), Fail> {
+    let (longer, changed) = base(rt.alloc())?.apply(Edit::Horizon(12))?;
     assert!(rt; changed.slots.is_empty());
-    assert_eq!(rt; changed.horizon, Some(12));
-    assert_eq!(rt; longer.apply(Edit::Horizon(12))?.1.horizon, None);
-    assert!(rt; longer.share()?.same_at(&moved, Slot::Page(1)));
-    assert!(rt; !longer.same_at(&next, Slot::Page(1)));
+    assert!(rt; equal(&rt, changed.horizon, Some(12)));
+    assert!(rt; equal(&rt, longer.apply(Edit::Horizon(12))?.1.horizon, None));
     Ok(())
 }
 
@@ -265,7 +306,7 @@ fn refused_growths(rt: HostRuntime) -> Result<(), Fail> {
         let (next, changed) = match project.apply(edit) {
             Ok(made) => made,
             Err(fault) => {
-                assert_eq!(rt; fault, EditFault::Memory);
+                assert!(rt; equal(&rt, fault, EditFault::Memory));
                 project.apply(edit)?
             }
         };
@@ -274,8 +315,8 @@ fn refused_growths(rt: HostRuntime) -> Result<(), Fail> {
         }
         project = next;
     }
-    assert_eq!(rt; (project.length(1), project.word(300)), (1, 5));
-    assert_eq!(rt; project.entry(1, 0), Some(add(300, 2)));
+    assert!(rt; equal(&rt, (project.length(1), project.word(300)), (1, 5)));
+    assert!(rt; equal(&rt, project.entry(1, 0), Some(add(300, 2))));
     assert!(rt; project.combine(0));
     Ok(())
 }
@@ -296,72 +337,67 @@ fn entry_texts(rt: HostRuntime) -> Result<(), Fail> {
             "plain max 16384 4294967295 0",
             reference(false, Kind::Max, 16_384, u32::MAX, 0),
         ),
+        ("until sync load 7 0 12", until(7, 1_000)),
+        ("until sync load 7 0 12 2", until(7, 2)),
         ("fence", ScriptEntry::Fence),
         ("idle 4294967295", ScriptEntry::Idle(u32::MAX)),
     ] {
-        assert_eq!(rt;
-            format!(in rt.alloc(); "{}", EntryText(entry))?.as_str(),
-            text
-        );
-        assert_eq!(rt; read_entry(text.as_bytes()), Some(entry), "{text}");
-    }
-    let spaced = b"\t sync  add\r0 1 \r".as_slice();
-    assert_eq!(rt; read_entry(spaced), Some(add(0, 1)));
-    assert_eq!(rt; read_entry(b"sync add 0 1 1".as_slice()), Some(add(0, 1)));
-    for text in [
-        "",
-        "jump 3",
-        "sync add 0",
-        "sync add 0 1 2 3",
-        "sync sub 0 1",
-        "Sync add 0 1",
-        "sync add 0 -1",
-        "fence 1",
-        "idle",
-        "idle 1 2",
-        "idle 4294967296",
-        "idle 00000000004",
-    ] {
-        assert_eq!(rt; read_entry(text.as_bytes()), None, "{text}");
+        let written = format!(in rt.alloc(); "{}", EntryText(entry))?;
+        assert!(rt; equal(&rt, written.as_str(), text));
+        assert!(rt; equal_at(&rt, text, read_entry(text.as_bytes()), Some(entry)));
     }
     Ok(())
 }
 
-/// Entries that wait for a word, and texts that are none.
+/// Texts of an entry that is written otherwise.
+const SPACED: [&str; 2] = ["\t sync  add\r0 1 \r", "sync add 0 1 1"];
+
+const NO_ENTRIES: [&str; 16] = [
+    "",
+    "jump 3",
+    "sync add 0",
+    "sync add 0 1 2 3",
+    "sync sub 0 1",
+    "Sync add 0 1",
+    "sync add 0 -1",
+    "fence 1",
+    "idle",
+    "idle 1 2",
+    "idle 4294967296",
+    "idle 00000000004",
+    "until load 0 0 12",
+    "until sync load 0 0",
+    "until sync load 0 0 12 2 1",
+    "until fence 0 0 12",
+];
+
 #[test]
-fn until_texts(rt: HostRuntime) -> Result<(), Fail> {
-    for (text, entry) in [
-        ("until sync load 7 0 12", until(7, 1_000)),
-        ("until sync load 7 0 12 2", until(7, 2)),
-    ] {
-        assert_eq!(rt;
-            format!(in rt.alloc(); "{}", EntryText(entry))?.as_str(),
-            text
-        );
-        assert_eq!(rt; read_entry(text.as_bytes()), Some(entry), "{text}");
+fn texts_and_no_texts(rt: HostRuntime) {
+    for text in SPACED {
+        assert!(rt; equal_at(&rt, text, read_entry(text.as_bytes()), Some(add(0, 1))));
     }
-    for text in [
-        "until load 0 0 12",
-        "until sync load 0 0",
-        "until sync load 0 0 12 2 1",
-        "until fence 0 0 12",
-    ] {
-        assert_eq!(rt; read_entry(text.as_bytes()), None, "{text}");
+    for text in NO_ENTRIES {
+        assert!(rt; equal_at(&rt, text, read_entry(text.as_bytes()), None));
     }
-    Ok(())
 }
 
 #[test]
 fn faults(rt: HostRuntime) -> Result<(), Fail> {
     let alloc = rt.alloc();
-    assert_eq!(rt;
-        (EditFault::JournalFull.number(), EditFault::Memory.number()),
-        (1, 14)
+    assert!(rt;
+        equal(
+            &rt,
+            (EditFault::JournalFull.number(), EditFault::Memory.number()),
+            (1, 14)
+        )
     );
     let fault = EditFault::ScriptFull;
-    assert_eq!(rt;
-        format!(in alloc; "{fault}")?.as_str(),
-        "the script is full"
+    assert!(rt;
+        equal(
+            &rt,
+            format!(in alloc; "{fault}")?.as_str(),
+            "the script is full"
+        )
     );
     Ok(())
 }

@@ -1,6 +1,7 @@
 //! Worked rows, a file of every fault, and a whole project.
 
 use crate::words::has_words;
+use expect::equal;
 use omega_net::ScriptEntry;
 use project_book::{Depths, FirstWord, Project};
 use project_file::{ProjectFault, WriteFault, fault_place, read_project, write_project};
@@ -106,10 +107,10 @@ fn roots(rt: HostRuntime) -> Result<(), Fail> {
         // An integer of more than 64 bits is no document.
         ("format = 2\nk = 9223372036854775808", 2),
     ] {
-        assert_eq!(rt; number_of(alloc, text.as_bytes()), number);
+        assert!(rt; equal(&rt, number_of(alloc, text.as_bytes()), number));
     }
     // A byte that no UTF-8 has.
-    assert_eq!(rt; number_of(alloc, &[255]), 2);
+    assert!(rt; equal(&rt, number_of(alloc, &[255]), 2));
     Ok(())
 }
 
@@ -160,7 +161,7 @@ fn keys(rt: HostRuntime) -> Result<(), Fail> {
             8,
         ),
     ] {
-        assert_eq!(rt; number_with(alloc, more)?, number);
+        assert!(rt; equal(&rt, number_with(alloc, more)?, number));
     }
     Ok(())
 }
@@ -183,7 +184,7 @@ fn waiting_entries(rt: HostRuntime) -> Result<(), Fail> {
     };
     for _ in 0..2 {
         if let Ok(project) = read_project(alloc, text.as_bytes()) {
-            assert_eq!(rt; project.entry(0, 0), Some(until));
+            assert!(rt; equal(&rt, project.entry(0, 0), Some(until)));
             return Ok(());
         }
     }
@@ -240,7 +241,7 @@ fn whole(rt: HostRuntime) -> Result<(), Fail> {
     let project = match read_project(alloc, FULL.as_bytes()) {
         Ok(project) => project,
         Err(fault) => {
-            assert_eq!(rt; fault, ProjectFault::Memory);
+            assert!(rt; equal(&rt, fault, ProjectFault::Memory));
             read_project(alloc, FULL.as_bytes())?
         }
     };
@@ -292,10 +293,10 @@ fn prefixes(rt: HostRuntime) -> Result<(), Fail> {
 fn many_bytes(rt: HostRuntime) -> Result<(), Fail> {
     let alloc = rt.alloc();
     let spaces = vec![in alloc; b' '; 4_194_305]?;
-    assert_eq!(rt; number_of(alloc, &spaces), 1);
-    assert_eq!(rt; number_of(alloc, &spaces[1..]), 3);
+    assert!(rt; equal(&rt, number_of(alloc, &spaces), 1));
+    assert!(rt; equal(&rt, number_of(alloc, &spaces[1..]), 3));
     let brackets = vec![in alloc; b'['; 100_000]?;
-    assert_eq!(rt; number_of(alloc, &brackets), 2);
+    assert!(rt; equal(&rt, number_of(alloc, &brackets), 2));
     for (count, number) in [(256, 0), (257, 7)] {
         let mut more = String::new(alloc);
         more.push_str("[[script]]\nprocessor = 0\nentries = [")?;
@@ -303,7 +304,7 @@ fn many_bytes(rt: HostRuntime) -> Result<(), Fail> {
             more.push_str("\"fence\",")?;
         }
         more.push_str("]")?;
-        assert_eq!(rt; number_with(alloc, more.as_str())?, number);
+        assert!(rt; equal(&rt, number_with(alloc, more.as_str())?, number));
     }
     Ok(())
 }
@@ -319,13 +320,16 @@ fn texts(rt: HostRuntime) -> Result<(), Fail> {
         ),
         (ProjectFault::Memory, "no memory"),
     ] {
-        assert_eq!(rt; format!(in alloc; "{fault}")?.as_str(), text);
+        assert!(rt; equal(&rt, format!(in alloc; "{fault}")?.as_str(), text));
     }
     let unread = WriteFault::Unread;
-    assert_eq!(rt; unread.number(), 3);
-    assert_eq!(rt;
-        format!(in alloc; "{unread}")?.as_str(),
-        "the file is not read as the project"
+    assert!(rt; equal(&rt, unread.number(), 3));
+    assert!(rt;
+        equal(
+            &rt,
+            format!(in alloc; "{unread}")?.as_str(),
+            "the file is not read as the project"
+        )
     );
     Ok(())
 }
@@ -338,56 +342,71 @@ fn place_of(alloc: Global, text: &[u8]) -> Result<String, Fail> {
     }
 }
 
+/// What the shortest project says of more text behind it, and where.
+const PLACES: &[(&str, &str)] = &[
+    (
+        "k = 3",
+        "TOML parse error at line 4, column 1: duplicate key",
+    ),
+    ("colour = 1", "colour: no such key"),
+    ("window = 9", "window: 9 is not 1 to 8"),
+    ("combine = [true]", "combine: 1 stages where k is 0"),
+    (
+        "depths = 4",
+        "depths: of type integer where a table belongs",
+    ),
+    (
+        "[depths]\ncomb_reverse = 3",
+        "depths, comb_reverse: 3 is not 4 to 16",
+    ),
+    (
+        "page = [1]",
+        "page 0: of type integer where a table belongs",
+    ),
+    (
+        "[[page]]\nnumber = 1\namount = 0\nbase = 0\n[[page]]\nnumber = 1",
+        "page 1, number: page 1 is given twice",
+    ),
+    (
+        "[[page]]\nnumber = 0\namount = 2\nbase = 0",
+        "page 0, amount: 2 with base 0 is no interleaving of 1 modules",
+    ),
+    ("[[word]]\naddress = 0", "word 0, value: missing"),
+    (
+        "[[script]]\nprocessor = 0\nentries = [\"fence\", \"jump\\u0007 3\"]",
+        "script 0, entries 1: no script entry: \"jump? 3\"",
+    ),
+    (
+        "[[script]]\nprocessor = 0\nentries = [\"until sync load 0 0 1\"]",
+        "script 0, entries 0: format 1 has no such entry: \"until sync load 0 0 1\"",
+    ),
+    (
+        "[[script]]\nprocessor = 0\nentries = [\"idle 0\"]",
+        "script 0, entries 0: a number is outside its limits: \"idle 0\"",
+    ),
+];
+
 /// Where files are wrong: by line and column, by key, or by item.
 #[test]
 fn places(rt: HostRuntime) -> Result<(), Fail> {
     let alloc = rt.alloc();
-    assert_eq!(rt; place_of(alloc, &[b'k', 255])?.as_str(), "byte 1: no UTF-8");
-    assert_eq!(rt; place_of(alloc, FULL.as_bytes())?.as_str(), "");
-    for (more, place) in [
-        (
-            "k = 3",
-            "TOML parse error at line 4, column 1: duplicate key",
-        ),
-        ("colour = 1", "colour: no such key"),
-        ("window = 9", "window: 9 is not 1 to 8"),
-        ("combine = [true]", "combine: 1 stages where k is 0"),
-        (
-            "depths = 4",
-            "depths: of type integer where a table belongs",
-        ),
-        (
-            "[depths]\ncomb_reverse = 3",
-            "depths, comb_reverse: 3 is not 4 to 16",
-        ),
-        (
-            "page = [1]",
-            "page 0: of type integer where a table belongs",
-        ),
-        (
-            "[[page]]\nnumber = 1\namount = 0\nbase = 0\n[[page]]\nnumber = 1",
-            "page 1, number: page 1 is given twice",
-        ),
-        (
-            "[[page]]\nnumber = 0\namount = 2\nbase = 0",
-            "page 0, amount: 2 with base 0 is no interleaving of 1 modules",
-        ),
-        ("[[word]]\naddress = 0", "word 0, value: missing"),
-        (
-            "[[script]]\nprocessor = 0\nentries = [\"fence\", \"jump\\u0007 3\"]",
-            "script 0, entries 1: no script entry: \"jump? 3\"",
-        ),
-        (
-            "[[script]]\nprocessor = 0\nentries = [\"until sync load 0 0 1\"]",
-            "script 0, entries 0: format 1 has no such entry: \"until sync load 0 0 1\"",
-        ),
-        (
-            "[[script]]\nprocessor = 0\nentries = [\"idle 0\"]",
-            "script 0, entries 0: a number is outside its limits: \"idle 0\"",
-        ),
-    ] {
+    assert!(rt;
+        equal(
+            &rt,
+            place_of(alloc, &[b'k', 255])?.as_str(),
+            "byte 1: no UTF-8"
+        )
+    );
+    assert!(rt; equal(&rt, place_of(alloc, FULL.as_bytes())?.as_str(), ""));
+    for (more, place) in PLACES {
         let text = format!(in alloc; "{SMALL}{more}")?;
-        assert_eq!(rt; place_of(alloc, text.as_str().as_bytes())?.as_str(), place);
+        assert!(rt;
+            equal(
+                &rt,
+                place_of(alloc, text.as_str().as_bytes())?.as_str(),
+                place
+            )
+        );
     }
     Ok(())
 }

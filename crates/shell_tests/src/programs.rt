@@ -4,6 +4,7 @@ use command_line::{
     CommandLine, Disk, End, Folder, MOST_BYTES, Stop, arguments, opening, read_bytes, refusal,
     serve_words, status,
 };
+use expect::equal;
 use project_file::ProjectFault;
 use std::alloc::Global;
 use std::io;
@@ -48,7 +49,7 @@ fn command_lines_are_refused(rt: HostRuntime) {
     for (words, status) in refused {
         match arguments(rt.alloc(), words) {
             Ok(_) => assert!(rt; false),
-            Err(error) => assert_eq!(rt; error.exit_code(), status),
+            Err(error) => assert!(rt; equal(&rt, error.exit_code(), status)),
         }
     }
 }
@@ -60,9 +61,12 @@ fn text_of(alloc: Global, words: &[&str]) -> Result<String, Fail> {
 
 #[test]
 fn the_version_is_told(rt: HostRuntime) -> Result<(), Fail> {
-    assert_eq!(rt;
-        text_of(rt.alloc(), &["--version"])?.as_str(),
-        "hotspot 1.0.0\n"
+    assert!(rt;
+        equal(
+            &rt,
+            text_of(rt.alloc(), &["--version"])?.as_str(),
+            "hotspot 1.0.0\n"
+        )
     );
     Ok(())
 }
@@ -165,8 +169,8 @@ Queries:  reply, state, memory, counter, profile, tree, level, bound, place, ord
 
 #[test]
 fn the_help_is_told(rt: HostRuntime) -> Result<(), Fail> {
-    assert_eq!(rt; text_of(rt.alloc(), &["--help"])?.as_str(), HELP);
-    assert_eq!(rt; text_of(rt.alloc(), &["-h"])?.as_str(), SHORT_HELP);
+    assert!(rt; equal(&rt, text_of(rt.alloc(), &["--help"])?.as_str(), HELP));
+    assert!(rt; equal(&rt, text_of(rt.alloc(), &["-h"])?.as_str(), SHORT_HELP));
     Ok(())
 }
 
@@ -193,8 +197,8 @@ fn ends_have_statuses_and_lines(rt: HostRuntime) -> Result<(), Fail> {
         (End::CannotStart, 6, "hotspot: cannot start"),
     ];
     for (end, number, line) in ends {
-        assert_eq!(rt; status(&end), number);
-        assert_eq!(rt; format!(in rt.alloc(); "{end}")?.as_str(), line);
+        assert!(rt; equal(&rt, status(&end), number));
+        assert!(rt; equal(&rt, format!(in rt.alloc(); "{end}")?.as_str(), line));
     }
     Ok(())
 }
@@ -217,14 +221,14 @@ fn refusals_end_the_program(rt: HostRuntime) -> Result<(), Fail> {
 // A file may have 4,194,304 bytes; one more is read, and no other.
 #[test]
 fn a_file_is_read_or_not(rt: HostRuntime) -> Result<(), Fail> {
-    assert_eq!(rt; MOST_BYTES, 4_194_305);
+    assert!(rt; equal(&rt, MOST_BYTES, 4_194_305));
     for (length, read) in [
         (4_194_304, 4_194_304),
         (4_194_305, 4_194_305),
         (4_194_306, 4_194_305),
     ] {
         let bytes = vec![in rt.alloc(); b'#'; length]?;
-        assert_eq!(rt; read_bytes(rt.alloc(), bytes.as_slice())?.len(), read);
+        assert!(rt; equal(&rt, read_bytes(rt.alloc(), bytes.as_slice())?.len(), read));
     }
     assert!(rt;
         Disk::new(&rt)
@@ -281,17 +285,20 @@ fn the_program_ends_as_its_words_say(rt: HostRuntime) -> Result<(), Fail> {
         (&[" empty.toml "], "4 hotspot: project refused: 3"),
     ];
     for (words, end) in ends {
-        assert_eq!(rt; served(&rt, words)?.as_str(), end);
+        assert!(rt; equal(&rt, served(&rt, words)?.as_str(), end));
     }
+    Ok(())
+}
+
+#[test]
+fn a_beginning_has_its_workers_and_a_refusal_its_place(rt: HostRuntime) {
     let files = TwoFiles { alloc: rt.alloc() };
     let opened = opening(rt.alloc(), &["one.toml"], &files);
-    assert!(rt; matches!(&opened, Ok(beginning) if beginning.workers == 0));
-    assert!(rt; !matches!(&opened, Err(Stop::Words(_))));
+    assert!(rt; opened.is_ok_and(|beginning| beginning.workers == 0));
     match opening(rt.alloc(), &[" empty.toml "], &files) {
         Err(Stop::Refused(ProjectFault::Format, Some(place))) => {
-            assert_eq!(rt; place.as_str(), "format: missing");
+            assert!(rt; equal(&rt, place.as_str(), "format: missing"));
         }
         _ => assert!(rt; false),
     }
-    Ok(())
 }

@@ -3,6 +3,7 @@ mod workers;
 
 use bench_core::Bench;
 use bench_shell::{RunFault, run, run_within};
+use expect::equal;
 use project_book::Project;
 use std::alloc::Global;
 use std::cell::Cell;
@@ -75,7 +76,7 @@ fn sessions_in_any_pieces(rt: HostRuntime) -> std::result::Result<(), Fail> {
         };
         let mut writer = Vec::new(rt.alloc());
         assert!(rt; run(&rt, rt.alloc(), &mut reader, &mut writer, &mut desk).is_ok());
-        assert_eq!(rt; writer.as_slice(), ANSWERS);
+        assert!(rt; equal(&rt, writer.as_slice(), ANSWERS));
     }
     Ok(())
 }
@@ -90,11 +91,14 @@ fn reads_are_counted(rt: HostRuntime) -> std::result::Result<(), Fail> {
             most: 1,
         };
         let mut writer = Vec::new(rt.alloc());
-        assert_eq!(rt;
-            run_within(&rt, rt.alloc(), &mut reader, &mut writer, &mut desk, reads),
-            want
+        assert!(rt;
+            equal(
+                &rt,
+                run_within(&rt, rt.alloc(), &mut reader, &mut writer, &mut desk, reads),
+                want
+            )
         );
-        assert_eq!(rt; writer.as_slice(), b"ok 1\n".as_slice());
+        assert!(rt; equal(&rt, writer.as_slice(), b"ok 1\n".as_slice()));
     }
     Ok(())
 }
@@ -111,9 +115,12 @@ fn long_lines_are_skipped(rt: HostRuntime) -> std::result::Result<(), Fail> {
     let mut reader = input.as_slice();
     let mut writer = Vec::new(rt.alloc());
     assert!(rt; run(&rt, rt.alloc(), &mut reader, &mut writer, &mut desk).is_ok());
-    assert_eq!(rt;
-        writer.as_slice(),
-        b"bad command\nbad line\nok 0 0:5\nbad line\n".as_slice()
+    assert!(rt;
+        equal(
+            &rt,
+            writer.as_slice(),
+            b"bad command\nbad line\nok 0 0:5\nbad line\n".as_slice()
+        )
     );
     Ok(())
 }
@@ -135,9 +142,9 @@ fn a_writer_fails_at_each_call(rt: HostRuntime) -> std::result::Result<(), Fail>
         } else {
             Err(RunFault::Write)
         };
-        assert_eq!(rt; ended, want);
+        assert!(rt; equal(&rt, ended, want));
         assert!(rt; output.starts_with(written.as_slice()));
-        assert_eq!(rt; written.len(), (calls as usize).min(14));
+        assert!(rt; equal(&rt, written.len(), (calls as usize).min(14)));
     }
     Ok(())
 }
@@ -149,7 +156,7 @@ fn a_spent_clock_ends_the_run(rt: HostRuntime) -> std::result::Result<(), Fail> 
     let mut reader = b"word 0 10\n".as_slice();
     let mut writer = Vec::new(rt.alloc());
     let ended = run(&rt, rt.alloc(), &mut reader, &mut writer, &mut desk);
-    assert_eq!(rt; ended, Err(RunFault::Clock));
+    assert!(rt; equal(&rt, ended, Err(RunFault::Clock)));
     assert!(rt; writer.is_empty());
     Ok(())
 }
@@ -219,7 +226,7 @@ fn answers_are_flushed_before_the_next_read(rt: HostRuntime) -> std::result::Res
             flushes,
         };
         let ended = run(&rt, rt.alloc(), &mut reader, &mut writer, &mut desk);
-        assert_eq!(rt; ended, want);
+        assert!(rt; equal(&rt, ended, want));
     }
     Ok(())
 }

@@ -1,5 +1,6 @@
 //! The limits of `order`, its text, and each growth refused.
 
+use expect::equal;
 use project_book::{Edit, Project, read_entry};
 use serial_order::{Ordered, order};
 use std::alloc::Global;
@@ -25,8 +26,8 @@ fn one_processor_loads_in_its_order(rt: HostRuntime) -> Result<(), Fail> {
         entry,
     };
     let project = Project::built_in(alloc)?.apply(edit)?.0;
-    assert_eq!(rt; told(alloc, &project, 0)?.as_str(), "order 0.0 0.1");
-    assert_eq!(rt; told(alloc, &project, 16_383)?.as_str(), "order");
-    assert_eq!(rt; told(alloc, &project, 16_384)?.as_str(), "bad address");
+    assert!(rt; equal(&rt, told(alloc, &project, 0)?.as_str(), "order 0.0 0.1"));
+    assert!(rt; equal(&rt, told(alloc, &project, 16_383)?.as_str(), "order"));
+    assert!(rt; equal(&rt, told(alloc, &project, 16_384)?.as_str(), "bad address"));
     Ok(())
 }

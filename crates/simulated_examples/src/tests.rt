@@ -5,6 +5,7 @@
 use crate::runs::Run;
 use crate::setups::{BASE, BUILT_IN, Setup};
 use comb_switch::{CombSettings, CombState};
+use expect::equal;
 use omega_net::{Request, Tag, Traffic};
 use page_map::Place;
 use serial_order::{Ordered, order};
@@ -198,10 +199,13 @@ const WAITING_FOR_A_WORD: Examples = &[
 #[test]
 fn example_15_1(rt: HostRuntime) -> Result<(), Fail> {
     let alloc = rt.alloc();
-    assert_eq!(rt; surprise(alloc, WAITING_FOR_A_WORD)?, None);
-    assert_eq!(rt;
-        ordered(alloc, &UNTIL_12, 0)?.as_str(),
-        "order 0.0 0.1 1.0 0.2"
+    assert!(rt; equal(&rt, surprise(alloc, WAITING_FOR_A_WORD)?, None));
+    assert!(rt;
+        equal(
+            &rt,
+            ordered(alloc, &UNTIL_12, 0)?.as_str(),
+            "order 0.0 0.1 1.0 0.2"
+        )
     );
     Ok(())
 }
@@ -227,7 +231,7 @@ fn examples_1_2_5_17_23_24(rt: HostRuntime) -> Result<(), Fail> {
         WAITS,
         BOTH_NETWORKS,
     ] {
-        assert_eq!(rt; surprise(rt.alloc(), examples)?, None);
+        assert!(rt; equal(&rt, surprise(rt.alloc(), examples)?, None));
     }
     Ok(())
 }
@@ -312,7 +316,7 @@ const STORES_IF_ZERO: Examples = &[
 #[test]
 fn examples_3_4_5_1_6(rt: HostRuntime) -> Result<(), Fail> {
     for examples in [ONE_AFTER_THE_OTHER, COMBINED, FOUR_COMBINED, STORES_IF_ZERO] {
-        assert_eq!(rt; surprise(rt.alloc(), examples)?, None);
+        assert!(rt; equal(&rt, surprise(rt.alloc(), examples)?, None));
     }
     Ok(())
 }
@@ -355,9 +359,12 @@ fn examples_4_17_states(rt: HostRuntime) -> Result<(), Fail> {
             "mod q0 [] q1 [] a0 [] a1 [] turn 0 served 0 mem [0=21]",
         ),
     ] {
-        assert_eq!(rt;
-            state_text(rt.alloc(), setup, component, cycle)?.as_str(),
-            want
+        assert!(rt;
+            equal(
+                &rt,
+                state_text(rt.alloc(), setup, component, cycle)?.as_str(),
+                want
+            )
         );
     }
     Ok(())
@@ -388,8 +395,8 @@ fn example_8(rt: HostRuntime) -> Result<(), Fail> {
         };
         state = state.step(alloc, &settings, &arriving)?;
     }
-    assert_eq!(rt; state.fwd[0].as_slice(), requests.as_slice());
-    assert_eq!(rt; (state.wait.len(), state.combined), (0, 0));
+    assert!(rt; equal(&rt, state.fwd[0].as_slice(), requests.as_slice()));
+    assert!(rt; equal(&rt, (state.wait.len(), state.combined), (0, 0)));
     Ok(())
 }
 
@@ -439,9 +446,12 @@ const QUEUES: &str = "8.0: 0 0 1 1 1 1 3\n\
 #[test]
 fn example_15(rt: HostRuntime) -> Result<(), Fail> {
     let run = Run::of(rt.alloc(), &HOT_SPOT)?;
-    assert_eq!(rt;
-        (queues(rt.alloc(), &run)?.as_str(), run.counts().served),
-        (QUEUES, 2)
+    assert!(rt;
+        equal(
+            &rt,
+            (queues(rt.alloc(), &run)?.as_str(), run.counts().served),
+            (QUEUES, 2)
+        )
     );
     Ok(())
 }
@@ -464,7 +474,7 @@ fn example_15_narrow(rt: HostRuntime) -> Result<(), Fail> {
         ..HOT_SPOT
     };
     let run = Run::of(rt.alloc(), &narrow)?;
-    assert_eq!(rt; queues(rt.alloc(), &run)?.as_str(), NARROW_QUEUES);
+    assert!(rt; equal(&rt, queues(rt.alloc(), &run)?.as_str(), NARROW_QUEUES));
     Ok(())
 }
 
@@ -496,11 +506,14 @@ fn deepest_queues(rt: HostRuntime) -> Result<(), Fail> {
     let alloc = rt.alloc();
     let run = Run::of(alloc, &EIGHT_AT_ONCE)?;
     let counts = run.counts();
-    assert_eq!(rt;
-        format!(in alloc; "{counts}")?.as_str(),
-        "issued 160, served 160, combined 0"
+    assert!(rt;
+        equal(
+            &rt,
+            format!(in alloc; "{counts}")?.as_str(),
+            "issued 160, served 160, combined 0"
+        )
     );
-    assert_eq!(rt; (run.answers(), run.last_word()), (160, Some(160)));
+    assert!(rt; equal(&rt, (run.answers(), run.last_word()), (160, Some(160))));
     Ok(())
 }
 
@@ -526,20 +539,29 @@ fn cut_at(horizon: u32) -> Setup<'static> {
 #[test]
 fn examples_16_1_16_2_28(rt: HostRuntime) -> Result<(), Fail> {
     let alloc = rt.alloc();
-    assert_eq!(rt;
-        ordered(alloc, &FOUR_ADDS, 0)?.as_str(),
-        "order 0.0 2.0 1.0 3.0"
+    assert!(rt;
+        equal(
+            &rt,
+            ordered(alloc, &FOUR_ADDS, 0)?.as_str(),
+            "order 0.0 2.0 1.0 3.0"
+        )
     );
-    assert_eq!(rt; ordered(alloc, &cut_at(3), 0)?.as_str(), "order");
-    assert_eq!(rt; ordered(alloc, &cut_at(5), 0)?.as_str(), "order 0.0 1.0");
+    assert!(rt; equal(&rt, ordered(alloc, &cut_at(3), 0)?.as_str(), "order"));
+    assert!(rt;
+        equal(
+            &rt,
+            ordered(alloc, &cut_at(5), 0)?.as_str(),
+            "order 0.0 1.0"
+        )
+    );
     for combine in [false, true] {
         let setup = Setup {
             combine,
             ..TWO_ADDS
         };
-        assert_eq!(rt; ordered(alloc, &setup, 0)?.as_str(), "order 0.0 1.0");
-        assert_eq!(rt; ordered(alloc, &setup, 300)?.as_str(), "order");
-        assert_eq!(rt; ordered(alloc, &setup, 16_384)?.as_str(), "bad address");
+        assert!(rt; equal(&rt, ordered(alloc, &setup, 0)?.as_str(), "order 0.0 1.0"));
+        assert!(rt; equal(&rt, ordered(alloc, &setup, 300)?.as_str(), "order"));
+        assert!(rt; equal(&rt, ordered(alloc, &setup, 16_384)?.as_str(), "bad address"));
     }
     Ok(())
 }

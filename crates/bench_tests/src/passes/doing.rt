@@ -59,10 +59,10 @@ fn given<D: Drop>(given: Given<D>) -> Came {
     }
 }
 
-pub(super) fn does<R: Host>(rt: &R, mut pass: Pass, what: Task) -> (Pass, Came)
-    ensures { result.0.opening ≡ pass.opening }
+pub(super) fn does<R: Host>(rt: &R, pass: &mut Pass, what: Task) -> Came
+    ensures { pass.new.opening ≡ pass.old.opening }
 {
-    let came = match what {
+    match what {
         Task::Edit(edit) => match pass.edit(rt, edit) {
             Ok(version) => Came::Version(version),
             Err(fault) => Came::Refused(fault),
@@ -79,7 +79,14 @@ pub(super) fn does<R: Host>(rt: &R, mut pass: Pass, what: Task) -> (Pass, Came)
             Ok(done) => given(pass.give(rt, done)),
             Err(_) => Came::Other,
         },
-    };
+    }
+}
+
+/// The same, in a thread: the pass comes back.
+fn done<R: Host>(rt: &R, mut pass: Pass, what: Task) -> (Pass, Came)
+    ensures { result.0.opening ≡ pass.opening }
+{
+    let came = does(rt, &mut pass, what);
     (pass, came)
 }
 
@@ -98,9 +105,9 @@ pub(super) fn together<R: Host>(
         rt,
         move || -> (Pass, Came)
             ensures { result.0.opening ≡ one.opening }
-        { does(rt, one, first) },
+        { done(rt, one, first) },
         move || -> (Pass, Came)
             ensures { result.0.opening ≡ other.opening }
-        { does(rt, other, second) },
+        { done(rt, other, second) },
     )
 }

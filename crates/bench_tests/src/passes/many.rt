@@ -48,12 +48,13 @@ fn rounds<R: Host>(rt: &R, alloc: Global, mut pass: Pass, first: u32) -> (Pass, 
     (pass, heard)
 }
 
-/// Two passes at once, joined again.
-fn two<R: Host>(rt: &R, alloc: Global, pair: (Pass, Pass), first: u32) -> (Pass, Heard)
-    requires { pair.0.opening ≡ pair.1.opening }
-    ensures { result.0.opening ≡ pair.0.opening }
+/// A pass and one that is split from it at once, joined again. Where no seat is free nothing is heard.
+fn two<R: Host>(rt: &R, alloc: Global, mut one: Pass, first: u32) -> (Pass, Heard)
+    ensures { result.0.opening ≡ one.opening }
 {
-    let (one, other) = pair;
+    let Ok(other) = one.split() else {
+        return (one, Vec::new(alloc));
+    };
     let ((one, heard), (other, more)) = thread::join(
         rt,
         move || -> (Pass, Heard)
@@ -71,27 +72,19 @@ fn both(mut heard: Heard, mut more: Heard) -> Heard {
     heard
 }
 
-/// Four passes at once, in two pairs, joined again.
-pub(super) fn four<R: Host>(
-    rt: &R,
-    alloc: Global,
-    pairs: ((Pass, Pass), (Pass, Pass)),
-) -> (Pass, Heard)
-    requires first { pairs.0.0.opening ≡ pairs.0.1.opening }
-    requires second { pairs.1.0.opening ≡ pairs.1.1.opening }
-    requires both { pairs.0.0.opening ≡ pairs.1.0.opening }
-{
-    let (ab, cd) = pairs;
+/// Four passes at once, in two pairs, joined again. Where no seat is free nothing is heard.
+pub(super) fn four<R: Host>(rt: &R, alloc: Global, mut one: Pass) -> (Pass, Heard) {
+    let Ok(other) = one.split() else {
+        return (one, Vec::new(alloc));
+    };
     let ((one, heard), (other, more)) = thread::join(
         rt,
         move || -> (Pass, Heard)
-            requires { ab.0.opening ≡ ab.1.opening }
-            ensures { result.0.opening ≡ ab.0.opening }
-        { two(rt, alloc, ab, 10_000) },
+            ensures { result.0.opening ≡ one.opening }
+        { two(rt, alloc, one, 10_000) },
         move || -> (Pass, Heard)
-            requires { cd.0.opening ≡ cd.1.opening }
-            ensures { result.0.opening ≡ cd.0.opening }
-        { two(rt, alloc, cd, 20_000) },
+            ensures { result.0.opening ≡ other.opening }
+        { two(rt, alloc, other, 20_000) },
     );
     (one.join(other), both(heard, more))
 }

@@ -3,6 +3,7 @@ use cell_table::Cell;
 use std::alloc::{AllocError, Global};
 use std::sync::Arc;
 use std::sync::atomic::{AtomicU64, Ordering};
+use std::test::Fail;
 use std::thread;
 use wave_workers::Gate;
 
@@ -69,8 +70,14 @@ pub(super) struct Meeting {
 }
 
 impl Meeting {
-    pub(super) fn new(board: Arc<Board, Global>, is_first: bool) -> Meeting {
-        Meeting { board, is_first }
+    /// The gates of both.
+    pub(super) fn both(alloc: Global, board: &Arc<Board, Global>) -> Result<Vec<Meeting>, Fail> {
+        let mut gates = Vec::new(alloc);
+        for is_first in [true, false] {
+            let board = Arc::try_clone(board)?;
+            gates.push(Meeting { board, is_first })?;
+        }
+        Ok(gates)
     }
 
     fn own(&self) -> &Reports {

@@ -5,6 +5,7 @@ use super::gates::{Board, Counting, Meeting};
 use crate::base::{entry, fresh, word};
 use bench_core::Bench;
 use cell_table::Settled;
+use expect::equal;
 use omega_net::ScriptEntry;
 use project_book::{Depths, Edit};
 use std::sync::Arc;
@@ -18,13 +19,13 @@ use wave_workers::{Ungated, settle_wave};
 fn example_11_2(rt: HostRuntime) -> Result<(), Fail> {
     let alloc = rt.alloc();
     let board = Arc::new(alloc, Board::new())?;
-    let first = Meeting::new(Arc::try_clone(&board)?, true);
-    let second = Meeting::new(Arc::try_clone(&board)?, false);
-    let mut bench = fresh(alloc)?;
-    let settled = settle_wave(&rt, &mut bench, vec![in alloc; first, second]?);
-    assert_eq!(rt; settled, Ok(Settled { computed: 66 }));
-    assert_eq!(rt; board.both_met(), true);
-    assert_eq!(rt; board.first_cells(), (0, 3));
+    let gates = Meeting::both(alloc, &board)?;
+    if gates.len() != 2 {
+        return Err(Fail::from("another number of gates"));
+    }
+    let settled = settle_wave(&rt, &mut *fresh(alloc)?, gates);
+    assert!(rt; equal(&rt, settled, Ok(Settled { computed: 66 })));
+    assert!(rt; equal(&rt, (board.both_met(), board.first_cells()), (true, (0, 3))));
     Ok(())
 }
 
@@ -49,11 +50,11 @@ fn example_9_by_waves(rt: HostRuntime) -> Result<(), Fail> {
         (Edit::Horizon(12), Edit::Horizon(5), (12, 0)),
     ] {
         let mut bench = fresh(alloc)?;
-        assert_eq!(rt; waved(&rt, &mut bench)?, 66);
+        assert!(rt; equal(&rt, waved(&rt, &mut bench)?, 66));
         bench.edit(0, edit)?;
         let first = waved(&rt, &mut bench)?;
         bench.edit(0, then)?;
-        assert_eq!(rt; (first, waved(&rt, &mut bench)?), cells);
+        assert!(rt; equal(&rt, (first, waved(&rt, &mut bench)?), cells));
     }
     Ok(())
 }
@@ -104,7 +105,7 @@ fn example_15_by_waves(rt: HostRuntime) -> Result<(), Fail> {
     let mut bench = contended(alloc)?;
     let mut alone = contended(alloc)?;
     let fresh = settled_beside(&rt, &mut bench, &mut alone, &counts)?;
-    assert_eq!(rt; fresh, (112, [42, 35, 35]));
+    assert!(rt; equal(&rt, fresh, (112, [42, 35, 35])));
     assert!(rt; answer_the_same(&rt, &mut bench, &mut alone, SATURATED)?);
     let narrow = Edit::Depth {
         queue: Depths::LowForward,
@@ -114,7 +115,7 @@ fn example_15_by_waves(rt: HostRuntime) -> Result<(), Fail> {
     alone.edit(0, narrow)?;
     let (cells, [first, second, third]) = settled_beside(&rt, &mut bench, &mut alone, &counts)?;
     let turns = first.saturating_add(second).saturating_add(third);
-    assert_eq!(rt; turns, cells.saturating_add(112));
+    assert!(rt; equal(&rt, turns, cells.saturating_add(112)));
     assert!(rt; answer_the_same(&rt, &mut bench, &mut alone, "1 first 3 4\n")?);
     Ok(())
 }

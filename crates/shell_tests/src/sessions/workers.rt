@@ -5,6 +5,7 @@ ghost use Rattle.shared_bench.specs.Legal.{StartsWith};
 use super::bench;
 use bench_shell::{RunFault, run};
 use cell_table::Cell;
+use expect::equal;
 use project_book::{Edit, Project};
 use shared_bench::{Pass, open};
 use std::alloc::Global;
@@ -58,9 +59,9 @@ fn answers<H: AllocGlobal + Hall>(rt: &H, workers: usize) -> std::result::Result
 /// 18, and 16.3: the same bytes with 0, 1 and 4 workers.
 #[test]
 fn examples_18_and_16_3(rt: HostRuntime) -> std::result::Result<(), Fail> {
-    assert_eq!(rt; answers(&rt, 0)?.as_slice(), ANSWERS);
-    assert_eq!(rt; answers(&rt, 1)?.as_slice(), ANSWERS);
-    assert_eq!(rt; answers(&rt, 4)?.as_slice(), ANSWERS);
+    assert!(rt; equal(&rt, answers(&rt, 0)?.as_slice(), ANSWERS));
+    assert!(rt; equal(&rt, answers(&rt, 1)?.as_slice(), ANSWERS));
+    assert!(rt; equal(&rt, answers(&rt, 4)?.as_slice(), ANSWERS));
     Ok(())
 }
 
@@ -155,7 +156,7 @@ fn example_9_1(rt: HostRuntime) -> std::result::Result<(), Fail> {
         gates,
     );
     assert!(rt; ended.is_ok());
-    assert_eq!(rt; writer.as_slice(), b"ok 0 10\n".as_slice());
+    assert!(rt; equal(&rt, writer.as_slice(), b"ok 0 10\n".as_slice()));
     assert!(rt; is_told(&meeting.asked) && is_told(&meeting.computed));
     Ok(())
 }
@@ -183,12 +184,12 @@ fn example_9_2(rt: HostRuntime) -> std::result::Result<(), Fail> {
         address: 0,
         word: 20,
     };
-    assert_eq!(rt; other.edit(&rt, word), Ok(1));
+    assert!(rt; equal(&rt, other.edit(&rt, word), Ok(1)));
     let mut desk = Seated::new(&rt, rt.alloc(), pass);
     let mut reader = b"memory 0 0\n".as_slice();
     let mut writer = Vec::new(rt.alloc());
     let ended = run(&rt, rt.alloc(), &mut reader, &mut writer, &mut desk);
-    assert_eq!(rt; ended, Err(RunFault::OtherEditor));
+    assert!(rt; equal(&rt, ended, Err(RunFault::OtherEditor)));
     assert!(rt; writer.is_empty());
     Ok(())
 }

@@ -4,6 +4,7 @@ use crate::projects::{base, edited};
 use crate::stories::{self, Came, Stage, Step, Story, claim_of, given};
 use bench_core::Bench;
 use cell_table::Cell;
+use expect::equal;
 use project_book::Edit;
 use std::alloc::Global;
 use std::test::Fail;
@@ -45,7 +46,7 @@ fn example_11(rt: HostRuntime) -> Result<(), Fail> {
         edit(entry(1, 0, sync_add(1)), 1),
         STORE,
     ];
-    assert_eq!(rt; surprise(rt.alloc(), &story)?, None);
+    assert!(rt; equal(&rt, surprise(rt.alloc(), &story)?, None));
     Ok(())
 }
 
@@ -60,7 +61,7 @@ fn example_12(rt: HostRuntime) -> Result<(), Fail> {
         edit(word(300, 5), 3),
         (Step::Give, Came::Overtaken),
     ];
-    assert_eq!(rt; surprise(rt.alloc(), &story)?, None);
+    assert!(rt; equal(&rt, surprise(rt.alloc(), &story)?, None));
     Ok(())
 }
 
@@ -80,7 +81,7 @@ fn example_13(rt: HostRuntime) -> Result<(), Fail> {
         edit(Edit::Horizon(10), 6),
         (Step::Give, Came::Overtaken),
     ];
-    assert_eq!(rt; surprise(rt.alloc(), &story)?, None);
+    assert!(rt; equal(&rt, surprise(rt.alloc(), &story)?, None));
     Ok(())
 }
 
@@ -88,7 +89,7 @@ fn example_13(rt: HostRuntime) -> Result<(), Fail> {
 #[test]
 fn example_14(rt: HostRuntime) -> Result<(), Fail> {
     let story = [claim(0, 0), claim(0, 0), STORE, (Step::Give, Came::NotDue)];
-    assert_eq!(rt; surprise(rt.alloc(), &story)?, None);
+    assert!(rt; equal(&rt, surprise(rt.alloc(), &story)?, None));
     Ok(())
 }
 
@@ -122,7 +123,7 @@ fn given_elsewhere(alloc: Global, component: u32) -> Result<Came, Fail> {
 #[test]
 fn example_21(rt: HostRuntime) -> Result<(), Fail> {
     for (component, want) in [(2, Came::Foreign), (0, Came::Stored { changed: true })] {
-        assert_eq!(rt; given_elsewhere(rt.alloc(), component)?, want);
+        assert!(rt; equal(&rt, given_elsewhere(rt.alloc(), component)?, want));
     }
     Ok(())
 }
@@ -150,9 +151,12 @@ fn settled_after_drops(stage: &mut Stage) -> Result<(u32, Came), Fail> {
 #[test]
 fn example_14_1(rt: HostRuntime) -> Result<(), Fail> {
     let mut stage = Stage::opened(rt.alloc(), base(rt.alloc())?, 0)?;
-    assert_eq!(rt;
-        settled_after_drops(&mut stage)?,
-        (1_000, Came::Settled(66))
+    assert!(rt;
+        equal(
+            &rt,
+            settled_after_drops(&mut stage)?,
+            (1_000, Came::Settled(66))
+        )
     );
     Ok(())
 }

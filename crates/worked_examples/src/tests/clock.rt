@@ -6,6 +6,7 @@ use crate::projects::base;
 use crate::stories::{Came, Stage, Step, Story, surprise};
 use crate::tests::refusals::refusals;
 use bench_shell::RunFault;
+use expect::equal;
 use std::alloc::Global;
 use std::test::Fail;
 
@@ -30,7 +31,13 @@ fn refusals_and_edit(stage: &mut Stage) -> Result<(Option<(usize, Came)>, Came),
 #[test]
 fn example_20_edits(rt: HostRuntime) -> Result<(), Fail> {
     let mut stage = Stage::opened(rt.alloc(), base(rt.alloc())?, u64::MAX)?;
-    assert_eq!(rt; refusals_and_edit(&mut stage)?, (None, Came::Refused(13)));
+    assert!(rt;
+        equal(
+            &rt,
+            refusals_and_edit(&mut stage)?,
+            (None, Came::Refused(13))
+        )
+    );
     Ok(())
 }
 
@@ -54,7 +61,7 @@ fn example_20_results(rt: HostRuntime) -> Result<(), Fail> {
         ),
         (Step::Settle, Came::Stopped(0)),
     ];
-    assert_eq!(rt; surprise_before_last(rt.alloc(), 0, &story)?, None);
+    assert!(rt; equal(&rt, surprise_before_last(rt.alloc(), 0, &story)?, None));
     Ok(())
 }
 
@@ -68,9 +75,12 @@ fn on_spent_clock(rt: &impl Host, input: &[u8]) -> Result<Written, Fail> {
 #[test]
 fn example_20_line(rt: HostRuntime) -> Result<(), Fail> {
     let written = on_spent_clock(&rt, b"word 0 10\n")?;
-    assert_eq!(rt;
-        (written.ended, written.text.as_str()),
-        (Err(RunFault::Clock), "")
+    assert!(rt;
+        equal(
+            &rt,
+            (written.ended, written.text.as_str()),
+            (Err(RunFault::Clock), "")
+        )
     );
     Ok(())
 }
@@ -95,6 +105,6 @@ fn example_14_2(rt: HostRuntime) -> Result<(), Fail> {
         (Step::Give, Came::Stored { changed: false }),
         (Step::Edit(word(0, 10)), Came::Refused(13)),
     ];
-    assert_eq!(rt; surprise_before_last(rt.alloc(), 68, &story)?, None);
+    assert!(rt; equal(&rt, surprise_before_last(rt.alloc(), 68, &story)?, None));
     Ok(())
 }

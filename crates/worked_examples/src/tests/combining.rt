@@ -1,6 +1,7 @@
 //! References to one word over the combining network.
 use crate::lines::{Session, misanswered, same_after};
 use crate::projects::{base, empty};
+use expect::equal;
 use std::test::Fail;
 
 /// 3: two references to one word, without combining, are served one after the other. With reverse
@@ -50,7 +51,7 @@ const STORES_IF_ZERO: Session = &[
 #[test]
 fn examples_3_4_6(rt: HostRuntime) -> Result<(), Fail> {
     for session in [ONE_AFTER_THE_OTHER, COMBINED, STORES_IF_ZERO] {
-        assert_eq!(rt; misanswered(&rt, base(rt.alloc())?, session)?, None);
+        assert!(rt; equal(&rt, misanswered(&rt, base(rt.alloc())?, session)?, None));
     }
     Ok(())
 }
@@ -77,23 +78,26 @@ const FOUR_COMBINED: Session = &[
 #[test]
 fn example_5_1(rt: HostRuntime) -> Result<(), Fail> {
     let project = empty(rt.alloc(), 2, 10)?;
-    assert_eq!(rt; misanswered(&rt, project, FOUR_COMBINED)?, None);
+    assert!(rt; equal(&rt, misanswered(&rt, project, FOUR_COMBINED)?, None));
     Ok(())
 }
 
 /// 4: the state of each of the 6 components at the cycles 0 to 10 is that of the simulation.
 #[test]
 fn example_4_cells(rt: HostRuntime) -> Result<(), Fail> {
-    assert_eq!(rt; same_after(&rt, base(rt.alloc())?, COMBINED)?, 66);
+    assert!(rt; equal(&rt, same_after(&rt, base(rt.alloc())?, COMBINED)?, 66));
     Ok(())
 }
 
 /// 5.1: four processors, four modules and four switches in each network are 16 components.
 #[test]
 fn example_5_1_cells(rt: HostRuntime) -> Result<(), Fail> {
-    assert_eq!(rt;
-        same_after(&rt, empty(rt.alloc(), 2, 10)?, FOUR_COMBINED)?,
-        176
+    assert!(rt;
+        equal(
+            &rt,
+            same_after(&rt, empty(rt.alloc(), 2, 10)?, FOUR_COMBINED)?,
+            176
+        )
     );
     Ok(())
 }

@@ -2,6 +2,7 @@
 use crate::edits::{entry, sync_add, word};
 use crate::projects::{base, empty};
 use crate::stories::{Came, Step, surprise};
+use expect::equal;
 use omega_net::ScriptEntry;
 use project_book::Edit;
 use std::test::Fail;
@@ -18,7 +19,7 @@ fn edit(edit: Edit, version: u32) -> (Step, Came) {
 #[test]
 fn example_1_cost(rt: HostRuntime) -> Result<(), Fail> {
     let project = empty(rt.alloc(), 0, 0)?;
-    assert_eq!(rt; surprise(rt.alloc(), project, 0, &[settle(2)])?, None);
+    assert!(rt; equal(&rt, surprise(rt.alloc(), project, 0, &[settle(2)])?, None));
     Ok(())
 }
 
@@ -27,7 +28,7 @@ fn example_1_cost(rt: HostRuntime) -> Result<(), Fail> {
 fn example_15_2_cost(rt: HostRuntime) -> Result<(), Fail> {
     let project = empty(rt.alloc(), 6, 16)?;
     let story = [edit(entry(63, 0, sync_add(1)), 1), settle(8_704)];
-    assert_eq!(rt; surprise(rt.alloc(), project, 0, &story)?, None);
+    assert!(rt; equal(&rt, surprise(rt.alloc(), project, 0, &story)?, None));
     Ok(())
 }
 
@@ -51,7 +52,7 @@ fn example_3_1(rt: HostRuntime) -> Result<(), Fail> {
         settle(6),
     ];
     let project = empty(rt.alloc(), 0, 8)?;
-    assert_eq!(rt; surprise(rt.alloc(), project, 0, &story)?, None);
+    assert!(rt; equal(&rt, surprise(rt.alloc(), project, 0, &story)?, None));
     Ok(())
 }
 
@@ -64,7 +65,13 @@ fn example_9_fence(rt: HostRuntime) -> Result<(), Fail> {
         edit(entry(0, 0, ScriptEntry::Fence), 1),
         settle(28),
     ];
-    assert_eq!(rt; surprise(rt.alloc(), base(rt.alloc())?, 0, &story)?, None);
+    assert!(rt;
+        equal(
+            &rt,
+            surprise(rt.alloc(), base(rt.alloc())?, 0, &story)?,
+            None
+        )
+    );
     Ok(())
 }
 
@@ -78,7 +85,13 @@ fn example_9_horizon(rt: HostRuntime) -> Result<(), Fail> {
         edit(Edit::Horizon(5), 2),
         settle(0),
     ];
-    assert_eq!(rt; surprise(rt.alloc(), base(rt.alloc())?, 0, &story)?, None);
+    assert!(rt;
+        equal(
+            &rt,
+            surprise(rt.alloc(), base(rt.alloc())?, 0, &story)?,
+            None
+        )
+    );
     Ok(())
 }
 
@@ -95,6 +108,12 @@ fn examples_9_word_and_10(rt: HostRuntime) -> Result<(), Fail> {
         edit(word(300, 5), 2),
         settle(0),
     ];
-    assert_eq!(rt; surprise(rt.alloc(), base(rt.alloc())?, 0, &story)?, None);
+    assert!(rt;
+        equal(
+            &rt,
+            surprise(rt.alloc(), base(rt.alloc())?, 0, &story)?,
+            None
+        )
+    );
     Ok(())
 }

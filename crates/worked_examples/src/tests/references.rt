@@ -1,6 +1,7 @@
 //! References that meet no others, or only at their module.
 use crate::lines::{Session, misanswered};
 use crate::projects::{base, empty};
+use expect::equal;
 use std::test::Fail;
 
 /// 1: nothing was issued, so the reference 0 isn't there.
@@ -9,7 +10,7 @@ const NOTHING: Session = &[("reply 0 0", "bad 4")];
 #[test]
 fn example_1(rt: HostRuntime) -> Result<(), Fail> {
     let project = empty(rt.alloc(), 0, 0)?;
-    assert_eq!(rt; misanswered(&rt, project, NOTHING)?, None);
+    assert!(rt; equal(&rt, misanswered(&rt, project, NOTHING)?, None));
     Ok(())
 }
 
@@ -80,7 +81,13 @@ const BOTH_NETWORKS: Session = &[
 
 #[test]
 fn example_15_1(rt: HostRuntime) -> Result<(), Fail> {
-    assert_eq!(rt; misanswered(&rt, base(rt.alloc())?, UNTIL_IT_IS_12)?, None);
+    assert!(rt;
+        equal(
+            &rt,
+            misanswered(&rt, base(rt.alloc())?, UNTIL_IT_IS_12)?,
+            None
+        )
+    );
     Ok(())
 }
 
@@ -94,14 +101,14 @@ const SIXTY_FOUR_PROCESSORS: Session = &[
 #[test]
 fn example_15_2(rt: HostRuntime) -> Result<(), Fail> {
     let project = empty(rt.alloc(), 6, 16)?;
-    assert_eq!(rt; misanswered(&rt, project, SIXTY_FOUR_PROCESSORS)?, None);
+    assert!(rt; equal(&rt, misanswered(&rt, project, SIXTY_FOUR_PROCESSORS)?, None));
     Ok(())
 }
 
 #[test]
 fn examples_2_5_23_24(rt: HostRuntime) -> Result<(), Fail> {
     for session in [ONE_REFERENCE, WRAPPING_ADD, WAITS, BOTH_NETWORKS] {
-        assert_eq!(rt; misanswered(&rt, base(rt.alloc())?, session)?, None);
+        assert!(rt; equal(&rt, misanswered(&rt, base(rt.alloc())?, session)?, None));
     }
     Ok(())
 }

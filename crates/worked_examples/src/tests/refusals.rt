@@ -2,6 +2,7 @@
 use crate::edits::{combine, depth, entry, page, sync_adds, word};
 use crate::projects::{base, empty};
 use crate::stories::{Came, Stage, Step, Story};
+use expect::equal;
 use omega_net::ScriptEntry;
 use project_book::{Depths, Edit};
 use std::test::Fail;
@@ -49,8 +50,8 @@ fn example_19(rt: HostRuntime) -> Result<(), Fail> {
     let mut stage = Stage::settled(rt.alloc(), base(rt.alloc())?)?;
     let before = (stage.bench.version(), stage.bench.clock());
     let (surprise, after, settled) = settled_after_refusals(&mut stage)?;
-    assert_eq!(rt; (surprise, after), (None, before));
-    assert_eq!(rt; settled, Came::Settled(0));
+    assert!(rt; equal(&rt, (surprise, after), (None, before)));
+    assert!(rt; equal(&rt, settled, Came::Settled(0)));
     Ok(())
 }
 
@@ -86,7 +87,7 @@ fn example_19_full_script(rt: HostRuntime) -> Result<(), Fail> {
         (Step::Edit(Edit::Window(1)), Came::Version(257)),
     ];
     let mut stage = Stage::opened(rt.alloc(), base(rt.alloc())?, 0)?;
-    assert_eq!(rt; surprise_when_full(&mut stage, &story)?, None);
+    assert!(rt; equal(&rt, surprise_when_full(&mut stage, &story)?, None));
     Ok(())
 }
 
@@ -105,6 +106,12 @@ fn refused_at_last(stage: &mut Stage) -> Result<(Came, Option<(usize, Came)>), F
 #[test]
 fn example_19_full_journal(rt: HostRuntime) -> Result<(), Fail> {
     let mut stage = Stage::opened(rt.alloc(), empty(rt.alloc(), 0, 0)?, 0)?;
-    assert_eq!(rt; refused_at_last(&mut stage)?, (Came::Version(65_535), None));
+    assert!(rt;
+        equal(
+            &rt,
+            refused_at_last(&mut stage)?,
+            (Came::Version(65_535), None)
+        )
+    );
     Ok(())
 }

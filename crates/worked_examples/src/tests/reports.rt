@@ -4,6 +4,7 @@ use crate::lines::{Session, misanswered};
 use crate::projects::{base, edited, hot_spot};
 use crate::stories::Stage;
 use bench_core::Bench;
+use expect::equal;
 use monitor_sums::Counter;
 use page_map::Place;
 use project_book::Edit;
@@ -27,7 +28,7 @@ const BOUNDS: Session = &[("bound 1 10 32", "ok 0 10/41"), ("bound 0 1 1", "ok 0
 #[test]
 fn examples_3_4_26_reported(rt: HostRuntime) -> Result<(), Fail> {
     for session in [SERVED_AND_COMBINED, BOUNDS] {
-        assert_eq!(rt; misanswered(&rt, base(rt.alloc())?, session)?, None);
+        assert!(rt; equal(&rt, misanswered(&rt, base(rt.alloc())?, session)?, None));
     }
     Ok(())
 }
@@ -53,7 +54,7 @@ const HOT_SPOT: Session = &[
 #[test]
 fn example_15_reported(rt: HostRuntime) -> Result<(), Fail> {
     let project = hot_spot(rt.alloc(), 4, 6)?;
-    assert_eq!(rt; misanswered(&rt, project, HOT_SPOT)?, None);
+    assert!(rt; equal(&rt, misanswered(&rt, project, HOT_SPOT)?, None));
     Ok(())
 }
 
@@ -66,9 +67,12 @@ fn hot_levels(rt: &impl Host) -> Result<Vec<u8>, Fail> {
 /// 15: the level of each cycle from 0 to 6.
 #[test]
 fn example_15_levels(rt: HostRuntime) -> Result<(), Fail> {
-    assert_eq!(rt;
-        hot_levels(&rt)?.as_slice(),
-        [0, 0, 0, 0, 1, 1, 2].as_slice()
+    assert!(rt;
+        equal(
+            &rt,
+            hot_levels(&rt)?.as_slice(),
+            [0, 0, 0, 0, 1, 1, 2].as_slice()
+        )
     );
     Ok(())
 }
@@ -93,7 +97,7 @@ const COMBINING: Session = &[
 #[test]
 fn examples_16_3_and_18(rt: HostRuntime) -> Result<(), Fail> {
     let project = edited(base(rt.alloc())?, &[Edit::Horizon(8)])?;
-    assert_eq!(rt; misanswered(&rt, project, COMBINING)?, None);
+    assert!(rt; equal(&rt, misanswered(&rt, project, COMBINING)?, None));
     Ok(())
 }
 
@@ -144,7 +148,7 @@ fn example_22_settled(rt: HostRuntime) -> Result<(), Fail> {
         (Query::Reply { proc: 0, issue: 0 }, Heard::Bad(4)),
     ];
     let mut stage = Stage::settled(rt.alloc(), base(rt.alloc())?)?;
-    assert_eq!(rt; misheard(&rt, &mut stage.bench, &queries), None);
+    assert!(rt; equal(&rt, misheard(&rt, &mut stage.bench, &queries), None));
     Ok(())
 }
 
@@ -165,6 +169,6 @@ fn example_22_fresh(rt: HostRuntime) -> Result<(), Fail> {
         (Query::Reply { proc: 0, issue: 0 }, Heard::Pending(66)),
     ];
     let mut stage = Stage::opened(rt.alloc(), base(rt.alloc())?, 0)?;
-    assert_eq!(rt; misheard(&rt, &mut stage.bench, &queries), None);
+    assert!(rt; equal(&rt, misheard(&rt, &mut stage.bench, &queries), None));
     Ok(())
 }

@@ -6,6 +6,7 @@ use crate::lines::{
 use crate::projects::base;
 use crate::stories::{Came, Stage, Step};
 use bench_shell::RunFault;
+use expect::{equal, equal_at};
 use project_book::Project;
 use std::alloc::Global;
 use std::test::Fail;
@@ -46,7 +47,7 @@ const EDITED_WORD: Session = &[
 fn examples_2_1_2_2_17(rt: HostRuntime) -> Result<(), Fail> {
     for session in [STORE_AND_LOAD, THREE_ADDS, EDITED_WORD] {
         let project = Project::built_in(rt.alloc())?;
-        assert_eq!(rt; misanswered(&rt, project, session)?, None);
+        assert!(rt; equal(&rt, misanswered(&rt, project, session)?, None));
     }
     Ok(())
 }
@@ -63,7 +64,13 @@ fn in_reads(rt: &impl Host, reads: u32) -> Result<Written, Fail> {
 fn example_13_1(rt: HostRuntime) -> Result<(), Fail> {
     for (reads, want) in [(11, Ok(())), (10, Err(RunFault::Read))] {
         let written = in_reads(&rt, reads)?;
-        assert_eq!(rt; (written.ended, written.text.as_str()), (want, "ok 1\n"));
+        assert!(rt;
+            equal(
+                &rt,
+                (written.ended, written.text.as_str()),
+                (want, "ok 1\n")
+            )
+        );
     }
     Ok(())
 }
@@ -98,12 +105,15 @@ fn misanswered_front(rt: &impl Host, all: &str, front: usize) -> Result<Option<S
 #[test]
 fn example_13_2(rt: HostRuntime) -> Result<(), Fail> {
     let all = input(rt.alloc(), EDITED_WORD)?;
-    assert_eq!(rt; all.len(), 63);
+    assert!(rt; equal(&rt, all.len(), 63));
     for front in 0..64 {
-        assert_eq!(rt;
-            misanswered_front(&rt, all.as_str(), front)?,
-            None,
-            "after {front}"
+        assert!(rt;
+            equal_at(
+                &rt,
+                front,
+                misanswered_front(&rt, all.as_str(), front)?,
+                None
+            )
         );
     }
     Ok(())
@@ -129,14 +139,20 @@ fn settled_after_bad_lines(rt: &impl Host, stage: &mut Stage) -> Result<(String,
 fn example_25(rt: HostRuntime) -> Result<(), Fail> {
     let mut stage = Stage::opened(rt.alloc(), base(rt.alloc())?, 0)?;
     let (text, settled) = settled_after_bad_lines(&rt, &mut stage)?;
-    assert_eq!(rt;
-        text.as_str(),
-        "bad line\nbad command\nbad command\nbad cut\n"
+    assert!(rt;
+        equal(
+            &rt,
+            text.as_str(),
+            "bad line\nbad command\nbad command\nbad cut\n"
+        )
     );
-    assert_eq!(rt;
-        (stage.bench.version(), stage.bench.project().word(0)),
-        (0, 10)
+    assert!(rt;
+        equal(
+            &rt,
+            (stage.bench.version(), stage.bench.project().word(0)),
+            (0, 10)
+        )
     );
-    assert_eq!(rt; settled, Came::Settled(66));
+    assert!(rt; equal(&rt, settled, Came::Settled(66)));
     Ok(())
 }
