@@ -28,6 +28,7 @@
 
 mod changed;
 mod grid;
+mod limits;
 mod line;
 mod no_memory;
 mod numbers;
@@ -35,6 +36,7 @@ mod reader;
 
 pub use changed::Changed;
 pub use grid::Grid;
+pub use limits::constants_are_limits;
 pub use line::Line;
 pub use no_memory::NoMemory;
 pub use numbers::{LONGEST, LineSlot, Number, Numbers, SlotFault};

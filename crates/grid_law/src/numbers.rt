@@ -1,6 +1,6 @@
 //! The slots of a line.
 ghost use Rattle.std.specs.Prelude.{◌≡◌, ◌<◌, ◌≤◌, ◌↔◌, List, [], ◌∷◌, length, None, IsNone, IsSome, IfSome, IfOk, IsErrOf, if◌then◌else◌, ◌==◌};
-ghost use Rattle.grid_law.specs.declared.numbers.TheConstants.{LONGEST};
+ghost use Rattle.grid_law.specs.Limits.{longest_line};
 ghost use Rattle.grid_law.specs.Numbers.{number_at, place_of, slot_value, slot_set};
 ghost use Rattle.grid_law.specs.Rules.{Differ};
 ghost use Rattle.grid_law.specs.Line.{line_rules};
@@ -73,19 +73,19 @@ pub struct Numbers {
 impl Model for Numbers {
     ghost use Rattle.std.specs.Prelude.{◌<◌, ◌≤◌, List, length};
     ghost use Rattle.grid_law.specs.declared.numbers.Number.{Number};
-    ghost use Rattle.grid_law.specs.declared.numbers.TheConstants.{LONGEST};
+    ghost use Rattle.grid_law.specs.Limits.{longest_line};
 
     ghost Value = { List Number };
 
     ghost view = { λ n. n.items.items };
 
-    ghost invariant = { λ n. (0 < length n.items.items) × (length n.items.items ≤ LONGEST) };
+    ghost invariant = { λ n. (0 < length n.items.items) × (length n.items.items ≤ longest_line) };
 }
 
 impl Numbers {
     /// The line of these places. None where there are none, or more than `LONGEST`.
     pub fn new(items: Vec<Number>) -> Option<Numbers>
-        ensures fits { IsSome result ↔ ((0 < length items.items) × (length items.items ≤ LONGEST)) }
+        ensures fits { IsSome result ↔ ((0 < length items.items) × (length items.items ≤ longest_line)) }
         ensures value { IfSome result (λ numbers. numbers ≡ items.items) }
     {
         if items.is_empty() || items.len() > LONGEST {
@@ -98,7 +98,7 @@ impl Numbers {
     pub fn count(&self) -> u32
         ensures count { result ≡ length self.now }
         ensures some { 0 < result }
-        ensures few { result ≤ LONGEST }
+        ensures few { result ≤ longest_line }
     {
         self.items.len() as u32
     }
