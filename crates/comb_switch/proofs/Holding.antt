@@ -29,7 +29,7 @@ module _ {X : Type 0} where
   later y x ys (k, lt, e) = (suc k, omega arith, e)
 
   -- an element of a list is the one at place i, or is there without that one, or with another in its place
-  removed : (xs : List X) (i : ℕ) (x : X) → Contains xs x → ((i < length xs) × (slice_index_or xs i x ≡ x)) ⊎ Contains (remove xs i) x
+  pub removed : (xs : List X) (i : ℕ) (x : X) → Contains xs x → ((i < length xs) × (slice_index_or xs i x ≡ x)) ⊎ Contains (remove xs i) x
   removed [] i x (k, lt, e) = absurd (omega arith)
   removed (y ∷ ys) zero x (zero, lt, e) = inl (omega arith, e)
   removed (y ∷ ys) zero x (suc k, lt, e) = inr (k, omega arith, e)
@@ -71,7 +71,7 @@ module _ (settings : CombSettings) where
   split_forth y None a = refl
   split_forth y (Some i) a = refl
 
-  returned_forth : (m : Option Reply) (a : CombState) → (returns_to settings m a).fwd ≡ a.fwd
+  pub returned_forth : (m : Option Reply) (a : CombState) → (returns_to settings m a).fwd ≡ a.fwd
   returned_forth None a = refl
   returned_forth (Some y) a = split_forth y (position (λ w. same_tag w.first y.tag) a.wait.items) a
 
@@ -97,7 +97,7 @@ module _ (settings : CombSettings) where
       by_case (inr back) = inr ((second_answer w y).word, back)
 
   -- a request that arrives leaves the entries that wait
-  joined_keeps : {X : Type 0} (q : ArrayVec X) (m x : X) → Contains q.items x → Contains (joined q (Some m)).items x
+  pub joined_keeps : {X : Type 0} (q : ArrayVec X) (m x : X) → Contains q.items x → Contains (joined q (Some m)).items x
   joined_keeps {X} q m x c = by_test (nat_lt (length q.items) queue_places)
     where
       by_test : (t : Bool) → (let next : ArrayVec X = cond t (record { items = q.items ++ m ∷ [] }) q in Contains next.items x)
@@ -115,7 +115,7 @@ module _ (settings : CombSettings) where
       by_test true = joined_keeps a.wait (waiting_for queued r) w c
       by_test false = c
 
-  arrived_entry : (m : Option Request) (a : CombState) (w : Waiting) → Contains a.wait.items w → Contains (arrives settings m a).wait.items w
+  pub arrived_entry : (m : Option Request) (a : CombState) (w : Waiting) → Contains a.wait.items w → Contains (arrives settings m a).wait.items w
   arrived_entry None a w c = c
   arrived_entry (Some r) a w c =
       let o = bit settings.bit r.place.«module» in
@@ -183,7 +183,7 @@ module _ (settings : CombSettings) where
       met_request q p (youngest_for q.place (queue_at a.fwd p).items) a xs ys o r e (low settings.bit q.place.«module») lo here
 
 -- the reply that came is among those that it becomes
-same_tags : (a b : Tag) → same_tag a b ≡ true → a ≡ b
+pub same_tags : (a b : Tag) → same_tag a b ≡ true → a ≡ b
 same_tags a b e =
     let parts = and_parts (a.proc == b.proc) (a.issue == b.issue) e in
     ap (λ p. tagged p a.issue) (eqb-true _ _ parts.0) ∙ ap (λ i. tagged b.proc i) (eqb-true _ _ parts.1)

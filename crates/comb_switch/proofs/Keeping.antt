@@ -124,7 +124,7 @@ meets_back settings r o (Some i) a = by_test (combines settings a.wait queued r)
     by_test true = refl
     by_test false = refl
 
-arrives_back : (settings : CombSettings) (m : Option Request) (a : CombState) → (arrives settings m a).rev ≡ a.rev
+pub arrives_back : (settings : CombSettings) (m : Option Request) (a : CombState) → (arrives settings m a).rev ≡ a.rev
 arrives_back settings None a = refl
 arrives_back settings (Some r) a =
     meets_back settings r (bit settings.bit r.place.«module») (youngest_for r.place (queue_at a.fwd (bit settings.bit r.place.«module»)).items) a

@@ -238,7 +238,7 @@ module _ (P : Project) (known : IsProject P) (S : List MachineState) where
   deep : (q : Depths) → depth_of P q ≤ queue_places
   deep q = leb-true _ _ (and_parts (nat_le (least_depth q) (depth_of P q)) (nat_le (depth_of P q) max_depth) (known.depths q)).1
 
-  few : P.wait ≤ queue_places
+  pub few : P.wait ≤ queue_places
   few = leb-true _ _ (and_parts (nat_le min_wait P.wait) (nat_le P.wait max_depth) known.wait).1
 
   abbrev state_of : Component → Option MachineState
@@ -268,7 +268,7 @@ module _ (P : Project) (known : IsProject P) (S : List MachineState) where
       subst G ends (upper_takes w (upper_state P S w) (lower_state P S w) y e)
 
   -- a component's next state
-  next_is : (x : Component) (s : MachineState) (fact : MachineState → Type 0) → Exists P.k x → state_of x ≡ Some s → fact (part_of P (moves P S) (Some x) s) → StateHas P (cycle P S) x fact
+  pub next_is : (x : Component) (s : MachineState) (fact : MachineState → Type 0) → Exists P.k x → state_of x ≡ Some s → fact (part_of P (moves P S) (Some x) s) → StateHas P (cycle P S) x fact
   next_is x s fact there is holds = (part_of P (moves P S) (Some x) s, after_cycle P S x there ∙ ap (option_map (part_of P (moves P S) (Some x))) is, holds)
 
   -- a switch and what comes to it
@@ -276,12 +276,12 @@ module _ (P : Project) (known : IsProject P) (S : List MachineState) where
     abbrev traffic : Traffic
     traffic = switch_traffic (moves P S) P.k net stage j
 
-    into_moved : (i : ℕ) → i < 2 → message_at traffic.requests i ≡ request_over P S (wire_into P.k net stage j i)
+    pub into_moved : (i : ℕ) → i < 2 → message_at traffic.requests i ≡ request_over P S (wire_into P.k net stage j i)
     into_moved zero lt = request_moved P S (wire_into P.k net stage j 0) (omega (arith, there.0)) (into_line P.k stage j 0 there.0 there.1 lt)
     into_moved (suc zero) lt = request_moved P S (wire_into P.k net stage j 1) (omega (arith, there.0)) (into_line P.k stage j 1 there.0 there.1 lt)
     into_moved (suc (suc i)) lt = absurd (omega arith)
 
-    out_moved : (o : ℕ) → o < 2 → message_at traffic.replies o ≡ reply_over P S (wire_out net stage j o)
+    pub out_moved : (o : ℕ) → o < 2 → message_at traffic.replies o ≡ reply_over P S (wire_out net stage j o)
     out_moved zero lt = reply_moved P S (wire_out net stage j 0) (omega (arith, there.0)) (out_line P.k stage j 0 there.0 there.1 lt)
     out_moved (suc zero) lt = reply_moved P S (wire_out net stage j 1) (omega (arith, there.0)) (out_line P.k stage j 1 there.0 there.1 lt)
     out_moved (suc (suc o)) lt = absurd (omega arith)
@@ -300,10 +300,10 @@ module _ (P : Project) (known : IsProject P) (S : List MachineState) where
         let G : MachineState → Type 0 = λ s. takes_reply_at P (wire_out net stage j o) y (Switch net stage j) s ≡ true in
         subst G (some_is (sym got.1 ∙ is)) got.2
 
-    input_is : (i : ℕ) → input_of P.k (wire_into P.k net stage j i) ≡ i
+    pub input_is : (i : ℕ) → input_of P.k (wire_into P.k net stage j i) ≡ i
     input_is i = div-mul-add i (half P.k) j there.1
 
-    output_is : (o : ℕ) → o < 2 → output_of (wire_out net stage j o) ≡ o
+    pub output_is : (o : ℕ) → o < 2 → output_of (wire_out net stage j o) ≡ o
     output_is o lt = omega arith
 
   low_takes : (stage j : ℕ) (s : LowState) → Exists P.k (Switch LowNet stage j) → state_of (Switch LowNet stage j) ≡ Some (Low s)

@@ -10,5 +10,6 @@ pub mod Agreeing
 pub mod Rows
 pub mod Resting
 pub mod Keeping
+pub mod Staying
 pub mod Listing
 pub mod Entries

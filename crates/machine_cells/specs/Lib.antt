@@ -12,3 +12,4 @@ pub mod Texts
 pub mod Pulls
 pub mod Quiet
 pub mod Kept
+pub mod Stay

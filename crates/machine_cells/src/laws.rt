@@ -1,5 +1,6 @@
 //! What is true of the machine's cells, of every project and every whole state.
 ghost use Rattle.machine_cells.specs.Kept.{NoMessageIsLost};
+ghost use Rattle.machine_cells.specs.Stay.{MessagesStay};
 ghost use Rattle.machine_cells.specs.Runs.{StartsAreParts, CellsAreParts, RunsAreOne};
 
 /// A cell's first state is its part of the machine's first states, and the step of its near states
@@ -20,4 +21,12 @@ pub fn runs_are_one()
 /// module serves stands in its queue; and each request that was combined waits, or the reply to it is on its way back.
 pub fn no_message_is_lost()
     ensures { NoMessageIsLost }
+{}
+
+/// A message that doesn't leave stays, in every whole state: each request and reply that waits and doesn't go over its wire
+/// stands one cycle later at its place in its queue, or one nearer the head where the first one went, or in its processor; so does each
+/// request that its module doesn't serve; a request may have gained the operation of one that was combined into it. And each entry
+/// of a wait buffer waits on where no reply to its first request comes.
+pub fn messages_stay()
+    ensures { MessagesStay }
 {}

@@ -13,7 +13,8 @@
 //!   near states, and on nothing else (`specs/Reads.antt`, `specs/GridLaws.antt`).
 //! - [`from_scratch`] is the run: the first states, then one cycle after another (`specs/Run.antt`),
 //!   which is also what the cells of the grid are, computed one from another ([`runs_are_one`]).
-//! - No message is lost ([`no_message_is_lost`], `specs/Kept.antt`).
+//! - No message is lost: each that moves arrives, and each that doesn't stays ([`no_message_is_lost`], `specs/Kept.antt`,
+//!   [`messages_stay`], `specs/Stay.antt`).
 //!
 //! A state is made where something changes. Where nothing does, the next state is the one before, with one more owner.
 //!
@@ -50,6 +51,6 @@ mod switch;
 mod text;
 
 pub use grid::Rp3;
-pub use laws::{no_message_is_lost, runs_are_one, steps_are_parts};
+pub use laws::{messages_stay, no_message_is_lost, runs_are_one, steps_are_parts};
 pub use scratch::{first_row, from_scratch, next_row};
 pub use state::MachineState;
