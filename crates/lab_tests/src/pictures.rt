@@ -2,8 +2,9 @@
 use expect::equal;
 use std::test::Fail;
 use svg_plots::{
-    Anchor, Axis, CellGroup, CellMap, Crossing, Curve, Curves, Escaped, Mark, Panel, Picture,
-    Scale, Spot, Stroke, Tenths, Tick, Writing, draw_curves, draw_map, log2_hundredths, tick_step,
+    Anchor, Axis, CellGroup, CellMap, Colour, Crossing, Curve, Curves, Escaped, Mark, Panel,
+    Picture, Scale, Spot, Stroke, Tenths, Tick, Writing, draw_curves, draw_map, log2_hundredths,
+    tick_step,
 };
 
 #[test]
@@ -95,12 +96,12 @@ const DRAWN: &str = "\
 fn elements_are_written(rt: HostRuntime) -> Result<(), Fail> {
     let (from, to) = (Spot { x: 10, y: 20 }, Spot { x: 30, y: 45 });
     let plain = Stroke {
-        colour: "#000000",
+        colour: Colour::Black,
         width: 10,
         dashed: false,
     };
     let dashed = Stroke {
-        colour: "#000000",
+        colour: Colour::Black,
         width: 10,
         dashed: true,
     };
@@ -109,20 +110,20 @@ fn elements_are_written(rt: HostRuntime) -> Result<(), Fail> {
         size: 12,
         bold: true,
     };
-    let mut picture = Picture::new(rt.alloc(), 40, 30, "1 < 2")?;
+    let mut picture = Picture::new(rt.alloc());
     picture.line(from, to, dashed)?;
-    picture.cell(from, 70, 5, "#ffffff")?;
+    picture.cell(from, 70, 5, Colour::Shade(0))?;
     picture.frame(from, to, plain)?;
     picture.words(from, how, "a&b")?;
-    picture.path(&[from, to], plain)?;
-    picture.path(&[from], plain)?;
-    picture.mark(to, Mark::Square, "#000000")?;
-    assert!(rt; equal(&rt, picture.close()?.as_str(), DRAWN));
+    picture.path(vec![in rt.alloc(); from, to]?, plain)?;
+    picture.path(vec![in rt.alloc(); from]?, plain)?;
+    picture.mark(to, Mark::Square, Colour::Black)?;
+    assert!(rt; equal(&rt, picture.draw(40, 30, "1 < 2")?.as_str(), DRAWN));
     Ok(())
 }
 
 const PLAIN: Stroke = Stroke {
-    colour: "#000000",
+    colour: Colour::Black,
     width: 10,
     dashed: false,
 };

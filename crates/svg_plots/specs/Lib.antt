@@ -1,3 +1,5 @@
+pub mod Colours
+pub mod Drawings
 pub mod Entities
 pub mod Places
 pub mod Texts

@@ -1,7 +1,7 @@
 //! Panels of curves, side by side.
 ghost use Rattle.std.specs.Prelude.{◌<◌};
 
-use crate::{Anchor, Mark, Picture, Scale, Spot, Stroke, Writing};
+use crate::{Anchor, Colour, Mark, Picture, Scale, Spot, Stroke, Writing};
 use std::alloc::{AllocError, Global};
 
 /// A place of an axis that has a number.
@@ -53,10 +53,10 @@ pub struct Curves<'a> {
 /// The width of a picture, in pixels.
 pub(crate) const WIDTH: u16 = 800;
 
-pub(crate) const INK: &str = "#1a1a1a";
+pub(crate) const INK: Colour = Colour::Ink;
 
 pub(crate) const FINE: Stroke = Stroke {
-    colour: "#d4d4d4",
+    colour: Colour::Pale,
     width: 8,
     dashed: false,
 };
@@ -210,12 +210,13 @@ fn draw_curve(
     for point in curve.points.as_slice() {
         spots.push(area.spot(*point))?;
     }
-    picture.path(spots.as_slice(), curve.stroke)?;
+
+    picture.path(spots, curve.stroke)?;
     let Some(mark) = curve.mark else {
         return Ok(());
     };
-    for spot in spots.as_slice() {
-        picture.mark(*spot, mark, curve.stroke.colour)?;
+    for point in curve.points.as_slice() {
+        picture.mark(area.spot(*point), mark, curve.stroke.colour)?;
     }
     Ok(())
 }
@@ -365,7 +366,7 @@ pub fn draw_curves(
     let columns = u32::from(curves.legend_columns).max(1);
     let rows = (named(labelled) + columns - 1) / columns;
     let height = 450 + 20 * few(rows as usize) + 17 * few(notes.len());
-    let mut picture = Picture::new(alloc, WIDTH, height as u16, curves.title)?;
+    let mut picture = Picture::new(alloc);
     picture.words(Spot { x: 200, y: 250 }, TITLE, curves.title)?;
     for (place, panel) in curves.panels.iter().enumerate() {
         let area = area_of(panel, place, curves.panels.len());
@@ -373,5 +374,5 @@ pub fn draw_curves(
     }
     let below = draw_legend(&mut picture, labelled, columns, BOTTOM + 640)?;
     draw_notes(&mut picture, notes, 200, below.saturating_add(60))?;
-    picture.close()
+    picture.draw(WIDTH, height as u16, curves.title)
 }

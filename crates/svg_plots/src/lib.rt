@@ -11,16 +11,20 @@
 //! documents say, and the logarithm, are pinned by tests.
 #![tactic(auto)]
 
+mod colour;
 mod curves;
+mod element;
 mod escaped;
 mod map;
 mod picture;
 mod scale;
 mod tenths;
 
+pub use colour::Colour;
 pub use curves::{Axis, Curve, Curves, Panel, Tick, draw_curves};
+pub use element::{Anchor, Element, Label, Mark, Spot, Spots, Stroke, Writing};
 pub use escaped::{Escaped, entity};
 pub use map::{CellGroup, CellMap, Crossing, draw_map};
-pub use picture::{Anchor, Mark, Picture, Spot, Stroke, Writing};
+pub use picture::Picture;
 pub use scale::{Scale, log2_hundredths, tick_step};
 pub use tenths::Tenths;

@@ -3,7 +3,7 @@ ghost use Rattle.std.specs.Prelude.{◌<◌};
 
 use crate::curves::{FRAME, INK, TITLE, WIDTH, draw_notes, few, plain};
 use crate::scale::tick_step;
-use crate::{Anchor, Picture, Scale, Spot, Stroke, Writing};
+use crate::{Anchor, Colour, Picture, Scale, Spot, Stroke, Writing};
 use std::alloc::{AllocError, Global};
 
 /// Rows that belong together, with one label.
@@ -44,27 +44,21 @@ pub struct CellMap<'a> {
     pub notes: &'a [&'a str],
 }
 
-/// From empty to full; each is darker than the one before.
-const SHADES: [&str; 9] = [
-    "#ffffff", "#e3eef9", "#c6dbef", "#9ecae1", "#6baed6", "#4292c6", "#2171b5", "#08519c",
-    "#08306b",
-];
-
 /// What marks a full cell: light on dark.
 const MARKED: Stroke = Stroke {
-    colour: "#ffd75e",
+    colour: Colour::Light,
     width: 12,
     dashed: false,
 };
 
 const LEVEL: Stroke = Stroke {
-    colour: "#1a1a1a",
+    colour: Colour::Ink,
     width: 15,
     dashed: false,
 };
 
 const CROSSING: Stroke = Stroke {
-    colour: "#d55e00",
+    colour: Colour::Vermilion,
     width: 10,
     dashed: true,
 };
@@ -74,14 +68,10 @@ const LEFT: u32 = 1_000;
 const RIGHT: u32 = 6_700;
 
 /// The shade of a number.
-fn shade(number: u8, most: u8) -> &'static str {
+fn shade(number: u8, most: u8) -> Colour {
     let most = u32::from(most).max(1);
     let number = u32::from(number).min(most);
-    let place = (number * 8).div_ceil(most);
-    match SHADES.get(place as usize) {
-        Some(shade) => shade,
-        None => "#08306b",
-    }
+    Colour::Shade((number * 16).div_ceil(most) as u8)
 }
 
 /// The heights of a map's parts, in tenths of a pixel.
@@ -222,7 +212,7 @@ fn draw_groups(
 }
 
 const GROUP: Stroke = Stroke {
-    colour: "#9a9a9a",
+    colour: Colour::Grey,
     width: 6,
     dashed: false,
 };
@@ -263,7 +253,7 @@ fn draw_levels(
         },
         GROUP,
     )?;
-    picture.path(spots.as_slice(), LEVEL)?;
+    picture.path(spots, LEVEL)?;
     let highest = format!(in alloc; "{}", map.highest)?;
     for (y, number) in [(up.end, highest.as_str()), (bottom, "0")] {
         picture.words(
@@ -463,7 +453,7 @@ pub fn draw_map(alloc: Global, map: &CellMap<'_>) -> Result<String, AllocError> 
             .saturating_add(140 * (u32::from(map.most) + 1)),
     ));
     let height = lowest.min(40_000) / 10 + 17 * few(map.notes.len());
-    let mut picture = Picture::new(alloc, WIDTH, height as u16, map.title)?;
+    let mut picture = Picture::new(alloc);
     picture.words(Spot { x: 200, y: 250 }, TITLE, map.title)?;
     draw_groups(&mut picture, map, across, heights)?;
     draw_crossings(&mut picture, map, across, heights)?;
@@ -477,5 +467,5 @@ pub fn draw_map(alloc: Global, map: &CellMap<'_>) -> Result<String, AllocError> 
         200,
         below.max(lowest.saturating_sub(100)),
     )?;
-    picture.close()
+    picture.draw(WIDTH, height as u16, map.title)
 }

@@ -1,6 +1,6 @@
 use Rattle.std.proofs.Common.{◌++◌, ap, ◌∙◌}
 use Rattle.svg_plots.specs.Texts.{root_text, title_text}
-use Rattle.svg_plots.proofs.picture.Picture.new.Goals as goal
+use Rattle.svg_plots.proofs.picture.opening.Goals as goal
 
 pub returns : goal.returns
 returns c =
