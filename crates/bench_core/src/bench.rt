@@ -9,6 +9,7 @@ ghost use Rattle.bench_core.specs.Stands.{Stands, HasHistory};
 mod asking;
 mod editing;
 mod looking;
+mod one_order;
 mod ordering;
 mod reporting;
 mod settling;

@@ -14,10 +14,10 @@ use std::test::Fail;
 use word_ops::{Kind, Op};
 
 /// Machines, each with what its run shows.
-type Examples<'a> = &'a [(Setup<'a>, &'a str)];
+pub(crate) type Examples<'a> = &'a [(Setup<'a>, &'a str)];
 
 /// The place in the list of the first machine whose run shows something else, with what it shows.
-fn surprise(alloc: Global, examples: Examples) -> Result<Option<(usize, String)>, Fail> {
+pub(crate) fn surprise(alloc: Global, examples: Examples) -> Result<Option<(usize, String)>, Fail> {
     for (place, (setup, want)) in examples.iter().enumerate() {
         let run = Run::of(alloc, setup)?;
         let shown = format!(in alloc; "{run}")?;

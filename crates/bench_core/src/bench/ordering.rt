@@ -1,6 +1,6 @@
 //! Serial orders.
 ghost use Rattle.std.specs.Prelude.{◌≡◌};
-ghost use Rattle.serial_order.specs.Answers.{AnswersOrder, AnswerExplains};
+ghost use Rattle.serial_order.specs.Answers.{AnswersOrder, AnswerExplains, AnswerIsTimely};
 ghost use Rattle.bench_core.specs.Shown.{project_of, held};
 
 use super::Bench;
@@ -10,8 +10,8 @@ use serial_order::{Ordered, States, order, order_in};
 
 /// The states that a table holds.
 #[derive(Clone, Copy)]
-struct Cells<'a> {
-    table: &'a Table<Rp3>,
+pub(super) struct Cells<'a> {
+    pub(super) table: &'a Table<Rp3>,
 }
 
 impl<'a> States for Cells<'a> {
@@ -31,6 +31,7 @@ impl Bench {
     pub fn order(&self, address: u32) -> Ordered
         ensures order { AnswersOrder (project_of self.now) address result }
         ensures explains { AnswerExplains (project_of self.now) address result }
+        ensures timely { AnswerIsTimely (project_of self.now) address result }
     {
         let alloc = *self.journal.allocator();
         if self.pending_to(self.project().horizon()) == 0 {
