@@ -29,7 +29,12 @@ use verdict::{Verdict, status_after};
 const EXAMPLES: [&str; 4] = ["hot_word", "one_module", "saturation", "spin_lock"];
 
 /// The pages that are played.
-const PAGES: [&str; 2] = ["README.md", "docs/LESSON.md"];
+const PAGES: [&str; 4] = [
+    "README.md",
+    "docs/LESSON.md",
+    "docs/LAB.md",
+    "examples/README.md",
+];
 
 fn main(rt: HostRuntime) -> io::Result<ExitCode> {
     let mut status = 0;
