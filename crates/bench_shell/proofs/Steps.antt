@@ -1,5 +1,5 @@
 -- Lemmas on what a run has done so far.
-use Rattle.std.proofs.Common.{◌≡◌, ◌≢◌, ◌⊎◌, inl, inr, ℕ, ◌+◌, ◌<◌, ◌≤◌, Bool, true, false, List, [], ◌∷◌, ◌++◌, length, get_or, take, drop, refl, sym, ◌∙◌, ap, subst, append_assoc, append-nil, take-append-drop, arith}
+use Rattle.std.proofs.Common.{◌≡◌, ◌⊎◌, inl, inr, ℕ, ◌+◌, ◌<◌, ◌≤◌, Bool, true, false, List, [], ◌∷◌, ◌++◌, length, get_or, take, drop, refl, sym, ◌∙◌, ap, subst, append_assoc, append-nil, take-append-drop, arith}
 use Rattle.std.proofs.lemmas.List.{take_more, length-append}
 use Rattle.std.specs.Prelude.{◌==◌, if◌then◌else◌, Option, Some, None, Result, Ok, Err, IfOk, IfErr, OnOk, OnErr, IfSome}
 use Rattle.std.specs.Io.KnownBytes.{Appends, Consumes, Keeps, IsAtEnd}
@@ -9,7 +9,7 @@ use Rattle.bench_shell.specs.Store.{Store}
 use Rattle.bench_shell.specs.Text.{line_text}
 use Rattle.bench_shell.specs.Cause.{HasCause}
 use Rattle.bench_shell.specs.Lines.{Whole, lines_of}
-use Rattle.bench_shell.specs.Output.{output, store_after, reply, after, command_in, is_long as is_long_line, is_ok, none_ok, lines_text, MayStop, FirstIs, StopsAt, StopsBy, StopsIn, AnswersAll, AnswersPart, AnswersOwn}
+use Rattle.bench_shell.specs.Output.{output, store_after, reply, after, command_in, is_long as is_long_line, is_ok, none_ok, lines_text, has_body, AnswersBody, MayStop, FirstIs, StopsAt, StopsBy, StopsIn, AnswersAll, AnswersPart, AnswersOwn}
 use Rattle.bench_shell.specs.Steps.{has_lf, Holds, AnswersLine, Reaches, StopsWithin, Moves, Fails, Goes, GoesOn, FailsOn}
 use Rattle.bench_shell.specs.declared.fault.RunFault.{RunFault}
 use Rattle.bench_shell.specs.declared.fault.RunFault.TheVariants.{Read, Write, OtherEditor, Memory, Clock}
@@ -119,12 +119,13 @@ stops_writing spent Memory s line rest write h = absurd h
 stops_writing spent Clock s line rest write h = absurd h
 
 -- or the text of an answer has found no memory
-pub stops_printing : (spent : Type 0) (f : RunFault) (s : Store) (line rest : List ℕ) (write : Type 0) → HasCause {T = Unit {0}} (Err f) ⊥ write ⊥ (Unit {0}) ⊥ → line ≢ [] → StopsBy spent f s line rest
-stops_printing spent Read s line rest write h some = absurd h
-stops_printing spent Write s line rest write h some = tt
-stops_printing spent OtherEditor s line rest write h some = absurd h
-stops_printing spent Memory s line rest write h some = inl some
-stops_printing spent Clock s line rest write h some = absurd h
+pub stops_printing : (spent : Type 0) (f : RunFault) (s : Store) (line rest : List ℕ) (write memory : Type 0) → HasCause {T = Unit {0}} (Err f) ⊥ write ⊥ memory ⊥
+    → (memory → AnswersBody s (lines_of line)) → StopsBy spent f s line rest
+stops_printing spent Read s line rest write memory h body = absurd h
+stops_printing spent Write s line rest write memory h body = tt
+stops_printing spent OtherEditor s line rest write memory h body = absurd h
+stops_printing spent Memory s line rest write memory h body = inl (body h)
+stops_printing spent Clock s line rest write memory h body = absurd h
 
 -- or a line that isn't obeyed
 stops_ahead : (spent : Type 0) (f : RunFault) (s : Store) (rest : List ℕ) → StopsAt spent f s (lines_of rest) → StopsBy spent f s [] rest
@@ -143,16 +144,37 @@ stops_more spent Read s line rest more h = tt
 stops_more spent Write s line rest more h = tt
 stops_more spent OtherEditor s line rest more h = tt
 stops_more spent Memory s line rest more h =
-    elim h [ inl some ↦ inl some | inr at ↦ inr (first_stays (λ l. (is_long_line l ≡ false) × MayStop spent Memory s (command_in s l)) rest more at) ]
+    elim h [ inl body ↦ inl body | inr at ↦ inr (first_stays (λ l. (is_long_line l ≡ false) × MayStop spent Memory s (command_in s l)) rest more at) ]
 stops_more spent Clock s line rest more h = (h.0, first_stays (λ l. (is_long_line l ≡ false) × MayStop spent Clock s (command_in s l)) rest more h.1)
 
-pub some_line : (line : List ℕ) (b : ℕ) (more : List ℕ) → line ++ b ∷ more ≢ []
-some_line [] b more h = absurd cc
-some_line (c ∷ line) b more h = absurd cc
+pub body_line : (s : Store) (line : List ℕ) → has_lf line ≡ false → AnswersBody s (Whole line ∷ []) → AnswersBody s (lines_of (line ++ 10 ∷ []))
+body_line s line p h = rw (lines_of-whole line [] p) h
 
-pub some_by : (line : List ℕ) → 0 < length line → line ≢ []
-some_by [] some h = absurd (omega (arith, some))
-some_by (b ∷ line) some h = absurd cc
+-- whose answer has a body, by what is held of it
+pub line_body : {E : Type 0} (r : Result Answer E) (s : Store) (is_long : Bool) (h : List ℕ) (cmd : Option Command) → is_long ≡ false → length h ≤ 4096
+    → cmd ≡ command_in s h → IfOk r (λ a. a ≡ reply s cmd) → IfOk r (λ a. has_body a ≡ true → (line : List ℕ) → Holds is_long h line → AnswersBody s (Whole line ∷ []))
+line_body (Ok a) s is_long h cmd e fits is answer = λ body line p.
+    let same : h ≡ line = sym (p.short e) in
+    let told : a ≡ reply s (command_in s h) = answer ∙ ap (reply s) is in
+    subst (λ l. (is_long_line l ≡ false) × (has_body (reply s (command_in s l)) ≡ true)) same (is_long-no h fits, sym (ap has_body told) ∙ body)
+line_body (Err x) s is_long h cmd e fits is answer = tt
+
+-- no memory was wanted
+pub no_body : {T : Type 0} (r : Result T RunFault) (write memory : Type 0) → (memory → ⊥) → HasCause r ⊥ write ⊥ memory ⊥ → HasCause r ⊥ write ⊥ ⊥ ⊥
+no_body (Ok x) write memory none h = tt
+no_body (Err Read) write memory none h = h
+no_body (Err Write) write memory none h = h
+no_body (Err OtherEditor) write memory none h = h
+no_body (Err Memory) write memory none h = none h
+no_body (Err Clock) write memory none h = h
+
+pub some_body : {T : Type 0} (r : Result T RunFault) (write memory : Type 0) → HasCause r ⊥ write ⊥ ⊥ ⊥ → HasCause r ⊥ write ⊥ memory ⊥
+some_body (Ok x) write memory h = tt
+some_body (Err Read) write memory h = h
+some_body (Err Write) write memory h = h
+some_body (Err OtherEditor) write memory h = h
+some_body (Err Memory) write memory h = absurd h
+some_body (Err Clock) write memory h = h
 
 -- what a line that isn't obeyed is, by what is held of it
 pub line_stops : {E : Type 0} (r : Result E RunFault) (spent : Type 0) (s : Store) (is_long : Bool) (h : List ℕ) (cmd : Option Command) → is_long ≡ false → length h ≤ 4096
@@ -164,7 +186,7 @@ line_stops (Err f) spent s is_long h cmd e fits is stops = λ line p.
 
 -- of whose answer a part is written
 pub fails_line : (spent : Type 0) (fault : RunFault) (s t : Store) (is_long : Bool) (h : List ℕ) (a : Answer) (part missing : List ℕ)
-    → ((line : List ℕ) → Holds is_long h line → AnswersLine s line a t) → line_text a ≡ part ++ missing → ((line : List ℕ) → StopsBy spent fault s (line ++ 10 ∷ []) [])
+    → ((line : List ℕ) → Holds is_long h line → AnswersLine s line a t) → line_text a ≡ part ++ missing → ((line : List ℕ) → Holds is_long h line → StopsBy spent fault s (line ++ 10 ∷ []) [])
     → Fails spent fault s is_long h (10 ∷ []) part t
 fails_line spent fault s t is_long h a part missing f e why = λ line p.
     let ended = f line p in record {
@@ -180,7 +202,7 @@ fails_line spent fault s t is_long h a part missing f e why = λ line p.
       is_written = refl;
       answer = ended.0 ∙ e;
       is_store = ended.1;
-      why = why line;
+      why = why line p;
     }
 
 -- a line that isn't obeyed
@@ -574,21 +596,20 @@ abbrev pub Ends : Bool → List ℕ → List ℕ → Type 0
 Ends is_long h written = (line : List ℕ) → Holds is_long h line → (s : Store) → output s line ≡ written
 
 abbrev pub EndsPart : Bool → List ℕ → List ℕ → Type 0
-EndsPart is_long h written = (line : List ℕ) → Holds is_long h line → (line ≢ []) × ((s : Store) → (missing : List ℕ) × (output s line ≡ written ++ missing))
+EndsPart is_long h written = (line : List ℕ) → Holds is_long h line → (s : Store) → (missing : List ℕ) × (output s line ≡ written ++ missing)
 
 pub so_far_last : (spent : Type 0) (fault : RunFault) (write : Type 0) (r0 r1 r2 w0 w1 w2 : Option (List ℕ)) (s t : Store) (is_long : Bool) (h : List ℕ)
-    → SoFar r0 r1 w0 w1 s t is_long h → Consumes r1 r2 [] → HasCause {T = Unit {0}} (Err fault) ⊥ write ⊥ (Unit {0}) ⊥
+    → SoFar r0 r1 w0 w1 s t is_long h → Consumes r1 r2 [] → HasCause {T = Unit {0}} (Err fault) ⊥ write ⊥ ⊥ ⊥
     → (written : List ℕ) × Appends w1 w2 written × EndsPart is_long h written → AnswersPart spent fault r0 r2 w0 w2 s t
 so_far_last spent fault write r0 r1 r2 w0 w1 w2 s t is_long h p c cause q =
     let m = p.4 [] holds_none in
-    let ends = q.2 m.line m.holds in
-    let missing = ends.1 t in
+    let missing = q.2 m.line m.holds t in
     let P : List ℕ → Type 0 = λ read. StopsIn spent fault s read (p.1 ++ q.0) t in (
       p.0 ++ [],
       p.1 ++ q.0,
       Consumes-trans r0 r1 r2 p.0 [] p.2 c,
       Appends-trans w0 w1 w2 p.1 q.0 p.3 q.1,
-      subst P (sym (append-nil p.0)) (cut_in spent fault s t p.0 p.1 q.0 missing.0 is_long h m missing.1 (stops_printing spent fault (store_after s m.before) m.line [] write cause ends.0)),
+      subst P (sym (append-nil p.0)) (cut_in spent fault s t p.0 p.1 q.0 missing.0 is_long h m missing.1 (stops_writing spent fault (store_after s m.before) m.line [] write cause)),
     )
 
 -- all was read, and all is answered

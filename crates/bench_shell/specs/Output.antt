@@ -1,5 +1,5 @@
 -- The output for an input: a line for each line.
-use Rattle.std.specs.Prelude.{◌≡◌, ◌≢◌, ◌⊎◌, ℕ, ◌+◌, ◌<◌, ◌≤◌, Bool, true, false, List, [], ◌∷◌, ◌++◌, length, Option, None, Some, Result, Ok, Err, nat_lt, if◌then◌else◌}
+use Rattle.std.specs.Prelude.{◌≡◌, ◌⊎◌, ℕ, ◌+◌, ◌<◌, ◌≤◌, Bool, true, false, List, [], ◌∷◌, ◌++◌, length, Option, None, Some, Result, Ok, Err, nat_lt, if◌then◌else◌}
 use Rattle.std.specs.Io.KnownBytes.{Appends, Consumes, IsAtEnd}
 use Rattle.page_map.specs.Limits.{address_count}
 use Rattle.project_book.specs.Edits.{accepts}
@@ -106,6 +106,12 @@ MayStop spent Memory s c = TakesMemory spent s c
 MayStop spent Clock s c = spent × TakesClock s c
 MayStop spent fault s c = Unit {0}
 
+-- an answer with a body, which may be long
+abbrev pub has_body : Answer → Bool
+has_body (Says v body) = true
+has_body (Ordered v tags) = true
+has_body _ = false
+
 -- the first line is whole, with such bytes
 abbrev pub FirstIs : (List ℕ → Type 0) → List Line → Type 0
 FirstIs P (Whole l ∷ ls) = P l
@@ -115,10 +121,14 @@ FirstIs P _ = ⊥
 abbrev pub StopsAt : Type 0 → RunFault → Store → List Line → Type 0
 StopsAt spent fault s ls = FirstIs (λ l. (is_long l ≡ false) × MayStop spent fault s (command_in s l)) ls
 
+-- its answer has a body
+abbrev pub AnswersBody : Store → List Line → Type 0
+AnswersBody s ls = FirstIs (λ l. (is_long l ≡ false) × (has_body (reply s (command_in s l)) ≡ true)) ls
+
 -- Why a run stops with this fault, which has obeyed a line, or none, and not what follows: for a spent clock only at a
--- command that can find it so; for want of memory at one that can find none, or with the text of an answer.
+-- command that can find it so; for want of memory at one that can find none, or with the text of an answer that has a body.
 abbrev pub StopsBy : Type 0 → RunFault → Store → List ℕ → List ℕ → Type 0
-StopsBy spent Memory s line rest = (line ≢ []) ⊎ StopsAt spent Memory s (lines_of rest)
+StopsBy spent Memory s line rest = AnswersBody s (lines_of line) ⊎ StopsAt spent Memory s (lines_of rest)
 StopsBy spent Clock s line rest = (line ≡ []) × StopsAt spent Clock s (lines_of rest)
 StopsBy spent fault s line rest = Unit {0}
 

@@ -1,11 +1,11 @@
 //! From a reader to a writer, line by line.
-ghost use Rattle.std.specs.Prelude.{◌≡◌, ◌≢◌, ◌⊎◌, ℕ, List, [], ◌∷◌, ◌++◌, true, false, OnOk, OnErr, IfOk, IfErr, IfSome, Some, ◌≤◌, length};
+ghost use Rattle.std.specs.Prelude.{◌≡◌, ◌⊎◌, ℕ, List, [], ◌∷◌, ◌++◌, true, false, OnOk, OnErr, IfOk, IfErr, IfSome, Some, ◌≤◌, length};
 ghost use Rattle.std.specs.Io.KnownBytes.{Appends, Keeps};
 ghost use Rattle.bench_shell.specs.Cause.{HasCause, CantRead};
 ghost use Rattle.project_book.specs.declared.edit.Edit.{Edit as AnyEdit};
 ghost use Rattle.bench_shell.specs.Store.{Store, version_in, edited_store};
 ghost use Rattle.bench_shell.specs.Text.{line_text};
-ghost use Rattle.bench_shell.specs.Output.{reply, after, command_in, output, is_ok, none_ok, lines_text, MayStop, StopsAt, AnswersAll, AnswersPart, AnswersOwn};
+ghost use Rattle.bench_shell.specs.Output.{reply, after, command_in, output, is_ok, none_ok, lines_text, has_body, MayStop, StopsAt, AnswersBody, AnswersAll, AnswersPart, AnswersOwn};
 ghost use Rattle.bench_shell.specs.Own.{edit_of, EditsAsRead};
 ghost use Rattle.bench_shell.specs.Lines.{Whole, lines_of};
 ghost use Rattle.bench_shell.specs.Steps.{Holds, AnswersLine, GoesOn, FailsOn, EditsLine, EditsOn, EditsIn};
@@ -47,17 +47,32 @@ fn write_bytes<W: Sink>(writer: &mut W, bytes: &[u8]) -> Result<(), RunFault>
     Ok(())
 }
 
-/// Writes the line of an answer.
-fn write_line<W: Sink>(alloc: Global, writer: &mut W, answer: Answer) -> Result<(), RunFault>
+/// Writes the line of an answer that has a body.
+fn write_body<W: Sink>(alloc: Global, writer: &mut W, answer: Answer) -> Result<(), RunFault>
+    requires { has_body answer ≡ true }
     ensures ok { OnOk result (Appends (W.contents writer.old) (W.contents writer.new) (line_text answer)) }
     ensures err { OnErr result ((told later : List ℕ) × Appends (W.contents writer.old) (W.contents writer.new) told × (line_text answer ≡ told ++ later)) }
-    ensures cause { HasCause result ⊥ (W.has_failed writer.new ≡ true) ⊥ (Unit {0}) ⊥ }
+    ensures cause { HasCause result ⊥ (W.has_failed writer.new ≡ true) ⊥ (has_body answer ≡ true) ⊥ }
     ensures same_reference { W.lender writer.new ≡ W.lender writer.old }
 {
     let Ok(text) = format!(in alloc; "{answer}\n") else {
         return Err(RunFault::Memory);
     };
     write_bytes(writer, text.as_bytes())
+}
+
+/// Writes the line of an answer. Only that of an answer with a body takes memory.
+#[tactic(auto, using(crate::proofs::Steps::some_body))]
+fn write_line<W: Sink>(alloc: Global, writer: &mut W, answer: Answer) -> Result<(), RunFault>
+    ensures ok { OnOk result (Appends (W.contents writer.old) (W.contents writer.new) (line_text answer)) }
+    ensures err { OnErr result ((told later : List ℕ) × Appends (W.contents writer.old) (W.contents writer.new) told × (line_text answer ≡ told ++ later)) }
+    ensures cause { HasCause result ⊥ (W.has_failed writer.new ≡ true) ⊥ (has_body answer ≡ true) ⊥ }
+    ensures same_reference { W.lender writer.new ≡ W.lender writer.old }
+{
+    match answer.short_line() {
+        Some(line) => write_bytes(writer, line.as_str().as_bytes()),
+        None => write_body(alloc, writer, answer),
+    }
 }
 
 /// Hands on all that was written.
@@ -78,7 +93,7 @@ fn tell<W: Sink>(alloc: Global, writer: &mut W, answer: Answer) -> Result<(), Ru
     ensures ok { OnOk result (Appends (W.contents writer.old) (W.contents writer.new) (line_text answer)) }
     ensures err { OnErr result ((told later : List ℕ) × Appends (W.contents writer.old) (W.contents writer.new) told × (line_text answer ≡ told ++ later)) }
     ensures flushed { OnOk result (W.is_flushed writer.new ≡ true) }
-    ensures cause { HasCause result ⊥ (W.has_failed writer.new ≡ true) ⊥ (Unit {0}) ⊥ }
+    ensures cause { HasCause result ⊥ (W.has_failed writer.new ≡ true) ⊥ (has_body answer ≡ true) ⊥ }
     ensures same_reference { W.lender writer.new ≡ W.lender writer.old }
 {
     match write_line(alloc, writer, answer) {
@@ -170,6 +185,8 @@ fn line_answer<T: Threads + Sync, D: Desk>(
     ensures kept { D.is_alone desk.new → OnErr result (D.store desk.new ≡ D.store desk.old) }
     ensures stops { D.is_alone desk.new → IfErr result (λ f. (line : List ℕ) → Holds held.now.is_long held.now.bytes.items line
         → StopsAt (D.clock_is_spent desk.new) f (D.store desk.old) (Whole line ∷ [])) }
+    ensures body { D.is_alone desk.new → IfOk result (λ a. has_body a ≡ true → (line : List ℕ) → Holds held.now.is_long held.now.bytes.items line
+        → AnswersBody (D.store desk.old) (Whole line ∷ [])) }
     ensures edits { (line : List ℕ) → Holds held.now.is_long held.now.bytes.items line → EditsLine (D.store desk.old) line (D.store desk.new) }
     ensures own { IfOk result (λ a. is_ok a ≡ true → D.is_alone desk.new) }
 {
@@ -282,13 +299,13 @@ fn take_piece<T: Threads + Sync, W: Sink, D: Desk>(
 fn finish<W: Sink>(alloc: Global, held: &Held, writer: &mut W) -> Result<(), RunFault>
     requires flushed { W.is_flushed writer.old ≡ true }
     ensures flushed { OnOk result (W.is_flushed writer.new ≡ true) }
-    ensures cause { HasCause result ⊥ (W.has_failed writer.new ≡ true) ⊥ (Unit {0}) ⊥ }
+    ensures cause { HasCause result ⊥ (W.has_failed writer.new ≡ true) ⊥ ⊥ ⊥ }
     ensures ok { OnOk result ((written : List ℕ) × Appends (W.contents writer.old) (W.contents writer.new) written
         × ((line : List ℕ) → Holds held.now.is_long held.now.bytes.items line → (s : Store) → output s line ≡ written)
         × ((answers : List AnyAnswer) × (written ≡ lines_text answers) × (none_ok answers ≡ true)
         × ((line : List ℕ) → Holds held.now.is_long held.now.bytes.items line → length answers ≡ length (lines_of line)))) }
     ensures err { OnErr result ((written : List ℕ) × Appends (W.contents writer.old) (W.contents writer.new) written
-        × ((line : List ℕ) → Holds held.now.is_long held.now.bytes.items line → (line ≢ []) × ((s : Store) → (missing : List ℕ) × (output s line ≡ written ++ missing)))) }
+        × ((line : List ℕ) → Holds held.now.is_long held.now.bytes.items line → (s : Store) → (missing : List ℕ) × (output s line ≡ written ++ missing))) }
     ensures same_reference { W.lender writer.new ≡ W.lender writer.old }
 {
     if held.is_long {

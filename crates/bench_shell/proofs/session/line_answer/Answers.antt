@@ -1,6 +1,6 @@
 use Rattle.std.proofs.Common.{◌∙◌, ap, ◌≤◌, length, inl, refl}
 use Rattle.bench_shell.specs.Output.{command_in}
-use Rattle.bench_shell.proofs.Steps.{long_answered, line_answered, line_stops}
+use Rattle.bench_shell.proofs.Steps.{long_answered, line_answered, line_stops, line_body}
 use Rattle.bench_shell.proofs.Own.{line_edits}
 use Rattle.bench_shell.proofs.session.line_answer.Goals as goal
 
@@ -33,3 +33,14 @@ returns-clause-edits g c =
     let fits : length h ≤ 4096 = rw (← c.as_slice.ensures.value) c.as_slice.ensures.fits in
     line_edits s (g.D.Desk.store c.obey.new.desk) c.args.held.now.is_long h c.command_in-command.result c.if-held.false fits
     (c.command_in-command.ensures ∙ ap (command_in s) c.as_slice.ensures.value) c.obey.ensures.edits
+
+pub returns-then-held-clause-body : goal.returns-then-held-clause-body
+returns-then-held-clause-body g c = λ alone body. absurd cc
+
+pub returns-clause-body : goal.returns-clause-body
+returns-clause-body g c = λ alone.
+    let h = c.args.held.now.bytes.items in
+    let s = g.D.Desk.store c.args.desk.now in
+    let fits : length h ≤ 4096 = rw (← c.as_slice.ensures.value) c.as_slice.ensures.fits in
+    line_body c.obey.result s c.args.held.now.is_long h c.command_in-command.result c.if-held.false fits
+    (c.command_in-command.ensures ∙ ap (command_in s) c.as_slice.ensures.value) (c.obey.ensures.answer alone)

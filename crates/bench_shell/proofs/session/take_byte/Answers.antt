@@ -1,7 +1,7 @@
 use Rattle.std.proofs.Common.{false, [], ◌∷◌, ◌++◌}
 use Rattle.std.proofs.KnownBytes.{Appends-nil}
 use Rattle.std.proofs.lemmas.Result.{on_ok_weaker}
-use Rattle.bench_shell.proofs.Steps.{goes_held, goes_line, fails_line, fails_at_once, if_err, at_err, some_line, stops_printing, stops_line}
+use Rattle.bench_shell.proofs.Steps.{goes_held, goes_line, fails_line, fails_at_once, if_err, at_err, body_line, stops_printing, stops_line}
 use Rattle.bench_shell.proofs.Own.{edits_held, edits_line, edits_in}
 use Rattle.bench_shell.proofs.Writes.{kept_ok, kept_err}
 use Rattle.bench_shell.proofs.session.take_byte.Goals as goal
@@ -63,7 +63,7 @@ returns-in-Ok-clause-fails g c = λ alone.
       q.0,
       q.2,
       fails_line spent f s (g.D.Desk.store c.line_answer.new.desk) held.is_long held.bytes.items answer q.0 q.1 (c.in-Ok.ensures.answers alone) q.3
-          (λ line. stops_printing spent f s (line ++ 10 ∷ []) [] _ cause (some_line line 10 [])),
+          (λ line p. stops_printing spent f s (line ++ 10 ∷ []) [] _ _ cause (λ body. body_line s line p.no_lf (c.in-Ok.ensures.body alone body line p))),
     )))
 
 pub returns-in-Err-clause-fails : goal.returns-in-Err-clause-fails

@@ -3,7 +3,7 @@ use Rattle.std.proofs.lemmas.Result.{on_ok_weaker, on_err_weaker}
 use Rattle.bench_shell.specs.Text.{text_of}
 use Rattle.bench_shell.proofs.Printing.{answer_shows, with_lf}
 use Rattle.bench_shell.proofs.Writes.{Appends-same, Part-same}
-use Rattle.bench_shell.proofs.session.write_line.Goals as goal
+use Rattle.bench_shell.proofs.session.write_body.Goals as goal
 
 pub returns-clause-ok : goal.returns-clause-ok
 returns-clause-ok g c =
