@@ -5,6 +5,7 @@ use Rattle.page_map.specs.Limits.{page_words}
 use Rattle.page_map.specs.Places.{Page}
 use Rattle.page_map.specs.declared.place.Place.{Place}
 use Rattle.omega_net.specs.Wires.{below}
+use Rattle.omega_net.specs.declared.message.Tag.{Tag}
 use Rattle.ref_proc.specs.declared.state.Outgoing.{Outgoing}
 use Rattle.project_book.specs.Project.{Project, page_of}
 use Rattle.machine_cells.specs.declared.state.MachineState.{MachineState}
@@ -41,8 +42,11 @@ first_issue P at n zero = None
 first_issue P at n (suc t) = first_of (first_issue P at n t) (issued_in P n t (at t))
 
 -- what is served in each step, with the cycle after it: by cycle, and in a cycle by module
+abbrev pub service_at : ℕ → Tag → Service
+service_at cycle tag = record { cycle = cycle; tag = tag }
+
 abbrev pub step_services : Project → (ℕ → ℕ → Option MachineState) → ℕ → List Service
-step_services P at t = map (λ tag. record { cycle = t + 1; tag = tag }) (all_now P (at t))
+step_services P at t = map (service_at (t + 1)) (all_now P (at t))
 
 abbrev pub services : Project → (ℕ → ℕ → Option MachineState) → List Service
 services P at = flat_map (step_services P at) (below P.horizon)

@@ -1,5 +1,5 @@
 //! Where the bars of references stand in a space-time diagram.
-ghost use Rattle.std.specs.Prelude.{◌≡◌, ◌<◌, ◌^◌, IfOk, sum, take};
+ghost use Rattle.std.specs.Prelude.{◌≡◌, ◌<◌, ◌≤◌, ◌^◌, IfOk, length, sum, take};
 ghost use Rattle.std.specs.Option.{option_copied};
 ghost use Rattle.experiments.specs.Lanes.{greatest, lane_count, lane_counts, lane_of, most_reach, own_lane, reach_to, rows_of, was_open_at};
 
@@ -97,19 +97,27 @@ pub fn lane_counts(
     Ok(counts)
 }
 
-/// How many lanes the first processors have together.
+/// How many lanes some processors have together.
+fn lanes_of(counts: &[u32]) -> u64
+    requires { length counts.now ≤ 255 }
+    ensures sum { result ≡ sum counts.now }
+    ensures small { result < 2 ^ 40 }
+{
+    let mut lanes: u64 = 0;
+    for count in counts {
+        lanes += u64::from(*count);
+    }
+    lanes
+}
+
+/// How many lanes the processors before one have together.
+#[tactic(auto, using(crate::proofs::Greatest::take_few))]
 fn lanes_before(counts: &[u32], proc: u8) -> u64
     ensures sum { result ≡ sum (take proc counts.now) }
     ensures small { result < 2 ^ 40 }
 {
-    let mut lanes: u64 = 0;
-    for (place, count) in counts.iter().enumerate() {
-        if place >= usize::from(proc) {
-            break;
-        }
-        lanes += u64::from(*count);
-    }
-    lanes
+    let few = counts.len().min(usize::from(proc));
+    lanes_of(&counts[..few])
 }
 
 /// The lane of an issue number among those of its processor.

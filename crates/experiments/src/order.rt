@@ -1,9 +1,9 @@
 //! The one order of a run's references, with the cycles that each took.
-ghost use Rattle.std.specs.Prelude.{◌≡◌, ◌<◌, ◌≤◌, ◌++◌, ℕ, suc, IfOk, OnOk, map, option_map};
+ghost use Rattle.std.specs.Prelude.{◌≡◌, ◌<◌, ◌≤◌, ◌++◌, ℕ, suc, IfOk, OnOk, map};
 ghost use Rattle.std.specs.Arc.{arc_value};
 ghost use Rattle.std.specs.Option.{option_copied};
-ghost use Rattle.page_map.specs.Limits.{address_count};
-ghost use Rattle.project_book.specs.Project.{place_in};
+ghost use Rattle.page_map.specs.Limits.{max_k};
+ghost use Rattle.project_book.specs.Project.{page_of, place_in};
 ghost use Rattle.machine_cells.specs.Run.{run};
 ghost use Rattle.machine_cells.specs.Runs.{state_in};
 ghost use Rattle.serial_order.specs.OneOrder.{one_order};
@@ -26,7 +26,7 @@ use std::alloc::{AllocError, Global};
 use std::sync::Arc;
 
 /// Where a reference was issued, and in which cycle: that of the first state that shows it.
-#[derive(Clone, Copy, PartialEq, Eq, Debug)]
+#[derive(Clone, Copy)]
 pub struct Issue {
     pub cycle: u32,
     pub place: Place,
@@ -42,7 +42,7 @@ struct Service {
 }
 
 /// A reference in the one order of a run.
-#[derive(Clone, Copy, PartialEq, Eq, Debug)]
+#[derive(Clone, Copy)]
 pub struct OrderRow {
     /// Its number in the order, from 1.
     pub number: u64,
@@ -69,18 +69,29 @@ impl<'a> States for Rows<'a> {
     }
 }
 
-/// The address that stands at a place: the pages are spread in the order of their addresses.
+/// The amount and base of a page; those of module 0 alone where there is no such page.
+fn spread_of(project: &Project, page: u32) -> (u32, u32)
+    ensures amount { result.0 ≡ (page_of project.now page).amount }
+    ensures base { result.1 ≡ (page_of project.now page).base }
+    ensures small { result.0 ≤ max_k }
+{
+    project.is_project();
+    match project.pages().page(page) {
+        Some(spread) => spread,
+        None => (0, 0),
+    }
+}
+
+/// The address that stands at a place.
 fn address_at(project: &Project, place: Place) -> u32
     ensures address { result ≡ address_at project.now place }
-    ensures back { (a : ℕ) → a < address_count → place_in project.now a ≡ place → result ≡ a }
+    ensures back { (a : ℕ) → place_in project.now a ≡ place → result ≡ a }
 {
     let row = u32::from(place.row);
-    let (amount, base) = project
-        .pages()
-        .page(row / PAGE_WORDS)
-        .unwrap_or((0, 0));
+    let (amount, base) = spread_of(project, row / PAGE_WORDS);
     let first = PAGE_WORDS * (row / PAGE_WORDS);
-    first + (row % PAGE_WORDS << amount) + u32::from(place.module).saturating_sub(base)
+    let modules = 1 << amount;
+    first + row % PAGE_WORDS * modules + u32::from(place.module).saturating_sub(base)
 }
 
 /// The place of the request that waits to leave a processor, where it is for that issue number.
@@ -125,7 +136,7 @@ fn first_issue(project: &Project, rows: &[Vec<Arc<MachineState>>], tag: Tag) -> 
     ensures { result ≡ first_issue project.now (λ t. state_in (map (λ row. map arc_value row.items) rows.now) t tag.proc) tag.issue (suc project.now.horizon) }
 {
     let proc = u32::from(tag.proc);
-    for cycle in 0..=project.horizon() {
+    for cycle in 0..project.horizon() + 1 {
         if let Some(issue) = issued_in(project, state_at(rows, cycle, proc), cycle, tag.issue) {
             return Some(issue);
         }
@@ -138,7 +149,7 @@ fn first_reply(project: &Project, rows: &[Vec<Arc<MachineState>>], tag: Tag) -> 
     ensures { result ≡ first_reply (λ t. state_in (map (λ row. map arc_value row.items) rows.now) t tag.proc) tag.issue (suc project.now.horizon) }
 {
     let proc = u32::from(tag.proc);
-    for cycle in 0..=project.horizon() {
+    for cycle in 0..project.horizon() + 1 {
         if let Some(word) = word_got(state_at(rows, cycle, proc), tag.issue) {
             return Some(Received { cycle, word });
         }
