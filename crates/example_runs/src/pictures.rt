@@ -16,8 +16,6 @@ pub const RUNS: [&[&str]; 7] = [
         "rates",
         "--k",
         "4",
-        "--cycles",
-        "128",
         "--csv",
         "examples/rates.csv",
         "--out",
