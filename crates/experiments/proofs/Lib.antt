@@ -1,3 +1,4 @@
+pub mod Adding
 pub mod Draws
 pub mod Firsts
 pub mod Greatest
@@ -5,4 +6,5 @@ pub mod Lines
 pub mod Numbered
 pub mod Refusals
 pub mod Rows
+pub mod Steadying
 pub mod Waits

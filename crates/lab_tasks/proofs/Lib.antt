@@ -1,5 +1,6 @@
 pub mod Adding
 pub mod Fields
+pub mod Helps
 pub mod Hot
 pub mod Listing
 pub mod Lists
@@ -8,5 +9,7 @@ pub mod RowCounts
 pub mod Rows
 pub mod Settings
 pub mod Stages
+pub mod Stops
 pub mod SweepRows
+pub mod Tasks
 pub mod WordByWord

@@ -1,4 +1,5 @@
 pub mod Added
+pub mod CommandLine
 pub mod Counts
 pub mod Done
 pub mod Ends

@@ -1,7 +1,7 @@
 //! Mean delays of the references that aren't hot against the share of hot ones.
 ghost use Rattle.std.specs.Prelude.{◌≡◌, IfOk, IsOkUnless, OnOk, string_bytes};
 ghost use Rattle.std.specs.List.{AllZip};
-ghost use Rattle.experiments.specs.Delays.{IsWaited};
+ghost use Rattle.experiments.specs.Delays.{IsWaitedBy};
 ghost use Rattle.lab_tasks.specs.Added.{Adds};
 ghost use Rattle.lab_tasks.specs.Points.{delay_loads, first_measured, IsDelay};
 ghost use Rattle.lab_tasks.specs.Tables.{delay_row, table_text};
@@ -11,13 +11,20 @@ use crate::end::End;
 use crate::plan::CurvePlan;
 use crate::points::delay_loads;
 use crate::progress::Progress;
-use crate::rates::first_measured;
 use crate::tables::{DELAY_HEADER, DelayPoint};
 use experiments::{ColdWaits, Fault, Load, waited_each};
 use std::alloc::{AllocError, Global};
 use std::fmt::Write;
 use std::thread::Threads;
 use svg_plots::{Axis, Curve, Curves, Panel, Tick, draw_curves};
+
+/// The first cycle that is measured: what comes before is the start.
+fn first_measured(cycles: u32) -> u32
+    ensures { result ≡ first_measured cycles }
+{
+    let left_out = cycles / 2;
+    left_out + 1
+}
 
 /// How many loads are run before it is told how many are done.
 const AT_ONCE: usize = 8;
@@ -65,11 +72,14 @@ fn delay_point<'a>(
     load: Load,
     waits: Result<ColdWaits, Fault>,
 ) -> Result<DelayPoint, End<'a>>
-    requires { IfOk waits (IsWaited load (first_measured plan.now.cycles)) }
+    requires { IsWaitedBy load (first_measured plan.now.cycles) waits }
     ensures point { IfOk result (IsDelay plan.now load) }
     ensures memory { IsOkUnless result End.Memory }
 {
-    let ColdWaits { count, cycles } = waits?;
+    let ColdWaits { count, cycles } = match waits {
+        Ok(waits) => waits,
+        Err(_) => return Err(End::Memory),
+    };
     let (Ok(replies), Ok(waited)) = (u32::try_from(count), u32::try_from(cycles)) else {
         return Err(End::Memory);
     };

@@ -1,43 +1,28 @@
-//! Served references per cycle against the number of processors.
+//! Answered references per cycle against the number of processors.
 ghost use Rattle.std.specs.Prelude.{◌≡◌, ◌≤◌, IfOk, IsOkUnless, OnOk, string_bytes};
 ghost use Rattle.std.specs.List.{AllZip};
 ghost use Rattle.page_map.specs.Limits.{max_k};
-ghost use Rattle.experiments.specs.Loads.{IsServed};
+ghost use Rattle.experiments.specs.Steady.{IsSteadyBy};
 ghost use Rattle.lab_tasks.specs.Added.{Adds};
-ghost use Rattle.lab_tasks.specs.Points.{first_measured, measured_count, rate_loads, IsRate};
+ghost use Rattle.lab_tasks.specs.Points.{rate_loads, IsRate};
 ghost use Rattle.lab_tasks.specs.Tables.{rate_row, table_text};
 
 use crate::curves::{doublings, mark_of, stroke_of};
 use crate::end::End;
-use crate::plan::CurvePlan;
+use crate::plan::{CurvePlan, Measure};
 use crate::points::rate_loads;
 use crate::progress::Progress;
 use crate::tables::{RATE_HEADER, RatePoint, bound_thousandths, processors_of};
-use experiments::{Fault, Load, served_each};
+use experiments::{Fault, Load, Steady, steady_each};
 use std::alloc::{AllocError, Global};
 use std::fmt::Write;
 use std::thread::Threads;
 use svg_plots::{Axis, Curve, Curves, Panel, Tick, draw_curves, log2_hundredths};
 
-/// The first cycle that is measured: what comes before is the start.
-pub(crate) fn first_measured(cycles: u32) -> u32
-    ensures { result ≡ first_measured cycles }
-{
-    let left_out = cycles / 2;
-    left_out + 1
-}
-
-/// How many cycles are measured.
-fn measured_count(cycles: u32) -> u32
-    ensures { result ≡ measured_count cycles }
-{
-    cycles - cycles / 2
-}
-
 /// How many loads are run before it is told how many are done.
-pub(crate) const AT_ONCE: usize = 14;
+const AT_ONCE: usize = 16;
 
-/// What is served of each load of a plan.
+/// What is measured of each load of a plan.
 pub(crate) fn rate_points<'a, T: Threads + Sync, P: Progress>(
     rt: &T,
     alloc: Global,
@@ -45,53 +30,56 @@ pub(crate) fn rate_points<'a, T: Threads + Sync, P: Progress>(
     progress: &mut P,
 ) -> Result<Vec<RatePoint>, End<'a>>
     requires { plan.now.k ≤ max_k }
-    ensures points { IfOk result (λ v. AllZip (IsRate plan.now) (rate_loads plan.now) v.items) }
+    ensures points { IfOk result (λ v. AllZip IsRate (rate_loads plan.now) v.items) }
     ensures memory { IsOkUnless result End.Memory }
 {
     let loads = rate_loads(alloc, plan)?;
     let mut points = Vec::new(alloc);
     for some in loads.chunks(AT_ONCE) {
-        add_points(rt, alloc, plan, some, &mut points)?;
+        add_points(rt, alloc, some, &mut points)?;
         progress.tell(points.len(), loads.len());
     }
     Ok(points)
 }
 
-/// Adds what is served of each of some loads.
+/// Adds what is measured of each of some loads.
 fn add_points<'a, T: Threads + Sync>(
     rt: &T,
     alloc: Global,
-    plan: &CurvePlan,
     loads: &[Load],
     points: &mut Vec<RatePoint>,
 ) -> Result<(), End<'a>>
-    ensures added { OnOk result (Adds (IsRate plan.now) loads.now points.old.items points.new.items) }
+    ensures added { OnOk result (Adds IsRate loads.now points.old.items points.new.items) }
     ensures memory { IsOkUnless result End.Memory }
 {
-    let counts = served_each(rt, alloc, loads, first_measured(plan.cycles))?;
-    for (load, count) in loads.iter().zip(counts.as_slice()) {
-        points.push(rate_point(plan, *load, *count)?)?;
+    let all = steady_each(rt, alloc, loads)?;
+    for (load, steady) in loads.iter().zip(all.as_slice()) {
+        points.push(rate_point(*load, *steady)?)?;
     }
     Ok(())
 }
 
-/// The point of a load of which so many are served.
-fn rate_point<'a>(
-    plan: &CurvePlan,
-    load: Load,
-    count: Result<u64, Fault>,
-) -> Result<RatePoint, End<'a>>
-    requires { IfOk count (IsServed load (first_measured plan.now.cycles)) }
-    ensures point { IfOk result (IsRate plan.now load) }
+/// The point of a load of which this came.
+fn rate_point<'a>(load: Load, steady: Result<Steady, Fault>) -> Result<RatePoint, End<'a>>
+    requires { IsSteadyBy load steady }
+    ensures point { IfOk result (IsRate load) }
     ensures memory { IsOkUnless result End.Memory }
 {
-    let Ok(served) = u32::try_from(count?) else {
+    let steady = match steady {
+        Ok(steady) => steady,
+        Err(_) => return Err(End::Memory),
+    };
+    let (Ok(answered), Ok(served)) = (
+        u32::try_from(steady.answered),
+        u32::try_from(steady.served),
+    ) else {
         return Err(End::Memory);
     };
     Ok(RatePoint {
         load,
+        first: steady.first,
+        answered,
         served,
-        cycles: measured_count(plan.cycles),
     })
 }
 
@@ -115,19 +103,40 @@ pub(crate) fn share_labels(alloc: Global, shares: &[u32]) -> Result<Vec<String>,
     Ok(labels)
 }
 
-/// The measured places of one curve: the points whose place among the shares this is.
+/// What is drawn of a point, in thousandths.
+fn drawn_of(point: &RatePoint, of: Measure) -> u64 {
+    match of {
+        Measure::Answered => point.answered_rate(),
+        Measure::Served => point.served_rate(),
+    }
+}
+
+/// The mean of the points of one load with several seeds, in thousandths.
+fn mean_of(points: &[RatePoint], of: Measure) -> u32 {
+    let mut sum: u64 = 0;
+    for point in points {
+        sum = sum.saturating_add(drawn_of(point, of));
+    }
+    (sum / points.len().max(1) as u64).min(1_000_000) as u32
+}
+
+/// The measured places of one curve: the points whose place among the shares this is, the mean over their seeds.
 fn measured(
     alloc: Global,
+    plan: &CurvePlan,
     points: &[RatePoint],
-    shares: usize,
     place: usize,
     combine: bool,
 ) -> Result<Vec<(u32, u32)>, AllocError> {
     let mut spots = Vec::new(alloc);
-    for (at, point) in points.iter().enumerate() {
-        if at % shares.max(1) == place && point.load.combine == combine {
-            let up = log2_hundredths(point.rate().min(1_000_000) as u32, 1000);
-            spots.push((point.load.k.min(6) * 100, up))?;
+    let shares = plan.hot.len().max(1);
+    for (at, some) in points.chunks(plan.seeds.max(1) as usize).enumerate() {
+        let Some(first) = some.first() else {
+            return Ok(spots);
+        };
+        if at % shares == place && first.load.combine == combine {
+            let up = log2_hundredths(mean_of(some, plan.of), 1000);
+            spots.push((first.load.k.min(6) * 100, up))?;
         }
     }
     Ok(spots)
@@ -152,7 +161,6 @@ fn rate_curves<'a>(
     labels: &'a [String],
 ) -> Result<Vec<Curve<'a>>, AllocError> {
     let mut curves = Vec::new(alloc);
-    let shares = plan.hot.len();
     for (place, label) in labels.iter().enumerate() {
         if let Some(hot) = plan.hot.get(place) {
             curves.push(Curve {
@@ -163,13 +171,21 @@ fn rate_curves<'a>(
             })?;
             curves.push(Curve {
                 label: label.as_str(),
-                points: measured(alloc, points, shares, place, combine)?,
+                points: measured(alloc, plan, points, place, combine)?,
                 stroke: stroke_of(place, false),
                 mark: Some(mark_of(place)),
             })?;
         }
     }
     Ok(curves)
+}
+
+/// What is drawn, beside the axis.
+fn what_of(of: Measure) -> &'static str {
+    match of {
+        Measure::Answered => "answered per cycle",
+        Measure::Served => "served per cycle",
+    }
 }
 
 /// One panel.
@@ -195,7 +211,7 @@ fn rate_panel<'a>(
             ticks,
         },
         up: Axis {
-            title: "served per cycle",
+            title: what_of(plan.of),
             from: 0,
             to,
             ticks,
@@ -204,12 +220,31 @@ fn rate_panel<'a>(
     })
 }
 
+/// The fewest and the most cycles that are counted of a run.
+fn spans(points: &[RatePoint]) -> (u64, u64) {
+    let mut least = u64::MAX;
+    let mut most: u64 = 0;
+    for point in points {
+        least = least.min(point.cycles());
+        most = most.max(point.cycles());
+    }
+    (least.min(most), most)
+}
+
 /// How the points were measured.
-fn rate_note(alloc: Global, plan: &CurvePlan) -> Result<String, AllocError> {
-    let (first, last) = (first_measured(plan.cycles), plan.cycles);
-    let seed = plan.seed;
+fn rate_note(
+    alloc: Global,
+    plan: &CurvePlan,
+    points: &[RatePoint],
+) -> Result<String, AllocError> {
+    let what = match plan.of {
+        Measure::Answered => "References answered",
+        Measure::Served => "Requests served by modules",
+    };
+    let (seeds, seed, cycles) = (plan.seeds, plan.seed, plan.cycles);
+    let (least, most) = spans(points);
     format!(in alloc;
-        "Requests that all modules served in the cycles {first} to {last}, per cycle. 256 references each, seed {seed}."
+        "{what} per cycle, the mean of {seeds} runs, from seed {seed} on. The start is left out, until the rate is steady: {least} to {most} of {cycles} cycles count."
     )
 }
 
@@ -221,7 +256,7 @@ pub(crate) fn rate_picture(
 ) -> Result<String, AllocError> {
     let labels = share_labels(alloc, plan.hot.as_slice())?;
     let ticks = doublings(alloc, plan.k)?;
-    let note = rate_note(alloc, plan)?;
+    let note = rate_note(alloc, plan, points)?;
     let mut panels = Vec::new(alloc);
     for combine in [false, true] {
         panels.push(rate_panel(
@@ -234,7 +269,10 @@ pub(crate) fn rate_picture(
         )?)?;
     }
     let drawn = Curves {
-        title: "What a hot word does to a machine: references served per cycle",
+        title: match plan.of {
+            Measure::Answered => "What a hot word does to a machine: references answered per cycle",
+            Measure::Served => "What a hot word does to a machine: requests served per cycle",
+        },
         panels: panels.as_slice(),
         legend_columns: 4,
     };
@@ -244,7 +282,7 @@ pub(crate) fn rate_picture(
         &[
             note.as_str(),
             "Combining network, queues of 4, at most 8 references unanswered. Requests that combine are served as one.",
-            "Dashed: the bound p / (1 + h (p - 1)) of Pfister and Norton (1985), where each request is served alone.",
+            "Dashed: the bound p / (1 + h (p - 1)) of Pfister and Norton (1985), where nothing combines.",
         ],
     )
 }
