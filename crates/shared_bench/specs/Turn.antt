@@ -1,7 +1,7 @@
 -- The steps of a turn: what each makes of a seat's view, what it tells, and what it asks for.
 --
 -- Nothing here has to be believed: the contracts of the public calls name none of it.
-use Rattle.std.specs.Prelude.{◌≡◌, ℕ, ◌+◌, ◌-◌, ◌*◌, ◌%◌, ◌^◌, ◌<◌, ◌≤◌, ◌==◌, ◌||◌, Bool, true, false, List, [], ◌∷◌, ◌++◌, length, Option, Some, None, Ok, MatchBool, IfSome}
+use Rattle.std.specs.Prelude.{◌≡◌, ℕ, ◌+◌, ◌-◌, ◌*◌, ◌%◌, ◌^◌, ◌<◌, ◌≤◌, ◌==◌, ◌||◌, true, false, List, [], ◌∷◌, ◌++◌, length, Option, Some, None, Ok, MatchBool, IfSome}
 use Rattle.atomic_table.specs.Table.{Me, Step}
 use Rattle.atomic_table.specs.Seated.{TableId}
 use Rattle.bench_core.specs.declared.noted.Noted.{Noted}
@@ -12,7 +12,6 @@ use Rattle.project_book.specs.declared.edit.Edit.{Edit}
 use Rattle.shared_bench.specs.Legal.{noted, StartsWith, has, merge, IsLegal}
 use Rattle.shared_bench.specs.Answers.{project_at}
 use Rattle.shared_bench.specs.declared.view.View.{View}
-use Rattle.shared_bench.specs.declared.view.Turn.{Turn}
 use Rattle.shared_bench.specs.declared.view.Stage.{Stage}
 use Rattle.shared_bench.specs.declared.view.Stage.TheVariants.{Idle, Waiting, Serving, Filling}
 use Rattle.shared_bench.specs.Rule.{spent_of, bit_of, live, Distinct}

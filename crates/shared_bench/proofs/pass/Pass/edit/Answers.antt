@@ -1,11 +1,8 @@
-use Rattle.std.proofs.Common.{◌≡◌, ◌∙◌, subst, ap, ℕ, []}
-use Rattle.bench_core.specs.Shown.{Shown}
-use Rattle.bench_core.specs.Stands.{HasHistory}
-use Rattle.shared_bench.specs.Answers.{IsMet, IsInTurn, EditsAs}
+use Rattle.std.proofs.Common.{◌≡◌, ◌∙◌, subst, ap}
+use Rattle.shared_bench.specs.Answers.{IsMet}
 use Rattle.shared_bench.specs.Known.{Known}
-use Rattle.shared_bench.specs.Inside.{known_of}
 use Rattle.shared_bench.proofs.Told.{may_leave, may_edit}
-use Rattle.shared_bench.proofs.Passes.{edit_later, edit_receipt, edit_refused, edit_spent, edit_wants, seen_in_turn, in_turn, in_turn_edited, turn_taken, turn_taken_edited}
+use Rattle.shared_bench.proofs.Passes.{edit_later, edit_receipt, edit_refused, seen_in_turn, in_turn_edited, turn_taken_edited}
 use Rattle.shared_bench.proofs.pass.Pass.edit.Goals as goal
 
 pub leave-requires-clause-may : goal.leave-requires-clause-may
