@@ -1,4 +1,5 @@
 //! Sessions at the built-in project: in one piece, byte by byte, and with faults.
+mod ends;
 mod workers;
 
 use bench_core::Bench;
