@@ -1,12 +1,14 @@
 -- Lemmas on how the program begins.
 use Rattle.std.proofs.Common.{◌≡◌, ◌≢◌, ◌∙◌, ℕ, List, refl, sym, subst}
-use Rattle.std.specs.Prelude.{Option, Some, Ok, Err}
+use Rattle.std.specs.Prelude.{Option, Some, Result, Ok, Err}
 use Rattle.std.specs.Io.KnownBytes.{Keeps}
 use Rattle.clap.specs.Words.{Text, matches_of}
 use Rattle.bench_shell.specs.Store.{first_store}
 use Rattle.bench_shell.specs.declared.fault.RunFault.{RunFault}
-use Rattle.worker_sessions.specs.Serving.{Bytes, Leaves}
+use Rattle.worker_sessions.specs.Serving.{Bytes, Leaves, ServesAs}
 use Rattle.worker_sessions.specs.declared.serving.Left.{Left}
+use Rattle.worker_sessions.specs.declared.serving.NoStart.{NoStart}
+use Rattle.worker_sessions.specs.declared.serving.Served.{Served as Session}
 use Rattle.project_file.specs.Filed.{filed}
 use Rattle.project_file.specs.declared.fault.ProjectFault.{ProjectFault}
 use Rattle.project_file.specs.declared.fault.ProjectFault.TheVariants.{Memory}
@@ -15,7 +17,7 @@ use Rattle.command_line.specs.Arguments.{hotspot, file_in, IsNumberHeld}
 use Rattle.command_line.specs.Ends.{status_of, end_at}
 use Rattle.command_line.specs.declared.end.End.{End}
 use Rattle.command_line.specs.declared.end.End.TheVariants.{Ended, Words, NoFile, Project as Refused, Served, CannotStart}
-use Rattle.command_line.specs.Opening.{Gives, IsTaken, IsNamed, IsRefused, Opens, FileEnds, FileStops, StopsAt, StopsFor, ServesAt, ServesFor, EndsWith}
+use Rattle.command_line.specs.Opening.{Gives, IsTaken, IsNamed, IsRefused, Opens, FileEnds, FileStops, StopsAt, StopsFor, ServesAt, ServesFor, EndsWith, end_for, stop_for}
 use Rattle.command_line.specs.declared.start.Stop.{Stop}
 use Rattle.command_line.specs.declared.start.Stop.TheVariants as stop
 
@@ -48,12 +50,18 @@ module _ (gives : Gives) (words : List Text) (P : Project) (opens : Opens gives 
   pub no_start : Keeps b.unread b.rest → Keeps b.before b.after → ServesAt gives words cant_read cant_write b CannotStart
   no_start read written = ((P, opens), read, written)
 
-  module _ (n gates : ℕ) (held : IsNumberHeld (matches_of hotspot words) n) (as_many : gates ≡ n) (left : Left) where
-    pub has_ended : Leaves gates (first_store P) cant_read cant_write b (Ok tt) left → ServesAt gives words cant_read cant_write b Ended
-    has_ended leaves = (P, opens, n, held, left, subst (λ m. Leaves m (first_store P) cant_read cant_write b (Ok tt) left) as_many leaves)
+  module _ (n gates : ℕ) (held : IsNumberHeld (matches_of hotspot words) n) (as_many : gates ≡ n) where
+    of_end : (ended : Result (Unit {0}) RunFault) (left : Left) → Leaves gates (first_store P) cant_read cant_write b ended left → ServesFor gives words cant_read cant_write b (stop.At (end_for ended))
+    of_end (Ok tt) left leaves = (P, opens, n, held, left, subst (λ m. Leaves m (first_store P) cant_read cant_write b (Ok tt) left) as_many leaves)
+    of_end (Err fault) left leaves = (P, opens, n, held, left, subst (λ m. Leaves m (first_store P) cant_read cant_write b (Err fault) left) as_many leaves)
 
-    pub has_stopped : (fault : RunFault) → Leaves gates (first_store P) cant_read cant_write b (Err fault) left → ServesAt gives words cant_read cant_write b (Served fault)
-    has_stopped fault leaves = (P, opens, n, held, left, subst (λ m. Leaves m (first_store P) cant_read cant_write b (Err fault) left) as_many leaves)
+    of_session : (served : Result Session NoStart) → ServesAs gates (first_store P) cant_read cant_write b served → ServesFor gives words cant_read cant_write b (stop_for served)
+    of_session (Ok session) leaves = of_end session.ended session.left leaves
+    of_session (Err none) keeps = no_start keeps.0 keeps.1
+
+    pub has_served : (served : Result Session NoStart) (why : Stop) → ServesAs gates (first_store P) cant_read cant_write b served → why ≡ stop_for served
+        → ServesFor gives words cant_read cant_write b why
+    has_served served why serves is = subst (ServesFor gives words cant_read cant_write b) (sym is) (of_session served serves)
 
 pub ends_with : (gives : Gives) (words : List Text) (cant_read cant_write : Type 0) (b : Bytes) (status : ℕ) (why : Stop) → ServesFor gives words cant_read cant_write b why → status ≡ status_of (end_at why)
     → EndsWith gives words cant_read cant_write b status

@@ -1,5 +1,5 @@
 -- How the program begins, or why it ends before its first line.
-use Rattle.std.specs.Prelude.{◌≡◌, ◌≢◌, ℕ, List, [], Option, None, Some, Ok, Err}
+use Rattle.std.specs.Prelude.{◌≡◌, ◌≢◌, ℕ, List, [], Option, None, Some, Result, Ok, Err}
 use Rattle.std.specs.Io.KnownBytes.{Keeps}
 use Rattle.clap.specs.Words.{Text, HasKind, fault_of, matches_of}
 use Rattle.project_book.specs.Project.{Project, blank}
@@ -7,7 +7,10 @@ use Rattle.project_file.specs.Filed.{filed}
 use Rattle.project_file.specs.declared.fault.ProjectFault.{ProjectFault}
 use Rattle.project_file.specs.declared.fault.ProjectFault.TheVariants.{Memory}
 use Rattle.bench_shell.specs.Store.{first_store}
+use Rattle.bench_shell.specs.declared.fault.RunFault.{RunFault}
 use Rattle.worker_sessions.specs.Serving.{Bytes, ServesTo}
+use Rattle.worker_sessions.specs.declared.serving.NoStart.{NoStart}
+use Rattle.worker_sessions.specs.declared.serving.Served.{Served as Session}
 use Rattle.command_line.specs.Arguments.{hotspot, file_in, IsNumberHeld}
 use Rattle.command_line.specs.Ends.{status_of, end_at}
 use Rattle.command_line.specs.declared.end.End.{End}
@@ -76,6 +79,15 @@ abbrev pub ServesFor : Gives → List Text → Type 0 → Type 0 → Bytes → S
 ServesFor gives words cant_read cant_write b (stop.Words error) = HasKind (fault_of hotspot words) error × Keeps b.unread b.rest × Keeps b.before b.after
 ServesFor gives words cant_read cant_write b (stop.Refused fault place) = ServesAt gives words cant_read cant_write b (Refused fault)
 ServesFor gives words cant_read cant_write b (stop.At end) = ServesAt gives words cant_read cant_write b end
+
+-- what the program ends with, whose session has ended so
+abbrev pub end_for : Result (Unit {0}) RunFault → End
+end_for (Ok done) = Ended
+end_for (Err fault) = Served fault
+
+abbrev pub stop_for : Result Session NoStart → Stop
+stop_for (Ok session) = stop.At (end_for session.ended)
+stop_for (Err none) = stop.At CannotStart
 
 -- the status of a program that ends so
 abbrev pub EndsWith : Gives → List Text → Type 0 → Type 0 → Bytes → ℕ → Type 0

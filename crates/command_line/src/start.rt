@@ -5,7 +5,7 @@ ghost use Rattle.clap.specs.Words.{matches_of};
 ghost use Rattle.bench_shell.specs.Cause.{CantRead};
 ghost use Rattle.command_line.specs.Arguments.{hotspot, IsNumberHeld};
 ghost use Rattle.command_line.specs.Ends.{end_at};
-ghost use Rattle.command_line.specs.Opening.{IsNamed, FileStops, Opens, StopsFor, ServesFor};
+ghost use Rattle.command_line.specs.Opening.{IsNamed, FileStops, Opens, StopsFor, ServesFor, stop_for};
 
 use crate::end::{End, refusal};
 use crate::folder::Folder;
@@ -16,7 +16,7 @@ use project_book::Project;
 use project_file::{ProjectFault, fault_place, read_project};
 use std::alloc::{AllocError, Global};
 use wave_workers::Ungated;
-use worker_sessions::{Hall, NoStart, serve};
+use worker_sessions::{Hall, NoStart, Served, serve};
 
 /// What the program ends with.
 #[derive(Drop)]
@@ -126,9 +126,22 @@ fn ungated(alloc: Global, count: u32) -> Result<Vec<Ungated>, AllocError>
     vec![in alloc; Ungated; count as usize]
 }
 
+/// What the program ends with, whose session has ended so.
+fn stopped<'a>(served: Result<Served, NoStart>) -> Stop<'a>
+    ensures { result ≡ stop_for served }
+{
+    match served {
+        Ok(session) => match session.ended {
+            Ok(()) => Stop::At(End::Ended),
+            Err(fault) => Stop::At(End::Served(fault)),
+        },
+        Err(NoStart) => Stop::At(End::CannotStart),
+    }
+}
+
 /// The program but for its texts on standard error: it opens a bench as the words say, with as many workers beside it, and
 /// answers what is read from the reader until the input ends. With help, the version or a refusal nothing is read.
-#[tactic(auto, using(crate::proofs::Starting::no_start, crate::proofs::Starting::has_ended, crate::proofs::Starting::has_stopped))]
+#[tactic(auto, using(crate::proofs::Starting::no_start, crate::proofs::Starting::has_served))]
 pub fn serve_words<'a, H: Hall, F: Folder, R: Source, W: Sink>(
     rt: &H,
     alloc: Global,
@@ -149,11 +162,6 @@ pub fn serve_words<'a, H: Hall, F: Folder, R: Source, W: Sink>(
         Ok(gates) => gates,
         Err(_) => return Stop::At(End::CannotStart),
     };
-    match serve(rt, alloc, reader, writer, beginning.project, gates) {
-        Ok(served) => match served.ended {
-            Ok(()) => Stop::At(End::Ended),
-            Err(fault) => Stop::At(End::Served(fault)),
-        },
-        Err(NoStart) => Stop::At(End::CannotStart),
-    }
+    let served = serve(rt, alloc, reader, writer, beginning.project, gates);
+    stopped(served)
 }
