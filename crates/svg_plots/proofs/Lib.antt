@@ -1,3 +1,4 @@
+pub mod Across
 pub mod Characters
 pub mod Shares
 pub mod Steps

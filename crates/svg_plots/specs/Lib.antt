@@ -4,3 +4,4 @@ pub mod Entities
 pub mod Places
 pub mod Texts
 pub mod Ticks
+pub mod Timelines

@@ -1,7 +1,7 @@
 //! Pictures of numbers, as SVG: curves over an axis, and maps of cells.
 //!
-//! [`draw_curves`] draws panels of curves side by side, and [`draw_map`] rows of cells over a line of time, with a stepped line
-//! above and strokes below. Both write a whole SVG document as a text. They know of numbers and labels alone, and of no
+//! [`draw_curves`] draws panels of curves side by side, [`draw_map`] rows of cells over a line of time, with a stepped line above
+//! and strokes below, and [`draw_timeline`] bars in lanes. Each writes a whole SVG document as a text. They know of numbers and labels alone, and of no
 //! machine. Colours are those of Okabe and Ito, which colour blindness leaves apart, each curve has a mark of its own, and
 //! cells darken as they fill, so that a picture survives print in grey.
 //!
@@ -19,6 +19,7 @@ mod map;
 mod picture;
 mod scale;
 mod tenths;
+mod timeline;
 
 pub use colour::Colour;
 pub use curves::{Axis, Curve, Curves, Panel, Tick, draw_curves};
@@ -28,3 +29,4 @@ pub use map::{CellGroup, CellMap, Crossing, draw_map};
 pub use picture::Picture;
 pub use scale::{Scale, log2_hundredths, tick_step};
 pub use tenths::Tenths;
+pub use timeline::{Band, Bar, Columns, Join, Key, Timeline, draw_timeline};
