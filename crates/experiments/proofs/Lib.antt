@@ -1,5 +1,8 @@
 pub mod Draws
+pub mod Firsts
+pub mod Greatest
 pub mod Lines
+pub mod Numbered
 pub mod Refusals
 pub mod Rows
 pub mod Waits
