@@ -21,6 +21,8 @@ mod end;
 mod host;
 mod map;
 mod numbers;
+mod order;
+mod order_picture;
 mod outcome;
 mod plan;
 mod points;
@@ -34,6 +36,7 @@ mod words;
 
 pub use end::{End, Reason, refusal, status};
 pub use host::program;
+pub use order::OrderWords;
 pub use outcome::{OutFile, Outcome};
 pub use progress::{Progress, Silent};
 pub use task::perform;
