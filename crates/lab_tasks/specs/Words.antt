@@ -5,7 +5,7 @@ use Rattle.std.specs.Borrow.{Bor}
 use Rattle.clap.specs.declared.parser.matches.ArgMatches.{ArgMatches}
 use Rattle.clap.specs.Matches.{found_of, first_value, matched_of, raw_values}
 use Rattle.lab_tasks.specs.declared.words.Asked.{Asked}
-use Rattle.lab_tasks.specs.declared.words.Asked.TheVariants.{Map, Rates, Delays, Sweep, Check, Convert}
+use Rattle.lab_tasks.specs.declared.words.Asked.TheVariants.{Map, Order, Rates, Delays, Sweep, Check, Convert}
 
 -- a word as its text, if there is one, and several words as theirs
 abbrev pub text_of : Option (Bor (List ℕ)) → Option (List ℕ)
@@ -27,6 +27,7 @@ file_at m = unwrap_or (text_at m (codes "FILE")) []
 
 abbrev pub file_of : Asked → Option (List ℕ)
 file_of (Map words) = Some words.file.now
+file_of (Order words) = Some words.file.now
 file_of (Rates words) = None
 file_of (Delays words) = None
 file_of (Sweep words) = Some words.file.now

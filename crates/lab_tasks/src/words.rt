@@ -2,6 +2,7 @@
 ghost use Rattle.std.specs.Prelude.{◌≡◌, IfOk, codes, map};
 ghost use Rattle.lab_tasks.specs.Words.{file_at, text_at, text_of, texts_at};
 
+use crate::order::OrderWords;
 use clap::error::ErrorKind;
 use clap::{Arg, ArgAction, ArgMatches, Command, Error};
 use std::alloc::{AllocError, Global};
@@ -42,6 +43,7 @@ pub struct SweepWords<'a> {
 #[derive(Drop)]
 pub enum Asked<'a> {
     Map(MapWords<'a>),
+    Order(OrderWords<'a>),
     Rates(CurveWords<'a>),
     Delays(CurveWords<'a>),
     Sweep(SweepWords<'a>),
@@ -58,6 +60,7 @@ impl<'a> Asked<'a> {
     {
         match self {
             Asked::Map(words) => Some(words.file),
+            Asked::Order(words) => Some(words.file),
             Asked::Rates(_) | Asked::Delays(_) => None,
             Asked::Sweep(words) => Some(words.file),
             Asked::Check { file } => Some(*file),
@@ -69,6 +72,9 @@ impl<'a> Asked<'a> {
 const FILE_HELP: &str = "The project file";
 
 const MAP_ABOUT: &str = "Draws tree saturation: the queues towards a module, cycle by cycle";
+
+const ORDER_ABOUT: &str =
+    "Draws or tabulates the one order of all references: when each was issued, served and answered";
 
 const RATES_ABOUT: &str =
     "Measures references served per cycle against the number of processors, for some shares of hot references";
@@ -128,6 +134,18 @@ fn map_command<'a>(alloc: Global) -> Result<Command<'a>, AllocError> {
             "out",
             "MAP.svg",
             "Where the picture goes; without it to standard output",
+        ))
+}
+
+fn order_command<'a>(alloc: Global) -> Result<Command<'a>, AllocError> {
+    with_file(alloc, named(alloc, "order", ORDER_ABOUT))?
+        .arg(option(alloc, "from", "T", "The first cycle; without it 0"))?
+        .arg(option(alloc, "to", "T", "The last cycle; without it the horizon"))?
+        .arg(option(
+            alloc,
+            "out",
+            "ORDER.svg",
+            "Where a picture goes; without it a table to standard output",
         ))
 }
 
@@ -213,6 +231,7 @@ fn lab_command<'a>(alloc: Global) -> Result<Command<'a>, AllocError> {
         .after_help(ENDS)
         .subcommand_required(true)
         .subcommand(map_command(alloc)?)?
+        .subcommand(order_command(alloc)?)?
         .subcommand(curves_command(alloc, "rates", RATES_ABOUT)?)?
         .subcommand(curves_command(alloc, "delays", DELAYS_ABOUT)?)?
         .subcommand(sweep_command(alloc)?)?
@@ -248,6 +267,20 @@ fn map_words<'a>(matches: &ArgMatches<'a>) -> MapWords<'a>
         file: file_in(matches),
         net: matches.get_str("net"),
         module: matches.get_str("module"),
+        from: matches.get_str("from"),
+        to: matches.get_str("to"),
+        out: matches.get_str("out"),
+    }
+}
+
+fn order_words<'a>(matches: &ArgMatches<'a>) -> OrderWords<'a>
+    ensures file { result.file.now ≡ file_at matches.now }
+    ensures from { text_of result.from ≡ text_at matches.now (codes "from") }
+    ensures to { text_of result.to ≡ text_at matches.now (codes "to") }
+    ensures out { text_of result.out ≡ text_at matches.now (codes "out") }
+{
+    OrderWords {
+        file: file_in(matches),
         from: matches.get_str("from"),
         to: matches.get_str("to"),
         out: matches.get_str("out"),
@@ -306,6 +339,7 @@ pub fn read_words<'a>(alloc: Global, words: &'a [&'a str]) -> Result<Asked<'a>, 
     };
     Ok(match name {
         "map" => Asked::Map(map_words(matches)),
+        "order" => Asked::Order(order_words(matches)),
         "rates" => Asked::Rates(curve_words(matches)),
         "delays" => Asked::Delays(curve_words(matches)),
         "sweep" => Asked::Sweep(sweep_words(alloc, matches)?),
