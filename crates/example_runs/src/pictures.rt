@@ -10,7 +10,7 @@ use std::rt::Files;
 use std::thread::Threads;
 
 /// What the program `lab` is told. The files that it would write lie beside the examples.
-pub const RUNS: [&[&str]; 7] = [
+pub const RUNS: [&[&str]; 9] = [
     &["map", "examples/tree.toml", "--out", "examples/map.svg"],
     &[
         "rates",
@@ -46,6 +46,8 @@ pub const RUNS: [&[&str]; 7] = [
         "--ask",
         "counter served m0 0 6",
     ],
+    &["order", "examples/flag.toml", "--out", "examples/flag.svg"],
+    &["order", "examples/hot_word.toml"],
     &["check", "examples/mixed.toml"],
     &["map", "examples/tree.toml", "--to", "161"],
     &["rates", "--hot", "1,x"],
