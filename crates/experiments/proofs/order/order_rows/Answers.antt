@@ -7,7 +7,7 @@ use Rattle.machine_cells.specs.Runs.{state_in}
 use Rattle.memory_order.specs.Linearizable.{Linearizes}
 use Rattle.experiments.specs.declared.order.OrderRow.{OrderRow}
 use Rattle.experiments.specs.declared.order.Service.{Service}
-use Rattle.experiments.specs.Orders.{order_rows, row_of, rows_from, services}
+use Rattle.experiments.specs.Orders.{row_of, rows_from, services}
 use Rattle.experiments.proofs.Numbered.{order_tags, row_next, rows_listed}
 use Rattle.experiments.proofs.order.order_rows.Goals as goal
 
