@@ -5,6 +5,8 @@ pub mod Done
 pub mod Ends
 pub mod Kept
 pub mod Numbers
+pub mod OrderPictures
+pub mod Orders
 pub mod Outcomes
 pub mod Plans
 pub mod Points

@@ -23,6 +23,8 @@ mod end;
 mod host;
 mod map;
 mod numbers;
+mod order;
+mod order_picture;
 mod outcome;
 mod plan;
 mod points;
@@ -36,6 +38,7 @@ mod words;
 
 pub use end::{End, Reason, refusal, status};
 pub use host::program;
+pub use order::OrderWords;
 pub use outcome::{OutFile, Outcome};
 pub use progress::{Progress, Silent};
 pub use task::perform;
