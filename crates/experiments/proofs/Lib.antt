@@ -1,4 +1,5 @@
 pub mod Draws
+pub mod Firsts
 pub mod Lines
 pub mod Refusals
 pub mod Rows

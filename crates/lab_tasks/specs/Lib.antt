@@ -1,8 +1,10 @@
 pub mod Added
+pub mod Columns
 pub mod Counts
 pub mod Done
 pub mod Ends
 pub mod Kept
+pub mod MapPictures
 pub mod Numbers
 pub mod Outcomes
 pub mod Plans

@@ -11,14 +11,16 @@ ghost use Rattle.lab_tasks.specs.Tables.{delay_row, rate_row, table_text};
 ghost use Rattle.lab_tasks.specs.Words.{text_of};
 
 use crate::check::summary;
-use crate::delays::{delay_picture, delay_points, delay_table};
+use crate::delay_picture::delay_picture;
+use crate::delays::{delay_points, delay_table};
 use crate::end::End;
 use crate::map::map_picture;
 use crate::outcome::{OutFile, Outcome};
 use crate::plan::{CurvePlan, curve_plan, map_plan};
 use crate::points::{delay_loads, rate_loads};
 use crate::progress::Progress;
-use crate::rates::{rate_picture, rate_points, rate_table};
+use crate::rate_picture::rate_picture;
+use crate::rates::{rate_points, rate_table};
 use crate::sweep::sweep_table;
 use crate::tables::{DelayPoint, RatePoint};
 use crate::words::{Asked, CurveWords, MapWords, SweepWords};

@@ -19,12 +19,15 @@ mod map;
 mod picture;
 mod scale;
 mod tenths;
+mod tick;
+mod writings;
 
 pub use colour::Colour;
-pub use curves::{Axis, Curve, Curves, Panel, Tick, draw_curves};
+pub use curves::{Axis, Curve, Curves, Panel, draw_curves};
 pub use element::{Anchor, Element, Label, Mark, Spot, Spots, Stroke, Writing};
 pub use escaped::{Escaped, entity};
-pub use map::{CellGroup, CellMap, Crossing, draw_map};
+pub use map::{CellGroup, CellMap, CellRow, CellRows, Cells, Crossing, ShadeKey, draw_map};
 pub use picture::Picture;
 pub use scale::{Scale, log2_hundredths, tick_step};
 pub use tenths::Tenths;
+pub use tick::Tick;
