@@ -1,4 +1,5 @@
 pub mod Adding
+pub mod ColumnSteps
 pub mod Fields
 pub mod Helps
 pub mod Hot

@@ -19,6 +19,7 @@ use Rattle.lab_tasks.specs.declared.words.CurveWords.{CurveWords}
 use Rattle.lab_tasks.specs.declared.words.SweepWords.{SweepWords}
 use Rattle.lab_tasks.specs.Words.{text_of, texts_of}
 use Rattle.lab_tasks.specs.Orders.{IsOrderText, IsNoOrder}
+use Rattle.lab_tasks.specs.MapPictures.{IsMapDrawn}
 use Rattle.lab_tasks.specs.Plans.{IsMap, IsNoMap, IsCurves, IsNoCurve}
 use Rattle.lab_tasks.specs.Points.{rate_loads, delay_loads, IsRate, IsDelay}
 use Rattle.lab_tasks.specs.Tables.{table_text, rate_row, delay_row}
@@ -34,7 +35,7 @@ IsMadeOf bytes name IsText outcome =
 
 -- a picture of what the words ask for
 abbrev pub IsMapText : MapWords → Project → List ℕ → Type 0
-IsMapText words P text = (plan : MapPlan) × IsMap P words plan
+IsMapText words P text = (plan : MapPlan) × IsMap P words plan × IsMapDrawn P plan text
 
 -- a table where it is wanted, and a picture
 abbrev pub IsTableGiven : CurveWords → List ℕ → Outcome → Type 0

@@ -17,7 +17,9 @@
 #![tactic(auto)]
 
 mod check;
+mod columns;
 mod curves;
+mod delay_picture;
 mod delays;
 mod end;
 mod host;
@@ -29,6 +31,7 @@ mod outcome;
 mod plan;
 mod points;
 mod progress;
+mod rate_picture;
 mod rates;
 mod sweep;
 mod swept;
