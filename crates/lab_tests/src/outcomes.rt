@@ -98,7 +98,14 @@ fn depths_are_gone_through(rt: HostRuntime) -> Result<(), Fail> {
 #[test]
 fn what_has_no_answer_is_told(rt: HostRuntime) -> Result<(), Fail> {
     let words = [
-        "sweep", "two.toml", "--depth", "module=4..5", "--ask", "reply 0 9", "--ask", "memory 7 8",
+        "sweep",
+        "two.toml",
+        "--depth",
+        "module=4..5",
+        "--ask",
+        "reply 0 9",
+        "--ask",
+        "memory 7 8",
     ];
     let outcome = made(&rt, &words, TWO)?;
     let table = b"module,reply 0 9,memory 7 8
@@ -112,7 +119,11 @@ fn what_has_no_answer_is_told(rt: HostRuntime) -> Result<(), Fail> {
 // Where all references are hot there are none whose delay is a figure.
 #[test]
 fn no_delay_is_no_figure(rt: HostRuntime) -> Result<(), Fail> {
-    let outcome = made(&rt, &["delays", "--k", "1", "--hot", "100", "--cycles", "16"], b"")?;
+    let outcome = made(
+        &rt,
+        &["delays", "--k", "1", "--hot", "100", "--cycles", "16"],
+        b"",
+    )?;
     let text = std::str::from_utf8(outcome.printed.as_slice())?;
     assert!(rt;
         equal(
