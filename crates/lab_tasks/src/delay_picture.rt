@@ -1,7 +1,7 @@
 //! The picture of `delays`: mean delays of the references that aren't hot against the share of hot ones.
 use crate::curves::{even_ticks, labels_of, mark_of, stroke_of};
-use crate::plan::CurvePlan;
 use crate::delays::first_measured;
+use crate::plan::CurvePlan;
 use crate::tables::DelayPoint;
 use std::alloc::{AllocError, Global};
 use svg_plots::{Axis, Curve, Curves, Panel, Tick, draw_curves};

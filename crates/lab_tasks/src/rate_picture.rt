@@ -143,11 +143,7 @@ fn spans(points: &[RatePoint]) -> (u64, u64) {
 }
 
 /// How the points were measured.
-fn rate_note(
-    alloc: Global,
-    plan: &CurvePlan,
-    points: &[RatePoint],
-) -> Result<String, AllocError> {
+fn rate_note(alloc: Global, plan: &CurvePlan, points: &[RatePoint]) -> Result<String, AllocError> {
     let what = match plan.of {
         Measure::Answered => "References answered",
         Measure::Served => "Requests served by modules",
