@@ -4,6 +4,7 @@ pub mod Fields
 pub mod Helps
 pub mod Hot
 pub mod Listing
+pub mod Lines
 pub mod Lists
 pub mod Printing
 pub mod RowCounts
