@@ -26,7 +26,14 @@ use std::thread::Threads;
 use verdict::{Verdict, status_after};
 
 /// An example NAME is a project file NAME.toml, commands NAME.in, and the answers NAME.out.
-const EXAMPLES: [&str; 4] = ["hot_word", "one_module", "saturation", "spin_lock"];
+const EXAMPLES: [&str; 6] = [
+    "flag",
+    "flag_fenced",
+    "hot_word",
+    "one_module",
+    "saturation",
+    "spin_lock",
+];
 
 /// The pages that are played.
 const PAGES: [&str; 4] = [

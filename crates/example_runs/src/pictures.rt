@@ -11,7 +11,7 @@ use std::rt::Files;
 use std::thread::Threads;
 
 /// What the program `lab` is told, beside what the pages have.
-pub const RUNS: [&[&str]; 4] = [
+pub const RUNS: [&[&str]; 6] = [
     &[
         "sweep",
         "examples/saturation.toml",
@@ -24,6 +24,8 @@ pub const RUNS: [&[&str]; 4] = [
         "--ask",
         "counter served m0 0 6",
     ],
+    &["order", "examples/flag.toml", "--out", "examples/flag.svg"],
+    &["order", "examples/hot_word.toml"],
     &["check", "examples/mixed.toml"],
     &["map", "examples/tree.toml", "--to", "161"],
     &["rates", "--hot", "1,x"],

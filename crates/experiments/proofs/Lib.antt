@@ -2,6 +2,7 @@ pub mod Adding
 pub mod Draws
 pub mod Firsts
 pub mod Greatest
+pub mod LevelFirsts
 pub mod Lines
 pub mod Numbered
 pub mod Refusals

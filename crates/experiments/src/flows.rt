@@ -52,12 +52,7 @@ fn count_in(measure: Measure, state: Option<&MachineState>) -> u16
 
 /// What the first components count at a cycle.
 #[tactic(auto, using(crate::proofs::Adding::sum_next))]
-fn counted_at(
-    rows: &[Vec<Arc<MachineState>>],
-    measure: Measure,
-    cycle: u32,
-    count: u32,
-) -> u16
+fn counted_at(rows: &[Vec<Arc<MachineState>>], measure: Measure, cycle: u32, count: u32) -> u16
     requires { count < 10000 }
     ensures { result ≡ counted_at (counter_of measure) (state_in (map (λ row. map arc_value row.items) rows.now)) count cycle }
 {

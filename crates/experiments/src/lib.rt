@@ -1,7 +1,7 @@
 //! Experiments on a machine: what a run of a project shows, as figures to be drawn or tabled.
 //!
-//! - [`saturation_map`]: the lengths of the queues towards a module, cycle by cycle, with the level of saturation and the
-//!   module's served requests.
+//! - [`saturation_map`]: the lengths of the queues towards a module, cycle by cycle, with the level of saturation, the first
+//!   cycle of each level, and the module's served requests.
 //! - [`Load`], [`project_of`]: scripts drawn from a seeded generator, in which a share of the references is hot (Pfister and
 //!   Norton 1985).
 //! - [`flows_of`], [`steady_each`]: how many references are answered, and how many requests served, in each cycle, and in all
@@ -38,6 +38,6 @@ pub use lanes::{lane_counts, lane_of};
 pub use load::{HOT_ADDRESS, Load, MOST_CYCLES, SPREAD_ADDRESS, drawn, project_of};
 pub use map::{SaturationMap, StageLengths, Window, saturation_map};
 pub use order::{Issue, OrderRow, order_rows, rows_shown};
-pub use series::{Matrix, Series};
+pub use series::{QueueLengths, Queues, Series};
 pub use steady::{Steady, steady_each};
 pub use sweep::{sweep_row, told, told_each};

@@ -1,8 +1,10 @@
 pub mod Adding
+pub mod ColumnSteps
 pub mod Fields
 pub mod Helps
 pub mod Hot
 pub mod Listing
+pub mod Lines
 pub mod Lists
 pub mod Printing
 pub mod RowCounts

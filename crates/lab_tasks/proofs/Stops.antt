@@ -67,5 +67,5 @@ or_stop_memory Reason Other end.Output f h = f h
 -- what keeps bytes from being a project keeps anything from being made of it
 pub not_made : (bytes : List ℕ) (Refused : Project → Type 0) (e : End) → IsNotMade bytes (λ P. ⊥) e → IsNotMade bytes Refused e
 not_made bytes Refused e (inl memory) = inl memory
-not_made bytes Refused e (inr (inl no)) = inr (inl no)
+not_made bytes Refused e (inr (inl refused)) = inr (inl refused)
 not_made bytes Refused e (inr (inr other)) = absurd other.2

@@ -23,6 +23,9 @@ task name rules = record (new_shape name) { rules = rules }
 abbrev pub map_task : Shape
 map_task = task (codes "map") (file_rule ∷ map option_rule (codes "net" ∷ codes "module" ∷ codes "from" ∷ codes "to" ∷ codes "out" ∷ []))
 
+abbrev pub order_task : Shape
+order_task = task (codes "order") (file_rule ∷ map option_rule (codes "from" ∷ codes "to" ∷ codes "out" ∷ []))
+
 abbrev pub measured_rules : List Rule
 measured_rules = map option_rule (codes "k" ∷ codes "hot" ∷ codes "cycles" ∷ codes "seed" ∷ [])
 
@@ -49,7 +52,7 @@ convert_task = task (codes "convert") (file_rule ∷ option_rule (codes "out") �
 
 -- the tasks
 abbrev pub tasks : List Shape
-tasks = map_task ∷ rates_task ∷ delays_task ∷ sweep_task ∷ check_task ∷ convert_task ∷ []
+tasks = map_task ∷ order_task ∷ rates_task ∷ delays_task ∷ sweep_task ∷ check_task ∷ convert_task ∷ []
 
 -- no task has this name
 abbrev pub IsNoTask : Text → Type 0

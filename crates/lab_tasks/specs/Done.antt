@@ -13,11 +13,13 @@ use Rattle.lab_tasks.specs.declared.plan.CurvePlan.{CurvePlan}
 use Rattle.lab_tasks.specs.declared.tables.RatePoint.{RatePoint}
 use Rattle.lab_tasks.specs.declared.tables.DelayPoint.{DelayPoint}
 use Rattle.lab_tasks.specs.declared.words.Asked.{Asked}
-use Rattle.lab_tasks.specs.declared.words.Asked.TheVariants.{Map, Rates, Delays, Sweep, Check, Convert}
+use Rattle.lab_tasks.specs.declared.words.Asked.TheVariants.{Map, Order, Rates, Delays, Sweep, Check, Convert}
 use Rattle.lab_tasks.specs.declared.words.MapWords.{MapWords}
 use Rattle.lab_tasks.specs.declared.words.CurveWords.{CurveWords}
 use Rattle.lab_tasks.specs.declared.words.SweepWords.{SweepWords}
 use Rattle.lab_tasks.specs.Words.{text_of, texts_of}
+use Rattle.lab_tasks.specs.Orders.{IsOrderText, IsNoOrder}
+use Rattle.lab_tasks.specs.MapPictures.{IsMapDrawn}
 use Rattle.lab_tasks.specs.Plans.{IsMap, IsNoMap, IsCurves, IsNoCurve}
 use Rattle.lab_tasks.specs.Points.{rate_loads, delay_loads, IsRate, IsDelay}
 use Rattle.lab_tasks.specs.Tables.{table_text, rate_row, delay_row}
@@ -33,7 +35,7 @@ IsMadeOf bytes name IsText outcome =
 
 -- a picture of what the words ask for
 abbrev pub IsMapText : MapWords → Project → List ℕ → Type 0
-IsMapText words P text = (plan : MapPlan) × IsMap P words plan
+IsMapText words P text = (plan : MapPlan) × IsMap P words plan × IsMapDrawn P plan text
 
 -- a table where it is wanted, and a picture
 abbrev pub IsTableGiven : CurveWords → List ℕ → Outcome → Type 0
@@ -72,6 +74,7 @@ IsNoSweep words e P = OrStop (IsNoTable P (texts_of words.depths.items) (texts_o
 -- what is done for what is asked, with the bytes of its file
 abbrev pub IsDone : Asked → List ℕ → Outcome → Type 0
 IsDone (Map words) bytes outcome = IsMadeOf bytes (text_of words.out) (IsMapText words) outcome
+IsDone (Order words) bytes outcome = IsMadeOf bytes (text_of words.out) (IsOrderText words) outcome
 IsDone (Rates words) bytes outcome = AreRates words outcome
 IsDone (Delays words) bytes outcome = AreDelays words outcome
 IsDone (Sweep words) bytes outcome = IsMadeOf bytes (text_of words.csv) (IsSweepText words) outcome
@@ -89,6 +92,7 @@ IsNotMade bytes Refused e = (e ≡ end.Memory) ⊎ (IsNoProject bytes e ⊎ ((P 
 -- why what is asked isn't done
 abbrev pub IsNotDone : Asked → List ℕ → End → Type 0
 IsNotDone (Map words) bytes e = IsNotMade bytes (λ P. IsNoMap P words e) e
+IsNotDone (Order words) bytes e = IsNotMade bytes (λ P. IsNoOrder P words e) e
 IsNotDone (Rates words) bytes e = (e ≡ end.Memory) ⊎ IsNoCurve words e
 IsNotDone (Delays words) bytes e = (e ≡ end.Memory) ⊎ IsNoCurve words e
 IsNotDone (Sweep words) bytes e = IsNotMade bytes (IsNoSweep words e) e

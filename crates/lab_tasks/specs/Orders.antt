@@ -1,6 +1,7 @@
 -- What `order` tabulates and draws, and why it doesn't.
 use Rattle.std.specs.Prelude.{◌≡◌, ◌≤◌, ◌<◌, ℕ, List, [], ◌∷◌, ◌++◌, Option, None, Some, codes, decimal, unwrap_or}
 use Rattle.project_book.specs.Project.{Project}
+use Rattle.omega_net.specs.Numbers.{lines}
 use Rattle.omega_net.specs.Texts.{tag_text}
 use Rattle.machine_cells.specs.Run.{run}
 use Rattle.machine_cells.specs.Runs.{state_in}
@@ -10,9 +11,10 @@ use Rattle.experiments.specs.declared.order.Issue.{Issue}
 use Rattle.experiments.specs.declared.order.OrderRow.{OrderRow}
 use Rattle.experiments.specs.Orders.{order_rows, rows_shown}
 use Rattle.lab_tasks.specs.declared.end.End.{End}
-use Rattle.lab_tasks.specs.declared.words.OrderWords.{OrderWords}
+use Rattle.lab_tasks.specs.declared.order.OrderWords.{OrderWords}
 use Rattle.lab_tasks.specs.Ends.{RefusesBackwards}
 use Rattle.lab_tasks.specs.Numbers.{IsTold, IsUntold}
+use Rattle.lab_tasks.specs.OrderPictures.{IsPicture}
 use Rattle.lab_tasks.specs.Plans.{InTurn}
 use Rattle.lab_tasks.specs.Tables.{table_text}
 use Rattle.lab_tasks.specs.Words.{text_of}
@@ -44,21 +46,25 @@ rows_in P window = rows_shown window.from window.to (order_rows P (state_in (run
 -- the address and the cycle of an issue, and the cycle and the word of a reply; two empty fields where there is none
 abbrev pub issue_text : Option Issue → List ℕ
 issue_text None = codes ","
-issue_text (Some i) = decimal i.address ++ codes "," ++ decimal i.cycle
+issue_text (Some i) = decimal i.address ++ (codes "," ++ decimal i.cycle)
 
 abbrev pub reply_text : Option Received → List ℕ
 reply_text None = codes ","
-reply_text (Some y) = decimal y.cycle ++ codes "," ++ decimal y.word
+reply_text (Some y) = decimal y.cycle ++ (codes "," ++ decimal y.word)
 
 -- a row of the table
 abbrev pub order_row : OrderRow → List ℕ
 order_row r =
-    decimal r.number ++ codes "," ++ tag_text r.tag ++ codes "," ++ issue_text r.issue ++ codes "," ++ decimal r.served ++ codes ","
-    ++ reply_text r.reply
+    decimal r.number ++ (codes "," ++ (tag_text r.tag ++ (codes "," ++ (issue_text r.issue ++ (codes "," ++ (decimal r.served ++ (codes "," ++ reply_text r.reply)))))))
 
 abbrev pub order_header : List ℕ
 order_header = codes "number,reference,word,issued,served,answered,old_word" ++ 10 ∷ []
 
--- the table of the window that the words name
+-- the table of some references; a diagram where a file is named for it
+abbrev pub IsTableOrPicture : Option (List ℕ) → Project → Window → List OrderRow → List ℕ → Type 0
+IsTableOrPicture None P window rows text = text ≡ table_text order_header order_row rows
+IsTableOrPicture (Some name) P window rows text = IsPicture (lines P.k) window rows text
+
+-- that of the window that the words name
 abbrev pub IsOrderText : OrderWords → Project → List ℕ → Type 0
-IsOrderText words P text = (window : Window) × IsWindow P words window × (text ≡ table_text order_header order_row (rows_in P window))
+IsOrderText words P text = (window : Window) × IsWindow P words window × IsTableOrPicture (text_of words.out) P window (rows_in P window) text

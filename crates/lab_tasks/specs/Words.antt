@@ -3,8 +3,9 @@ use Rattle.std.specs.Prelude.{◌≡◌, List, [], map, ℕ, Option, Some, None,
 use Rattle.std.specs.Borrow.{Bor}
 use Rattle.clap.specs.Words.{Row, Text, all_of, first_of}
 use Rattle.lab_tasks.specs.declared.words.Asked.{Asked}
-use Rattle.lab_tasks.specs.declared.words.Asked.TheVariants.{Map, Rates, Delays, Sweep, Check, Convert}
+use Rattle.lab_tasks.specs.declared.words.Asked.TheVariants.{Map, Order, Rates, Delays, Sweep, Check, Convert}
 use Rattle.lab_tasks.specs.declared.words.MapWords.{MapWords}
+use Rattle.lab_tasks.specs.declared.order.OrderWords.{OrderWords}
 use Rattle.lab_tasks.specs.declared.words.CurveWords.{CurveWords}
 use Rattle.lab_tasks.specs.declared.words.SweepWords.{SweepWords}
 
@@ -27,6 +28,12 @@ pub record AreMapWords (rows : List Row) (words : MapWords) : Type 0 where
   pub file : words.file.now ≡ file_at rows
   pub net : text_of words.net ≡ first_of (codes "net") rows
   pub number : text_of words.module ≡ first_of (codes "module") rows
+  pub from : text_of words.from ≡ first_of (codes "from") rows
+  pub to : text_of words.to ≡ first_of (codes "to") rows
+  pub out : text_of words.out ≡ first_of (codes "out") rows
+
+pub record AreOrderWords (rows : List Row) (words : OrderWords) : Type 0 where
+  pub file : words.file.now ≡ file_at rows
   pub from : text_of words.from ≡ first_of (codes "from") rows
   pub to : text_of words.to ≡ first_of (codes "to") rows
   pub out : text_of words.out ≡ first_of (codes "out") rows
@@ -55,6 +62,7 @@ IsNamed said name Says = (rows : List Row) × (said ≡ Some (name, rows)) × Sa
 -- what is asked for where a task is named, and its matches hold these rows
 abbrev pub AsksFor : Option (Text × List Row) → Asked → Type 0
 AsksFor said (Map words) = IsNamed said (codes "map") (λ rows. AreMapWords rows words)
+AsksFor said (Order words) = IsNamed said (codes "order") (λ rows. AreOrderWords rows words)
 AsksFor said (Rates words) = IsNamed said (codes "rates") (λ rows. AreCurveWords rows words)
 AsksFor said (Delays words) = IsNamed said (codes "delays") (λ rows. AreCurveWords rows words)
 AsksFor said (Sweep words) = IsNamed said (codes "sweep") (λ rows. AreSweepWords rows words)
@@ -63,6 +71,7 @@ AsksFor said (Convert file out) = IsNamed said (codes "convert") (λ rows. (file
 
 abbrev pub file_of : Asked → Option (List ℕ)
 file_of (Map words) = Some words.file.now
+file_of (Order words) = Some words.file.now
 file_of (Rates words) = None
 file_of (Delays words) = None
 file_of (Sweep words) = Some words.file.now

@@ -17,16 +17,21 @@
 #![tactic(auto)]
 
 mod check;
+mod columns;
 mod curves;
+mod delay_picture;
 mod delays;
 mod end;
 mod host;
 mod map;
 mod numbers;
+mod order;
+mod order_picture;
 mod outcome;
 mod plan;
 mod points;
 mod progress;
+mod rate_picture;
 mod rates;
 mod sweep;
 mod swept;
@@ -36,6 +41,7 @@ mod words;
 
 pub use end::{End, Reason, refusal, status};
 pub use host::program;
+pub use order::OrderWords;
 pub use outcome::{OutFile, Outcome};
 pub use progress::{Progress, Silent};
 pub use task::perform;

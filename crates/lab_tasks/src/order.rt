@@ -1,17 +1,27 @@
-//! The one order of a run's references, as a table.
+//! The one order of a run's references, as a table or a diagram.
 ghost use Rattle.std.specs.Prelude.{◌≡◌, ◌≤◌, IfErr, IfOk, IsOkUnless, Some, string_bytes};
-ghost use Rattle.lab_tasks.specs.Orders.{issue_text, order_row, reply_text, rows_in, IsNoOrder, IsWindow};
+ghost use Rattle.lab_tasks.specs.Orders.{issue_text, order_row, reply_text, rows_in, IsNoOrder, IsTableOrPicture, IsWindow};
 ghost use Rattle.lab_tasks.specs.Tables.{table_text};
+ghost use Rattle.lab_tasks.specs.Words.{text_of};
 
 use crate::end::{End, Reason};
+use crate::order_picture::order_picture;
 use crate::plan::number_at;
-use crate::words::OrderWords;
 use experiments::{Issue, OrderRow, Window, order_rows, rows_shown};
 use project_book::Project;
 use run_queries::Received;
 use std::alloc::{AllocError, Global};
 use std::fmt;
 use std::fmt::Write;
+
+/// What `order` is told.
+#[derive(Clone, Copy)]
+pub struct OrderWords<'a> {
+    pub file: &'a str,
+    pub from: Option<&'a str>,
+    pub to: Option<&'a str>,
+    pub out: Option<&'a str>,
+}
 
 /// The window of cycles that the words name.
 pub(crate) fn order_window<'a>(
@@ -102,16 +112,23 @@ fn order_table(alloc: Global, rows: &[OrderRow]) -> Result<String, AllocError>
     Ok(text)
 }
 
-/// The table of the references that waited in a window of cycles.
+/// The diagram where a file is named for it, else the table, of the references that waited in a window of cycles.
 pub(crate) fn order_text<'a>(
     alloc: Global,
+    words: &OrderWords<'a>,
     project: &Project,
     window: Window,
 ) -> Result<String, End<'a>>
-    ensures table { IfOk result (λ text. string_bytes text ≡ table_text ORDER_HEADER.now order_row (rows_in project.now window)) }
+    ensures text { IfOk result (λ text. IsTableOrPicture (text_of words.now.out) project.now window (rows_in project.now window) (string_bytes text)) }
     ensures memory { IsOkUnless result End.Memory }
 {
     let all = order_rows(alloc, project)?;
     let rows = rows_shown(alloc, all.as_slice(), window)?;
-    Ok(order_table(alloc, rows.as_slice())?)
+    match words.out {
+        Some(_) => {
+            let processors = project.shape().lines() as u8;
+            Ok(order_picture(alloc, processors, window, rows.as_slice())?)
+        }
+        None => Ok(order_table(alloc, rows.as_slice())?),
+    }
 }

@@ -17,7 +17,7 @@ use project_book::Project;
 use std::alloc::Global;
 
 /// The number at an option, which has to be within two others; without a word a usual one.
-fn number_at<'a>(
+pub(crate) fn number_at<'a>(
     option: &'static str,
     word: Option<&'a str>,
     usual: u32,

@@ -4,9 +4,10 @@ ghost use Rattle.std.specs.Option.{option_map_or};
 ghost use Rattle.clap.specs.Matches.{matched_of, raw_values};
 ghost use Rattle.clap.specs.Walk.{texts};
 ghost use Rattle.clap.specs.Words.{FailsBy, fault_of, first_of, found_of, new_app, rows_of, rule_of, subcommand_of};
-ghost use Rattle.lab_tasks.specs.CommandLine.{bare, check_task, convert_task, delays_task, file_rule, kept_rules, lab, map_task, measured_task, option_rule, rates_task, several_rule, sweep_task, HasAll, HasMore, HasTask, IsApp, IsLab, IsNoTask, IsTask};
-ghost use Rattle.lab_tasks.specs.Words.{file_at, text_of, texts_at, AreCurveWords, AreMapWords, AreSweepWords, AsksFor};
+ghost use Rattle.lab_tasks.specs.CommandLine.{bare, check_task, convert_task, delays_task, file_rule, kept_rules, lab, map_task, measured_task, option_rule, order_task, rates_task, several_rule, sweep_task, HasAll, HasMore, HasTask, IsApp, IsLab, IsNoTask, IsTask};
+ghost use Rattle.lab_tasks.specs.Words.{file_at, text_of, texts_at, AreCurveWords, AreMapWords, AreOrderWords, AreSweepWords, AsksFor};
 
+use crate::order::OrderWords;
 use clap::{Arg, ArgAction, ArgMatches, Command, Error};
 use std::alloc::{AllocError, Global};
 
@@ -49,6 +50,7 @@ pub struct SweepWords<'a> {
 #[derive(Drop)]
 pub enum Asked<'a> {
     Map(MapWords<'a>),
+    Order(OrderWords<'a>),
     Rates(CurveWords<'a>),
     Delays(CurveWords<'a>),
     Sweep(SweepWords<'a>),
@@ -65,6 +67,7 @@ impl<'a> Asked<'a> {
     {
         match self {
             Asked::Map(words) => Some(words.file),
+            Asked::Order(words) => Some(words.file),
             Asked::Rates(_) | Asked::Delays(_) => None,
             Asked::Sweep(words) => Some(words.file),
             Asked::Check { file } => Some(*file),
@@ -76,6 +79,9 @@ impl<'a> Asked<'a> {
 const FILE_HELP: &str = "The project file";
 
 const MAP_ABOUT: &str = "Draws tree saturation: the queues towards a module, cycle by cycle";
+
+const ORDER_ABOUT: &str =
+    "Draws or tabulates the one order of all references: when each was issued, served and answered";
 
 const RATES_ABOUT: &str =
     "Measures references answered per cycle against the number of processors, for some shares of hot references";
@@ -205,6 +211,28 @@ fn map_command<'a>(alloc: Global) -> Result<Command<'a>, AllocError>
         "out",
         "MAP.svg",
         "Where the picture goes; without it to standard output",
+    )?;
+    Ok(task)
+}
+
+fn order_command<'a>(alloc: Global) -> Result<Command<'a>, AllocError>
+    ensures { IfOk result (IsTask order_task) }
+{
+    let task = with_file(alloc, named(alloc, "order", ORDER_ABOUT, ENDS))?;
+    let task = with_option(alloc, task, "from", "T", "The first cycle; without it 0")?;
+    let task = with_option(
+        alloc,
+        task,
+        "to",
+        "T",
+        "The last cycle; without it the horizon",
+    )?;
+    let task = with_option(
+        alloc,
+        task,
+        "out",
+        "ORDER.svg",
+        "Where a picture goes; without it a table to standard output",
     )?;
     Ok(task)
 }
@@ -371,6 +399,7 @@ fn lab_command<'a>(alloc: Global) -> Result<Command<'a>, AllocError>
 {
     let command = bare_command(alloc)?;
     let command = with_task(command, map_command(alloc)?)?;
+    let command = with_task(command, order_command(alloc)?)?;
     let command = with_task(command, rates_command(alloc)?)?;
     let command = with_task(command, delays_command(alloc)?)?;
     let command = with_task(command, sweep_command(alloc)?)?;
@@ -422,6 +451,17 @@ fn map_words<'a>(matches: &ArgMatches<'a>) -> MapWords<'a>
     }
 }
 
+fn order_words<'a>(matches: &ArgMatches<'a>) -> OrderWords<'a>
+    ensures { AreOrderWords (rows_of (found_of matches.now)) result }
+{
+    OrderWords {
+        file: file_in(matches),
+        from: text_in(matches, "from"),
+        to: text_in(matches, "to"),
+        out: text_in(matches, "out"),
+    }
+}
+
 fn curve_words<'a>(matches: &ArgMatches<'a>) -> CurveWords<'a>
     ensures { AreCurveWords (rows_of (found_of matches.now)) result }
 {
@@ -462,6 +502,7 @@ fn asked_of<'a>(
 {
     Ok(match name {
         "map" => Some(Asked::Map(map_words(matches))),
+        "order" => Some(Asked::Order(order_words(matches))),
         "rates" => Some(Asked::Rates(curve_words(matches))),
         "delays" => Some(Asked::Delays(curve_words(matches))),
         "sweep" => Some(Asked::Sweep(sweep_words(alloc, matches)?)),

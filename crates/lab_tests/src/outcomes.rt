@@ -98,7 +98,14 @@ fn depths_are_gone_through(rt: HostRuntime) -> Result<(), Fail> {
 #[test]
 fn what_has_no_answer_is_told(rt: HostRuntime) -> Result<(), Fail> {
     let words = [
-        "sweep", "two.toml", "--depth", "module=4..5", "--ask", "reply 0 9", "--ask", "memory 7 8",
+        "sweep",
+        "two.toml",
+        "--depth",
+        "module=4..5",
+        "--ask",
+        "reply 0 9",
+        "--ask",
+        "memory 7 8",
     ];
     let outcome = made(&rt, &words, TWO)?;
     let table = b"module,reply 0 9,memory 7 8
@@ -112,7 +119,11 @@ fn what_has_no_answer_is_told(rt: HostRuntime) -> Result<(), Fail> {
 // Where all references are hot there are none whose delay is a figure.
 #[test]
 fn no_delay_is_no_figure(rt: HostRuntime) -> Result<(), Fail> {
-    let outcome = made(&rt, &["delays", "--k", "1", "--hot", "100", "--cycles", "16"], b"")?;
+    let outcome = made(
+        &rt,
+        &["delays", "--k", "1", "--hot", "100", "--cycles", "16"],
+        b"",
+    )?;
     let text = std::str::from_utf8(outcome.printed.as_slice())?;
     assert!(rt;
         equal(
@@ -148,6 +159,44 @@ fn a_map_is_drawn(rt: HostRuntime) -> Result<(), Fail> {
     assert!(rt; text.starts_with("<svg "));
     assert!(rt; text.ends_with("</svg>\n"));
     assert!(rt; text.contains("two.toml, cycles 0 to 8."));
+    Ok(())
+}
+
+/// Two processors that add 1 to word 0, which one switch combines.
+const COMBINED: &[u8] = b"format = 2
+k = 1
+horizon = 8
+combine = [true]
+
+[[script]]
+processor = 0
+entries = [\"sync add 0 1\"]
+
+[[script]]
+processor = 1
+entries = [\"sync add 0 1\"]
+";
+
+// Both are issued at cycle 1, served as one request at 4 and answered at 6. In a picture of cycles 0 to 8 the columns are 85
+// pixels apart from 90 on, and the middles of lanes 0 and 1 are at 80.5 and 94.5.
+#[test]
+fn one_order_is_tabulated_and_drawn(rt: HostRuntime) -> Result<(), Fail> {
+    let outcome = made(&rt, &["order", "two.toml"], COMBINED)?;
+    let table = "number,reference,word,issued,served,answered,old_word
+1,0.0,0,1,4,6,0
+2,1.0,0,1,4,6,1
+";
+    assert!(rt; equal(&rt, outcome.printed.as_slice(), table.as_bytes()));
+    let drawn = made(&rt, &["order", "two.toml", "--out", "two.svg"], COMBINED)?;
+    let file = drawn.files.first().ok_or("a file")?;
+    let text = std::str::from_utf8(file.bytes.as_slice())?;
+    for part in [
+        "<rect x=\"175\" y=\"78.5\" width=\"425\" height=\"4\" fill=\"#08306b\"/>",
+        "<line x1=\"430\" y1=\"80.5\" x2=\"430\" y2=\"94.5\" stroke=\"#1a1a1a\" stroke-width=\"1.5\"/>",
+        ">processor 1</text>",
+    ] {
+        assert!(rt; text.contains(part));
+    }
     Ok(())
 }
 

@@ -2,9 +2,9 @@
 use expect::equal;
 use std::test::Fail;
 use svg_plots::{
-    Anchor, Axis, CellGroup, CellMap, Colour, Crossing, Curve, Curves, Escaped, Mark, Panel,
-    Picture, Scale, Spot, Stroke, Tenths, Tick, Writing, draw_curves, draw_map, log2_hundredths,
-    tick_step,
+    Anchor, Axis, CellGroup, CellMap, CellRow, CellRows, Cells, Colour, Crossing, Curve, Curves,
+    Escaped, Label, Mark, Panel, Picture, Scale, ShadeKey, Spot, Stroke, Tenths, Tick, Writing,
+    draw_curves, draw_map, log2_hundredths, tick_step,
 };
 
 #[test]
@@ -163,7 +163,7 @@ fn curves_are_drawn(rt: HostRuntime) -> Result<(), Fail> {
         panels: panels.as_slice(),
         legend_columns: 1,
     };
-    let text = draw_curves(rt.alloc(), &drawn, &["seed 1"])?;
+    let text = draw_curves(rt.alloc(), &drawn, &[Label::new(rt.alloc(), "seed 1")?])?;
     for part in [
         "height=\"487\"",
         "<polyline points=\"46,386 413,311 780,86 \"",
@@ -180,31 +180,50 @@ fn curves_are_drawn(rt: HostRuntime) -> Result<(), Fail> {
 // Two columns are 285 pixels wide each, one row is 20 high, and its cells begin at 87 under one crossing's label.
 #[test]
 fn maps_are_drawn(rt: HostRuntime) -> Result<(), Fail> {
-    let mut rows = Vec::new(rt.alloc());
-    rows.push(vec![in rt.alloc(); 2, 3]?)?;
-    let mut groups = Vec::new(rt.alloc());
-    groups.push(CellGroup {
-        label: "stage 0",
-        rows,
-    })?;
-    let crossings = [Crossing {
-        column: 1,
-        label: "level 1",
-    }];
+    let rows = vec![in rt.alloc();
+        CellRow {
+            label: Label::new(rt.alloc(), "l0.0")?,
+            cells: Cells::from_vec(vec![in rt.alloc(); 2, 3]?),
+        },
+    ]?;
+    let groups = vec![in rt.alloc();
+        CellGroup {
+            label: Label::new(rt.alloc(), "stage 0")?,
+            rows: CellRows::from_vec(rows),
+        },
+    ]?;
+    let key = vec![in rt.alloc();
+        ShadeKey {
+            number: 3,
+            label: Label::new(rt.alloc(), "3 full")?,
+        },
+    ]?;
+    let crossings = vec![in rt.alloc();
+        Crossing {
+            column: Some(1),
+            label: Label::new(rt.alloc(), "level 1: cycle 8")?,
+        },
+    ]?;
     let map = CellMap {
-        title: "queues",
+        title: Label::new(rt.alloc(), "queues")?,
         across: "cycle",
-        first: 7,
-        groups: groups.as_slice(),
+        ticks: vec![in rt.alloc();
+            Tick {
+                value: 1,
+                number: 8,
+            },
+        ]?,
+        groups,
         most: 4,
         marked: 3,
-        crossings: &crossings,
-        levels: &[0, 1],
+        key,
+        crossings,
+        levels: vec![in rt.alloc(); 0, 1]?,
         level_title: "level",
         highest: 1,
-        strokes: &[false, true],
+        strokes: vec![in rt.alloc(); false, true]?,
         stroke_title: "served",
-        notes: &[],
+        notes: Vec::new(rt.alloc()),
     };
     let text = draw_map(rt.alloc(), &map)?;
     for part in [
@@ -214,7 +233,10 @@ fn maps_are_drawn(rt: HostRuntime) -> Result<(), Fail> {
         "<line x1=\"385\" y1=\"42\" x2=\"385\" y2=\"135\" stroke=\"#d55e00\"",
         "<polyline points=\"100,71 385,71 385,62 670,62 \"",
         "<text x=\"385\" y=\"153\" font-size=\"12\" text-anchor=\"middle\">8</text>",
-        ">3 full</text>",
+        ">l0.0</text>",
+        ">level 1: cycle 8</text>",
+        "<rect x=\"685\" y=\"87\" width=\"24\" height=\"11\" fill=\"#2171b5\"/>",
+        "<text x=\"715\" y=\"96.5\" font-size=\"12\" text-anchor=\"start\">3 full</text>",
     ] {
         assert!(rt; text.as_str().contains(part));
     }

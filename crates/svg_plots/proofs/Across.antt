@@ -9,6 +9,7 @@ column_within a b v = chosen (nat_le b a)
   where
     part : share_of 6800 (min (v - a) (b - a)) (b - a) ≤ 6800
     part = share_within 6800 (min (v - a) (b - a)) (b - a) (grind arith)
+
     chosen : (none : Bool) → cond none 900 (900 + share_of 6800 (min (v - a) (b - a)) (b - a)) ≤ 7700
     chosen true = omega arith
     chosen false = omega (arith, part)

@@ -56,7 +56,7 @@ abbrev pub dot_elements : Columns → Bar → List Element
 dot_elements c b =
     if is_in c b.dot
     then Marked (spot (column_x c b.dot) (middle_y b.lane)) Circle Ink
-        ∷ Words (spot (column_x c b.dot + 45) (lane_y b.lane + 75)) (writing Start 9 false) (decimal b.number) ∷ []
+    ∷ Words (spot (column_x c b.dot + 45) (lane_y b.lane + 75)) (writing Start 9 false) (decimal b.number) ∷ []
     else []
 
 abbrev pub bar_elements : Columns → Bar → List Element

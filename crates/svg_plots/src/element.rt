@@ -166,6 +166,13 @@ impl Label {
         Ok(Label { text })
     }
 
+    /// The text itself. It takes no memory.
+    pub fn from_string(text: String) -> Label
+        ensures { result ≡ string_bytes text }
+    {
+        Label { text }
+    }
+
     pub fn as_str(&self) -> &str
         ensures { result.now ≡ self.now }
     {

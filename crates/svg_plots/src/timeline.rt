@@ -211,12 +211,7 @@ fn named(alloc: Global, name: &str, number: u32) -> Result<String, AllocError>
     format!(in alloc; "{name} {number}")
 }
 
-fn draw_band(
-    alloc: Global,
-    picture: &mut Picture,
-    name: &str,
-    band: Band,
-) -> Result<(), AllocError>
+fn draw_band(alloc: Global, picture: &mut Picture, name: &str, band: Band) -> Result<(), AllocError>
     ensures { OnOk result (picture.new ≡ picture.old ++ band_elements name.now band) }
 {
     let y = lane_y(band.lane);
@@ -303,12 +298,7 @@ fn draw_ground(picture: &mut Picture, lanes: u16, across: &str) -> Result<(), Al
     picture.words(spot(820, y + 180), writing(Anchor::End, 11, false), across)
 }
 
-fn draw_key(
-    alloc: Global,
-    picture: &mut Picture,
-    name: &str,
-    key: Key,
-) -> Result<(), AllocError>
+fn draw_key(alloc: Global, picture: &mut Picture, name: &str, key: Key) -> Result<(), AllocError>
     ensures { OnOk result (picture.new ≡ picture.old ++ key_elements name.now key) }
 {
     let x = 900 + 1_360 * u32::from(key.place);

@@ -1,4 +1,4 @@
-use Rattle.std.proofs.Common.{◌≡◌, ◌≤◌, ◌+◌, ◌*◌, ◌^◌, sum, drop}
+use Rattle.std.proofs.Common.{◌≡◌, ◌≤◌, ◌+◌, ◌*◌, sum, drop}
 use Rattle.experiments.proofs.lanes.lanes_of.Given as goal
 
 abbrev pub invariant-loop-count : goal.invariant-loop-count

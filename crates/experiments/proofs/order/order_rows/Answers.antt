@@ -7,7 +7,7 @@ use Rattle.machine_cells.specs.Runs.{state_in}
 use Rattle.memory_order.specs.Linearizable.{Linearizes}
 use Rattle.experiments.specs.declared.order.OrderRow.{OrderRow}
 use Rattle.experiments.specs.declared.order.Service.{Service}
-use Rattle.experiments.specs.Orders.{order_rows, row_of, rows_from, services}
+use Rattle.experiments.specs.Orders.{row_of, rows_from, services}
 use Rattle.experiments.proofs.Numbered.{order_tags, row_next, rows_listed}
 use Rattle.experiments.proofs.order.order_rows.Goals as goal
 
@@ -20,7 +20,7 @@ loop-place-preserved c =
     let none : Service = record { cycle = 0; tag = record { proc = 0; issue = 0 } } in
     row_next P at (c.loop-place.place + 1) c.loop-place.place ss none c.loop-place.listed.items c.push.new.self.items (rows_from P at 1 ss) c.row_of.result (omega arith)
     (c.row_of.ensures
-        ∙ ap (λ (R : List (List MachineState)). row_of P (state_in R) (c.loop-place.place + 1) (get_or ss c.loop-place.place none)) (ap (map items) c.as_slice-in-loop-place.ensures.value))
+    ∙ ap (λ (R : List (List MachineState)). row_of P (state_in R) (c.loop-place.place + 1) (get_or ss c.loop-place.place none)) (ap (map items) c.as_slice-in-loop-place.ensures.value))
     c.in_ok-push.ensures.items c.loop-place.invariant
 
 pub returns-clause-rows : goal.returns-clause-rows

@@ -1,4 +1,3 @@
-use Rattle.std.proofs.Common.{rules, ◌≡◌}
 use Rattle.svg_plots.proofs.timeline.draw_timeline.Goals as goal
 
 pub returns : goal.returns
