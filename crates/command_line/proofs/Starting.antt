@@ -52,8 +52,8 @@ module _ (gives : Gives) (words : List Text) (P : Project) (opens : Opens gives 
 
   module _ (n gates : ℕ) (held : IsNumberHeld (matches_of hotspot words) n) (as_many : gates ≡ n) where
     of_end : (ended : Result (Unit {0}) RunFault) (left : Left) → Leaves gates (first_store P) cant_read cant_write b ended left → ServesFor gives words cant_read cant_write b (stop.At (end_for ended))
-    of_end (Ok tt) left leaves = (P, opens, n, held, left, subst (λ m. Leaves m (first_store P) cant_read cant_write b (Ok tt) left) as_many leaves)
-    of_end (Err fault) left leaves = (P, opens, n, held, left, subst (λ m. Leaves m (first_store P) cant_read cant_write b (Err fault) left) as_many leaves)
+    of_end (Ok done) left leaves = (P, opens, (n, held, (left, subst (λ m. Leaves m (first_store P) cant_read cant_write b (Ok done) left) as_many leaves)))
+    of_end (Err fault) left leaves = (P, opens, (n, held, (left, subst (λ m. Leaves m (first_store P) cant_read cant_write b (Err fault) left) as_many leaves)))
 
     of_session : (served : Result Session NoStart) → ServesAs gates (first_store P) cant_read cant_write b served → ServesFor gives words cant_read cant_write b (stop_for served)
     of_session (Ok session) leaves = of_end session.ended session.left leaves
