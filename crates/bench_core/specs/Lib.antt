@@ -1,3 +1,4 @@
+pub mod Limits
 pub mod Shown
 pub mod Events
 pub mod Stands

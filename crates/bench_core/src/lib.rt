@@ -15,11 +15,13 @@
 mod asked;
 mod bench;
 mod counters;
+mod limits;
 mod noted;
 mod recent;
 mod told;
 
 pub use asked::Asked;
 pub use bench::Bench;
+pub use limits::constants_are_limits;
 pub use noted::Noted;
 pub use told::Told;

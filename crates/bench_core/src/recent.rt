@@ -10,7 +10,7 @@ use std::marker::Model;
 use std::num::NonZeroUsize;
 
 /// How many answers are kept.
-const KEPT: usize = 64;
+pub(crate) const KEPT: usize = 64;
 
 /// A query, and the version at which it was asked.
 #[derive(Clone, Copy, PartialEq, Eq, Hash)]

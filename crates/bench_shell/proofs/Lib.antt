@@ -1,5 +1,6 @@
 mod Benches
 mod Lines
+mod Own
 mod Printing
 mod Steps
 mod Writes

@@ -5,7 +5,7 @@ use Rattle.std.specs.Prelude.{◌==◌}
 use Rattle.bench_shell.specs.Lines.{Line, Whole, Cut, lines_of, onto_line}
 use Rattle.bench_shell.specs.Store.{Store}
 use Rattle.bench_shell.specs.Text.{line_text}
-use Rattle.bench_shell.specs.Output.{output, output_lines, after_lines, store_after, is_long, reply, after, command_in}
+use Rattle.bench_shell.specs.Output.{output, output_lines, after_lines, store_after, is_long, reply, after, command_in, FirstIs}
 use Rattle.bench_shell.specs.Steps.{has_lf, Splits}
 use Rattle.bench_shell.specs.declared.answer.Answer.TheVariants.{BadLine, BadCut}
 
@@ -57,7 +57,7 @@ long_cut s h ls e = rw e refl
 is_long-yes : (h : List ℕ) → 4096 < length h → is_long h ≡ true
 is_long-yes h q = grind (arith, nat_tests)
 
-is_long-no : (h : List ℕ) → length h ≤ 4096 → is_long h ≡ false
+pub is_long-no : (h : List ℕ) → length h ≤ 4096 → is_long h ≡ false
 is_long-no h q = grind (arith, nat_tests)
 
 short_whole : (s : Store) (h : List ℕ) (ls : List Line) → is_long h ≡ false
@@ -161,3 +161,20 @@ store-split s a b p = ap (after_lines s) (p b) ∙ after_lines-append s (lines_o
 pub zero_lt : (xs : List ℕ) → (length xs == 0) ≡ false → 0 < length xs
 zero_lt [] e = cc
 zero_lt (x ∷ xs) e = omega arith
+
+-- the first line, where it has ended, stays the first
+first_onto : (P : List ℕ → Type 0) (b : ℕ) (ls ms : List Line) → (FirstIs (λ l. P (b ∷ l)) ls → FirstIs (λ l. P (b ∷ l)) ms) → FirstIs P (onto_line b ls) → FirstIs P (onto_line b ms)
+first_onto P b [] ms f p = absurd p
+first_onto P b (Cut l ∷ ls) ms f p = absurd p
+first_onto P b (Whole l ∷ ls) [] f p = absurd (f p)
+first_onto P b (Whole l ∷ ls) (Cut m ∷ ms) f p = absurd (f p)
+first_onto P b (Whole l ∷ ls) (Whole m ∷ ms) f p = f p
+
+first_step : (t : Bool) (P : List ℕ → Type 0) (b : ℕ) (ls ms : List Line) → (FirstIs (λ l. P (b ∷ l)) ls → FirstIs (λ l. P (b ∷ l)) ms)
+    → FirstIs P (cond t (Whole [] ∷ ls) (onto_line b ls)) → FirstIs P (cond t (Whole [] ∷ ms) (onto_line b ms))
+first_step true P b ls ms f p = p
+first_step false P b ls ms f p = first_onto P b ls ms f p
+
+pub first_stays : (P : List ℕ → Type 0) (text more : List ℕ) → FirstIs P (lines_of text) → FirstIs P (lines_of (text ++ more))
+first_stays P [] more p = absurd p
+first_stays P (b ∷ bs) more p = first_step (b == 10) P b (lines_of bs) (lines_of (bs ++ more)) (first_stays (λ l. P (b ∷ l)) bs more) p

@@ -1,18 +1,21 @@
 -- Lemmas on what a run has done so far.
 use Rattle.std.proofs.Common.{◌≡◌, ◌⊎◌, inl, inr, ℕ, ◌+◌, ◌<◌, ◌≤◌, Bool, true, false, List, [], ◌∷◌, ◌++◌, length, get_or, take, drop, refl, sym, ◌∙◌, ap, subst, append_assoc, append-nil, take-append-drop, arith}
 use Rattle.std.proofs.lemmas.List.{take_more, length-append}
-use Rattle.std.specs.Prelude.{◌==◌, if◌then◌else◌, Option, Some, None, Result, Ok, Err, IfOk, OnOk, IfSome}
+use Rattle.std.specs.Prelude.{◌==◌, if◌then◌else◌, Option, Some, None, Result, Ok, Err, IfOk, IfErr, OnOk, OnErr, IfSome}
 use Rattle.std.specs.Io.KnownBytes.{Appends, Consumes, Keeps, IsAtEnd}
 use Rattle.std.proofs.KnownBytes.{Appends-trans, Appends-nil, Consumes-nil, Consumes-trans, Consumes-kept}
 use Rattle.commands.specs.declared.command.Command.{Command}
 use Rattle.bench_shell.specs.Store.{Store}
 use Rattle.bench_shell.specs.Text.{line_text}
-use Rattle.bench_shell.specs.Lines.{lines_of}
-use Rattle.bench_shell.specs.Output.{output, store_after, reply, after, command_in, is_ok, none_ok, lines_text, StopsIn, AnswersAll, AnswersPart, AnswersOwn}
+use Rattle.bench_shell.specs.Cause.{HasCause}
+use Rattle.bench_shell.specs.Lines.{Whole, lines_of}
+use Rattle.bench_shell.specs.Output.{output, store_after, reply, after, command_in, is_long as is_long_line, is_ok, none_ok, lines_text, has_body, AnswersBody, MayStop, FirstIs, StopsAt, StopsBy, StopsIn, AnswersAll, AnswersPart, AnswersOwn}
 use Rattle.bench_shell.specs.Steps.{has_lf, Holds, AnswersLine, Reaches, StopsWithin, Moves, Fails, Goes, GoesOn, FailsOn}
+use Rattle.bench_shell.specs.declared.fault.RunFault.{RunFault}
+use Rattle.bench_shell.specs.declared.fault.RunFault.TheVariants.{Read, Write, OtherEditor, Memory, Clock}
 use Rattle.bench_shell.specs.declared.answer.Answer.{Answer}
 use Rattle.bench_shell.specs.declared.answer.Answer.TheVariants.{BadLine, BadCut}
-use Rattle.bench_shell.proofs.Lines.{has_lf-snoc, lines_of-whole, lines_of-cut, output-long, store-long, output-whole, store-whole, output-cut, output-cut-long, store-cut, cut_is_one, whole_is_one, splits_none, splits_line, splits_both, output-split, store-split}
+use Rattle.bench_shell.proofs.Lines.{has_lf-snoc, lines_of-whole, lines_of-cut, output-long, store-long, output-whole, store-whole, output-cut, output-cut-long, store-cut, cut_is_one, whole_is_one, splits_none, splits_line, splits_both, output-split, store-split, first_stays, is_long-no}
 use Rattle.bench_shell.proofs.Writes.{Appends-kept}
 
 -- nothing of a line has come
@@ -97,10 +100,95 @@ moves_line s t is_long h a f = λ line p.
       holds = holds_none;
     }
 
+-- a fault, by its cause
+pub if_err : {T : Type 0} (r : Result T RunFault) (read write other memory clock : Type 0) (P : RunFault → Type 0) → HasCause r read write other memory clock
+    → ((f : RunFault) → r ≡ Err f → HasCause {T = T} (Err f) read write other memory clock → P f) → IfErr r P
+if_err (Ok x) read write other memory clock P cause go = tt
+if_err (Err f) read write other memory clock P cause go = go f refl cause
+
+pub at_err : {T E Q : Type 0} (r : Result T E) (f : E) → r ≡ Err f → OnErr r Q → Q
+at_err (Ok x) f is q = absurd cc
+at_err (Err g) f is q = q
+
+-- the writer alone has failed
+pub stops_writing : (spent : Type 0) (f : RunFault) (s : Store) (line rest : List ℕ) (write : Type 0) → HasCause {T = Unit {0}} (Err f) ⊥ write ⊥ ⊥ ⊥ → StopsBy spent f s line rest
+stops_writing spent Read s line rest write h = absurd h
+stops_writing spent Write s line rest write h = tt
+stops_writing spent OtherEditor s line rest write h = absurd h
+stops_writing spent Memory s line rest write h = absurd h
+stops_writing spent Clock s line rest write h = absurd h
+
+-- or the text of an answer has found no memory
+pub stops_printing : (spent : Type 0) (f : RunFault) (s : Store) (line rest : List ℕ) (write memory : Type 0) → HasCause {T = Unit {0}} (Err f) ⊥ write ⊥ memory ⊥
+    → (memory → AnswersBody s (lines_of line)) → StopsBy spent f s line rest
+stops_printing spent Read s line rest write memory h body = absurd h
+stops_printing spent Write s line rest write memory h body = tt
+stops_printing spent OtherEditor s line rest write memory h body = absurd h
+stops_printing spent Memory s line rest write memory h body = inl (body h)
+stops_printing spent Clock s line rest write memory h body = absurd h
+
+-- or a line that isn't obeyed
+stops_ahead : (spent : Type 0) (f : RunFault) (s : Store) (rest : List ℕ) → StopsAt spent f s (lines_of rest) → StopsBy spent f s [] rest
+stops_ahead spent Read s rest h = tt
+stops_ahead spent Write s rest h = tt
+stops_ahead spent OtherEditor s rest h = tt
+stops_ahead spent Memory s rest h = inr h
+stops_ahead spent Clock s rest h = (refl, h)
+
+pub stops_line : (spent : Type 0) (f : RunFault) (s : Store) (line : List ℕ) → has_lf line ≡ false → StopsAt spent f s (Whole line ∷ []) → StopsBy spent f s [] (line ++ 10 ∷ [])
+stops_line spent f s line p h = stops_ahead spent f s (line ++ 10 ∷ []) (rw (lines_of-whole line [] p) h)
+
+-- whatever follows
+stops_more : (spent : Type 0) (f : RunFault) (s : Store) (line rest more : List ℕ) → StopsBy spent f s line rest → StopsBy spent f s line (rest ++ more)
+stops_more spent Read s line rest more h = tt
+stops_more spent Write s line rest more h = tt
+stops_more spent OtherEditor s line rest more h = tt
+stops_more spent Memory s line rest more h =
+    elim h [ inl body ↦ inl body | inr at ↦ inr (first_stays (λ l. (is_long_line l ≡ false) × MayStop spent Memory s (command_in s l)) rest more at) ]
+stops_more spent Clock s line rest more h = (h.0, first_stays (λ l. (is_long_line l ≡ false) × MayStop spent Clock s (command_in s l)) rest more h.1)
+
+pub body_line : (s : Store) (line : List ℕ) → has_lf line ≡ false → AnswersBody s (Whole line ∷ []) → AnswersBody s (lines_of (line ++ 10 ∷ []))
+body_line s line p h = rw (lines_of-whole line [] p) h
+
+-- whose answer has a body, by what is held of it
+pub line_body : {E : Type 0} (r : Result Answer E) (s : Store) (is_long : Bool) (h : List ℕ) (cmd : Option Command) → is_long ≡ false → length h ≤ 4096
+    → cmd ≡ command_in s h → IfOk r (λ a. a ≡ reply s cmd) → IfOk r (λ a. has_body a ≡ true → (line : List ℕ) → Holds is_long h line → AnswersBody s (Whole line ∷ []))
+line_body (Ok a) s is_long h cmd e fits is answer = λ body line p.
+    let same : h ≡ line = sym (p.short e) in
+    let told : a ≡ reply s (command_in s h) = answer ∙ ap (reply s) is in
+    subst (λ l. (is_long_line l ≡ false) × (has_body (reply s (command_in s l)) ≡ true)) same (is_long-no h fits, sym (ap has_body told) ∙ body)
+line_body (Err x) s is_long h cmd e fits is answer = tt
+
+-- no memory was wanted
+pub no_body : {T : Type 0} (r : Result T RunFault) (write memory : Type 0) → (memory → ⊥) → HasCause r ⊥ write ⊥ memory ⊥ → HasCause r ⊥ write ⊥ ⊥ ⊥
+no_body (Ok x) write memory none h = tt
+no_body (Err Read) write memory none h = h
+no_body (Err Write) write memory none h = h
+no_body (Err OtherEditor) write memory none h = h
+no_body (Err Memory) write memory none h = none h
+no_body (Err Clock) write memory none h = h
+
+pub some_body : {T : Type 0} (r : Result T RunFault) (write memory : Type 0) → HasCause r ⊥ write ⊥ ⊥ ⊥ → HasCause r ⊥ write ⊥ memory ⊥
+some_body (Ok x) write memory h = tt
+some_body (Err Read) write memory h = h
+some_body (Err Write) write memory h = h
+some_body (Err OtherEditor) write memory h = h
+some_body (Err Memory) write memory h = absurd h
+some_body (Err Clock) write memory h = h
+
+-- what a line that isn't obeyed is, by what is held of it
+pub line_stops : {E : Type 0} (r : Result E RunFault) (spent : Type 0) (s : Store) (is_long : Bool) (h : List ℕ) (cmd : Option Command) → is_long ≡ false → length h ≤ 4096
+    → cmd ≡ command_in s h → IfErr r (λ f. MayStop spent f s cmd) → IfErr r (λ f. (line : List ℕ) → Holds is_long h line → StopsAt spent f s (Whole line ∷ []))
+line_stops (Ok a) spent s is_long h cmd e fits is stops = tt
+line_stops (Err f) spent s is_long h cmd e fits is stops = λ line p.
+    let same : h ≡ line = sym (p.short e) in
+    subst (λ l. (is_long_line l ≡ false) × MayStop spent f s (command_in s l)) same (is_long-no h fits, subst (λ c. MayStop spent f s c) is stops)
+
 -- of whose answer a part is written
-pub fails_line : (s t : Store) (is_long : Bool) (h : List ℕ) (a : Answer) (part missing : List ℕ)
-    → ((line : List ℕ) → Holds is_long h line → AnswersLine s line a t) → line_text a ≡ part ++ missing → Fails s is_long h (10 ∷ []) part t
-fails_line s t is_long h a part missing f e = λ line p.
+pub fails_line : (spent : Type 0) (fault : RunFault) (s t : Store) (is_long : Bool) (h : List ℕ) (a : Answer) (part missing : List ℕ)
+    → ((line : List ℕ) → Holds is_long h line → AnswersLine s line a t) → line_text a ≡ part ++ missing → ((line : List ℕ) → Holds is_long h line → StopsBy spent fault s (line ++ 10 ∷ []) [])
+    → Fails spent fault s is_long h (10 ∷ []) part t
+fails_line spent fault s t is_long h a part missing f e why = λ line p.
     let ended = f line p in record {
       before = [];
       line = line ++ 10 ∷ [];
@@ -114,11 +202,13 @@ fails_line s t is_long h a part missing f e = λ line p.
       is_written = refl;
       answer = ended.0 ∙ e;
       is_store = ended.1;
+      why = why line p;
     }
 
 -- a line that isn't obeyed
-pub fails_at_once : (s t : Store) (is_long : Bool) (h more : List ℕ) → t ≡ s → Fails s is_long h more [] t
-fails_at_once s t is_long h more e = λ line p. record {
+pub fails_at_once : (spent : Type 0) (fault : RunFault) (s t : Store) (is_long : Bool) (h more : List ℕ) → t ≡ s
+    → ((line : List ℕ) → Holds is_long h line → StopsBy spent fault s [] (line ++ more)) → Fails spent fault s is_long h more [] t
+fails_at_once spent fault s t is_long h more e why = λ line p. record {
   before = [];
   line = [];
   rest = line ++ more;
@@ -131,6 +221,7 @@ fails_at_once s t is_long h more e = λ line p. record {
   is_written = refl;
   answer = refl;
   is_store = e;
+  why = why line p;
 }
 
 -- a piece, and then another
@@ -145,7 +236,7 @@ moves_none s is_long h = λ line p. record {
   holds = p;
 }
 
-joined : (line a b before held rest : List ℕ) → line ++ a ≡ before ++ held → held ++ b ≡ rest → line ++ (a ++ b) ≡ before ++ rest
+pub joined : (line a b before held rest : List ℕ) → line ++ a ≡ before ++ held → held ++ b ≡ rest → line ++ (a ++ b) ≡ before ++ rest
 joined line a b before held rest p q =
     sym (append_assoc line a b) ∙ ap (λ l. l ++ b) p ∙ append_assoc before held b ∙ ap (λ l. before ++ l) q
 
@@ -164,9 +255,9 @@ moves_trans s t u l0 l1 l2 h0 h1 h2 a b x y p q = λ line is.
       holds = n.holds;
     }
 
-pub moves_fails : (s t u : Store) (l0 l1 : Bool) (h0 h1 a b x y : List ℕ) → Moves s l0 h0 a x t l1 h1 → Fails t l1 h1 b y u
-    → Fails s l0 h0 (a ++ b) (x ++ y) u
-moves_fails s t u l0 l1 h0 h1 a b x y p q = λ line is.
+pub moves_fails : (spent : Type 0) (fault : RunFault) (s t u : Store) (l0 l1 : Bool) (h0 h1 a b x y : List ℕ) → Moves s l0 h0 a x t l1 h1 → Fails spent fault t l1 h1 b y u
+    → Fails spent fault s l0 h0 (a ++ b) (x ++ y) u
+moves_fails spent fault s t u l0 l1 h0 h1 a b x y p q = λ line is.
     let m = p line is in
     let n = q m.line m.holds in
     let s1 = store_after s m.before in
@@ -184,11 +275,12 @@ moves_fails s t u l0 l1 h0 h1 a b x y p q = λ line is.
           ∙ sym (append_assoc (output s m.before) (output s1 n.before) n.part) ∙ sym (ap (λ l. l ++ n.part) (output-split s m.before n.before m.splits));
       answer = ap (λ r. output r n.line) (two ∙ sym (ap (λ r. store_after r n.before) m.is_store)) ∙ n.answer;
       is_store = n.is_store ∙ ap (λ r. store_after r n.line) (ap (λ r. store_after r n.before) m.is_store ∙ sym two);
+      why = subst (λ r. StopsBy spent fault r n.line n.rest) (ap (λ r. store_after r n.before) m.is_store ∙ sym two) n.why;
     }
 
 -- what stands behind the place where a run stopped
-pub fails_more : (s t : Store) (is_long : Bool) (h a b x : List ℕ) → Fails s is_long h a x t → Fails s is_long h (a ++ b) x t
-fails_more s t is_long h a b x p = λ line is.
+pub fails_more : (spent : Type 0) (fault : RunFault) (s t : Store) (is_long : Bool) (h a b x : List ℕ) → Fails spent fault s is_long h a x t → Fails spent fault s is_long h (a ++ b) x t
+fails_more spent fault s t is_long h a b x p = λ line is.
     let m = p line is in record {
       before = m.before;
       line = m.line;
@@ -203,10 +295,11 @@ fails_more s t is_long h a b x p = λ line is.
       is_written = m.is_written;
       answer = m.answer;
       is_store = m.is_store;
+      why = stops_more spent fault (store_after s m.before) m.line m.rest b m.why;
     }
 
 -- bytes of a piece, one after another
-taken : (xs : List ℕ) (i x : ℕ) → i < length xs → x ≡ get_or xs i 0 → take i xs ++ x ∷ [] ≡ take (i + 1) xs
+pub taken : (xs : List ℕ) (i x : ℕ) → i < length xs → x ≡ get_or xs i 0 → take i xs ++ x ∷ [] ≡ take (i + 1) xs
 taken xs i x lt is = ap (λ n. take i xs ++ n ∷ []) is ∙ sym (take_more xs i 0 lt)
 
 -- ---- whoever edits
@@ -364,15 +457,15 @@ pub piece_goes : (A B C : Type 0) (w0 w1 w2 : Option (List ℕ)) (s t u : Store)
 piece_goes A B C w0 w1 w2 s t u l0 l1 l2 h0 h1 h2 xs i x lt is earlier later p q =
     subst (λ text. GoesOn w0 w2 A C s l0 h0 text u l2 h2) (taken xs i x lt is) (goes_trans A B C w0 w1 w2 s t u l0 l1 l2 h0 h1 h2 (take i xs) (x ∷ []) earlier later p q)
 
-pub piece_fails : (w0 w1 w2 : Option (List ℕ)) (s t u : Store) (l0 l1 : Bool) (h0 h1 xs : List ℕ) (i x : ℕ) → i < length xs → x ≡ get_or xs i 0
-    → MovesOn w0 w1 s l0 h0 (take i xs) t l1 h1 → FailsOn w1 w2 t l1 h1 (x ∷ []) u → FailsOn w0 w2 s l0 h0 xs u
-piece_fails w0 w1 w2 s t u l0 l1 h0 h1 xs i x lt is p q =
+pub piece_fails : (spent : Type 0) (fault : RunFault) (w0 w1 w2 : Option (List ℕ)) (s t u : Store) (l0 l1 : Bool) (h0 h1 xs : List ℕ) (i x : ℕ) → i < length xs → x ≡ get_or xs i 0
+    → MovesOn w0 w1 s l0 h0 (take i xs) t l1 h1 → FailsOn spent fault w1 w2 t l1 h1 (x ∷ []) u → FailsOn spent fault w0 w2 s l0 h0 xs u
+piece_fails spent fault w0 w1 w2 s t u l0 l1 h0 h1 xs i x lt is p q =
     let rest = drop (i + 1) xs in
     let all : (take i xs ++ x ∷ []) ++ rest ≡ xs = ap (λ l. l ++ rest) (taken xs i x lt is) ∙ take-append-drop (i + 1) xs in
-    let P : List ℕ → Type 0 = λ text. Fails s l0 h0 text (p.0 ++ q.0) u in (
+    let P : List ℕ → Type 0 = λ text. Fails spent fault s l0 h0 text (p.0 ++ q.0) u in (
       p.0 ++ q.0,
       Appends-trans w0 w1 w2 p.0 q.0 p.1 q.1,
-      subst P all (fails_more s u l0 h0 (take i xs ++ x ∷ []) rest (p.0 ++ q.0) (moves_fails s t u l0 l1 h0 h1 (take i xs) (x ∷ []) p.0 q.0 p.2 q.2)),
+      subst P all (fails_more spent fault s u l0 h0 (take i xs ++ x ∷ []) rest (p.0 ++ q.0) (moves_fails spent fault s t u l0 l1 h0 h1 (take i xs) (x ∷ []) p.0 q.0 p.2 q.2)),
     )
 
 -- what was read and written so far by a desk that is alone, from the start of a run
@@ -433,8 +526,8 @@ cut_one_line [] p some = absurd (omega (arith, some))
 cut_one_line (b ∷ h) p some = ap length (lines_of-cut b h p)
 
 -- a run that stopped at the end of a line has written a beginning of the output
-stops : (s t : Store) (read written : List ℕ) → StopsWithin s read written t → StopsIn s read written t
-stops s t read written p =
+stops : (spent : Type 0) (fault : RunFault) (s t : Store) (read written : List ℕ) → StopsWithin spent fault s read written t → StopsIn spent fault s read written t
+stops spent fault s t read written p =
     let s1 = store_after s p.before in
     let s2 = store_after s1 p.line in
     let later = p.missing ++ output s2 p.rest in record {
@@ -448,6 +541,7 @@ stops s t read written p =
       is_written = p.is_written;
       answer = p.answer;
       is_store = p.is_store;
+      why = p.why;
       begins = (
         later,
         ap (output s) p.is_text ∙ output-split s p.before (p.line ++ p.rest) p.splits
@@ -456,20 +550,20 @@ stops s t read written p =
       );
     }
 
-pub so_far_cut : (r0 r1 r2 w0 w1 w2 : Option (List ℕ)) (s t u : Store) (is_long : Bool) (h piece : List ℕ)
-    → SoFar r0 r1 w0 w1 s t is_long h → Consumes r1 r2 piece → FailsOn w1 w2 t is_long h piece u → AnswersPart r0 r2 w0 w2 s u
-so_far_cut r0 r1 r2 w0 w1 w2 s t u is_long h piece p c q = (
+pub so_far_cut : (spent : Type 0) (fault : RunFault) (r0 r1 r2 w0 w1 w2 : Option (List ℕ)) (s t u : Store) (is_long : Bool) (h piece : List ℕ)
+    → SoFar r0 r1 w0 w1 s t is_long h → Consumes r1 r2 piece → FailsOn spent fault w1 w2 t is_long h piece u → AnswersPart spent fault r0 r2 w0 w2 s u
+so_far_cut spent fault r0 r1 r2 w0 w1 w2 s t u is_long h piece p c q = (
   p.0 ++ piece,
   p.1 ++ q.0,
   Consumes-trans r0 r1 r2 p.0 piece p.2 c,
   Appends-trans w0 w1 w2 p.1 q.0 p.3 q.1,
-  stops s u (p.0 ++ piece) (p.1 ++ q.0) (moves_fails s t u false is_long [] h p.0 piece p.1 q.0 p.4 q.2 [] holds_none),
+  stops spent fault s u (p.0 ++ piece) (p.1 ++ q.0) (moves_fails spent fault s t u false is_long [] h p.0 piece p.1 q.0 p.4 q.2 [] holds_none),
 )
 
 -- a run that stopped behind the bytes that it holds, with a part of what their line is answered
-cut_in : (s t : Store) (read written part missing : List ℕ) (is_long : Bool) (h : List ℕ) (m : Reaches s read written t is_long h)
-    → output t m.line ≡ part ++ missing → StopsIn s read (written ++ part) t
-cut_in s t read written part missing is_long h m e =
+cut_in : (spent : Type 0) (fault : RunFault) (s t : Store) (read written part missing : List ℕ) (is_long : Bool) (h : List ℕ) (m : Reaches s read written t is_long h)
+    → output t m.line ≡ part ++ missing → StopsBy spent fault (store_after s m.before) m.line [] → StopsIn spent fault s read (written ++ part) t
+cut_in spent fault s t read written part missing is_long h m e why =
     let s1 = store_after s m.before in
     let answer : output s1 m.line ≡ part ++ missing = ap (λ r. output r m.line) (sym m.is_store) ∙ e in record {
       before = m.before;
@@ -482,6 +576,7 @@ cut_in s t read written part missing is_long h m e =
       is_written = ap (λ l. l ++ part) m.is_written;
       answer = answer;
       is_store = m.is_store ∙ sym (store-cut s1 m.line m.holds.no_lf);
+      why = why;
       begins = (
         missing,
         ap (output s) m.is_text ∙ output-split s m.before m.line m.splits ∙ ap (λ l. l ++ output s1 m.line) (sym m.is_written) ∙ ap (λ l. written ++ l) answer
@@ -489,12 +584,12 @@ cut_in s t read written part missing is_long h m e =
       );
     }
 
-pub so_far_part : (r0 r1 r2 w0 w1 : Option (List ℕ)) (s t : Store) (is_long : Bool) (h : List ℕ)
-    → SoFar r0 r1 w0 w1 s t is_long h → Keeps r1 r2 → AnswersPart r0 r2 w0 w1 s t
-so_far_part r0 r1 r2 w0 w1 s t is_long h p k =
+pub so_far_part : (spent : Type 0) (r0 r1 r2 w0 w1 : Option (List ℕ)) (s t : Store) (is_long : Bool) (h : List ℕ)
+    → SoFar r0 r1 w0 w1 s t is_long h → Keeps r1 r2 → AnswersPart spent Read r0 r2 w0 w1 s t
+so_far_part spent r0 r1 r2 w0 w1 s t is_long h p k =
     let m = p.4 [] holds_none in
-    let P : List ℕ → Type 0 = λ l. StopsIn s p.0 l t in
-    (p.0, p.1, Consumes-kept r0 r1 r2 p.0 p.2 k, p.3, subst P (append-nil p.1) (cut_in s t p.0 p.1 [] (output t m.line) is_long h m refl))
+    let P : List ℕ → Type 0 = λ l. StopsIn spent Read s p.0 l t in
+    (p.0, p.1, Consumes-kept r0 r1 r2 p.0 p.2 k, p.3, subst P (append-nil p.1) (cut_in spent Read s t p.0 p.1 [] (output t m.line) is_long h m refl tt))
 
 -- what the line that is held where the input ends is answered
 abbrev pub Ends : Bool → List ℕ → List ℕ → Type 0
@@ -503,17 +598,18 @@ Ends is_long h written = (line : List ℕ) → Holds is_long h line → (s : Sto
 abbrev pub EndsPart : Bool → List ℕ → List ℕ → Type 0
 EndsPart is_long h written = (line : List ℕ) → Holds is_long h line → (s : Store) → (missing : List ℕ) × (output s line ≡ written ++ missing)
 
-pub so_far_last : (r0 r1 r2 w0 w1 w2 : Option (List ℕ)) (s t : Store) (is_long : Bool) (h : List ℕ)
-    → SoFar r0 r1 w0 w1 s t is_long h → Consumes r1 r2 [] → (written : List ℕ) × Appends w1 w2 written × EndsPart is_long h written → AnswersPart r0 r2 w0 w2 s t
-so_far_last r0 r1 r2 w0 w1 w2 s t is_long h p c q =
+pub so_far_last : (spent : Type 0) (fault : RunFault) (write : Type 0) (r0 r1 r2 w0 w1 w2 : Option (List ℕ)) (s t : Store) (is_long : Bool) (h : List ℕ)
+    → SoFar r0 r1 w0 w1 s t is_long h → Consumes r1 r2 [] → HasCause {T = Unit {0}} (Err fault) ⊥ write ⊥ ⊥ ⊥
+    → (written : List ℕ) × Appends w1 w2 written × EndsPart is_long h written → AnswersPart spent fault r0 r2 w0 w2 s t
+so_far_last spent fault write r0 r1 r2 w0 w1 w2 s t is_long h p c cause q =
     let m = p.4 [] holds_none in
     let missing = q.2 m.line m.holds t in
-    let P : List ℕ → Type 0 = λ read. StopsIn s read (p.1 ++ q.0) t in (
+    let P : List ℕ → Type 0 = λ read. StopsIn spent fault s read (p.1 ++ q.0) t in (
       p.0 ++ [],
       p.1 ++ q.0,
       Consumes-trans r0 r1 r2 p.0 [] p.2 c,
       Appends-trans w0 w1 w2 p.1 q.0 p.3 q.1,
-      subst P (sym (append-nil p.0)) (cut_in s t p.0 p.1 q.0 missing.0 is_long h m missing.1),
+      subst P (sym (append-nil p.0)) (cut_in spent fault s t p.0 p.1 q.0 missing.0 is_long h m missing.1 (stops_writing spent fault (store_after s m.before) m.line [] write cause)),
     )
 
 -- all was read, and all is answered
@@ -551,14 +647,15 @@ pub goes_kept : (A B : Type 0) (w w' w'' : Option (List ℕ)) (s t : Store) (l l
     → GoesOn w w' A B s l h more t l' h' → Keeps w' w'' → GoesOn w w'' A B s l h more t l' h'
 goes_kept A B w w' w'' s t l l' h h' more p k = (p.0, Appends-kept w w' w'' p.0 p.1 k, p.2, p.3)
 
-pub fails_kept : (w w' w'' : Option (List ℕ)) (s t : Store) (l : Bool) (h more : List ℕ) → FailsOn w w' s l h more t → Keeps w' w'' → FailsOn w w'' s l h more t
-fails_kept w w' w'' s t l h more p k = (p.0, Appends-kept w w' w'' p.0 p.1 k, p.2)
+pub fails_kept : (spent : Type 0) (fault : RunFault) (w w' w'' : Option (List ℕ)) (s t : Store) (l : Bool) (h more : List ℕ) → FailsOn spent fault w w' s l h more t → Keeps w' w'' → FailsOn spent fault w w'' s l h more t
+fails_kept spent fault w w' w'' s t l h more p k = (p.0, Appends-kept w w' w'' p.0 p.1 k, p.2)
 
--- and a run that stops there has stopped at the end of a line
-pub goes_fails : (A B : Type 0) (w w' w'' : Option (List ℕ)) (s t : Store) (l l' : Bool) (h h' more : List ℕ)
-    → GoesOn w w' A B s l h more t l' h' → Keeps w' w'' → B → FailsOn w w'' s l h more t
-goes_fails A B w w' w'' s t l l' h h' more p k b =
-    let P : List ℕ → Type 0 = λ text. Fails s l h text (p.0 ++ []) t in
-    let Q : List ℕ → Type 0 = λ written. Fails s l h more written t in
-    let stopped = moves_fails s t t l l' h h' more [] p.0 [] (p.3 b) (fails_at_once t t l' h' [] refl) in
+-- and a run that stops there, as the writer fails, has stopped at the end of a line
+pub goes_fails : (spent : Type 0) (fault : RunFault) (write A B : Type 0) (w w' w'' : Option (List ℕ)) (s t : Store) (l l' : Bool) (h h' more : List ℕ)
+    → GoesOn w w' A B s l h more t l' h' → Keeps w' w'' → HasCause {T = Unit {0}} (Err fault) ⊥ write ⊥ ⊥ ⊥ → B → FailsOn spent fault w w'' s l h more t
+goes_fails spent fault write A B w w' w'' s t l l' h h' more p k cause b =
+    let P : List ℕ → Type 0 = λ text. Fails spent fault s l h text (p.0 ++ []) t in
+    let Q : List ℕ → Type 0 = λ written. Fails spent fault s l h more written t in
+    let at_once = fails_at_once spent fault t t l' h' [] refl (λ line is. stops_writing spent fault t [] (line ++ []) write cause) in
+    let stopped = moves_fails spent fault s t t l l' h h' more [] p.0 [] (p.3 b) at_once in
     (p.0, Appends-kept w w' w'' p.0 p.1 k, subst Q (append-nil p.0) (subst P (append-nil more) stopped))

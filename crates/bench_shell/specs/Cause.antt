@@ -3,14 +3,14 @@ use Rattle.std.specs.Prelude.{◌≡◌, ◌⊎◌, ℕ, Bool, true, List, Resul
 use Rattle.bench_shell.specs.declared.fault.RunFault.{RunFault}
 use Rattle.bench_shell.specs.declared.fault.RunFault.TheVariants.{Read, Write, OtherEditor, Memory, Clock}
 
--- each fault comes only for its cause, but `Memory`, which has none that could be named
-abbrev pub HasCause : {T : Type 0} → Result T RunFault → Type 0 → Type 0 → Type 0 → Type 0 → Type 0
-HasCause (Ok x) read write other clock = Unit {0}
-HasCause (Err Read) read write other clock = read
-HasCause (Err Write) read write other clock = write
-HasCause (Err OtherEditor) read write other clock = other
-HasCause (Err Clock) read write other clock = clock
-HasCause (Err Memory) read write other clock = Unit {0}
+-- each fault comes only for its cause
+abbrev pub HasCause : {T : Type 0} → Result T RunFault → Type 0 → Type 0 → Type 0 → Type 0 → Type 0 → Type 0
+HasCause (Ok x) read write other memory clock = Unit {0}
+HasCause (Err Read) read write other memory clock = read
+HasCause (Err Write) read write other memory clock = write
+HasCause (Err OtherEditor) read write other memory clock = other
+HasCause (Err Memory) read write other memory clock = memory
+HasCause (Err Clock) read write other memory clock = clock
 
 -- the reading failed, or no read is left
 abbrev pub CantRead : Bool → ℕ → Type 0

@@ -4,3 +4,4 @@ pub mod Lines
 pub mod Output
 pub mod Steps
 pub mod Cause
+pub mod Own

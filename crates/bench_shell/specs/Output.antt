@@ -1,6 +1,7 @@
 -- The output for an input: a line for each line.
-use Rattle.std.specs.Prelude.{◌≡◌, ℕ, ◌+◌, ◌≤◌, Bool, true, false, List, [], ◌∷◌, ◌++◌, length, Option, None, Some, Result, Ok, Err, nat_lt, if◌then◌else◌}
+use Rattle.std.specs.Prelude.{◌≡◌, ◌⊎◌, ℕ, ◌+◌, ◌<◌, ◌≤◌, Bool, true, false, List, [], ◌∷◌, ◌++◌, length, Option, None, Some, Result, Ok, Err, nat_lt, if◌then◌else◌}
 use Rattle.std.specs.Io.KnownBytes.{Appends, Consumes, IsAtEnd}
+use Rattle.page_map.specs.Limits.{address_count}
 use Rattle.project_book.specs.Edits.{accepts}
 use Rattle.project_book.specs.Faults.{number_of}
 use Rattle.project_book.specs.declared.fault.EditFault.{EditFault}
@@ -8,6 +9,7 @@ use Rattle.line_words.specs.Words.{words_of}
 use Rattle.commands.specs.Commands.{command_of}
 use Rattle.commands.specs.declared.command.Command.{Command}
 use Rattle.commands.specs.declared.command.Command.TheVariants.{Edit, Query, Order}
+use Rattle.run_queries.specs.Bad.{bad_query}
 use Rattle.run_queries.specs.Answers.{answer}
 use Rattle.run_queries.specs.declared.body.Body.{Body}
 use Rattle.omega_net.specs.declared.message.Tag.{Tag}
@@ -15,6 +17,8 @@ use Rattle.serial_order.specs.Order.{order_of}
 use Rattle.bench_shell.specs.Lines.{Line, Whole, Cut, lines_of}
 use Rattle.bench_shell.specs.Store.{Store, version_in, edited_store}
 use Rattle.bench_shell.specs.Text.{line_text}
+use Rattle.bench_shell.specs.declared.fault.RunFault.{RunFault}
+use Rattle.bench_shell.specs.declared.fault.RunFault.TheVariants.{Memory, Clock}
 use Rattle.bench_shell.specs.declared.answer.Answer.{Answer}
 use Rattle.bench_shell.specs.declared.answer.Answer.TheVariants.{Accepted, Refused, Told as Says, Ordered, Bad, BadLine, BadCut, BadCommand}
 
@@ -82,9 +86,55 @@ abbrev pub AnswersAll : Option (List ℕ) → Option (List ℕ) → Option (List
 AnswersAll reader reader' writer writer' s t =
     (read : List ℕ) × Consumes reader reader' read × IsAtEnd reader' × Appends writer writer' (output s read) × (t ≡ store_after s read)
 
+-- a command that can find the clock at its last value: an edit that is accepted, a query whose own numbers give no reason
+-- against it
+abbrev pub TakesClock : Store → Option Command → Type 0
+TakesClock s (Some (Edit e)) = accepts s.project (version_in s) e ≡ Ok tt
+TakesClock s (Some (Query q)) = bad_query s.project q ≡ None
+TakesClock s _ = ⊥
+
+-- one that can find no memory: the same, an edit only where the clock isn't spent, and an order of an address that is there
+abbrev pub TakesMemory : Type 0 → Store → Option Command → Type 0
+TakesMemory spent s (Some (Edit e)) = (accepts s.project (version_in s) e ≡ Ok tt) × (spent → ⊥)
+TakesMemory spent s (Some (Query q)) = bad_query s.project q ≡ None
+TakesMemory spent s (Some (Order a)) = a < address_count
+TakesMemory spent s None = ⊥
+
+-- a command for which a run may stop with this fault
+abbrev pub MayStop : Type 0 → RunFault → Store → Option Command → Type 0
+MayStop spent Memory s c = TakesMemory spent s c
+MayStop spent Clock s c = spent × TakesClock s c
+MayStop spent fault s c = Unit {0}
+
+-- an answer with a body, which may be long
+abbrev pub has_body : Answer → Bool
+has_body (Says v body) = true
+has_body (Ordered v tags) = true
+has_body _ = false
+
+-- the first line is whole, with such bytes
+abbrev pub FirstIs : (List ℕ → Type 0) → List Line → Type 0
+FirstIs P (Whole l ∷ ls) = P l
+FirstIs P _ = ⊥
+
+-- it is a command for which the run may stop with this fault
+abbrev pub StopsAt : Type 0 → RunFault → Store → List Line → Type 0
+StopsAt spent fault s ls = FirstIs (λ l. (is_long l ≡ false) × MayStop spent fault s (command_in s l)) ls
+
+-- its answer has a body
+abbrev pub AnswersBody : Store → List Line → Type 0
+AnswersBody s ls = FirstIs (λ l. (is_long l ≡ false) × (has_body (reply s (command_in s l)) ≡ true)) ls
+
+-- Why a run stops with this fault, which has obeyed a line, or none, and not what follows: for a spent clock only at a
+-- command that can find it so; for want of memory at one that can find none, or with the text of an answer that has a body.
+abbrev pub StopsBy : Type 0 → RunFault → Store → List ℕ → List ℕ → Type 0
+StopsBy spent Memory s line rest = AnswersBody s (lines_of line) ⊎ StopsAt spent Memory s (lines_of rest)
+StopsBy spent Clock s line rest = (line ≡ []) × StopsAt spent Clock s (lines_of rest)
+StopsBy spent fault s line rest = Unit {0}
+
 -- Where a run stops: it has answered what stands in `before`, has written a beginning of the answer to one line more at
 -- most, and has done nothing about the rest of what it read. What was written is a beginning of the whole output.
-pub record StopsIn (s : Store) (read written : List ℕ) (t : Store) : Type 0 where
+pub record StopsIn (spent : Type 0) (fault : RunFault) (s : Store) (read written : List ℕ) (t : Store) : Type 0 where
   pub before : List ℕ
   pub line : List ℕ
   pub rest : List ℕ
@@ -95,12 +145,13 @@ pub record StopsIn (s : Store) (read written : List ℕ) (t : Store) : Type 0 wh
   pub is_written : written ≡ output s before ++ part
   pub answer : output (store_after s before) line ≡ part ++ missing
   pub is_store : t ≡ store_after (store_after s before) line
+  pub why : StopsBy spent fault (store_after s before) line rest
   pub begins : (later : List ℕ) × (output s read ≡ written ++ later)
 
--- A part was read, from the beginning, and the run has stopped in it.
-abbrev pub AnswersPart : Option (List ℕ) → Option (List ℕ) → Option (List ℕ) → Option (List ℕ) → Store → Store → Type 0
-AnswersPart reader reader' writer writer' s t =
-    (read written : List ℕ) × Consumes reader reader' read × Appends writer writer' written × StopsIn s read written t
+-- A part was read, from the beginning, and the run has stopped in it with this fault (spent: the clock is then).
+abbrev pub AnswersPart : Type 0 → RunFault → Option (List ℕ) → Option (List ℕ) → Option (List ℕ) → Option (List ℕ) → Store → Store → Type 0
+AnswersPart spent fault reader reader' writer writer' s t =
+    (read written : List ℕ) × Consumes reader reader' read × Appends writer writer' written × StopsIn spent fault s read written t
 
 -- an answer that rests on the edits so far: its line begins with `ok`
 abbrev pub is_ok : Answer → Bool

@@ -28,7 +28,7 @@ version_in s = length s.journal
 abbrev pub edited_store : Store → Edit → Store
 edited_store s e = record { project = edited s.project e; author = s.author; journal = s.journal ++ record { author = s.author; edit = e } ∷ [] }
 
--- what an edit answers, and what the store is afterwards
+-- what an edit answers, and what the store is afterwards: a spent clock and want of memory refuse only what is accepted
 abbrev pub EditGives : Store → Edit → Result ℕ EditFault → Store → Type 0
 EditGives s e (Ok v) t = (accepts s.project (version_in s) e ≡ Ok tt) × (t ≡ edited_store s e) × (v ≡ version_in s + 1)
 EditGives s e (Err fault) t = RefusesAt s.project (version_in s) e fault × (t ≡ s)

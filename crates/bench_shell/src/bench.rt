@@ -3,7 +3,8 @@ ghost use Rattle.std.specs.Prelude.{◌≡◌, ◌-◌, ◌^◌, OnOk, IfErr};
 ghost use Rattle.cell_table.specs.Settling.{IsClockSpent};
 ghost use Rattle.bench_core.specs.Shown.{project_of, version_of};
 ghost use Rattle.bench_core.specs.Asks.{pending};
-ghost use Rattle.bench_core.specs.Told.{TellsAt};
+ghost use Rattle.run_queries.specs.Bad.{bad_query};
+ghost use Rattle.bench_core.specs.Told.{TellsAt, TellsAsked, told_at_fault};
 
 use crate::desk::Desk;
 use bench_core::{Asked, Bench, Told};
@@ -19,8 +20,9 @@ const AUTHOR: u32 = 0;
 
 /// What a query is told by a bench that has just been settled with this result, for desks that settle one in a way of their
 /// own: the answer at the bench's version, or the number of the reason why there is none. Where the settling met a fault it
-/// is that fault, and nothing is asked; want of memory may come of the asking too. The bench stays as it is.
-#[tactic(auto, using(crate::proofs::Benches::bad_told, crate::proofs::Benches::never_pending))]
+/// is that fault, unless the query's own numbers give a reason against it; want of memory may come of the asking too. The
+/// bench stays as it is.
+#[tactic(auto, using(crate::proofs::Benches::bad_told, crate::proofs::Benches::never_pending, crate::proofs::Benches::wanting_good))]
 pub fn answered<T: Threads + Sync>(
     rt: &T,
     bench: &mut Bench,
@@ -30,13 +32,14 @@ pub fn answered<T: Threads + Sync>(
     requires ready { OnOk settled (pending bench.old query ≡ 0) }
     requires spent { IfErr settled (λ f. IsClockSpent f → bench.old.table.clock ≡ 2 ^ 64 - 1) }
     ensures told { TellsAt (project_of bench.old) (version_of bench.old) query result }
+    ensures asked { OnOk settled (TellsAsked bench.old query result) }
+    ensures fault { IfErr settled (λ f. result ≡ told_at_fault (bad_query (project_of bench.old) query) f) }
     ensures spent { result ≡ Told.ClockSpent → bench.new.table.clock ≡ 2 ^ 64 - 1 }
     ensures same { bench.new ≡ bench.old }
 {
     match settled {
         Ok(_) => {}
-        Err(SettleFault::ClockSpent { .. }) => return Told::ClockSpent,
-        Err(SettleFault::Memory { .. }) => return Told::Memory,
+        Err(fault) => return bench.told_at_fault(fault, query),
     }
     match Bench::ask(bench, rt, query) {
         Asked::Answer { version, body } => Told::Answer { version, body },

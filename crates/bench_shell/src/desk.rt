@@ -1,5 +1,5 @@
 //! What a run drives.
-ghost use Rattle.std.specs.Prelude.{◌≡◌, ℕ, ◌+◌, ◌≤◌, IfOk, OnErr, Err};
+ghost use Rattle.std.specs.Prelude.{◌≡◌, ℕ, ◌+◌, ◌≤◌, IfOk, OnOk, OnErr, Err};
 ghost use Rattle.page_map.specs.Limits.{max_k};
 
 use bench_core::Told;
@@ -12,7 +12,7 @@ use std::thread::Threads;
 /// What takes edits and is asked. Others may edit beside it.
 pub trait Desk {
     ghost use Rattle.std.specs.Thread.{IsSync};
-    ghost use Rattle.bench_shell.specs.Store.{Store, version_in, EditGives, Tells, IsToldAt, Orders, HasOrder};
+    ghost use Rattle.bench_shell.specs.Store.{Store, version_in, edited_store, EditGives, Tells, IsToldAt, Orders, HasOrder};
 
     /// The project and the journal, where nobody else has edited.
     ghost store: { Self → Store };
@@ -35,15 +35,18 @@ pub trait Desk {
     ///
     /// # Errors
     ///
-    /// Why the edit is refused. Project and journal are as before.
+    /// Why the edit is refused; want of memory where nothing else refuses it, the clock included. Project and journal are as
+    /// before.
     fn edit(&mut self, edit: Edit) -> Result<u32, EditFault>
         ensures earlier { is_alone self.new → is_alone self.old }
         ensures gives { is_alone self.new → EditGives (store self.old) edit result (store self.new) }
         // A version that is one more than the edits of this desk alone says that there are no others.
         ensures alone { IfOk result (λ v. v ≡ version_in (store self.old) + 1 → is_alone self.new) }
-        ensures counts { IfOk result (λ v. version_in (store self.new) ≡ version_in (store self.old) + 1) }
-        ensures kept { OnErr result (version_in (store self.new) ≡ version_in (store self.old)) }
-        ensures spent { result ≡ Err EditFault.ClockSpent → clock_is_spent self.new };
+        // Whoever else edits, the desk's own edits are those that it accepted.
+        ensures made { OnOk result (store self.new ≡ edited_store (store self.old) edit) }
+        ensures kept { OnErr result (store self.new ≡ store self.old) }
+        ensures spent { result ≡ Err EditFault.ClockSpent → clock_is_spent self.new }
+        ensures wants { result ≡ Err EditFault.Memory → ¬ clock_is_spent self.new };
 
     /// Brings the run up to date, and answers a question about it. Threads may take part. Project and journal stay as they
     /// are, and the cells that were stored stay stored, whatever it answers.

@@ -1,12 +1,14 @@
 //! From a reader to a writer, line by line.
-ghost use Rattle.std.specs.Prelude.{◌≡◌, ℕ, List, [], ◌∷◌, ◌++◌, true, false, OnOk, OnErr, IfOk, IfSome, ◌≤◌, length};
+ghost use Rattle.std.specs.Prelude.{◌≡◌, ◌⊎◌, ℕ, List, [], ◌∷◌, ◌++◌, true, false, OnOk, OnErr, IfOk, IfErr, IfSome, Some, ◌≤◌, length};
 ghost use Rattle.std.specs.Io.KnownBytes.{Appends, Keeps};
 ghost use Rattle.bench_shell.specs.Cause.{HasCause, CantRead};
-ghost use Rattle.bench_shell.specs.Store.{Store, version_in};
+ghost use Rattle.project_book.specs.declared.edit.Edit.{Edit as AnyEdit};
+ghost use Rattle.bench_shell.specs.Store.{Store, version_in, edited_store};
 ghost use Rattle.bench_shell.specs.Text.{line_text};
-ghost use Rattle.bench_shell.specs.Output.{reply, after, command_in, output, is_ok, none_ok, lines_text, AnswersAll, AnswersPart, AnswersOwn};
-ghost use Rattle.bench_shell.specs.Lines.{lines_of};
-ghost use Rattle.bench_shell.specs.Steps.{Holds, AnswersLine, GoesOn, FailsOn};
+ghost use Rattle.bench_shell.specs.Output.{reply, after, command_in, output, is_ok, none_ok, lines_text, has_body, MayStop, StopsAt, AnswersBody, AnswersAll, AnswersPart, AnswersOwn};
+ghost use Rattle.bench_shell.specs.Own.{edit_of, EditsAsRead};
+ghost use Rattle.bench_shell.specs.Lines.{Whole, lines_of};
+ghost use Rattle.bench_shell.specs.Steps.{Holds, AnswersLine, GoesOn, FailsOn, EditsLine, EditsOn, EditsIn};
 ghost use Rattle.bench_shell.specs.declared.answer.Answer.{Answer as AnyAnswer};
 
 use crate::answer::Answer;
@@ -18,6 +20,7 @@ use bench_core::Told;
 use commands::Command;
 use grid_law::NoMemory;
 use omega_net::Shape;
+use page_map::ADDRESSES;
 use project_book::EditFault;
 use serial_order::Ordered;
 use std::alloc::Global;
@@ -31,7 +34,7 @@ const NO_ADDRESS: u8 = 3;
 fn write_bytes<W: Sink>(writer: &mut W, bytes: &[u8]) -> Result<(), RunFault>
     ensures ok { OnOk result (Appends (W.contents writer.old) (W.contents writer.new) bytes.now) }
     ensures err { OnErr result ((told later : List ℕ) × Appends (W.contents writer.old) (W.contents writer.new) told × (bytes.now ≡ told ++ later)) }
-    ensures cause { HasCause result ⊥ (W.has_failed writer.new ≡ true) ⊥ ⊥ }
+    ensures cause { HasCause result ⊥ (W.has_failed writer.new ≡ true) ⊥ ⊥ ⊥ }
     ensures same_reference { W.lender writer.new ≡ W.lender writer.old }
 {
     let mut rest = bytes;
@@ -44,11 +47,12 @@ fn write_bytes<W: Sink>(writer: &mut W, bytes: &[u8]) -> Result<(), RunFault>
     Ok(())
 }
 
-/// Writes the line of an answer.
-fn write_line<W: Sink>(alloc: Global, writer: &mut W, answer: Answer) -> Result<(), RunFault>
+/// Writes the line of an answer that has a body.
+fn write_body<W: Sink>(alloc: Global, writer: &mut W, answer: Answer) -> Result<(), RunFault>
+    requires { has_body answer ≡ true }
     ensures ok { OnOk result (Appends (W.contents writer.old) (W.contents writer.new) (line_text answer)) }
     ensures err { OnErr result ((told later : List ℕ) × Appends (W.contents writer.old) (W.contents writer.new) told × (line_text answer ≡ told ++ later)) }
-    ensures cause { HasCause result ⊥ (W.has_failed writer.new ≡ true) ⊥ ⊥ }
+    ensures cause { HasCause result ⊥ (W.has_failed writer.new ≡ true) ⊥ (has_body answer ≡ true) ⊥ }
     ensures same_reference { W.lender writer.new ≡ W.lender writer.old }
 {
     let Ok(text) = format!(in alloc; "{answer}\n") else {
@@ -57,11 +61,25 @@ fn write_line<W: Sink>(alloc: Global, writer: &mut W, answer: Answer) -> Result<
     write_bytes(writer, text.as_bytes())
 }
 
+/// Writes the line of an answer. Only that of an answer with a body takes memory.
+#[tactic(auto, using(crate::proofs::Steps::some_body))]
+fn write_line<W: Sink>(alloc: Global, writer: &mut W, answer: Answer) -> Result<(), RunFault>
+    ensures ok { OnOk result (Appends (W.contents writer.old) (W.contents writer.new) (line_text answer)) }
+    ensures err { OnErr result ((told later : List ℕ) × Appends (W.contents writer.old) (W.contents writer.new) told × (line_text answer ≡ told ++ later)) }
+    ensures cause { HasCause result ⊥ (W.has_failed writer.new ≡ true) ⊥ (has_body answer ≡ true) ⊥ }
+    ensures same_reference { W.lender writer.new ≡ W.lender writer.old }
+{
+    match answer.short_line() {
+        Some(line) => write_bytes(writer, line.as_str().as_bytes()),
+        None => write_body(alloc, writer, answer),
+    }
+}
+
 /// Hands on all that was written.
 fn hand_on<W: Sink>(writer: &mut W) -> Result<(), RunFault>
     ensures bytes { Keeps (W.contents writer.old) (W.contents writer.new) }
     ensures flushed { OnOk result (W.is_flushed writer.new ≡ true) }
-    ensures cause { HasCause result ⊥ (W.has_failed writer.new ≡ true) ⊥ ⊥ }
+    ensures cause { HasCause result ⊥ (W.has_failed writer.new ≡ true) ⊥ ⊥ ⊥ }
     ensures same_reference { W.lender writer.new ≡ W.lender writer.old }
 {
     match writer.flush() {
@@ -75,7 +93,7 @@ fn tell<W: Sink>(alloc: Global, writer: &mut W, answer: Answer) -> Result<(), Ru
     ensures ok { OnOk result (Appends (W.contents writer.old) (W.contents writer.new) (line_text answer)) }
     ensures err { OnErr result ((told later : List ℕ) × Appends (W.contents writer.old) (W.contents writer.new) told × (line_text answer ≡ told ++ later)) }
     ensures flushed { OnOk result (W.is_flushed writer.new ≡ true) }
-    ensures cause { HasCause result ⊥ (W.has_failed writer.new ≡ true) ⊥ ⊥ }
+    ensures cause { HasCause result ⊥ (W.has_failed writer.new ≡ true) ⊥ (has_body answer ≡ true) ⊥ }
     ensures same_reference { W.lender writer.new ≡ W.lender writer.old }
 {
     match write_line(alloc, writer, answer) {
@@ -94,10 +112,13 @@ fn obey<T: Threads + Sync, D: Desk>(
     requires { version.old ≡ version_in (D.store desk.old) }
     ensures version { OnOk result (version.new ≡ version_in (D.store desk.new)) }
     ensures earlier { D.is_alone desk.new → D.is_alone desk.old }
-    ensures cause { HasCause result ⊥ ⊥ (¬ D.is_alone desk.new) (D.clock_is_spent desk.new) }
+    ensures cause { HasCause result ⊥ ⊥ (¬ D.is_alone desk.new) (Unit {0}) (D.clock_is_spent desk.new) }
     ensures answer { D.is_alone desk.new → IfOk result (λ a. a ≡ reply (D.store desk.old) command) }
     ensures store { D.is_alone desk.new → OnOk result (D.store desk.new ≡ after (D.store desk.old) command) }
     ensures kept { D.is_alone desk.new → OnErr result (D.store desk.new ≡ D.store desk.old) }
+    ensures stops { D.is_alone desk.new → IfErr result (λ f. MayStop (D.clock_is_spent desk.new) f (D.store desk.old) command) }
+    ensures edits { (D.store desk.new ≡ D.store desk.old)
+        ⊎ ((e : AnyEdit) × (edit_of command ≡ Some e) × (D.store desk.new ≡ edited_store (D.store desk.old) e)) }
     ensures own { IfOk result (λ a. is_ok a ≡ true → D.is_alone desk.new) }
 {
     match command {
@@ -125,6 +146,7 @@ fn obey<T: Threads + Sync, D: Desk>(
             Told::ClockSpent => Err(RunFault::Clock),
             Told::Memory => Err(RunFault::Memory),
         },
+        Some(Command::Order(address)) if address >= ADDRESSES => Ok(Answer::Bad(NO_ADDRESS)),
         Some(Command::Order(address)) => match desk.order(address) {
             Ok((found, Ordered::Order(tags))) => {
                 if found != *version {
@@ -157,10 +179,15 @@ fn line_answer<T: Threads + Sync, D: Desk>(
     requires { version.old ≡ version_in (D.store desk.old) }
     ensures version { OnOk result (version.new ≡ version_in (D.store desk.new)) }
     ensures earlier { D.is_alone desk.new → D.is_alone desk.old }
-    ensures cause { HasCause result ⊥ ⊥ (¬ D.is_alone desk.new) (D.clock_is_spent desk.new) }
+    ensures cause { HasCause result ⊥ ⊥ (¬ D.is_alone desk.new) (Unit {0}) (D.clock_is_spent desk.new) }
     ensures answers { D.is_alone desk.new → IfOk result (λ a. (line : List ℕ) → Holds held.now.is_long held.now.bytes.items line
         → AnswersLine (D.store desk.old) line a (D.store desk.new)) }
     ensures kept { D.is_alone desk.new → OnErr result (D.store desk.new ≡ D.store desk.old) }
+    ensures stops { D.is_alone desk.new → IfErr result (λ f. (line : List ℕ) → Holds held.now.is_long held.now.bytes.items line
+        → StopsAt (D.clock_is_spent desk.new) f (D.store desk.old) (Whole line ∷ [])) }
+    ensures body { D.is_alone desk.new → IfOk result (λ a. has_body a ≡ true → (line : List ℕ) → Holds held.now.is_long held.now.bytes.items line
+        → AnswersBody (D.store desk.old) (Whole line ∷ [])) }
+    ensures edits { (line : List ℕ) → Holds held.now.is_long held.now.bytes.items line → EditsLine (D.store desk.old) line (D.store desk.new) }
     ensures own { IfOk result (λ a. is_ok a ≡ true → D.is_alone desk.new) }
 {
     if held.is_long {
@@ -183,11 +210,13 @@ fn take_byte<T: Threads + Sync, W: Sink, D: Desk>(
     requires { version.old ≡ version_in (D.store desk.old) }
     ensures version { OnOk result (version.new ≡ version_in (D.store desk.new)) }
     ensures earlier { D.is_alone desk.new → D.is_alone desk.old }
-    ensures cause { HasCause result ⊥ (W.has_failed writer.new ≡ true) (¬ D.is_alone desk.new) (D.clock_is_spent desk.new) }
+    ensures cause { HasCause result ⊥ (W.has_failed writer.new ≡ true) (¬ D.is_alone desk.new) (Unit {0}) (D.clock_is_spent desk.new) }
     ensures moves { OnOk result (GoesOn (W.contents writer.old) (W.contents writer.new) (D.is_alone desk.old) (D.is_alone desk.new)
         (D.store desk.old) held.old.is_long held.old.bytes.items (byte ∷ []) (D.store desk.new) held.new.is_long held.new.bytes.items) }
-    ensures fails { D.is_alone desk.new → OnErr result (FailsOn (W.contents writer.old) (W.contents writer.new)
+    ensures fails { D.is_alone desk.new → IfErr result (λ f. FailsOn (D.clock_is_spent desk.new) f (W.contents writer.old) (W.contents writer.new)
         (D.store desk.old) held.old.is_long held.old.bytes.items (byte ∷ []) (D.store desk.new)) }
+    ensures edits { OnOk result (EditsOn (D.store desk.old) held.old.is_long held.old.bytes.items (byte ∷ []) (D.store desk.new) held.new.is_long held.new.bytes.items) }
+    ensures edits_in { OnErr result (EditsIn (D.store desk.old) held.old.is_long held.old.bytes.items (byte ∷ []) (D.store desk.new)) }
     ensures same_reference { W.lender writer.new ≡ W.lender writer.old }
 {
     if byte != b'\n' {
@@ -216,11 +245,13 @@ fn take_each<T: Threads + Sync, W: Sink, D: Desk>(
     requires { version.old ≡ version_in (D.store desk.old) }
     ensures version { OnOk result (version.new ≡ version_in (D.store desk.new)) }
     ensures earlier { D.is_alone desk.new → D.is_alone desk.old }
-    ensures cause { HasCause result ⊥ (W.has_failed writer.new ≡ true) (¬ D.is_alone desk.new) (D.clock_is_spent desk.new) }
+    ensures cause { HasCause result ⊥ (W.has_failed writer.new ≡ true) (¬ D.is_alone desk.new) (Unit {0}) (D.clock_is_spent desk.new) }
     ensures moves { OnOk result (GoesOn (W.contents writer.old) (W.contents writer.new) (D.is_alone desk.old) (D.is_alone desk.new)
         (D.store desk.old) held.old.is_long held.old.bytes.items piece.now (D.store desk.new) held.new.is_long held.new.bytes.items) }
-    ensures fails { D.is_alone desk.new → OnErr result (FailsOn (W.contents writer.old) (W.contents writer.new)
+    ensures fails { D.is_alone desk.new → IfErr result (λ f. FailsOn (D.clock_is_spent desk.new) f (W.contents writer.old) (W.contents writer.new)
         (D.store desk.old) held.old.is_long held.old.bytes.items piece.now (D.store desk.new)) }
+    ensures edits { OnOk result (EditsOn (D.store desk.old) held.old.is_long held.old.bytes.items piece.now (D.store desk.new) held.new.is_long held.new.bytes.items) }
+    ensures edits_in { OnErr result (EditsIn (D.store desk.old) held.old.is_long held.old.bytes.items piece.now (D.store desk.new)) }
     ensures same_reference { W.lender writer.new ≡ W.lender writer.old }
 {
     for byte in piece {
@@ -246,11 +277,13 @@ fn take_piece<T: Threads + Sync, W: Sink, D: Desk>(
     ensures version { OnOk result (version.new ≡ version_in (D.store desk.new)) }
     ensures flushed { OnOk result (W.is_flushed writer.new ≡ true) }
     ensures earlier { D.is_alone desk.new → D.is_alone desk.old }
-    ensures cause { HasCause result ⊥ (W.has_failed writer.new ≡ true) (¬ D.is_alone desk.new) (D.clock_is_spent desk.new) }
+    ensures cause { HasCause result ⊥ (W.has_failed writer.new ≡ true) (¬ D.is_alone desk.new) (Unit {0}) (D.clock_is_spent desk.new) }
     ensures moves { OnOk result (GoesOn (W.contents writer.old) (W.contents writer.new) (D.is_alone desk.old) (D.is_alone desk.new)
         (D.store desk.old) held.old.is_long held.old.bytes.items piece.now (D.store desk.new) held.new.is_long held.new.bytes.items) }
-    ensures fails { D.is_alone desk.new → OnErr result (FailsOn (W.contents writer.old) (W.contents writer.new)
+    ensures fails { D.is_alone desk.new → IfErr result (λ f. FailsOn (D.clock_is_spent desk.new) f (W.contents writer.old) (W.contents writer.new)
         (D.store desk.old) held.old.is_long held.old.bytes.items piece.now (D.store desk.new)) }
+    ensures edits { OnOk result (EditsOn (D.store desk.old) held.old.is_long held.old.bytes.items piece.now (D.store desk.new) held.new.is_long held.new.bytes.items) }
+    ensures edits_in { OnErr result (EditsIn (D.store desk.old) held.old.is_long held.old.bytes.items piece.now (D.store desk.new)) }
     ensures same_reference { W.lender writer.new ≡ W.lender writer.old }
 {
     match take_each(rt, alloc, held, piece, writer, desk, version) {
@@ -266,7 +299,7 @@ fn take_piece<T: Threads + Sync, W: Sink, D: Desk>(
 fn finish<W: Sink>(alloc: Global, held: &Held, writer: &mut W) -> Result<(), RunFault>
     requires flushed { W.is_flushed writer.old ≡ true }
     ensures flushed { OnOk result (W.is_flushed writer.new ≡ true) }
-    ensures cause { HasCause result ⊥ (W.has_failed writer.new ≡ true) ⊥ ⊥ }
+    ensures cause { HasCause result ⊥ (W.has_failed writer.new ≡ true) ⊥ ⊥ ⊥ }
     ensures ok { OnOk result ((written : List ℕ) × Appends (W.contents writer.old) (W.contents writer.new) written
         × ((line : List ℕ) → Holds held.now.is_long held.now.bytes.items line → (s : Store) → output s line ≡ written)
         × ((answers : List AnyAnswer) × (written ≡ lines_text answers) × (none_ok answers ≡ true)
@@ -310,10 +343,11 @@ pub fn run_watched<T: Threads + Sync, R: Source, W: Sink, D: Desk>(
         (W.contents writer.old) (W.contents writer.new) (D.store desk.old) (D.store desk.new)) }
     ensures own { OnOk result (AnswersOwn (R.remaining reader.old) (R.remaining reader.new)
         (W.contents writer.old) (W.contents writer.new) (D.store desk.old)) }
-    ensures fault { D.is_alone desk.new → OnErr result (AnswersPart (R.remaining reader.old) (R.remaining reader.new)
+    ensures fault { D.is_alone desk.new → IfErr result (λ f. AnswersPart (D.clock_is_spent desk.new) f (R.remaining reader.old) (R.remaining reader.new)
         (W.contents writer.old) (W.contents writer.new) (D.store desk.old) (D.store desk.new)) }
+    ensures edits { EditsAsRead (R.remaining reader.old) (R.remaining reader.new) (D.store desk.old) (D.store desk.new) }
     ensures cause { HasCause result (CantRead (R.has_failed reader.new) (R.left reader.new)) (W.has_failed writer.new ≡ true)
-        (¬ D.is_alone desk.new) (D.clock_is_spent desk.new) }
+        (¬ D.is_alone desk.new) (Unit {0}) (D.clock_is_spent desk.new) }
     ensures bound { R.left reader.new ≤ R.left reader.old }
     ensures flushed { OnOk result (W.is_flushed writer.new ≡ true) }
     ensures same_reader { R.lender reader.new ≡ R.lender reader.old }
@@ -359,9 +393,10 @@ pub fn run_within<T: Threads + Sync, R: Read, W: Write, D: Desk>(
         (W.contents writer.old) (W.contents writer.new) (D.store desk.old) (D.store desk.new)) }
     ensures own { OnOk result (AnswersOwn (R.remaining reader.old) (R.remaining reader.new)
         (W.contents writer.old) (W.contents writer.new) (D.store desk.old)) }
-    ensures fault { D.is_alone desk.new → OnErr result (AnswersPart (R.remaining reader.old) (R.remaining reader.new)
+    ensures fault { D.is_alone desk.new → IfErr result (λ f. AnswersPart (D.clock_is_spent desk.new) f (R.remaining reader.old) (R.remaining reader.new)
         (W.contents writer.old) (W.contents writer.new) (D.store desk.old) (D.store desk.new)) }
-    ensures cause { HasCause result (Unit {0}) (Unit {0}) (¬ D.is_alone desk.new) (D.clock_is_spent desk.new) }
+    ensures edits { EditsAsRead (R.remaining reader.old) (R.remaining reader.new) (D.store desk.old) (D.store desk.new) }
+    ensures cause { HasCause result (Unit {0}) (Unit {0}) (¬ D.is_alone desk.new) (Unit {0}) (D.clock_is_spent desk.new) }
 {
     let mut source = Reading::within(reader, reads);
     let mut sink = Writing::new(writer);
@@ -387,9 +422,10 @@ pub fn run<T: Threads + Sync, R: Read, W: Write, D: Desk>(
         (W.contents writer.old) (W.contents writer.new) (D.store desk.old) (D.store desk.new)) }
     ensures own { OnOk result (AnswersOwn (R.remaining reader.old) (R.remaining reader.new)
         (W.contents writer.old) (W.contents writer.new) (D.store desk.old)) }
-    ensures fault { D.is_alone desk.new → OnErr result (AnswersPart (R.remaining reader.old) (R.remaining reader.new)
+    ensures fault { D.is_alone desk.new → IfErr result (λ f. AnswersPart (D.clock_is_spent desk.new) f (R.remaining reader.old) (R.remaining reader.new)
         (W.contents writer.old) (W.contents writer.new) (D.store desk.old) (D.store desk.new)) }
-    ensures cause { HasCause result (Unit {0}) (Unit {0}) (¬ D.is_alone desk.new) (D.clock_is_spent desk.new) }
+    ensures edits { EditsAsRead (R.remaining reader.old) (R.remaining reader.new) (D.store desk.old) (D.store desk.new) }
+    ensures cause { HasCause result (Unit {0}) (Unit {0}) (¬ D.is_alone desk.new) (Unit {0}) (D.clock_is_spent desk.new) }
 {
     run_within(rt, alloc, reader, writer, desk, u32::MAX)
 }

@@ -4,6 +4,7 @@ ghost use Rattle.std.specs.Prelude.{◌≡◌, ◌<◌, ◌≤◌, IfOk, IfSome}
 mod benches;
 mod doing;
 mod many;
+mod waking;
 
 use crate::base::{base, bench_of, fresh, word};
 use bench_core::{Asked, Bench};
@@ -21,6 +22,8 @@ use std::io::Eprint;
 use std::process::Abort;
 use std::sync::Wait;
 use std::test::*;
+use std::thread;
+use waking::Board;
 
 const FIRST_WORD: Query = Query::Memory {
     address: 0,
@@ -181,7 +184,17 @@ fn bench_back(alloc: Global, pass: Pass) -> Result<Box<Bench>, Fail> {
 #[test]
 fn four_at_once(rt: HostRuntime) -> Result<(), Fail> {
     let alloc = rt.alloc();
-    let (pass, heard) = four(&rt, alloc, opened(alloc, fresh(alloc)?, 4)?);
+    let pass = opened(alloc, fresh(alloc)?, 4)?;
+    let board = Board::new();
+    let (_, (pass, heard)) = thread::join(
+        &rt,
+        || assert!(rt; board.sees(&rt, 1)),
+        || {
+            let came = four(&rt, alloc, pass);
+            board.comes();
+            came
+        },
+    );
     let bench = bench_back(alloc, pass)?;
     assert!(rt; equal(&rt, bench.version(), 800));
     let words = simulated_versions(alloc, bench.journal())?;

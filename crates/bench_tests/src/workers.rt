@@ -3,6 +3,7 @@
 mod answers;
 mod benches;
 mod gates;
+mod sleeping;
 mod waves;
 
 use bench_core::Asked;
@@ -38,12 +39,14 @@ where
     (worked.given, worked.stored, worked.fault)
 }
 
-/// 27: the opening has one seat, which the pass has.
+/// 27: the opening has one seat, which the pass has. With another seat the first of two workers is started, and ends.
 #[test]
 fn example_27_no_seat(rt: HostRuntime) -> Result<(), Fail> {
-    let gates = vec![in rt.alloc(); Ungated]?;
-    let came = worked(&rt, opened(rt.alloc(), 1)?, gates, 1);
-    assert!(rt; equal(&rt, came, (0, 0, Some(WorkFault::NoSeat))));
+    for (seats, stored) in [(1, 0), (2, 1)] {
+        let gates = vec![in rt.alloc(); Ungated, Ungated]?;
+        let came = worked(&rt, opened(rt.alloc(), seats)?, gates, 1);
+        assert!(rt; equal(&rt, came, (stored, stored, Some(WorkFault::NoSeat))));
+    }
     Ok(())
 }
 

@@ -1,10 +1,11 @@
 -- Cells of one cycle that are computed together.
-use Rattle.std.specs.Prelude.{◌≡◌, ℕ, ◌-◌, ◌<◌, Option, None, Some, IfSome, option_map, Result, Ok, Err}
+use Rattle.std.specs.Prelude.{◌≡◌, ℕ, zero, suc, ◌-◌, ◌<◌, List, [], ◌∷◌, ◌++◌, Option, None, Some, IfSome, option_map, Result, Ok, Err, if◌then◌else◌}
 use Rattle.cell_table.specs.declared.cell.Cell.{Cell}
 use Rattle.grid_law.specs.Rules.{Rules}
 use Rattle.grid_law.specs.Run.{run}
-use Rattle.cell_table.specs.Seen.{Seen}
+use Rattle.cell_table.specs.Seen.{Held, Seen, due_at}
 use Rattle.cell_table.specs.Cells.{IsThere}
+use Rattle.cell_table.specs.Claims.{NoneDue}
 use Rattle.cell_table.specs.Settling.{NoneDueBefore}
 
 -- a cell, and what is known of its state: nothing, or the state, or, where that is `None`, that it is the one of the cell before
@@ -17,6 +18,12 @@ abbrev pub known_of : {A State E : Type 0} → (A → State) → Option (Result 
 known_of value None = None
 known_of value (Some (Err fault)) = None
 known_of value (Some (Ok found)) = Some (option_map value found)
+
+-- the due cells among the first n components of a cycle, in their order; nothing was computed for any
+abbrev pub works_below : {State : Type 0} → List (List (Held State)) → ℕ → ℕ → List (Worked State)
+works_below rows t zero = []
+works_below rows t (suc n) =
+    works_below rows t n ++ (if due_at rows t n then record { cell = record { cycle = t; component = n }; known = None } ∷ [] else [])
 
 module _ {State Slots Slot : Type 0} (R : Rules State Slots Slot) where
   -- the cell's state in the run, or that the run has it at the cycle before too
@@ -32,3 +39,8 @@ module _ {State Slots Slot : Type 0} (R : Rules State Slots Slot) where
   pub record IsReady (v : Seen State Slots) (t c : ℕ) : Type 0 where
     pub there : IsThere R v t c
     pub none_earlier : NoneDueBefore R v t 0
+
+  -- all due cells of the first cycle that has any, in the order of components; none where no cell is due
+  abbrev pub IsNextWave : Seen State Slots → List (Worked State) → Type 0
+  IsNextWave v [] = NoneDue R v
+  IsNextWave v (w ∷ ws) = NoneDueBefore R v w.cell.cycle 0 × (w ∷ ws ≡ works_below v.rows w.cell.cycle (R.components v.slots))

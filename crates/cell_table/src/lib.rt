@@ -36,9 +36,9 @@
 //! - `claim` hands out the first claimable cell at or after a given one, and none exactly where no
 //!   cell is due; `Claim::compute` gives the start or the step of what the claim holds.
 //! - `give` stores the result of a claim exactly where the claim wasn't overtaken: since then no
-//!   event changed its cell, stored it or removed it. The one exception is a clock at its last
-//!   value. A result of another table is stored only where its cell is due and what it read is
-//!   present.
+//!   event changed its cell, stored it or removed it. It comes back where its state is another one
+//!   and the clock is at its last value (`ClockSpent`) or a growth was refused (`Memory`). A result
+//!   of another table is stored only where its cell is due and what it read is present.
 //! - `settle` stores exactly the cells that cost (`specs/Cost.antt`), each once and in order.
 //!
 //! # How it is kept

@@ -1,21 +1,22 @@
 //! From the program's words to its end.
-ghost use Rattle.std.specs.Prelude.{◌≡◌, ◌≤◌, vec_len, IfOk, IfErr, option_map};
+ghost use Rattle.std.specs.Prelude.{◌≡◌, ◌≤◌, true, vec_len, IfOk, IfErr, option_map};
 ghost use Rattle.clap.specs.Walk.{texts};
 ghost use Rattle.clap.specs.Words.{matches_of};
+ghost use Rattle.bench_shell.specs.Cause.{CantRead};
 ghost use Rattle.command_line.specs.Arguments.{hotspot, IsNumberHeld};
 ghost use Rattle.command_line.specs.Ends.{end_at};
-ghost use Rattle.command_line.specs.Opening.{IsNamed, FileStops, Opens, StopsFor, ServesFor};
+ghost use Rattle.command_line.specs.Opening.{IsNamed, FileStops, Opens, StopsFor, ServesFor, stop_for};
 
 use crate::end::{End, refusal};
 use crate::folder::Folder;
 use crate::words::arguments;
+use bench_shell::{Sink, Source};
 use clap::Error;
 use project_book::Project;
 use project_file::{ProjectFault, fault_place, read_project};
 use std::alloc::{AllocError, Global};
-use std::io::{Read, Write};
 use wave_workers::Ungated;
-use worker_sessions::{Hall, ServeFault, serve};
+use worker_sessions::{Hall, NoStart, Served, serve};
 
 /// What the program ends with.
 #[derive(Drop)]
@@ -125,9 +126,23 @@ fn ungated(alloc: Global, count: u32) -> Result<Vec<Ungated>, AllocError>
     vec![in alloc; Ungated; count as usize]
 }
 
+/// What the program ends with, whose session has ended so.
+fn stopped<'a>(served: Result<Served, NoStart>) -> Stop<'a>
+    ensures { result ≡ stop_for served }
+{
+    match served {
+        Ok(session) => match session.ended {
+            Ok(()) => Stop::At(End::Ended),
+            Err(fault) => Stop::At(End::Served(fault)),
+        },
+        Err(NoStart) => Stop::At(End::CannotStart),
+    }
+}
+
 /// The program but for its texts on standard error: it opens a bench as the words say, with as many workers beside it, and
 /// answers what is read from the reader until the input ends. With help, the version or a refusal nothing is read.
-pub fn serve_words<'a, H: Hall, F: Folder, R: Read, W: Write>(
+#[tactic(auto, using(crate::proofs::Starting::no_start, crate::proofs::Starting::has_served))]
+pub fn serve_words<'a, H: Hall, F: Folder, R: Source, W: Sink>(
     rt: &H,
     alloc: Global,
     words: &'a [&'a str],
@@ -135,8 +150,9 @@ pub fn serve_words<'a, H: Hall, F: Folder, R: Read, W: Write>(
     reader: &mut R,
     writer: &mut W,
 ) -> Stop<'a>
-    ensures { ServesFor (F.gives folder.now) (texts words.entry.now) (R.remaining reader.old) (R.remaining reader.new)
-        (W.contents writer.old) (W.contents writer.new) result }
+    requires { W.is_flushed writer.old ≡ true }
+    ensures { ServesFor (F.gives folder.now) (texts words.entry.now) (CantRead (R.has_failed reader.new) (R.left reader.new)) (W.has_failed writer.new ≡ true)
+        (record { unread = R.remaining reader.old; rest = R.remaining reader.new; before = W.contents writer.old; after = W.contents writer.new }) result }
 {
     let beginning = match opening(alloc, words, folder) {
         Ok(beginning) => beginning,
@@ -146,9 +162,6 @@ pub fn serve_words<'a, H: Hall, F: Folder, R: Read, W: Write>(
         Ok(gates) => gates,
         Err(_) => return Stop::At(End::CannotStart),
     };
-    match serve(rt, alloc, reader, writer, beginning.project, gates) {
-        Ok(()) => Stop::At(End::Ended),
-        Err(ServeFault::Run(fault)) => Stop::At(End::Served(fault)),
-        Err(ServeFault::Start) => Stop::At(End::CannotStart),
-    }
+    let served = serve(rt, alloc, reader, writer, beginning.project, gates);
+    stopped(served)
 }

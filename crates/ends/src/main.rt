@@ -2,7 +2,8 @@
 //! and a reader that fails. Each prints the exit status; the last one's is this program's own.
 #![tactic(auto)]
 
-use command_line::{Host, program_of};
+use bench_shell::{Reading, Writing};
+use command_line::{Disk, Host, program_of};
 use std::io::{self, Error, ErrorKind, Read, Result, Write};
 use std::process::ExitCode;
 
@@ -28,7 +29,9 @@ fn play<H: Host, R: Read, W: Write>(
     reader: &mut R,
     writer: &mut W,
 ) -> ExitCode {
-    let end = program_of(rt, words, reader, writer);
+    let mut source = Reading::within(reader, u32::MAX);
+    let mut sink = Writing::new(writer);
+    let end = program_of(rt, words, &Disk::new(rt), &mut source, &mut sink);
     let _ = println!(rt; "{end:?}");
     end
 }

@@ -1,5 +1,5 @@
-//! Plays the examples and the sessions of the pages that lie beside it, and makes the pictures of the examples again: it tells
-//! whether the answers and the pictures are the expected ones.
+//! Plays the examples and the pages that lie beside it, whose commands make the pictures of the examples again: it tells whether
+//! the answers and the pictures are the expected ones.
 #![tactic(auto)]
 
 ghost use Rattle.std.specs.Prelude.{◌≡◌, IfSome};
@@ -14,8 +14,8 @@ mod verdict;
 use bench_core::Bench;
 use bench_shell::run;
 use command_line::read_file;
-use page::{Session, sessions};
-use pictures::{RUNS, play};
+use page::{Program, Session, sessions};
+use pictures::{RUNS, made, play};
 use project_book::Project;
 use project_file::read_project;
 use std::alloc::{AllocGlobal, Global};
@@ -26,16 +26,28 @@ use std::thread::Threads;
 use verdict::{Verdict, status_after};
 
 /// An example NAME is a project file NAME.toml, commands NAME.in, and the answers NAME.out.
-const EXAMPLES: [&str; 4] = ["hot_word", "one_module", "saturation", "spin_lock"];
+const EXAMPLES: [&str; 6] = [
+    "flag",
+    "flag_fenced",
+    "hot_word",
+    "one_module",
+    "saturation",
+    "spin_lock",
+];
 
-/// The pages whose sessions are played.
-const PAGES: [&str; 2] = ["README.md", "docs/LESSON.md"];
+/// The pages that are played.
+const PAGES: [&str; 4] = [
+    "README.md",
+    "docs/LESSON.md",
+    "docs/LAB.md",
+    "examples/README.md",
+];
 
 fn main(rt: HostRuntime) -> io::Result<ExitCode> {
     let mut status = 0;
     for name in EXAMPLES {
         let verdict = match example(&rt, name) {
-            Some(session) => says(&rt, &session),
+            Some(session) => answered(&rt, &session),
             None => Verdict::NotRead,
         };
         println!(rt; "{name}: {verdict}")?;
@@ -49,7 +61,10 @@ fn main(rt: HostRuntime) -> io::Result<ExitCode> {
             continue;
         };
         for session in &found {
-            let verdict = says(&rt, session);
+            let verdict = match session.program {
+                Program::Hotspot => answered(&rt, session),
+                Program::Lab => made(&rt, session),
+            };
             println!(rt; "{name}, {session}: {verdict}")?;
             status = status_after(status, verdict);
         }
@@ -63,9 +78,10 @@ fn main(rt: HostRuntime) -> io::Result<ExitCode> {
 /// An example as a session.
 fn example<R: Files + AllocGlobal>(rt: &R, name: &str) -> Option<Session> {
     Some(Session {
-        file: format!(in rt.alloc(); "examples/{name}.toml").ok()?,
+        program: Program::Hotspot,
+        words: format!(in rt.alloc(); "examples/{name}.toml").ok()?,
         typed: file(rt, name, "in")?,
-        answered: file(rt, name, "out")?,
+        printed: file(rt, name, "out")?,
     })
 }
 
@@ -74,15 +90,15 @@ fn file<R: Files + AllocGlobal>(rt: &R, name: &str, kind: &str) -> Option<Vec<u8
     read_file(rt, path.as_str()).ok()
 }
 
-/// What is said of a session, whose project is read first.
-fn says<R: Files + AllocGlobal + Threads + Sync>(rt: &R, session: &Session) -> Verdict {
-    match opened(rt, session.file.as_str()) {
+/// What is said of a session of the workbench, whose project is read first.
+fn answered<R: Files + AllocGlobal + Threads + Sync>(rt: &R, session: &Session) -> Verdict {
+    match opened(rt, session.words.as_str().trim()) {
         Some(project) => judged(
             rt,
             rt.alloc(),
             project,
             session.typed.as_slice(),
-            session.answered.as_slice(),
+            session.printed.as_slice(),
         ),
         None => Verdict::NotRead,
     }

@@ -1,39 +1,17 @@
 //! The pictures and tables of the examples, made again.
 
+use crate::page::{Session, words};
 use crate::verdict::{Verdict, status_after};
 use command_line::read_file;
-use lab_tasks::{OutFile, Outcome, Silent, perform, read_words};
+use lab_tasks::{Asked, Outcome, Silent, perform, read_words};
 use std::alloc::AllocGlobal;
 use std::io;
 use std::io::{Print, Write};
 use std::rt::Files;
 use std::thread::Threads;
 
-/// What the program `lab` is told. The files that it would write lie beside the examples.
-pub const RUNS: [&[&str]; 7] = [
-    &["map", "examples/tree.toml", "--out", "examples/map.svg"],
-    &[
-        "rates",
-        "--k",
-        "4",
-        "--cycles",
-        "128",
-        "--csv",
-        "examples/rates.csv",
-        "--out",
-        "examples/rates.svg",
-    ],
-    &[
-        "delays",
-        "--k",
-        "4",
-        "--cycles",
-        "128",
-        "--csv",
-        "examples/delays.csv",
-        "--out",
-        "examples/delays.svg",
-    ],
+/// What the program `lab` is told, beside what the pages have.
+pub const RUNS: [&[&str]; 6] = [
     &[
         "sweep",
         "examples/saturation.toml",
@@ -46,6 +24,8 @@ pub const RUNS: [&[&str]; 7] = [
         "--ask",
         "counter served m0 0 6",
     ],
+    &["order", "examples/flag.toml", "--out", "examples/flag.svg"],
+    &["order", "examples/hot_word.toml"],
     &["check", "examples/mixed.toml"],
     &["map", "examples/tree.toml", "--to", "161"],
     &["rates", "--hot", "1,x"],
@@ -62,10 +42,7 @@ pub fn play<R: Files + AllocGlobal + Print + Threads + Sync>(
         println!(rt; "lab: {}", Verdict::NotRun)?;
         return Ok(1);
     };
-    let bytes = match asked.file() {
-        Some(name) => read_file(rt, name)?,
-        None => Vec::new(rt.alloc()),
-    };
+    let bytes = input(rt, &asked)?;
     match perform(rt, rt.alloc(), &asked, bytes.as_slice(), &mut Silent) {
         Ok(outcome) => shown(rt, &outcome, status),
         Err(end) => {
@@ -75,21 +52,64 @@ pub fn play<R: Files + AllocGlobal + Print + Threads + Sync>(
     }
 }
 
+/// The file that is asked about, or nothing.
+fn input<R: Files + AllocGlobal>(rt: &R, asked: &Asked) -> io::Result<Vec<u8>> {
+    match asked.file() {
+        Some(name) => read_file(rt, name),
+        None => Ok(Vec::new(rt.alloc())),
+    }
+}
+
 fn shown<R: Files + AllocGlobal + Print>(rt: &R, outcome: &Outcome, status: u8) -> io::Result<u8> {
     io::writer(rt).write_all(outcome.printed.as_slice())?;
     let mut status = status;
     for file in &outcome.files {
-        let verdict = compared(rt, file);
         let name = file.name.as_str();
+        let verdict = compared(rt, name, file.bytes.as_slice());
         println!(rt; "{name}: {verdict}")?;
         status = status_after(status, verdict);
     }
     Ok(status)
 }
 
-fn compared<R: Files + AllocGlobal>(rt: &R, file: &OutFile) -> Verdict {
-    match read_file(rt, file.name.as_str()) {
-        Ok(bytes) if bytes.as_slice() == file.bytes.as_slice() => Verdict::AsExpected,
+/// What is said of a command of `lab` in a page: it has to print what stands below it there, and to make the files of these
+/// names that lie in examples/.
+pub fn made<R: Files + AllocGlobal + Threads + Sync>(rt: &R, session: &Session) -> Verdict {
+    let Some(words) = words(rt.alloc(), session.words.as_str()) else {
+        return Verdict::NotRun;
+    };
+    let Ok(asked) = read_words(rt.alloc(), words.as_slice()) else {
+        return Verdict::NotRun;
+    };
+    let Ok(bytes) = input(rt, &asked) else {
+        return Verdict::NotRead;
+    };
+    match perform(rt, rt.alloc(), &asked, bytes.as_slice(), &mut Silent) {
+        Ok(outcome) if outcome.printed.as_slice() == session.printed.as_slice() => {
+            files_made(rt, &outcome)
+        }
+        Ok(_) => Verdict::Differs,
+        Err(_) => Verdict::NotRun,
+    }
+}
+
+/// What is said of the first file that isn't as expected.
+fn files_made<R: Files + AllocGlobal>(rt: &R, outcome: &Outcome) -> Verdict {
+    for file in &outcome.files {
+        let Ok(name) = format!(in rt.alloc(); "examples/{}", file.name) else {
+            return Verdict::NotRun;
+        };
+        let verdict = compared(rt, name.as_str(), file.bytes.as_slice());
+        if verdict != Verdict::AsExpected {
+            return verdict;
+        }
+    }
+    Verdict::AsExpected
+}
+
+fn compared<R: Files + AllocGlobal>(rt: &R, name: &str, made: &[u8]) -> Verdict {
+    match read_file(rt, name) {
+        Ok(bytes) if bytes.as_slice() == made => Verdict::AsExpected,
         Ok(_) => Verdict::Differs,
         Err(_) => Verdict::NotRead,
     }

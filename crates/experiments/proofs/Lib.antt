@@ -1,5 +1,11 @@
+pub mod Adding
 pub mod Draws
+pub mod Firsts
+pub mod Greatest
+pub mod LevelFirsts
 pub mod Lines
+pub mod Numbered
 pub mod Refusals
 pub mod Rows
+pub mod Steadying
 pub mod Waits

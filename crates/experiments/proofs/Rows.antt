@@ -14,13 +14,9 @@ states_of items rows t row there is =
     ap (λ (o : Option (List MachineState)). λ (c : ℕ). option_and_then (λ S. slice_get S c) o)
     (slice_get-map items rows t ∙ ap (option_map items) (slice_get-get_or rows t row there ∙ ap Some (sym is)))
 
--- one answer more
-pub map-next : {X Y Z : Type 0} (f : X → Z) (g : Y → Z) (xs : List X) (ys : List Y) (i : ℕ) (d : X) (y : Y) → i < length xs
-    → map f (take i xs) ≡ map g ys → f (get_or xs i d) ≡ g y → map f (take (i + 1) xs) ≡ map g (ys ++ y ∷ [])
-map-next f g xs ys i d y lt same is =
-    rw (add-one, take-suc xs i d lt, map-append f (take i xs) (get_or xs i d ∷ []), map-append g ys (y ∷ []), same, is) refl
-
--- by a function of the project as it is, which is that at the start
-pub map-next-at : {A X Y Z : Type 0} (f : A → X → Z) (g : Y → Z) (xs : List X) (ys : List Y) (i : ℕ) (d : X) (y : Y) (p q : A) → i < length xs → q ≡ p
-    → map (f p) (take i xs) ≡ map g ys → f q (get_or xs i d) ≡ g y → map (f p) (take (i + 1) xs) ≡ map g (ys ++ y ∷ [])
-map-next-at f g xs ys i d y p q lt e same is = map-next (f p) g xs ys i d y lt same (ap (λ a. f a (get_or xs i d)) (sym e) ∙ is)
+-- one answer more, by a function of the project as it is, which is that at the start
+pub row_next : {A X Z : Type 0} (f : A → X → Z) (xs : List X) (row : List Z) (i : ℕ) (d : X) (z : Z) (p q : A) → i < length xs → q ≡ p
+    → row ≡ map (f p) (take i xs) → f q (get_or xs i d) ≡ z → row ++ z ∷ [] ≡ map (f p) (take (i + 1) xs)
+row_next f xs row i d z p q lt same before is =
+    let here : f p (get_or xs i d) ≡ z = ap (λ a. f a (get_or xs i d)) (sym same) ∙ is in
+    rw (add-one, take-suc xs i d lt, map-append (f p) (take i xs) (get_or xs i d ∷ []), here) (ap (λ ys. ys ++ z ∷ []) before)

@@ -1,5 +1,5 @@
 -- Scripts in which a share of the references is hot.
-use Rattle.std.specs.Prelude.{◌≡◌, ℕ, zero, suc, ◌+◌, ◌%◌, ◌^◌, nat_lt, Bool, if◌then◌else◌, List, [], ◌∷◌, None, Ok, map, replicate}
+use Rattle.std.specs.Prelude.{◌≡◌, ℕ, zero, suc, ◌≤◌, ◌+◌, ◌%◌, ◌^◌, nat_lt, Bool, if◌then◌else◌, List, [], ◌∷◌, map, replicate}
 use Rattle.rand_pcg.specs.Lcg.{Lcg, started, increment_of}
 use Rattle.rand_pcg.specs.Pcg.{multiplier_64, pcg32}
 use Rattle.word_ops.specs.declared.kind.Kind.TheVariants.{Load as LoadOf, Add as AddOf}
@@ -8,12 +8,9 @@ use Rattle.omega_net.specs.declared.script.ScriptEntry.TheVariants.{Reference}
 use Rattle.omega_net.specs.Wires.{below}
 use Rattle.page_map.specs.Limits.{max_k}
 use Rattle.page_map.specs.Pages.{whole_pages}
+use Rattle.project_book.specs.Limits.{max_horizon}
 use Rattle.project_book.specs.Project.{Project}
 use Rattle.project_book.specs.Queues.{usual_depths, usual_wait}
-use Rattle.monitor_sums.specs.declared.counter.Counter.TheVariants.{Served}
-use Rattle.run_queries.specs.declared.query.Query.TheVariants.{Counter as CountOf}
-use Rattle.run_queries.specs.declared.body.Body.TheVariants.{Count as Counts}
-use Rattle.run_queries.specs.Answers.{answer}
 use Rattle.experiments.specs.declared.load.Load.{Load}
 
 -- the reference that two numbers make, where `hot` of a hundred are hot: one adds 1 to word 0, the others load a word of
@@ -48,6 +45,6 @@ loaded load = record {
   scripts = map (script_drawn load) (below (2 ^ load.k));
 }
 
--- so many requests are served from a cycle to the last one in the run of the load's project
-abbrev pub IsServed : Load → ℕ → ℕ → Type 0
-IsServed load from n = answer (loaded load) (CountOf Served None from load.cycles) ≡ Ok (Counts n)
+-- there is such a machine, and it may be run as long
+abbrev pub IsLoad : Load → Type 0
+IsLoad load = (load.k ≤ max_k) × (load.cycles ≤ max_horizon)

@@ -5,8 +5,7 @@ ghost use Rattle.std.specs.Arc.{arc_value};
 ghost use Rattle.std.specs.Option.{option_copied};
 ghost use Rattle.machine_cells.specs.Run.{run};
 ghost use Rattle.machine_cells.specs.Runs.{state_in};
-ghost use Rattle.project_book.specs.Project.{entry_at};
-ghost use Rattle.experiments.specs.Delays.{issue_cycles, is_cold, waited, waits_in, waits_of, waits, IsWaited};
+ghost use Rattle.experiments.specs.Delays.{entry_of, is_cold, issue_at, issues, since, waited, waits_in, waits_of, waits, IsWaitedBy};
 
 use crate::queues::state_at;
 use crate::{Fault, HOT_ADDRESS, Load, Window, project_of};
@@ -28,52 +27,99 @@ pub struct ColdWaits {
     pub cycles: u64,
 }
 
+/// A reference that was issued.
+#[derive(Clone, Copy)]
+struct Issue {
+    /// The cycle whose state shows it.
+    cycle: u32,
+    /// Whether it refers to another word than the hot one.
+    cold: bool,
+}
+
 /// Whether an entry refers to another word than the hot one.
 fn is_cold(entry: Option<ScriptEntry>) -> bool
     ensures { result ≡ is_cold entry }
 {
     match entry {
-        Some(ScriptEntry::Reference { address, .. }) => address != HOT_ADDRESS,
+        Some(ScriptEntry::Reference { address, .. } | ScriptEntry::Until { address, .. }) => {
+            address != HOT_ADDRESS
+        }
         _ => false,
     }
 }
 
-/// The cycles of the states in which a processor had just issued a reference, in order of their issue.
-fn issue_cycles(
+/// The entry of its script that a processor in this state has come to.
+fn entry_of(project: &Project, proc: u32, state: Option<&MachineState>) -> Option<ScriptEntry>
+    ensures { result ≡ entry_of project.now proc (option_copied state.entry) }
+{
+    match state {
+        Some(MachineState::Proc(state)) => project.entry(proc, u32::from(state.index)),
+        _ => None,
+    }
+}
+
+/// The reference that a processor issued in the step to a cycle, if it did.
+fn issue_at(
+    project: &Project,
+    rows: &[Vec<Arc<MachineState>>],
+    proc: u32,
+    cycle: u32,
+) -> Option<Issue>
+    ensures { result ≡ issue_at project.now (state_in (map (λ row. map arc_value row.items) rows.now)) proc cycle }
+{
+    if !has_sent(state_at(rows, cycle, proc)) {
+        return None;
+    }
+    let before = state_at(rows, cycle.saturating_sub(1), proc);
+    Some(Issue {
+        cycle,
+        cold: is_cold(entry_of(project, proc, before)),
+    })
+}
+
+/// Adds a reference, if one was issued.
+fn add_issue(issues: &mut Vec<Issue>, issue: Option<Issue>) -> Result<(), AllocError>
+    ensures { OnOk result (issues.new.items ≡ issues.old.items ++ option_to_list issue) }
+{
+    if let Some(issue) = issue {
+        issues.push(issue)?;
+    }
+    Ok(())
+}
+
+/// The references that a processor issued before a cycle, in order of their issue.
+fn issues(
     alloc: Global,
+    project: &Project,
     rows: &[Vec<Arc<MachineState>>],
     proc: u32,
     before: u32,
-) -> Result<Vec<u32>, AllocError>
-    ensures { IfOk result (λ v. v.items ≡ issue_cycles (state_in (map (λ row. map arc_value row.items) rows.now)) proc before) }
+) -> Result<Vec<Issue>, AllocError>
+    ensures { IfOk result (λ v. v.items ≡ issues project.now (state_in (map (λ row. map arc_value row.items) rows.now)) proc before) }
 {
-    let mut cycles = Vec::new(alloc);
+    let mut issues = Vec::new(alloc);
     for cycle in 0..before {
-        if has_sent(state_at(rows, cycle, proc)) {
-            cycles.push(cycle)?;
-        }
+        add_issue(&mut issues, issue_at(project, rows, proc, cycle))?;
     }
-    Ok(cycles)
+    Ok(issues)
+}
+
+/// The cycles from the issue of a reference that isn't hot.
+fn since(cycle: u32, issue: Option<&Issue>) -> Option<u32>
+    ensures { result ≡ since cycle (option_copied issue.entry) }
+{
+    match issue {
+        Some(issue) if issue.cold => Some(cycle.saturating_sub(issue.cycle)),
+        _ => None,
+    }
 }
 
 /// The cycles that a reply took, where it is to a reference that isn't hot.
-fn waited(
-    project: &Project,
-    proc: u32,
-    issued: &[u32],
-    cycle: u32,
-    reply: Option<Reply>,
-) -> Option<u32>
-    ensures { result ≡ waited project.now proc issued.now cycle reply }
+fn waited(issued: &[Issue], cycle: u32, reply: Option<Reply>) -> Option<u32>
+    ensures { result ≡ waited issued.now cycle reply }
 {
-    let Some(reply) = reply else {
-        return None;
-    };
-    if !is_cold(project.entry(proc, reply.tag.issue)) {
-        return None;
-    }
-    match issued.get(reply.tag.issue as usize) {
-        Some(from) => Some(cycle.saturating_sub(*from)),
+    match reply {
+        Some(reply) => since(cycle, issued.get(reply.tag.issue as usize)),
         None => None,
     }
 }
@@ -91,19 +137,17 @@ fn add(numbers: &mut Vec<u32>, number: Option<u32>) -> Result<(), AllocError>
 /// Adds those of the replies that a state shows to have come.
 fn add_waits(
     numbers: &mut Vec<u32>,
-    project: &Project,
-    proc: u32,
-    issued: &[u32],
+    issued: &[Issue],
     cycle: u32,
     state: Option<&MachineState>,
 ) -> Result<(), AllocError>
-    ensures { OnOk result (numbers.new.items ≡ numbers.old.items ++ waits_in project.now proc issued.now cycle (option_copied state.entry)) }
+    ensures { OnOk result (numbers.new.items ≡ numbers.old.items ++ waits_in issued.now cycle (option_copied state.entry)) }
 {
     match state {
         Some(MachineState::Proc(state)) => {
             let [low, comb] = state.got;
-            add(numbers, waited(project, proc, issued, cycle, low))?;
-            add(numbers, waited(project, proc, issued, cycle, comb))?;
+            add(numbers, waited(issued, cycle, low))?;
+            add(numbers, waited(issued, cycle, comb))?;
             Ok(())
         }
         _ => Ok(()),
@@ -122,12 +166,12 @@ fn waits_of(
     requires short { window.to < 1000000 }
     ensures { IfOk result (λ v. v.items ≡ waits_of project.now (state_in (map (λ row. map arc_value row.items) rows.now)) window.from window.to proc) }
 {
-    let issued = issue_cycles(alloc, rows, proc, window.to)?;
+    let issued = issues(alloc, project, rows, proc, window.to)?;
     let mut numbers = Vec::new(alloc);
     for i in 0..window.to + 1 - window.from {
         let cycle = i + window.from;
         let state = state_at(rows, cycle, proc);
-        add_waits(&mut numbers, project, proc, &issued, cycle, state)?;
+        add_waits(&mut numbers, &issued, cycle, state)?;
     }
     Ok(numbers)
 }
@@ -167,7 +211,7 @@ fn total(numbers: &[u32]) -> Option<u64>
 
 /// The waits in the run of a load's project from a cycle to the last one.
 fn waited_by(alloc: Global, load: Load, from: u32) -> Result<ColdWaits, Fault>
-    ensures { IfOk result (IsWaited load from) }
+    ensures { IsWaitedBy load from result }
 {
     if load.k > MAX_K || load.cycles > MAX_HORIZON || from > load.cycles {
         return Err(Fault::Load);
@@ -198,21 +242,21 @@ fn waited_by(alloc: Global, load: Load, from: u32) -> Result<ColdWaits, Fault>
 ///
 /// # Errors
 ///
-/// Where a growth for the list was refused. A load whose own run found no memory has its fault in the
-/// list.
+/// Where a growth for the list was refused. In the list: Load where there is no machine of the load's k, its cycles are past
+/// the last horizon, or the first cycle is past them; Memory where a growth for the load's own run was refused.
 pub fn waited_each<T: Threads + Sync>(
     rt: &T,
     alloc: Global,
     loads: &[Load],
     from: u32,
 ) -> Result<Vec<Result<ColdWaits, Fault>>, AllocError>
-    ensures { IfOk result (λ v. AllZip (λ load r. IfOk r (IsWaited load from)) loads.now v.items) }
+    ensures { IfOk result (λ v. AllZip (λ load r. IsWaitedBy load from r) loads.now v.items) }
 {
     loads
         .par_iter()
         .map(
             |load: &Load| -> Result<ColdWaits, Fault>
-                ensures { IfOk result (IsWaited load.now from) }
+                ensures { IsWaitedBy load.now from result }
             { waited_by(alloc, *load, from) },
         )
         .collect(rt, alloc)

@@ -1,32 +1,43 @@
 //! Experiments on a machine: what a run of a project shows, as figures to be drawn or tabled.
 //!
-//! - [`saturation_map`]: the lengths of the queues towards a module, cycle by cycle, with the level of saturation and the
-//!   module's served requests.
+//! - [`saturation_map`]: the lengths of the queues towards a module, cycle by cycle, with the level of saturation, the first
+//!   cycle of each level, and the module's served requests.
 //! - [`Load`], [`project_of`]: scripts drawn from a seeded generator, in which a share of the references is hot (Pfister and
 //!   Norton 1985).
-//! - [`served`], [`served_each`]: how many references are served in a window of cycles, for many loads at once.
+//! - [`flows_of`], [`steady_each`]: how many references are answered, and how many requests served, in each cycle, and in all
+//!   once the rate is steady, for many loads at once.
 //! - [`cold_waits`], [`waited_each`]: how long the references that aren't hot wait for their replies.
+//! - [`order_rows`], [`rows_shown`]: the references of a run in their one order, with the cycles that each took;
+//!   [`lane_counts`], [`lane_of`]: where their bars stand in a space-time diagram.
 //! - [`told`], [`told_each`], [`sweep_row`]: what a bench is told after one edit more.
 //!
-//! The crate stands on `machine_cells` for runs, on `bench_core` and `run_queries` for questions and their answers, on
-//! `saturation` for levels, on `project_book` for projects, on `rand_pcg` for drawing, and on `rayon` for threads. It
-//! promises that each figure is that of the run of the project from cycle 0 (`specs/Maps.antt`, `specs/Delays.antt`, and
-//! `answer` of `run_queries`), so that anyone who asks the workbench the same is told the same.
+//! The crate stands on `machine_cells` for runs, on `serial_order` and `memory_order` for the one order, on `bench_core` and
+//! `run_queries` for questions and their answers, on `saturation` for levels, on `project_book` for projects, on `rand_pcg`
+//! for drawing, and on `rayon` for threads. It promises that each figure is that of the run of the project from cycle 0
+//! (`specs/Maps.antt`, `specs/Delays.antt`, `specs/Flows.antt`, `specs/Steady.antt`, `specs/Orders.antt`, and `answer` of
+//! `run_queries`), so that anyone who asks the workbench the same is told the same; and that each fault comes only for its
+//! cause (`specs/Told.antt`).
 #![tactic(auto)]
 
 mod delays;
 mod fault;
+mod flows;
+mod lanes;
 mod load;
 mod map;
+mod order;
 mod queues;
-mod rates;
 mod series;
+mod steady;
 mod sweep;
 
 pub use delays::{ColdWaits, cold_waits, waited_each};
 pub use fault::Fault;
+pub use flows::{Flows, flows_of};
+pub use lanes::{lane_counts, lane_of};
 pub use load::{HOT_ADDRESS, Load, MOST_CYCLES, SPREAD_ADDRESS, drawn, project_of};
 pub use map::{SaturationMap, StageLengths, Window, saturation_map};
-pub use rates::{served, served_each};
-pub use series::{Matrix, Series};
+pub use order::{Issue, OrderRow, order_rows, rows_shown};
+pub use series::{QueueLengths, Queues, Series};
+pub use steady::{Steady, steady_each};
 pub use sweep::{sweep_row, told, told_each};

@@ -1,16 +1,16 @@
 //! Tree saturation, queue by queue and cycle by cycle.
-ghost use Rattle.std.specs.Prelude.{◌≡◌, ◌<◌, ◌≤◌, ◌+◌, ◌-◌, IfOk, map, length, slice_get};
+ghost use Rattle.std.specs.Prelude.{◌≡◌, ◌<◌, ◌≤◌, ◌+◌, ◌-◌, IfOk, find, map, length, nat_le, slice_get, slice_index};
 ghost use Rattle.page_map.specs.Limits.{max_k};
 ghost use Rattle.std.specs.Arc.{arc_value};
 ghost use Rattle.omega_net.specs.Numbers.{lines, components};
 ghost use Rattle.omega_net.specs.Wires.{below};
 ghost use Rattle.machine_cells.specs.Run.{run};
 ghost use Rattle.machine_cells.specs.Runs.{state_in};
-ghost use Rattle.saturation.specs.Levels.{level};
-ghost use Rattle.experiments.specs.Maps.{length_in, has_served, queues_at, line_towards, queue_lengths, stage_lengths, stages_lengths, levels_over, served_over};
+ghost use Rattle.saturation.specs.Levels.{level, first_cycles};
+ghost use Rattle.experiments.specs.Maps.{length_in, has_served, queues_at, line_towards, lengths_towards, queue_lengths, stage_lengths, stages_lengths, levels_over, served_over};
 
 use crate::queues::{has_served, length_in, line_towards, queues_at, state_at, switch_number};
-use crate::{Matrix, Series};
+use crate::series::{QueueLengths, Queues, Series};
 use grid_law::NoMemory;
 use machine_cells::{MachineState, from_scratch};
 use omega_net::Net;
@@ -26,11 +26,11 @@ pub struct Window {
     pub to: u32,
 }
 
-/// The lengths of the queues of a stage that lead to a module: for each queue, by its line, one for each cycle of a window.
+/// The queues of a stage that lead to a module, by their lines.
 #[derive(Drop)]
 pub struct StageLengths {
     pub stage: u32,
-    pub queues: Matrix,
+    pub queues: Queues,
 }
 
 /// How the tree of full queues towards a module grows.
@@ -40,7 +40,9 @@ pub struct SaturationMap {
     pub stages: Vec<StageLengths>,
     /// The level of each cycle: how many stages, from the last one back, have only full queues.
     pub levels: Series,
-    /// Whether the module served a request in the step to each cycle.
+    /// For each level from 1 on the first cycle of the whole run that has it or a higher one.
+    pub firsts: Vec<Option<u32>>,
+    /// Whether the module served a request of the network in the step to each cycle.
     pub served: Vec<bool>,
 }
 
@@ -64,7 +66,7 @@ fn queue_lengths(
     Ok(lengths)
 }
 
-/// The lengths of the queue at a place among those of a stage that lead to a module.
+/// The queue at a place among those of a stage that lead to a module.
 fn lengths_towards(
     alloc: Global,
     project: &Project,
@@ -74,18 +76,21 @@ fn lengths_towards(
     stage: u32,
     place: u32,
     window: Window,
-) -> Result<Series, AllocError>
+) -> Result<QueueLengths, AllocError>
     requires there { «module» < lines project.now.k }
     requires stage { stage < project.now.k }
     requires place { place < queues_at project.now.k stage }
     requires window { window.from ≤ window.to }
     requires short { window.to < 1000000 }
-    ensures { IfOk result (λ s. s ≡ queue_lengths project.now.k net (state_in (map (λ row. map arc_value row.items) rows.now)) window.from window.to stage (line_towards project.now.k «module» stage place)) }
+    ensures { IfOk result (λ q. q ≡ lengths_towards project.now.k net «module» (state_in (map (λ row. map arc_value row.items) rows.now)) window.from window.to stage place) }
 {
     let line = line_towards(project.k(), module, stage, place);
     let switch = switch_number(project, net, stage, line);
     let lengths = queue_lengths(alloc, rows, switch, (line % 2) as usize, window)?;
-    Ok(Series::from_vec(lengths))
+    Ok(QueueLengths {
+        line,
+        lengths: Series::from_vec(lengths),
+    })
 }
 
 /// The lengths of a stage's queues towards a module.
@@ -97,7 +102,7 @@ fn stage_lengths(
     module: u32,
     stage: u32,
     window: Window,
-) -> Result<Vec<Series>, AllocError>
+) -> Result<Vec<QueueLengths>, AllocError>
     requires there { «module» < lines project.now.k }
     requires stage { stage < project.now.k }
     requires window { window.from ≤ window.to }
@@ -133,7 +138,7 @@ fn stages_lengths(
         let queues = stage_lengths(alloc, project, rows, net, module, stage, window)?;
         stages.push(StageLengths {
             stage,
-            queues: Matrix::from_vec(queues),
+            queues: Queues::from_vec(queues),
         })?;
     }
     Ok(stages)
@@ -190,26 +195,86 @@ fn levels_over(
     Ok(levels)
 }
 
-/// Whether the module of that component number served a request, cycle by cycle.
+/// The level of each cycle up to the horizon.
+fn all_levels(
+    alloc: Global,
+    project: &Project,
+    rows: &[Vec<Arc<MachineState>>],
+    net: Net,
+    module: u32,
+) -> Result<Vec<u8>, AllocError>
+    requires there { «module» < lines project.now.k }
+    requires within { project.now.horizon < length rows.now }
+    ensures { IfOk result (λ v. v.items ≡ map (λ t. level project.now net «module» (state_in (map (λ row. map arc_value row.items) rows.now) t)) (below (project.now.horizon + 1))) }
+{
+    project.is_project();
+    let mut levels = Vec::new(alloc);
+    for cycle in 0..project.horizon() + 1 {
+        levels.push(level_at(alloc, project, rows, net, module, cycle)?)?;
+    }
+    Ok(levels)
+}
+
+/// Whether a cycle has this level or a higher one.
+fn reaches(levels: &[u8], cycle: u32, least: u8) -> bool
+    requires { cycle < length levels.now }
+    ensures { result ≡ nat_le least (slice_index levels.now cycle) }
+{
+    levels[cycle as usize] >= least
+}
+
+/// The first of these cycles with this level or a higher one.
+fn first_cycle(levels: &[u8], cycles: u32, least: u8) -> Option<u32>
+    requires { cycles ≤ length levels.now }
+    ensures { result ≡ find (λ t. nat_le least (slice_index levels.now t)) (below cycles) }
+{
+    for cycle in 0..cycles {
+        if reaches(levels, cycle, least) {
+            return Some(cycle);
+        }
+    }
+    None
+}
+
+/// For each level from 1 to k, the first of these cycles that has it or a higher one.
+fn first_cycles(
+    alloc: Global,
+    levels: &[u8],
+    cycles: u32,
+    k: u32,
+) -> Result<Vec<Option<u32>>, AllocError>
+    requires few { k ≤ max_k }
+    requires there { cycles ≤ length levels.now }
+    ensures { IfOk result (λ v. v.items ≡ map (λ j. find (λ t. nat_le (j + 1) (slice_index levels.now t)) (below cycles)) (below k)) }
+{
+    let mut firsts = Vec::new(alloc);
+    for level in 0..k {
+        firsts.push(first_cycle(levels, cycles, level as u8 + 1))?;
+    }
+    Ok(firsts)
+}
+
+/// Whether the module of that component number served a request of a network, cycle by cycle.
 fn served_over(
     alloc: Global,
     rows: &[Vec<Arc<MachineState>>],
+    net: Net,
     component: u32,
     window: Window,
 ) -> Result<Vec<bool>, AllocError>
     requires window { window.from ≤ window.to }
     requires short { window.to < 1000000 }
-    ensures { IfOk result (λ v. v.items ≡ served_over (state_in (map (λ row. map arc_value row.items) rows.now)) component window.from window.to) }
+    ensures { IfOk result (λ v. v.items ≡ served_over net (state_in (map (λ row. map arc_value row.items) rows.now)) component window.from window.to) }
 {
     let mut served = Vec::new(alloc);
     for i in 0..window.to + 1 - window.from {
-        served.push(has_served(state_at(rows, i + window.from, component)))?;
+        served.push(has_served(net, state_at(rows, i + window.from, component)))?;
     }
     Ok(served)
 }
 
-/// The lengths of the queues of a network that lead to a module, the level, and the module's served requests, at each cycle
-/// of a window, in the run of the project. It simulates the project from cycle 0. The conditions are that the module
+/// The lengths of the queues of a network that lead to a module, the level, and the requests of the network that the module
+/// served, at each cycle of a window, in the run of the project; and the first cycle of each level in the whole run. It simulates the project from cycle 0. The conditions are that the module
 /// exists, and that the window isn't empty and is within the horizon.
 ///
 /// # Errors
@@ -227,18 +292,23 @@ pub fn saturation_map(
     requires within { window.to ≤ project.now.horizon }
     ensures lengths { IfOk result (λ m. m.stages.items ≡ stages_lengths project.now.k net «module» (state_in (run project.now)) window.from window.to) }
     ensures levels { IfOk result (λ m. m.levels ≡ levels_over project.now net «module» (state_in (run project.now)) window.from window.to) }
-    ensures served { IfOk result (λ m. m.served.items ≡ served_over (state_in (run project.now)) (lines project.now.k + «module») window.from window.to) }
+    ensures firsts { IfOk result (λ m. m.firsts.items ≡ first_cycles project.now net «module» (state_in (run project.now))) }
+    ensures served { IfOk result (λ m. m.served.items ≡ served_over net (state_in (run project.now)) (lines project.now.k + «module») window.from window.to) }
 {
     project.is_project();
     let rows = from_scratch(alloc, project)?;
     let rows = rows.as_slice();
     let stages = stages_lengths(alloc, project, rows, net, module, window)?;
     let levels = levels_over(alloc, project, rows, net, module, window)?;
+    let whole = all_levels(alloc, project, rows, net, module)?;
+    let cycles = project.horizon() + 1;
+    let firsts = first_cycles(alloc, whole.as_slice(), cycles, project.k())?;
     let component = project.shape().lines() + module;
-    let served = served_over(alloc, rows, component, window)?;
+    let served = served_over(alloc, rows, net, component, window)?;
     Ok(SaturationMap {
         stages,
         levels: Series::from_vec(levels),
+        firsts,
         served,
     })
 }

@@ -1,11 +1,12 @@
 //! The queues towards a module, and what they hold.
-ghost use Rattle.std.specs.Prelude.{◌≡◌, ◌<◌, ◌≤◌, ◌+◌, ◌-◌, ◌*◌, ◌/◌, ◌^◌, map};
+ghost use Rattle.std.specs.Prelude.{◌≡◌, ◌<◌, ◌≤◌, ◌+◌, ◌-◌, ◌*◌, ◌/◌, ◌^◌, Some, map};
 ghost use Rattle.std.specs.Arc.{arc_value};
 ghost use Rattle.std.specs.Option.{option_copied};
 ghost use Rattle.omega_net.specs.declared.component.Component.TheVariants.{Switch};
 ghost use Rattle.omega_net.specs.Numbers.{lines, half, number_of};
 ghost use Rattle.page_map.specs.Limits.{max_k};
 ghost use Rattle.machine_cells.specs.Runs.{state_in};
+ghost use Rattle.mem_module.specs.MemModule.{is_net, other_net};
 ghost use Rattle.experiments.specs.Maps.{length_in, has_served, line_towards, queues_at};
 
 use machine_cells::MachineState;
@@ -25,12 +26,22 @@ pub(crate) fn length_in(state: Option<&MachineState>, output: usize) -> u8
     }
 }
 
-/// Whether the state is that of a module that served a request in the last step.
-pub(crate) fn has_served(state: Option<&MachineState>) -> bool
-    ensures { result ≡ has_served (option_copied state.entry) }
+/// Whether the turn is that after a request of a network was served.
+fn gave_turn(net: Net, turn: Net) -> bool
+    ensures { result ≡ is_net net (Some (other_net turn)) }
+{
+    match (net, turn) {
+        (Net::Low, Net::Comb) | (Net::Comb, Net::Low) => true,
+        (Net::Low, Net::Low) | (Net::Comb, Net::Comb) => false,
+    }
+}
+
+/// Whether the state is that of a module that served a request of a network in the last step.
+pub(crate) fn has_served(net: Net, state: Option<&MachineState>) -> bool
+    ensures { result ≡ has_served net (option_copied state.entry) }
 {
     match state {
-        Some(MachineState::Module(module)) => module.served,
+        Some(MachineState::Module(module)) => module.served && gave_turn(net, module.turn),
         _ => false,
     }
 }

@@ -30,43 +30,41 @@ impl Series {
     {
         &self.numbers
     }
-
-    /// The list of the numbers. It takes no memory.
-    pub fn into_vec(self) -> Vec<u8>
-        ensures { result.items ≡ self }
-    {
-        let Series { numbers } = self;
-        numbers
-    }
 }
 
-/// Several such rows. Contracts see the list of lists.
+/// A queue by its line, with its length at each cycle of a window.
 #[derive(Drop)]
-pub struct Matrix {
-    rows: Vec<Series>,
+pub struct QueueLengths {
+    pub line: u32,
+    pub lengths: Series,
 }
 
-impl Model for Matrix {
-    ghost use Rattle.std.specs.Prelude.{ℕ, List};
-
-    ghost Value = { List (List ℕ) };
-
-    ghost view = { λ m. m.rows.items };
+/// Several such queues. Contracts see the list.
+#[derive(Drop)]
+pub struct Queues {
+    queues: Vec<QueueLengths>,
 }
 
-impl Matrix {
-    /// The rows of this list. It takes no memory.
-    pub fn from_vec(rows: Vec<Series>) -> Matrix
-        ensures { result ≡ rows.items }
+impl Model for Queues {
+    ghost use Rattle.std.specs.Prelude.{List};
+    ghost use Rattle.experiments.specs.declared.series.QueueLengths.{QueueLengths};
+
+    ghost Value = { List QueueLengths };
+
+    ghost view = { λ q. q.queues.items };
+}
+
+impl Queues {
+    /// The queues of this list. It takes no memory.
+    pub fn from_vec(queues: Vec<QueueLengths>) -> Queues
+        ensures { result ≡ queues.items }
     {
-        Matrix { rows }
+        Queues { queues }
     }
 
-    /// The list of the rows. It takes no memory.
-    pub fn into_vec(self) -> Vec<Series>
-        ensures { result.items ≡ self }
+    pub fn as_slice(&self) -> &[QueueLengths]
+        ensures { result.now ≡ self.now }
     {
-        let Matrix { rows } = self;
-        rows
+        &self.queues
     }
 }

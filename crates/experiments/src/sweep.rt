@@ -3,7 +3,7 @@ ghost use Rattle.std.specs.Prelude.{◌≡◌, ◌⊎◌, IfOk, IfErr, OnOk, Ok,
 ghost use Rattle.project_book.specs.Edits.{edited};
 ghost use Rattle.run_queries.specs.Answers.{answer};
 ghost use Rattle.bench_core.specs.Shown.{project_of};
-ghost use Rattle.experiments.specs.Told.{IsReason, IsAnyReason, IsEditReason};
+ghost use Rattle.experiments.specs.Told.{IsReason, IsWant, IsEditReason};
 
 use crate::Fault;
 use bench_core::{Asked, Bench};
@@ -17,12 +17,16 @@ use std::thread::Threads;
 ///
 /// # Errors
 ///
-/// Query where the query has no answer, with the number of the reason; Clock where the clock is spent; Memory.
+/// Query where the query has no answer, with the number of the reason. Else Clock where the clock is spent, and Memory where
+/// a growth was refused; both come only where the query's own numbers give no reason against it.
 pub fn told<T: Threads + Sync>(rt: &T, bench: &mut Bench, query: Query) -> Result<Body, Fault>
     ensures answer { IfOk result (λ body. answer (project_of bench.old) query ≡ Ok body) }
-    ensures bad { IfErr result (IsReason bench.new.table.clock (answer (project_of bench.old) query)) }
+    ensures bad { IfErr result (IsReason bench.new.table.clock (project_of bench.old) query) }
     ensures project { project_of bench.new ≡ project_of bench.old }
 {
+    if let Some(number) = query.bad(bench.project()) {
+        return Err(Fault::Query(number));
+    }
     match bench.settle() {
         Ok(_) => {}
         Err(SettleFault::ClockSpent { .. }) => return Err(Fault::Clock),
@@ -35,28 +39,49 @@ pub fn told<T: Threads + Sync>(rt: &T, bench: &mut Bench, query: Query) -> Resul
     }
 }
 
-/// What the run of the bench's project says to each query, in turn.
+/// What is told of a query, or the number of the reason why it has no answer.
 ///
 /// # Errors
 ///
-/// Those of [`told`], of the first query that has one. The bench's project stays.
+/// Clock and Memory, as [`told`] has them.
+fn told_or_bad<T: Threads + Sync>(
+    rt: &T,
+    bench: &mut Bench,
+    query: Query,
+) -> Result<Result<Body, u8>, Fault>
+    ensures answer { IfOk result (λ says. answer (project_of bench.old) query ≡ says) }
+    ensures want { IfErr result (IsWant bench.new.table.clock) }
+    ensures project { project_of bench.new ≡ project_of bench.old }
+{
+    match told(rt, bench, query) {
+        Ok(body) => Ok(Ok(body)),
+        Err(Fault::Query(number)) => Ok(Err(number)),
+        Err(fault) => Err(fault),
+    }
+}
+
+/// What the run of the bench's project says to each query, in turn: an answer, or the number of the reason why there is none.
+///
+/// # Errors
+///
+/// Clock where the clock is spent, Memory where a growth was refused. The bench's project stays.
 pub fn told_each<T: Threads + Sync>(
     rt: &T,
     alloc: Global,
     bench: &mut Bench,
     queries: &[Query],
-) -> Result<Vec<Body>, Fault>
-    ensures answers { IfOk result (λ row. map (answer (project_of bench.old)) queries.now ≡ map Ok row.items) }
-    ensures bad { IfErr result (IsAnyReason bench.new.table.clock (answer (project_of bench.old)) queries.now) }
+) -> Result<Vec<Result<Body, u8>>, Fault>
+    ensures answers { IfOk result (λ row. row.items ≡ map (answer (project_of bench.old)) queries.now) }
+    ensures want { IfErr result (IsWant bench.new.table.clock) }
     ensures project { project_of bench.new ≡ project_of bench.old }
 {
     let mut row = Vec::new(alloc);
     for query in queries {
-        let body = match told(rt, bench, *query) {
-            Ok(body) => body,
+        let says = match told_or_bad(rt, bench, *query) {
+            Ok(says) => says,
             Err(fault) => return Err(fault),
         };
-        row.push(body)?;
+        row.push(says)?;
     }
     Ok(row)
 }
@@ -72,10 +97,10 @@ pub fn sweep_row<T: Threads + Sync>(
     bench: &mut Bench,
     edit: Edit,
     queries: &[Query],
-) -> Result<Vec<Body>, Fault>
+) -> Result<Vec<Result<Body, u8>>, Fault>
     ensures project { OnOk result (project_of bench.new ≡ edited (project_of bench.old) edit) }
-    ensures answers { IfOk result (λ row. map (answer (edited (project_of bench.old) edit)) queries.now ≡ map Ok row.items) }
-    ensures refused { IfErr result (λ fault. IsEditReason bench.old edit fault ⊎ IsAnyReason bench.new.table.clock (answer (edited (project_of bench.old) edit)) queries.now fault) }
+    ensures answers { IfOk result (λ row. row.items ≡ map (answer (edited (project_of bench.old) edit)) queries.now) }
+    ensures refused { IfErr result (λ fault. IsEditReason bench.old edit fault ⊎ IsWant bench.new.table.clock fault) }
 {
     match bench.edit(0, edit) {
         Ok(_) => {}

@@ -6,9 +6,8 @@ use Rattle.std.proofs.lemmas.Bool.{ne_eqb}
 use Rattle.std.proofs.lemmas.List.{length-map, length-take-le, map_more, map_push}
 use Rattle.std.proofs.lemmas.Grind.{flat_map-append}
 use Rattle.run_queries.specs.declared.body.Body.{Body}
-use Rattle.run_queries.specs.Texts.{body_text}
 use Rattle.lab_tasks.specs.declared.swept.Setting.{Setting}
-use Rattle.lab_tasks.specs.SweepTables.{HasFields, HasRowOf}
+use Rattle.lab_tasks.specs.SweepTables.{shown, HasFields, HasRowOf}
 use Rattle.lab_tasks.specs.Tables.{doubled_char, field_text, fields_text}
 
 pub doubled_next : (cs : List ℕ) (c : ℕ) → flat_map doubled_char (cs ++ c ∷ []) ≡ flat_map doubled_char cs ++ doubled_char c
@@ -48,21 +47,21 @@ field-more text xs i d begin old new lt so written =
     ∙ ap (λ texts. begin ++ fields_text texts) (sym (map_more text xs i d lt))
 
 -- one answer more
-pub answer-next : (bodies : List Body) (i : ℕ) (body : Body) (answer begin old new : List ℕ) → i < length bodies → body ≡ get_or bodies i body
-    → HasFields (take i bodies) begin old → body_text body ≡ Some answer → new ≡ old ++ (before i ++ field_text answer) → HasFields (take (i + 1) bodies) begin new
+pub answer-next : (bodies : List (Result Body ℕ)) (i : ℕ) (body : Result Body ℕ) (answer begin old new : List ℕ) → i < length bodies → body ≡ get_or bodies i body
+    → HasFields (take i bodies) begin old → shown body ≡ Some answer → new ≡ old ++ (before i ++ field_text answer) → HasFields (take (i + 1) bodies) begin new
 answer-next bodies i body answer begin old new lt is h told written =
     let answers : List (List ℕ) = h.0 in
-    let each : map body_text (take i bodies) ≡ map Some answers = h.1 in
+    let each : map shown (take i bodies) ≡ map Some answers = h.1 in
     let many : length answers ≡ i =
-    sym (length-map answers Some) ∙ ap length (sym each) ∙ length-map (take i bodies) body_text ∙ length-take-le i bodies (omega arith) in (
+    sym (length-map answers Some) ∙ ap length (sym each) ∙ length-map (take i bodies) shown ∙ length-take-le i bodies (omega arith) in (
       answers ++ answer ∷ [],
-      map_more body_text bodies i body lt ∙ ap (λ t. map body_text (take i bodies) ++ t ∷ []) (ap body_text (sym is) ∙ told) ∙ ap (λ ts. ts ++ Some answer ∷ []) each
+      map_more shown bodies i body lt ∙ ap (λ t. map shown (take i bodies) ++ t ∷ []) (ap shown (sym is) ∙ told) ∙ ap (λ ts. ts ++ Some answer ∷ []) each
           ∙ sym (map_push Some answers answer),
       fields-next answers answer begin old new i many h.2 written,
     )
 
 -- the end of a row
-pub row-ends : {E : Type 0} (r : Result (Unit {0}) E) (bodies : List Body) (row : List Setting) (begin depths fields new : List ℕ)
+pub row-ends : {E : Type 0} (r : Result (Unit {0}) E) (bodies : List (Result Body ℕ)) (row : List Setting) (begin depths fields new : List ℕ)
     → depths ≡ begin ++ flat_map (λ s. decimal s.depth ++ codes ",") row → HasFields bodies depths fields → OnOk r (new ≡ fields ++ codes "\n") → OnOk r (HasRowOf bodies row begin new)
 row-ends (Err e) bodies row begin depths fields new first h written = tt
 row-ends (Ok x) bodies row begin depths fields new first h written =

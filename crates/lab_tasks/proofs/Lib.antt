@@ -1,12 +1,17 @@
 pub mod Adding
+pub mod ColumnSteps
 pub mod Fields
+pub mod Helps
 pub mod Hot
 pub mod Listing
+pub mod Lines
 pub mod Lists
 pub mod Printing
 pub mod RowCounts
 pub mod Rows
 pub mod Settings
 pub mod Stages
+pub mod Stops
 pub mod SweepRows
+pub mod Tasks
 pub mod WordByWord

@@ -1,6 +1,6 @@
 -- The rows of a table, one after another, on one bench.
 use Rattle.std.proofs.Common.{◌≡◌, ℕ, ◌+◌, ◌-◌, ◌<◌, ◌≤◌, List, [], ◌∷◌, ◌++◌, length, map, take, get_or, refl, sym, ap, subst, ◌∙◌, append_assoc, append-nil, arith}
-use Rattle.std.specs.Prelude.{Some, Ok}
+use Rattle.std.specs.Prelude.{Some, Result}
 use Rattle.std.specs.List.{concat, flat_map, AllZip, AllByRecursion}
 use Rattle.std.proofs.lemmas.List.{take_more, take_all, get_or-map, length-map}
 use Rattle.std.proofs.lemmas.List.Elements.{All-from_recursion}
@@ -10,7 +10,6 @@ use Rattle.project_book.specs.Project.{Project}
 use Rattle.run_queries.specs.declared.query.Query.{Query}
 use Rattle.run_queries.specs.declared.body.Body.{Body}
 use Rattle.run_queries.specs.Answers.{answer}
-use Rattle.run_queries.specs.Texts.{body_text}
 use Rattle.lab_tasks.specs.declared.swept.Swept.{Swept}
 use Rattle.lab_tasks.specs.declared.swept.Setting.{Setting}
 use Rattle.lab_tasks.specs.Sweeps.{rows_of, with_settings}
@@ -62,17 +61,16 @@ map-map : {X Y Z : Type 0} (g : Y → Z) (f : X → Y) (xs : List X) → map g (
 map-map g f [] = refl
 map-map g f (x ∷ xs) = ap (λ ys. g (f x) ∷ ys) (map-map g f xs)
 
-told-all : (Q : Project) (queries : List Query) (bodies : List Body) (answers : List (List ℕ)) → map (answer Q) queries ≡ map Ok bodies → map body_text bodies ≡ map Some answers
+told-all : (Q : Project) (queries : List Query) (says : List (Result Body ℕ)) (answers : List (List ℕ)) → says ≡ map (answer Q) queries → map shown says ≡ map Some answers
     → map (told_text Q) queries ≡ map Some answers
-told-all Q queries bodies answers told texts =
-    sym (map-map shown (answer Q) queries) ∙ ap (map shown) told ∙ map-map shown Ok bodies ∙ texts
+told-all Q queries says answers told texts = sym (map-map shown (answer Q) queries) ∙ ap (map shown) (sym told) ∙ texts
 
 -- the next row
-row-is : (qs : List Depths) (P B : Project) (queries : List Query) (row : List Setting) (bodies : List Body) (answers : List (List ℕ)) → SameWhereSet qs B P → queues row ≡ qs
-    → map (answer (with_settings B row)) queries ≡ map Ok bodies → map body_text bodies ≡ map Some answers → IsRow P queries row (row_text row answers)
-row-is qs P B queries row bodies answers same sets told texts = (
+row-is : (qs : List Depths) (P B : Project) (queries : List Query) (row : List Setting) (says : List (Result Body ℕ)) (answers : List (List ℕ)) → SameWhereSet qs B P → queues row ≡ qs
+    → says ≡ map (answer (with_settings B row)) queries → map shown says ≡ map Some answers → IsRow P queries row (row_text row answers)
+row-is qs P B queries row says answers same sets told texts = (
   answers,
-  subst (λ (Q : Project). map (told_text Q) queries ≡ map Some answers) (same row sets) (told-all (with_settings B row) queries bodies answers told texts),
+  subst (λ (Q : Project). map (told_text Q) queries ≡ map Some answers) (same row sets) (told-all (with_settings B row) queries says answers told texts),
   refl,
 )
 
@@ -99,15 +97,15 @@ row-read items read all i v row e lt is at =
     (omega arith, at ∙ ap items is ∙ sym (get_or-map items read i v [] lt) ∙ ap (λ (rows : List (List Setting)). get_or rows i []) e)
 
 -- a row that is told and written
-pub row-done : (all : List Swept) (P B C : Project) (queries : List Query) (i : ℕ) (row : List Setting) (told bodies : List Body) (begin old new : List ℕ)
+pub row-done : (all : List Swept) (P B C : Project) (queries : List Query) (i : ℕ) (row : List Setting) (told bodies : List (Result Body ℕ)) (begin old new : List ℕ)
     → (i < length (rows_of all)) × (row ≡ get_or (rows_of all) i []) → SameWhereSet (swept_queues all) B P → HasRows (IsRow P queries) begin (take i (rows_of all)) old
-    → map (answer (with_settings B row)) queries ≡ map Ok told → bodies ≡ told → C ≡ with_settings B row → HasRowOf bodies row old new
+    → told ≡ map (answer (with_settings B row)) queries → bodies ≡ told → C ≡ with_settings B row → HasRowOf bodies row old new
     → SameWhereSet (swept_queues all) C P × HasRows (IsRow P queries) begin (take (i + 1) (rows_of all)) new
 row-done all P B C queries i row told bodies begin old new at same before answered read is written =
     let sets : queues row ≡ swept_queues all = ap queues at.1 ∙ row-sets all i [] at.0 in (
       same-next (swept_queues all) B C P row same sets is,
       rows-more (IsRow P queries) begin old new (row_text row written.0) (rows_of all) i [] at.0 before
-          (subst (λ (r : List Setting). IsRow P queries r (row_text row written.0)) at.1 (row-is (swept_queues all) P B queries row told written.0 same sets answered (ap (map body_text) (sym read) ∙ written.1)))
+          (subst (λ (r : List Setting). IsRow P queries r (row_text row written.0)) at.1 (row-is (swept_queues all) P B queries row told written.0 same sets answered (ap (map shown) (sym read) ∙ written.1)))
           written.2,
     )
 

@@ -1,9 +1,8 @@
 -- What the program does for its words, and why it doesn't.
-use Rattle.std.specs.Prelude.{◌≡◌, ◌≢◌, ◌⊎◌, ℕ, List, ◌∷◌, [], ◌++◌, Option, None, Ok, Err, codes}
+use Rattle.std.specs.Prelude.{◌≡◌, ◌⊎◌, ℕ, List, ◌∷◌, [], ◌++◌, Option, None, Ok, Err, codes}
 use Rattle.std.specs.List.{AllZip}
 use Rattle.project_book.specs.Project.{Project}
 use Rattle.project_file.specs.declared.fault.ProjectFault.{ProjectFault}
-use Rattle.project_file.specs.declared.fault.ProjectFault.TheVariants as fault
 use Rattle.project_file.specs.Filed.{filed}
 use Rattle.experiments.specs.declared.load.Load.{Load}
 use Rattle.lab_tasks.specs.declared.end.End.{End}
@@ -14,17 +13,19 @@ use Rattle.lab_tasks.specs.declared.plan.CurvePlan.{CurvePlan}
 use Rattle.lab_tasks.specs.declared.tables.RatePoint.{RatePoint}
 use Rattle.lab_tasks.specs.declared.tables.DelayPoint.{DelayPoint}
 use Rattle.lab_tasks.specs.declared.words.Asked.{Asked}
-use Rattle.lab_tasks.specs.declared.words.Asked.TheVariants.{Map, Rates, Delays, Sweep, Check, Convert}
+use Rattle.lab_tasks.specs.declared.words.Asked.TheVariants.{Map, Order, Rates, Delays, Sweep, Check, Convert}
 use Rattle.lab_tasks.specs.declared.words.MapWords.{MapWords}
 use Rattle.lab_tasks.specs.declared.words.CurveWords.{CurveWords}
 use Rattle.lab_tasks.specs.declared.words.SweepWords.{SweepWords}
 use Rattle.lab_tasks.specs.Words.{text_of, texts_of}
+use Rattle.lab_tasks.specs.Orders.{IsOrderText, IsNoOrder}
+use Rattle.lab_tasks.specs.MapPictures.{IsMapDrawn}
 use Rattle.lab_tasks.specs.Plans.{IsMap, IsNoMap, IsCurves, IsNoCurve}
 use Rattle.lab_tasks.specs.Points.{rate_loads, delay_loads, IsRate, IsDelay}
 use Rattle.lab_tasks.specs.Tables.{table_text, rate_row, delay_row}
 use Rattle.lab_tasks.specs.Outcomes.{IsGiven, AreGiven}
 use Rattle.lab_tasks.specs.Kept.{IsWithKept}
-use Rattle.lab_tasks.specs.SweepTables.{IsTable, IsNoTable, OrMemory}
+use Rattle.lab_tasks.specs.SweepTables.{IsTable, IsNoTable, OrStop}
 use Rattle.lab_tasks.specs.Summaries.{IsSummary}
 
 -- a text that is made of the project that a file's bytes are goes to a file, or to standard output
@@ -34,7 +35,7 @@ IsMadeOf bytes name IsText outcome =
 
 -- a picture of what the words ask for
 abbrev pub IsMapText : MapWords → Project → List ℕ → Type 0
-IsMapText words P text = (plan : MapPlan) × IsMap P words plan
+IsMapText words P text = (plan : MapPlan) × IsMap P words plan × IsMapDrawn P plan text
 
 -- a table where it is wanted, and a picture
 abbrev pub IsTableGiven : CurveWords → List ℕ → Outcome → Type 0
@@ -47,7 +48,7 @@ IsTableWithKept words loads table outcome =
 
 -- the first row of a table
 abbrev pub rate_header : List ℕ
-rate_header = codes "processors,combining,hot_percent,served,cycles,served_per_cycle,bound" ++ 10 ∷ []
+rate_header = codes "processors,combining,hot_percent,seed,first_cycle,cycles,answered,served,answered_per_cycle,served_per_cycle,bound" ++ 10 ∷ []
 
 abbrev pub delay_header : List ℕ
 delay_header = codes "network,processors,combining,hot_percent,replies,cycles_waited,mean_delay" ++ 10 ∷ []
@@ -55,7 +56,7 @@ delay_header = codes "network,processors,combining,hot_percent,replies,cycles_wa
 -- the points of a plan's loads, measured and drawn
 abbrev pub AreRates : CurveWords → Outcome → Type 0
 AreRates words outcome =
-    (plan : CurvePlan) × (points : List RatePoint) × IsCurves words plan × AllZip (IsRate plan) (rate_loads plan) points
+    (plan : CurvePlan) × (points : List RatePoint) × IsCurves words plan × AllZip IsRate (rate_loads plan) points
     × IsTableWithKept words (rate_loads plan) (table_text rate_header rate_row points) outcome
 
 abbrev pub AreDelays : CurveWords → Outcome → Type 0
@@ -68,20 +69,21 @@ abbrev pub IsSweepText : SweepWords → Project → List ℕ → Type 0
 IsSweepText words P text = IsTable P (texts_of words.depths.items) (texts_of words.asks.items) text
 
 abbrev pub IsNoSweep : SweepWords → End → Project → Type 0
-IsNoSweep words e P = OrMemory (IsNoTable P (texts_of words.depths.items) (texts_of words.asks.items)) e
+IsNoSweep words e P = OrStop (IsNoTable P (texts_of words.depths.items) (texts_of words.asks.items)) e
 
 -- what is done for what is asked, with the bytes of its file
 abbrev pub IsDone : Asked → List ℕ → Outcome → Type 0
 IsDone (Map words) bytes outcome = IsMadeOf bytes (text_of words.out) (IsMapText words) outcome
+IsDone (Order words) bytes outcome = IsMadeOf bytes (text_of words.out) (IsOrderText words) outcome
 IsDone (Rates words) bytes outcome = AreRates words outcome
 IsDone (Delays words) bytes outcome = AreDelays words outcome
 IsDone (Sweep words) bytes outcome = IsMadeOf bytes (text_of words.csv) (IsSweepText words) outcome
 IsDone (Check file) bytes outcome = IsMadeOf bytes None IsSummary outcome
 IsDone (Convert file out) bytes outcome = IsMadeOf bytes (text_of out) (λ P text. filed text ≡ Ok P) outcome
 
--- the bytes are refused as a project, by their fault, or for want of memory
+-- the bytes are refused as a project, by their fault
 abbrev pub IsNoProject : List ℕ → End → Type 0
-IsNoProject bytes e = (f : ProjectFault) × (e ≡ end.Project f) × (f ≢ fault.Memory → filed bytes ≡ Err f)
+IsNoProject bytes e = (f : ProjectFault) × (e ≡ end.Project f) × (filed bytes ≡ Err f)
 
 -- no outcome: there was no memory, the bytes are no project, or of the project that they are nothing is made for this reason
 abbrev pub IsNotMade : List ℕ → (Project → Type 0) → End → Type 0
@@ -90,6 +92,7 @@ IsNotMade bytes Refused e = (e ≡ end.Memory) ⊎ (IsNoProject bytes e ⊎ ((P 
 -- why what is asked isn't done
 abbrev pub IsNotDone : Asked → List ℕ → End → Type 0
 IsNotDone (Map words) bytes e = IsNotMade bytes (λ P. IsNoMap P words e) e
+IsNotDone (Order words) bytes e = IsNotMade bytes (λ P. IsNoOrder P words e) e
 IsNotDone (Rates words) bytes e = (e ≡ end.Memory) ⊎ IsNoCurve words e
 IsNotDone (Delays words) bytes e = (e ≡ end.Memory) ⊎ IsNoCurve words e
 IsNotDone (Sweep words) bytes e = IsNotMade bytes (IsNoSweep words e) e

@@ -2,11 +2,14 @@
 use Rattle.std.specs.Prelude.{◌≡◌, ℕ, List, [], ◌++◌, codes, decimal}
 use Rattle.clap.specs.declared.error.kind.ErrorKind.{ErrorKind}
 use Rattle.clap.specs.declared.error.kind.ErrorKind.TheVariants.{DisplayHelp, DisplayVersion, OutOfMemory}
+use Rattle.project_book.specs.declared.fault.EditFault.TheVariants as edit_fault
 use Rattle.project_file.specs.Faults.{number_of}
+use Rattle.experiments.specs.declared.fault.Fault.{Fault}
+use Rattle.experiments.specs.declared.fault.Fault.TheVariants as fault
 use Rattle.lab_tasks.specs.declared.end.Reason.{Reason}
 use Rattle.lab_tasks.specs.declared.end.Reason.TheVariants.{Form, Within, Backwards, Refused}
 use Rattle.lab_tasks.specs.declared.end.End.{End}
-use Rattle.lab_tasks.specs.declared.end.End.TheVariants.{Done, Words, Word, NotRead, NotWritten, Project, Memory, Output}
+use Rattle.lab_tasks.specs.declared.end.End.TheVariants.{Done, Words, Word, NotRead, NotWritten, Project, Memory, Spent, Output}
 
 -- a word that isn't written as it should is one of the command line, the others have numbers outside of what there is
 abbrev pub status_for : Reason → ℕ
@@ -21,7 +24,21 @@ status_of (NotRead name) = 3
 status_of (NotWritten name) = 3
 status_of (Project fault) = 4
 status_of Memory = 5
+status_of Spent = 5
 status_of Output = 5
+
+-- the end after a fault of a sweep's bench
+abbrev pub end_for : Fault → End
+end_for fault.Clock = Spent
+end_for (fault.Edit edit_fault.ClockSpent) = Spent
+end_for (fault.Edit edit_fault.JournalFull) = Spent
+end_for _ = Memory
+
+-- there was no memory, or the bench takes no more edits
+abbrev pub IsStop : End → Type 0
+IsStop Memory = Unit {0}
+IsStop Spent = Unit {0}
+IsStop _ = ⊥
 
 -- the end after words that are no command line
 abbrev pub end_of : ErrorKind → End
@@ -45,6 +62,7 @@ end_text (NotRead name) = codes "lab: cannot read " ++ name.now
 end_text (NotWritten name) = codes "lab: cannot write " ++ name.now
 end_text (Project fault) = codes "lab: project refused: " ++ decimal (number_of fault)
 end_text Memory = codes "lab: no memory"
+end_text Spent = codes "lab: the bench takes no more edits"
 end_text Output = codes "lab: cannot write to standard output"
 
 -- an end that refuses the word at an option, with this status and the reason that is printed

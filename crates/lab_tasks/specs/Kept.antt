@@ -20,7 +20,8 @@ net_text true combine = if combine then codes "on" else codes "off"
 
 abbrev pub load_name : Load → List ℕ
 load_name load =
-    codes "k" ++ decimal load.k ++ codes "-hot" ++ decimal load.hot ++ codes "-" ++ net_text load.sync load.combine ++ codes ".toml"
+    codes "k" ++ decimal load.k ++ codes "-hot" ++ decimal load.hot ++ codes "-" ++ net_text load.sync load.combine ++ codes "-seed" ++ decimal load.seed
+    ++ codes ".toml"
 
 abbrev pub name_text : List ℕ → Load → List ℕ
 name_text folder load = folder ++ codes "/" ++ load_name load

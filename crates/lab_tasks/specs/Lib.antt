@@ -1,9 +1,14 @@
 pub mod Added
+pub mod Columns
+pub mod CommandLine
 pub mod Counts
 pub mod Done
 pub mod Ends
 pub mod Kept
+pub mod MapPictures
 pub mod Numbers
+pub mod OrderPictures
+pub mod Orders
 pub mod Outcomes
 pub mod Plans
 pub mod Points

@@ -10,6 +10,8 @@ use Rattle.lab_tasks.specs.declared.words.MapWords.{MapWords}
 use Rattle.lab_tasks.specs.declared.words.CurveWords.{CurveWords}
 use Rattle.lab_tasks.specs.declared.plan.MapPlan.{MapPlan}
 use Rattle.lab_tasks.specs.declared.plan.CurvePlan.{CurvePlan}
+use Rattle.lab_tasks.specs.declared.plan.Measure.{Measure}
+use Rattle.lab_tasks.specs.declared.plan.Measure.TheVariants.{Answered, Served}
 use Rattle.lab_tasks.specs.Ends.{RefusesForm, RefusesBackwards}
 use Rattle.lab_tasks.specs.Numbers.{IsTold, IsUntold, AreShares, AreNoShares}
 use Rattle.lab_tasks.specs.Words.{text_of}
@@ -26,6 +28,19 @@ net_of (Some word) = net_named word
 abbrev pub IsNoNet : Option (List ℕ) → End → Type 0
 IsNoNet None end = ⊥
 IsNoNet (Some word) end = (net_named word ≡ None) × RefusesForm (codes "--net") word (codes "low or comb") end
+
+-- what of a run a word names, the references answered without a word
+abbrev pub measure_named : List ℕ → Option Measure
+measure_named word = if bytes_eq word (codes "answered") then Some Answered else (if bytes_eq word (codes "served") then Some Served else None)
+
+abbrev pub measure_of : Option (List ℕ) → Option Measure
+measure_of None = Some Answered
+measure_of (Some word) = measure_named word
+
+-- why a word names nothing of it
+abbrev pub IsNoMeasure : Option (List ℕ) → End → Type 0
+IsNoMeasure None end = ⊥
+IsNoMeasure (Some word) end = (measure_named word ≡ None) × RefusesForm (codes "--of") word (codes "answered or served") end
 
 -- the module, the first and the last cycle that the words name of a project
 abbrev pub IsModule : Project → MapWords → ℕ → Type 0
@@ -51,6 +66,8 @@ pub record IsCurves (words : CurveWords) (plan : CurvePlan) : Type 0 where
   pub hot : AreShares (text_of words.hot) plan.hot.items
   pub cycles : IsTold (text_of words.cycles) 256 2 256 plan.cycles
   pub seed : IsTold (text_of words.seed) 1 0 4294967295 plan.seed
+  pub seeds : IsTold (text_of words.seeds) 5 1 20 plan.seeds
+  pub of : measure_of (text_of words.of) ≡ Some plan.of
 
 -- a word is refused, or it is told something with which one behind it is refused
 abbrev pub InTurn : {A : Type 0} → Type 0 → (A → Type 0) → (A → Type 0) → Type 0
@@ -71,4 +88,6 @@ IsNoCurve words end =
     InTurn (IsUntold (codes "--k") (text_of words.k) 1 max_k end) (IsTold (text_of words.k) max_k 1 max_k) (λ k.
     InTurn (AreNoShares (text_of words.hot) end) (AreShares (text_of words.hot)) (λ hot.
     InTurn (IsUntold (codes "--cycles") (text_of words.cycles) 2 256 end) (IsTold (text_of words.cycles) 256 2 256) (λ cycles.
-    IsUntold (codes "--seed") (text_of words.seed) 0 4294967295 end)))
+    InTurn (IsUntold (codes "--seed") (text_of words.seed) 0 4294967295 end) (IsTold (text_of words.seed) 1 0 4294967295) (λ seed.
+    InTurn (IsUntold (codes "--seeds") (text_of words.seeds) 1 20 end) (IsTold (text_of words.seeds) 5 1 20) (λ seeds.
+    IsNoMeasure (text_of words.of) end)))))

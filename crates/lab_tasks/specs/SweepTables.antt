@@ -9,17 +9,17 @@ use Rattle.run_queries.specs.declared.body.Body.{Body}
 use Rattle.run_queries.specs.Answers.{answer}
 use Rattle.run_queries.specs.Texts.{body_text}
 use Rattle.lab_tasks.specs.declared.end.End.{End}
-use Rattle.lab_tasks.specs.declared.end.End.TheVariants.{Memory}
+use Rattle.lab_tasks.specs.declared.end.End.TheVariants.{Memory, Spent}
 use Rattle.lab_tasks.specs.declared.swept.Swept.{Swept}
 use Rattle.lab_tasks.specs.declared.swept.Setting.{Setting}
 use Rattle.lab_tasks.specs.Ends.{RefusesRange}
 use Rattle.lab_tasks.specs.Sweeps.{queue_text, depths_in, IsSwept, RefusesDepths, rows_of, with_settings, IsAsked, RefusesAsk}
 use Rattle.lab_tasks.specs.Tables.{fields_text}
 
--- what a project answers to a question, as text
+-- what a project says to a question, as text: its answer, or `bad N` with the number of the reason why it has none
 abbrev pub shown : Result Body ℕ → Option (List ℕ)
 shown (Ok body) = body_text body
-shown (Err n) = None
+shown (Err n) = Some (codes "bad " ++ decimal n)
 
 abbrev pub told_text : Project → Query → Option (List ℕ)
 told_text P query = shown (answer P query)
@@ -33,13 +33,13 @@ abbrev pub row_text : List Setting → List (List ℕ) → List ℕ
 row_text row answers = flat_map (λ s. decimal s.depth ++ codes ",") row ++ (fields_text answers ++ codes "\n")
 
 -- a text goes on with answers as fields, and with a row that has them
-abbrev pub HasFields : List Body → List ℕ → List ℕ → Type 0
-HasFields bodies old new = (answers : List (List ℕ)) × (map body_text bodies ≡ map Some answers) × (new ≡ old ++ fields_text answers)
+abbrev pub HasFields : List (Result Body ℕ) → List ℕ → List ℕ → Type 0
+HasFields says old new = (answers : List (List ℕ)) × (map shown says ≡ map Some answers) × (new ≡ old ++ fields_text answers)
 
-abbrev pub HasRowOf : List Body → List Setting → List ℕ → List ℕ → Type 0
-HasRowOf bodies row old new = (answers : List (List ℕ)) × (map body_text bodies ≡ map Some answers) × (new ≡ old ++ row_text row answers)
+abbrev pub HasRowOf : List (Result Body ℕ) → List Setting → List ℕ → List ℕ → Type 0
+HasRowOf says row old new = (answers : List (List ℕ)) × (map shown says ≡ map Some answers) × (new ≡ old ++ row_text row answers)
 
--- a row has the answers of the project with the row's depths
+-- a row has what the project with the row's depths says to each question
 abbrev pub IsRow : Project → List Query → List Setting → List ℕ → Type 0
 IsRow P queries row text = (answers : List (List ℕ)) × (map (told_text (with_settings P row)) queries ≡ map Some answers) × (text ≡ row_text row answers)
 
@@ -89,3 +89,8 @@ IsNoTable P depths asks end =
 abbrev pub OrMemory : (End → Type 0) → End → Type 0
 OrMemory Reason Memory = Unit {0}
 OrMemory Reason end = Reason end
+
+-- or since the bench takes no more edits
+abbrev pub OrStop : (End → Type 0) → End → Type 0
+OrStop Reason Spent = Unit {0}
+OrStop Reason end = OrMemory Reason end

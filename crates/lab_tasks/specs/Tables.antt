@@ -20,9 +20,12 @@ bound_of p hot = p * 100000 / (100 + hot * (p - 1))
 abbrev pub switch_text : Bool → List ℕ
 switch_text on = if on then codes "on" else codes "off"
 
--- served requests in a cycle, in thousandths
-abbrev pub rate_of : RatePoint → ℕ
-rate_of p = p.served * 1000 / max p.cycles 1
+-- how many cycles are counted, and a number of them in a cycle, in thousandths
+abbrev pub cycles_of : RatePoint → ℕ
+cycles_of p = p.load.cycles + 1 - p.first
+
+abbrev pub rate_of : RatePoint → ℕ → ℕ
+rate_of p n = n * 1000 / max (cycles_of p) 1
 
 -- the machine of a load: processors, whether combining is on, how many of a hundred references are hot
 abbrev pub machine_text : Load → List ℕ
@@ -31,13 +34,23 @@ machine_text load = decimal (processors_of load.k) ++ codes "," ++ switch_text l
 abbrev pub bound_text : Load → List ℕ
 bound_text load = thousandths_text (bound_of (processors_of load.k) load.hot)
 
--- what was served: requests, cycles, requests in a cycle
-abbrev pub served_text : RatePoint → List ℕ
-served_text p = decimal p.served ++ codes "," ++ decimal p.cycles ++ codes "," ++ thousandths_text (rate_of p)
+-- which run it is, and which cycles are counted: the seed, the first cycle, how many
+abbrev pub span_text : RatePoint → List ℕ
+span_text p = decimal p.load.seed ++ codes "," ++ decimal p.first ++ codes "," ++ decimal (cycles_of p)
+
+-- what was counted: references answered, requests served, and both in a cycle
+abbrev pub counted_text : RatePoint → List ℕ
+counted_text p = decimal p.answered ++ codes "," ++ decimal p.served
+
+abbrev pub rates_text : RatePoint → List ℕ
+rates_text p = thousandths_text (rate_of p p.answered) ++ codes "," ++ thousandths_text (rate_of p p.served)
+
+abbrev pub measured_text : RatePoint → List ℕ
+measured_text p = span_text p ++ codes "," ++ counted_text p ++ codes "," ++ rates_text p
 
 -- a row of the table of `rates`
 abbrev pub rate_row : RatePoint → List ℕ
-rate_row p = machine_text p.load ++ codes "," ++ served_text p ++ codes "," ++ bound_text p.load
+rate_row p = machine_text p.load ++ codes "," ++ measured_text p ++ codes "," ++ bound_text p.load
 
 -- the mean number of cycles in thousandths
 abbrev pub mean_of : DelayPoint → ℕ
@@ -46,11 +59,15 @@ mean_of p = p.waited * 1000 / max p.replies 1
 abbrev pub network_text : Bool → List ℕ
 network_text sync = if sync then codes "combining" else codes "low"
 
+-- the mean, and nothing where there is no reply
+unfoldable pub mean_text : DelayPoint → List ℕ
+mean_text p = if p.replies == 0 then [] else thousandths_text (mean_of p)
+
 -- a row of the table of `delays`
 abbrev pub delay_row : DelayPoint → List ℕ
 delay_row p =
     network_text p.load.sync ++ codes "," ++ machine_text p.load ++ codes "," ++ decimal p.replies ++ codes "," ++ decimal p.waited
-    ++ codes "," ++ thousandths_text (mean_of p)
+    ++ codes "," ++ mean_text p
 
 -- a table: its first row, then a row for each point, each with a LF behind it
 abbrev pub table_text : {T : Type 0} → List ℕ → (T → List ℕ) → List T → List ℕ

@@ -1,11 +1,13 @@
 -- What the program is told by its words.
-use Rattle.std.specs.Prelude.{List, [], map, ℕ, Option, Some, None, option_map, unwrap_or, codes}
-use Rattle.std.specs.Option.{option_map_or}
+use Rattle.std.specs.Prelude.{◌≡◌, List, [], map, ℕ, Option, Some, None, option_map, unwrap_or, codes}
 use Rattle.std.specs.Borrow.{Bor}
-use Rattle.clap.specs.declared.parser.matches.ArgMatches.{ArgMatches}
-use Rattle.clap.specs.Matches.{found_of, first_value, matched_of, raw_values}
+use Rattle.clap.specs.Words.{Row, Text, all_of, first_of}
 use Rattle.lab_tasks.specs.declared.words.Asked.{Asked}
-use Rattle.lab_tasks.specs.declared.words.Asked.TheVariants.{Map, Rates, Delays, Sweep, Check, Convert}
+use Rattle.lab_tasks.specs.declared.words.Asked.TheVariants.{Map, Order, Rates, Delays, Sweep, Check, Convert}
+use Rattle.lab_tasks.specs.declared.words.MapWords.{MapWords}
+use Rattle.lab_tasks.specs.declared.order.OrderWords.{OrderWords}
+use Rattle.lab_tasks.specs.declared.words.CurveWords.{CurveWords}
+use Rattle.lab_tasks.specs.declared.words.SweepWords.{SweepWords}
 
 -- a word as its text, if there is one, and several words as theirs
 abbrev pub text_of : Option (Bor (List ℕ)) → Option (List ℕ)
@@ -14,19 +16,62 @@ text_of word = option_map (λ w. w.now) word
 abbrev pub texts_of : List (Bor (List ℕ)) → List (List ℕ)
 texts_of words = map (λ w. w.now) words
 
--- the text at an option, and those of all its uses
-abbrev pub text_at : ArgMatches → List ℕ → Option (List ℕ)
-text_at m id = first_value (found_of m) id
+-- the texts of all uses of an option, and the file that is read
+abbrev pub texts_at : List Row → Text → List Text
+texts_at rows id = unwrap_or (all_of id rows) []
 
-abbrev pub texts_at : ArgMatches → List ℕ → List (List ℕ)
-texts_at m id = option_map_or raw_values (matched_of (found_of m) id) []
+abbrev pub file_at : List Row → Text
+file_at rows = unwrap_or (first_of (codes "FILE") rows) []
 
--- the file that is read
-abbrev pub file_at : ArgMatches → List ℕ
-file_at m = unwrap_or (text_at m (codes "FILE")) []
+-- the words of a task are the texts that the matches hold at its options
+pub record AreMapWords (rows : List Row) (words : MapWords) : Type 0 where
+  pub file : words.file.now ≡ file_at rows
+  pub net : text_of words.net ≡ first_of (codes "net") rows
+  pub number : text_of words.module ≡ first_of (codes "module") rows
+  pub from : text_of words.from ≡ first_of (codes "from") rows
+  pub to : text_of words.to ≡ first_of (codes "to") rows
+  pub out : text_of words.out ≡ first_of (codes "out") rows
+
+pub record AreOrderWords (rows : List Row) (words : OrderWords) : Type 0 where
+  pub file : words.file.now ≡ file_at rows
+  pub from : text_of words.from ≡ first_of (codes "from") rows
+  pub to : text_of words.to ≡ first_of (codes "to") rows
+  pub out : text_of words.out ≡ first_of (codes "out") rows
+
+pub record AreCurveWords (rows : List Row) (words : CurveWords) : Type 0 where
+  pub k : text_of words.k ≡ first_of (codes "k") rows
+  pub hot : text_of words.hot ≡ first_of (codes "hot") rows
+  pub cycles : text_of words.cycles ≡ first_of (codes "cycles") rows
+  pub seed : text_of words.seed ≡ first_of (codes "seed") rows
+  pub seeds : text_of words.seeds ≡ first_of (codes "seeds") rows
+  pub of : text_of words.of ≡ first_of (codes "of") rows
+  pub csv : text_of words.csv ≡ first_of (codes "csv") rows
+  pub out : text_of words.out ≡ first_of (codes "out") rows
+  pub keep : text_of words.keep ≡ first_of (codes "keep") rows
+
+pub record AreSweepWords (rows : List Row) (words : SweepWords) : Type 0 where
+  pub file : words.file.now ≡ file_at rows
+  pub depths : texts_of words.depths.items ≡ texts_at rows (codes "depth")
+  pub asks : texts_of words.asks.items ≡ texts_at rows (codes "ask")
+  pub csv : text_of words.csv ≡ first_of (codes "csv") rows
+
+-- a task is named, and its matches say this
+abbrev pub IsNamed : Option (Text × List Row) → Text → (List Row → Type 0) → Type 0
+IsNamed said name Says = (rows : List Row) × (said ≡ Some (name, rows)) × Says rows
+
+-- what is asked for where a task is named, and its matches hold these rows
+abbrev pub AsksFor : Option (Text × List Row) → Asked → Type 0
+AsksFor said (Map words) = IsNamed said (codes "map") (λ rows. AreMapWords rows words)
+AsksFor said (Order words) = IsNamed said (codes "order") (λ rows. AreOrderWords rows words)
+AsksFor said (Rates words) = IsNamed said (codes "rates") (λ rows. AreCurveWords rows words)
+AsksFor said (Delays words) = IsNamed said (codes "delays") (λ rows. AreCurveWords rows words)
+AsksFor said (Sweep words) = IsNamed said (codes "sweep") (λ rows. AreSweepWords rows words)
+AsksFor said (Check file) = IsNamed said (codes "check") (λ rows. file.now ≡ file_at rows)
+AsksFor said (Convert file out) = IsNamed said (codes "convert") (λ rows. (file.now ≡ file_at rows) × (text_of out ≡ first_of (codes "out") rows))
 
 abbrev pub file_of : Asked → Option (List ℕ)
 file_of (Map words) = Some words.file.now
+file_of (Order words) = Some words.file.now
 file_of (Rates words) = None
 file_of (Delays words) = None
 file_of (Sweep words) = Some words.file.now

@@ -199,7 +199,7 @@ fn add_machine(text: &mut String, project: &Project) -> Result<(), AllocError>
 
 /// The places of queues in the low network, in the combining one, and the other ones.
 #[derive(Clone, Copy)]
-struct LowPlaces<'a>(&'a Project);
+pub(crate) struct LowPlaces<'a>(pub &'a Project);
 
 impl fmt::Display for LowPlaces<'_> {
     ghost output = { λ places. Some (low_places places.0.now) };
@@ -212,7 +212,7 @@ impl fmt::Display for LowPlaces<'_> {
 }
 
 #[derive(Clone, Copy)]
-struct CombPlaces<'a>(&'a Project);
+pub(crate) struct CombPlaces<'a>(pub &'a Project);
 
 impl fmt::Display for CombPlaces<'_> {
     ghost output = { λ places. Some (comb_places places.0.now) };
@@ -225,7 +225,7 @@ impl fmt::Display for CombPlaces<'_> {
 }
 
 #[derive(Clone, Copy)]
-struct OtherPlaces<'a>(&'a Project);
+pub(crate) struct OtherPlaces<'a>(pub &'a Project);
 
 impl fmt::Display for OtherPlaces<'_> {
     ghost output = { λ places. Some (other_places places.0.now) };
@@ -247,7 +247,7 @@ fn add_places(text: &mut String, project: &Project) -> Result<(), AllocError>
 }
 
 /// Adds for each stage whether its switches combine, with a space before.
-fn add_switches(text: &mut String, project: &Project) -> Result<(), AllocError>
+pub(crate) fn add_switches(text: &mut String, project: &Project) -> Result<(), AllocError>
     ensures { OnOk result (string_bytes text.new ≡ string_bytes text.old ++ flat_map (λ stage. codes " " ++ switch_text (combines_at project.now stage)) (below project.now.k)) }
 {
     for stage in 0..project.k() {

@@ -1,10 +1,16 @@
 //! What the pictures of curves share: strokes, labels and ticks.
 use std::alloc::{AllocError, Global};
-use svg_plots::{Mark, Stroke, Tick, tick_step};
+use svg_plots::{Colour, Label, Mark, Stroke, Tick, tick_step};
 
 /// Colours that colour blindness leaves apart; each goes with a mark of its own (Okabe and Ito 2008).
-const COLOURS: [&str; 7] = [
-    "#000000", "#e69f00", "#56b4e9", "#009e73", "#0072b2", "#d55e00", "#cc79a7",
+const COLOURS: [Colour; 7] = [
+    Colour::Black,
+    Colour::Orange,
+    Colour::SkyBlue,
+    Colour::Green,
+    Colour::Blue,
+    Colour::Vermilion,
+    Colour::Purple,
 ];
 
 /// The line of a curve by its place.
@@ -47,4 +53,13 @@ pub(crate) fn even_ticks(alloc: Global, most: u32, each: u32) -> Result<Vec<Tick
         }
     }
     Ok(ticks)
+}
+
+/// Lines of text below a picture.
+pub(crate) fn labels_of(alloc: Global, texts: &[&str]) -> Result<Vec<Label>, AllocError> {
+    let mut labels = Vec::new(alloc);
+    for text in texts {
+        labels.push(Label::new(alloc, text)?)?;
+    }
+    Ok(labels)
 }

@@ -7,6 +7,7 @@ use clap::Error;
 use clap::error::ErrorKind;
 use experiments::Fault;
 use grid_law::NoMemory;
+use project_book::EditFault;
 use project_file::{ProjectFault, WriteFault};
 use std::alloc::{AllocError, AllocFailed};
 use std::fmt;
@@ -45,12 +46,14 @@ pub enum End<'a> {
     Project(ProjectFault),
     /// There was no memory.
     Memory,
+    /// The bench of a sweep takes no more edits, or its clock is at its last value.
+    Spent,
     /// Standard output can't be written.
     Output,
 }
 
-/// The status with which the program ends: 0 done, 2 words, 3 files, 4 project, 5 memory and standard output, 7 a number
-/// outside of what there is.
+/// The status with which the program ends: 0 done, 2 words, 3 files, 4 project, 5 memory, a bench that takes no more edits and
+/// standard output, 7 a number outside of what there is.
 pub fn status(end: &End<'_>) -> u8
     ensures { result ≡ status_of end.now }
 {
@@ -63,7 +66,7 @@ pub fn status(end: &End<'_>) -> u8
         },
         End::NotRead(_) | End::NotWritten(_) => 3,
         End::Project(_) => 4,
-        End::Memory | End::Output => 5,
+        End::Memory | End::Spent | End::Output => 5,
     }
 }
 
@@ -113,6 +116,7 @@ impl fmt::Display for End<'_> {
             End::NotWritten(name) => write!(f, "lab: cannot write {name}"),
             End::Project(fault) => write!(f, "lab: project refused: {}", fault.number()),
             End::Memory => write!(f, "lab: no memory"),
+            End::Spent => write!(f, "lab: the bench takes no more edits"),
             End::Output => write!(f, "lab: cannot write to standard output"),
         }
     }
@@ -149,12 +153,16 @@ impl From<NoMemory> for End<'_> {
 }
 
 impl From<Fault> for End<'_> {
-    ghost use Rattle.lab_tasks.specs.declared.end.End.TheVariants.{Memory};
+    ghost use Rattle.lab_tasks.specs.Ends.{end_for};
 
-    ghost from_gives = { λ _ e. e ≡ Memory };
+    ghost from_gives = { λ fault e. e ≡ end_for fault };
 
-    fn from(_fault: Fault) -> Self {
-        End::Memory
+    fn from(fault: Fault) -> Self {
+        match fault {
+            Fault::Clock | Fault::Edit(EditFault::ClockSpent | EditFault::JournalFull) =>
+                End::Spent,
+            Fault::Memory | Fault::Query(_) | Fault::Load | Fault::Edit(_) => End::Memory,
+        }
     }
 }
 

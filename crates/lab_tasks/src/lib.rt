@@ -6,7 +6,9 @@
 //! there is no outcome, with its status and its line.
 //!
 //! The crate stands on `experiments` for figures, on `svg_plots` for pictures, on `commands` for the words of questions,
-//! and on `project_file` for files. What [`perform`] does for each command, and why it doesn't, is in `specs/Done.antt`: how
+//! and on `project_file` for files. What [`read_words`] answers is what `clap` defines for the command of
+//! `specs/CommandLine.antt`, and an error exactly where that finds a fault in the words (`specs/Words.antt`). What
+//! [`perform`] does for each command, and why it doesn't, is in `specs/Done.antt`: how
 //! numbers, lists and ranges are read (`specs/Numbers.antt`), which word is refused first (`specs/Plans.antt`), which points
 //! are measured and that each is that of its load's run (`specs/Points.antt`), rates, means, the bound and fields of tables
 //! (`specs/Tables.antt`), the table of a sweep (`specs/SweepTables.antt`), what a summary counts and says
@@ -15,16 +17,21 @@
 #![tactic(auto)]
 
 mod check;
+mod columns;
 mod curves;
+mod delay_picture;
 mod delays;
 mod end;
 mod host;
 mod map;
 mod numbers;
+mod order;
+mod order_picture;
 mod outcome;
 mod plan;
 mod points;
 mod progress;
+mod rate_picture;
 mod rates;
 mod sweep;
 mod swept;
@@ -34,6 +41,7 @@ mod words;
 
 pub use end::{End, Reason, refusal, status};
 pub use host::program;
+pub use order::OrderWords;
 pub use outcome::{OutFile, Outcome};
 pub use progress::{Progress, Silent};
 pub use task::perform;

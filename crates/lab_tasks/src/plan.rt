@@ -3,7 +3,7 @@ ghost use Rattle.std.specs.Prelude.{◌≡◌, ◌<◌, ◌≤◌, IfErr, IfOk, 
 ghost use Rattle.omega_net.specs.Numbers.{lines};
 ghost use Rattle.page_map.specs.Limits.{max_k};
 ghost use Rattle.lab_tasks.specs.Numbers.{AreNoShares, AreShares, are_hundredths, IsTold, IsUntold};
-ghost use Rattle.lab_tasks.specs.Plans.{net_of, IsCurves, IsMap, IsNoCurve, IsNoMap, IsNoNet};
+ghost use Rattle.lab_tasks.specs.Plans.{measure_of, net_of, IsCurves, IsMap, IsNoCurve, IsNoMap, IsNoMeasure, IsNoNet};
 ghost use Rattle.lab_tasks.specs.Words.{text_of};
 
 use crate::end::{End, Reason};
@@ -17,7 +17,7 @@ use project_book::Project;
 use std::alloc::Global;
 
 /// The number at an option, which has to be within two others; without a word a usual one.
-fn number_at<'a>(
+pub(crate) fn number_at<'a>(
     option: &'static str,
     word: Option<&'a str>,
     usual: u32,
@@ -98,6 +98,31 @@ pub(crate) fn map_plan<'a>(words: &MapWords<'a>, project: &Project) -> Result<Ma
     })
 }
 
+/// What of a run is drawn.
+#[derive(Clone, Copy, PartialEq, Eq)]
+pub(crate) enum Measure {
+    /// The references that were answered.
+    Answered,
+    /// The requests that modules served: what combines on its way is served as one.
+    Served,
+}
+
+/// What of a run is named at `--of`.
+fn measure_at<'a>(word: Option<&'a str>) -> Result<Measure, End<'a>>
+    ensures of { IfOk result (λ of. measure_of (text_of word.entry) ≡ Some of) }
+    ensures none { IfErr result (IsNoMeasure (text_of word.entry)) }
+{
+    match word {
+        None | Some("answered") => Ok(Measure::Answered),
+        Some("served") => Ok(Measure::Served),
+        Some(word) => Err(End::Word {
+            option: "--of",
+            word,
+            reason: Reason::Form("answered or served"),
+        }),
+    }
+}
+
 /// What `rates` and `delays` measure.
 #[derive(Drop)]
 pub(crate) struct CurvePlan {
@@ -106,11 +131,17 @@ pub(crate) struct CurvePlan {
     /// How many of a hundred references are hot, for each curve or point.
     pub hot: Vec<u32>,
     pub cycles: u32,
-    pub seed: u64,
+    pub seed: u32,
+    /// Of `rates` alone: how many seeds, from that one on, and what is drawn.
+    pub seeds: u32,
+    pub of: Measure,
 }
 
 /// The shares that are measured where none are given.
 const USUAL_SHARES: [u32; 7] = [0, 1, 2, 4, 8, 16, 32];
+
+/// How many seeds `rates` may measure with.
+const MOST_SEEDS: u32 = 20;
 
 /// Whether no share is more than the whole.
 fn are_hundredths(shares: &[u32]) -> bool
@@ -154,10 +185,14 @@ pub(crate) fn curve_plan<'a>(alloc: Global, words: &CurveWords<'a>) -> Result<Cu
     let hot = shares_at(alloc, words.hot)?;
     let cycles = number_at("--cycles", words.cycles, MOST_CYCLES, 2, MOST_CYCLES)?;
     let seed = number_at("--seed", words.seed, 1, 0, u32::MAX)?;
+    let seeds = number_at("--seeds", words.seeds, 5, 1, MOST_SEEDS)?;
+    let of = measure_at(words.of)?;
     Ok(CurvePlan {
         k,
         hot,
         cycles,
-        seed: u64::from(seed),
+        seed,
+        seeds,
+        of,
     })
 }

@@ -1,7 +1,7 @@
 //! The points that `rates` and `delays` measure.
-ghost use Rattle.std.specs.Prelude.{◌≡◌, ◌++◌, ◌≤◌, IfOk, OnOk};
+ghost use Rattle.std.specs.Prelude.{◌≡◌, ◌++◌, ◌<◌, ◌≤◌, ◌^◌, IfOk, OnOk};
 ghost use Rattle.page_map.specs.Limits.{max_k};
-ghost use Rattle.lab_tasks.specs.Points.{share_loads, rate_loads, delay_loads};
+ghost use Rattle.lab_tasks.specs.Points.{share_loads, seeded, seeded_loads, rate_loads, delay_loads};
 
 use crate::plan::CurvePlan;
 use experiments::Load;
@@ -21,7 +21,7 @@ fn add_shares(
         loads.push(Load {
             k,
             hot: *hot,
-            seed: plan.seed,
+            seed: u64::from(plan.seed),
             cycles: plan.cycles,
             sync,
             combine,
@@ -30,7 +30,44 @@ fn add_shares(
     Ok(())
 }
 
-/// The loads of `rates`: by the number of processors, then without combining and with it, then by share.
+/// Adds a load with each of so many seeds, from its own on.
+fn add_seeds(loads: &mut Vec<Load>, load: Load, seeds: u32) -> Result<(), AllocError>
+    requires { load.seed < 2 ^ 32 }
+    ensures { OnOk result (loads.new.items ≡ loads.old.items ++ seeded load seeds) }
+{
+    for nth in 0..seeds {
+        loads.push(Load {
+            seed: load.seed + u64::from(nth),
+            ..load
+        })?;
+    }
+    Ok(())
+}
+
+/// Adds a load for each share with each seed.
+fn add_seeded(
+    loads: &mut Vec<Load>,
+    plan: &CurvePlan,
+    k: u32,
+    combine: bool,
+) -> Result<(), AllocError>
+    ensures { OnOk result (loads.new.items ≡ loads.old.items ++ seeded_loads plan.now k combine) }
+{
+    for hot in plan.hot.as_slice() {
+        let load = Load {
+            k,
+            hot: *hot,
+            seed: u64::from(plan.seed),
+            cycles: plan.cycles,
+            sync: true,
+            combine,
+        };
+        add_seeds(loads, load, plan.seeds)?;
+    }
+    Ok(())
+}
+
+/// The loads of `rates`: by the number of processors, then without combining and with it, then by share, then by seed.
 #[tactic(auto, using(crate::proofs::Listing::flat_next))]
 pub(crate) fn rate_loads(alloc: Global, plan: &CurvePlan) -> Result<Vec<Load>, AllocError>
     requires { plan.now.k ≤ max_k }
@@ -38,8 +75,8 @@ pub(crate) fn rate_loads(alloc: Global, plan: &CurvePlan) -> Result<Vec<Load>, A
 {
     let mut loads = Vec::new(alloc);
     for k in 0..plan.k + 1 {
-        add_shares(&mut loads, plan, k, true, false)?;
-        add_shares(&mut loads, plan, k, true, true)?;
+        add_seeded(&mut loads, plan, k, false)?;
+        add_seeded(&mut loads, plan, k, true)?;
     }
     Ok(loads)
 }

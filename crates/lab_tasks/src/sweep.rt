@@ -1,5 +1,5 @@
 //! One depth after another on one bench.
-ghost use Rattle.std.specs.Prelude.{◌≡◌, ◌+◌, ◌-◌, ◌^◌, ◌<◌, ◌≤◌, ◌==◌, [], ◌∷◌, ◌++◌, IfErr, IfOk, Ok, OnOk, Some, codes, decimal, if◌then◌else◌, length, map, min, string_bytes};
+ghost use Rattle.std.specs.Prelude.{◌≡◌, ◌+◌, ◌-◌, ◌^◌, ◌<◌, ◌≤◌, ◌==◌, [], ◌∷◌, ◌++◌, IfErr, IfOk, OnOk, Some, codes, decimal, if◌then◌else◌, length, map, min, string_bytes};
 ghost use Rattle.std.specs.List.{flat_map, AllZip};
 ghost use Rattle.line_words.specs.Words.{words_of};
 ghost use Rattle.run_queries.specs.Answers.{answer};
@@ -7,10 +7,10 @@ ghost use Rattle.run_queries.specs.Texts.{body_text};
 ghost use Rattle.bench_core.specs.Shown.{project_of};
 ghost use Rattle.commands.specs.Queues.{queue_named};
 ghost use Rattle.commands.specs.Commands.{command_of};
+ghost use Rattle.lab_tasks.specs.Ends.{IsStop};
 ghost use Rattle.lab_tasks.specs.Sweeps.{queue_text, depths_in, IsSwept, RefusesDepths, rows_of, settings_of, with_settings, IsAsked, RefusesAsk};
-ghost use Rattle.lab_tasks.specs.SweepTables.{header_text, HasFields, HasRowOf, HasRows, IsRow, IsTable, AreNotSwept, AreNotAsked, IsNoTable, OrMemory};
+ghost use Rattle.lab_tasks.specs.SweepTables.{header_text, shown, HasFields, HasRowOf, HasRows, IsRow, IsTable, AreNotSwept, AreNotAsked, IsNoTable, OrMemory, OrStop};
 ghost use Rattle.lab_tasks.specs.Tables.{field_text, fields_text};
-ghost use Rattle.lab_tasks.specs.declared.end.End.TheVariants.{Memory};
 
 use crate::end::{End, Reason};
 use crate::numbers::{parts_at, range_in};
@@ -279,12 +279,33 @@ fn printed(alloc: Global, body: &Body) -> Result<String, AllocError>
     format!(in alloc; "{body}")
 }
 
-/// Adds the answers of a row, with commas between.
-fn add_answers(alloc: Global, text: &mut String, bodies: &[Body]) -> Result<(), AllocError>
+/// What stands in place of an answer that there isn't, by the number of the reason.
+fn bad_text(alloc: Global, number: u8) -> Result<String, AllocError>
+    ensures { IfOk result (λ text. string_bytes text ≡ codes "bad " ++ decimal number) }
+{
+    format!(in alloc; "bad {number}")
+}
+
+/// The text of what is said to a question.
+fn said(alloc: Global, says: &Result<Body, u8>) -> Result<String, AllocError>
+    ensures { IfOk result (λ text. shown says.now ≡ Some (string_bytes text)) }
+{
+    match says {
+        Ok(body) => printed(alloc, body),
+        Err(number) => bad_text(alloc, *number),
+    }
+}
+
+/// Adds what is said to the questions of a row, with commas between.
+fn add_answers(
+    alloc: Global,
+    text: &mut String,
+    bodies: &[Result<Body, u8>],
+) -> Result<(), AllocError>
     ensures { OnOk result (HasFields bodies.now (string_bytes text.old) (string_bytes text.new)) }
 {
     for (place, body) in bodies.iter().enumerate() {
-        let answer = printed(alloc, body)?;
+        let answer = said(alloc, body)?;
         add_field(text, place, answer.as_str())?;
     }
     Ok(())
@@ -295,7 +316,7 @@ fn add_row(
     alloc: Global,
     text: &mut String,
     row: &[Setting],
-    bodies: &[Body],
+    bodies: &[Result<Body, u8>],
 ) -> Result<(), AllocError>
     ensures { OnOk result (HasRowOf bodies.now row.now (string_bytes text.old) (string_bytes text.new)) }
 {
@@ -323,15 +344,15 @@ fn set_row<T: Threads + Sync>(
     Ok(())
 }
 
-/// What the project with the depths of a row is told.
+/// What the project with the depths of a row says to each question.
 fn row_at<T: Threads + Sync>(
     rt: &T,
     alloc: Global,
     bench: &mut Bench,
     row: &[Setting],
     queries: &[Query],
-) -> Result<Vec<Body>, Fault>
-    ensures answers { IfOk result (λ bodies. map (answer (with_settings (project_of bench.old) row.now)) queries.now ≡ map Ok bodies.items) }
+) -> Result<Vec<Result<Body, u8>>, Fault>
+    ensures answers { IfOk result (λ bodies. bodies.items ≡ map (answer (with_settings (project_of bench.old) row.now)) queries.now) }
     ensures project { OnOk result (project_of bench.new ≡ with_settings (project_of bench.old) row.now) }
 {
     set_row(rt, alloc, bench, row)?;
@@ -339,6 +360,7 @@ fn row_at<T: Threads + Sync>(
 }
 
 /// Adds all rows: what the bench's project is told with the depths of each.
+#[tactic(auto, using(crate::proofs::Stops::is_stop, crate::proofs::Stops::is_stop_memory))]
 fn add_rows<'a, T: Threads + Sync>(
     rt: &T,
     alloc: Global,
@@ -348,7 +370,7 @@ fn add_rows<'a, T: Threads + Sync>(
     queries: &[Query],
 ) -> Result<(), End<'a>>
     ensures rows { OnOk result (HasRows (IsRow (project_of bench.old) queries.now) (string_bytes text.old) (rows_of all.now) (string_bytes text.new)) }
-    ensures refused { IfErr result (λ end. end ≡ Memory) }
+    ensures refused { IfErr result IsStop }
 {
     let rows = all_rows(alloc, all)?;
     for settings in rows.as_slice() {
@@ -360,6 +382,7 @@ fn add_rows<'a, T: Threads + Sync>(
 }
 
 /// The table of what is swept and asked.
+#[tactic(auto, using(crate::proofs::Stops::is_stop_memory))]
 fn table_of<'a, T: Threads + Sync>(
     rt: &T,
     alloc: Global,
@@ -369,7 +392,7 @@ fn table_of<'a, T: Threads + Sync>(
     asks: &[&'a str],
 ) -> Result<String, End<'a>>
     ensures rows { IfOk result (λ text. HasRows (IsRow project queries.now) (header_text all.now (map (λ ask. ask.now) asks.entry.now)) (rows_of all.now) (string_bytes text)) }
-    ensures refused { IfErr result (λ end. end ≡ Memory) }
+    ensures refused { IfErr result IsStop }
 {
     let mut text = header(alloc, all, asks)?;
     let Ok(mut bench) = Bench::new(alloc, project, 0) else {
@@ -380,6 +403,7 @@ fn table_of<'a, T: Threads + Sync>(
 }
 
 /// The table of a sweep over a project.
+#[tactic(auto, using(crate::proofs::Stops::or_stop, crate::proofs::Stops::or_stop_memory))]
 pub(crate) fn sweep_table<'a, T: Threads + Sync>(
     rt: &T,
     alloc: Global,
@@ -388,7 +412,7 @@ pub(crate) fn sweep_table<'a, T: Threads + Sync>(
     asks: &[&'a str],
 ) -> Result<String, End<'a>>
     ensures table { IfOk result (λ text. IsTable project (map (λ word. word.now) depths.entry.now) (map (λ word. word.now) asks.entry.now) (string_bytes text)) }
-    ensures refused { IfErr result (OrMemory (IsNoTable project (map (λ word. word.now) depths.entry.now) (map (λ word. word.now) asks.entry.now))) }
+    ensures refused { IfErr result (OrStop (IsNoTable project (map (λ word. word.now) depths.entry.now) (map (λ word. word.now) asks.entry.now))) }
 {
     let all = match all_swept(alloc, depths) {
         Ok(all) => all,

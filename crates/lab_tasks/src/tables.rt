@@ -2,7 +2,7 @@
 ghost use Rattle.std.specs.Prelude.{◌≡◌, ◌≤◌, ◌<◌, ◌^◌, ◌==◌, Some};
 ghost use Rattle.std.specs.List.{list_any};
 ghost use Rattle.std.specs.Fmt.{WritesOnOk};
-ghost use Rattle.lab_tasks.specs.Tables.{thousandths_text, processors_of, bound_of, rate_of, mean_of, delay_row, switch_text, network_text, machine_text, bound_text, is_quoted, doubled_char, doubled_text, field_text};
+ghost use Rattle.lab_tasks.specs.Tables.{thousandths_text, processors_of, bound_of, cycles_of, rate_of, mean_of, delay_row, switch_text, network_text, machine_text, bound_text, is_quoted, doubled_char, doubled_text, field_text};
 
 use experiments::Load;
 use std::fmt;
@@ -50,18 +50,21 @@ pub(crate) fn bound_thousandths(processors: u64, hot: u32) -> u64
     processors * 100_000 / (100 + u64::from(hot) * processors.saturating_sub(1))
 }
 
-/// What was served of a load.
+/// What came of a load's run, from a cycle on to its last one.
 #[derive(Clone, Copy)]
 pub struct RatePoint {
     pub load: Load,
-    /// How many requests, in how many cycles.
+    /// The first cycle that is counted.
+    pub first: u32,
+    /// How many references were answered.
+    pub answered: u32,
+    /// How many requests modules served.
     pub served: u32,
-    pub cycles: u32,
 }
 
 /// The first row of the table of `rates`.
 pub(crate) const RATE_HEADER: &str =
-    "processors,combining,hot_percent,served,cycles,served_per_cycle,bound\n";
+    "processors,combining,hot_percent,seed,first_cycle,cycles,answered,served,answered_per_cycle,served_per_cycle,bound\n";
 
 pub(crate) fn switch(on: bool) -> &'static str
     ensures { result.now ≡ switch_text on }
@@ -70,11 +73,32 @@ pub(crate) fn switch(on: bool) -> &'static str
 }
 
 impl RatePoint {
-    /// How many requests were served in a cycle, in thousandths.
-    pub fn rate(&self) -> u64
-        ensures { result ≡ rate_of self.now }
+    /// How many cycles are counted.
+    pub fn cycles(&self) -> u64
+        ensures { result ≡ cycles_of self.now }
     {
-        u64::from(self.served) * 1000 / u64::from(self.cycles.max(1))
+        (u64::from(self.load.cycles) + 1).saturating_sub(u64::from(self.first))
+    }
+
+    /// So many in these cycles are in one cycle, in thousandths.
+    fn rate(&self, number: u32) -> u64
+        ensures { result ≡ rate_of self.now number }
+    {
+        u64::from(number) * 1000 / self.cycles().max(1)
+    }
+
+    /// How many references were answered in a cycle, in thousandths.
+    pub fn answered_rate(&self) -> u64
+        ensures { result ≡ rate_of self.now self.now.answered }
+    {
+        self.rate(self.answered)
+    }
+
+    /// How many requests were served in a cycle, in thousandths.
+    pub fn served_rate(&self) -> u64
+        ensures { result ≡ rate_of self.now self.now.served }
+    {
+        self.rate(self.served)
     }
 }
 
@@ -107,20 +131,65 @@ impl fmt::Display for Bound {
     }
 }
 
-/// What was served of a load: requests, cycles, requests in a cycle.
+/// Which run it is, and which of its cycles are counted.
 #[derive(Clone, Copy)]
-struct ServedIn(RatePoint);
+struct Span(RatePoint);
 
-impl fmt::Display for ServedIn {
-    ghost use Rattle.lab_tasks.specs.Tables.{served_text};
+impl fmt::Display for Span {
+    ghost use Rattle.lab_tasks.specs.Tables.{span_text};
 
-    ghost output = { λ s. Some (served_text s.0) };
+    ghost output = { λ s. Some (span_text s.0) };
 
     fn fmt<W: fmt::Write>(&self, f: &mut fmt::Formatter<W>) -> fmt::Result {
-        let served = self.0.served;
-        let cycles = self.0.cycles;
-        let rate = Thousandths(self.0.rate());
-        write!(f, "{served},{cycles},{rate}")
+        let (seed, first) = (self.0.load.seed, self.0.first);
+        let cycles = self.0.cycles();
+        write!(f, "{seed},{first},{cycles}")
+    }
+}
+
+/// What was counted.
+#[derive(Clone, Copy)]
+struct Counted(RatePoint);
+
+impl fmt::Display for Counted {
+    ghost use Rattle.lab_tasks.specs.Tables.{counted_text};
+
+    ghost output = { λ s. Some (counted_text s.0) };
+
+    fn fmt<W: fmt::Write>(&self, f: &mut fmt::Formatter<W>) -> fmt::Result {
+        let (answered, served) = (self.0.answered, self.0.served);
+        write!(f, "{answered},{served}")
+    }
+}
+
+/// What was counted, in a cycle.
+#[derive(Clone, Copy)]
+struct Rates(RatePoint);
+
+impl fmt::Display for Rates {
+    ghost use Rattle.lab_tasks.specs.Tables.{rates_text};
+
+    ghost output = { λ s. Some (rates_text s.0) };
+
+    fn fmt<W: fmt::Write>(&self, f: &mut fmt::Formatter<W>) -> fmt::Result {
+        let answered = Thousandths(self.0.answered_rate());
+        let served = Thousandths(self.0.served_rate());
+        write!(f, "{answered},{served}")
+    }
+}
+
+/// All that was measured.
+#[derive(Clone, Copy)]
+struct Measured(RatePoint);
+
+impl fmt::Display for Measured {
+    ghost use Rattle.lab_tasks.specs.Tables.{measured_text};
+
+    ghost output = { λ s. Some (measured_text s.0) };
+
+    fn fmt<W: fmt::Write>(&self, f: &mut fmt::Formatter<W>) -> fmt::Result {
+        let (span, counted, rates) = (Span(self.0), Counted(self.0), Rates(self.0));
+        write!(f, "{span},{counted},{rates}")
     }
 }
 
@@ -131,9 +200,9 @@ impl fmt::Display for RatePoint {
 
     fn fmt<W: fmt::Write>(&self, f: &mut fmt::Formatter<W>) -> fmt::Result {
         let machine = Machine(self.load);
-        let served = ServedIn(*self);
+        let measured = Measured(*self);
         let bound = Bound(self.load);
-        write!(f, "{machine},{served},{bound}")
+        write!(f, "{machine},{measured},{bound}")
     }
 }
 
@@ -159,6 +228,25 @@ impl DelayPoint {
     }
 }
 
+/// The mean of a point, and nothing where there is no reply.
+#[derive(Clone, Copy)]
+struct Mean(DelayPoint);
+
+impl fmt::Display for Mean {
+    ghost use Rattle.lab_tasks.specs.Tables.{mean_text};
+
+    ghost output = { λ m. Some (mean_text m.0) };
+
+    #[tactic(auto, unfolding(crate::specs::Tables::mean_text))]
+    fn fmt<W: fmt::Write>(&self, f: &mut fmt::Formatter<W>) -> fmt::Result {
+        if self.0.replies == 0 {
+            return Ok(());
+        }
+        let mean = Thousandths(self.0.mean());
+        write!(f, "{mean}")
+    }
+}
+
 fn network(sync: bool) -> &'static str
     ensures { result.now ≡ network_text sync }
 {
@@ -173,7 +261,7 @@ impl fmt::Display for DelayPoint {
         let machine = Machine(self.load);
         let replies = self.replies;
         let waited = self.waited;
-        let mean = Thousandths(self.mean());
+        let mean = Mean(*self);
         write!(f, "{network},{machine},{replies},{waited},{mean}")
     }
 }

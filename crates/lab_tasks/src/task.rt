@@ -2,8 +2,9 @@
 ghost use Rattle.std.specs.Prelude.{◌≡◌, ◌⊎◌, [], ◌∷◌, ◌++◌, IfErr, IfOk, IsOkUnless, None, Ok, OnOk, Some, string_bytes};
 ghost use Rattle.project_file.specs.Filed.{filed};
 ghost use Rattle.lab_tasks.specs.Added.{Adds};
-ghost use Rattle.lab_tasks.specs.Done.{delay_header, rate_header, AreDelays, AreRates, IsDone, IsMadeOf, IsMapText, IsNoProject, IsNoSweep, IsNotDone, IsNotMade, IsSweepText, IsTableGiven};
+ghost use Rattle.lab_tasks.specs.Done.{delay_header, rate_header, AreDelays, AreRates, IsDone, IsMadeOf, IsMapText, IsNoSweep, IsNotDone, IsNotMade, IsSweepText, IsTableGiven};
 ghost use Rattle.lab_tasks.specs.Kept.{kept_of, load_name, name_text, net_text, IsKept, IsWithKept};
+ghost use Rattle.lab_tasks.specs.Orders.{IsNoOrder, IsOrderText};
 ghost use Rattle.lab_tasks.specs.Outcomes.{files_of, folder_of, AreGiven, IsGiven};
 ghost use Rattle.lab_tasks.specs.Plans.{IsNoCurve, IsNoMap};
 ghost use Rattle.lab_tasks.specs.Summaries.{IsSummary};
@@ -11,21 +12,24 @@ ghost use Rattle.lab_tasks.specs.Tables.{delay_row, rate_row, table_text};
 ghost use Rattle.lab_tasks.specs.Words.{text_of};
 
 use crate::check::summary;
-use crate::delays::{delay_picture, delay_points, delay_table};
+use crate::delay_picture::delay_picture;
+use crate::delays::{delay_points, delay_table};
 use crate::end::End;
 use crate::map::map_picture;
+use crate::order::{OrderWords, order_text, order_window};
 use crate::outcome::{OutFile, Outcome};
 use crate::plan::{CurvePlan, curve_plan, map_plan};
 use crate::points::{delay_loads, rate_loads};
 use crate::progress::Progress;
-use crate::rates::{rate_picture, rate_points, rate_table};
+use crate::rate_picture::rate_picture;
+use crate::rates::{rate_points, rate_table};
 use crate::sweep::sweep_table;
 use crate::tables::{DelayPoint, RatePoint};
 use crate::words::{Asked, CurveWords, MapWords, SweepWords};
 use experiments::{Load, project_of};
 use page_map::MAX_K;
 use project_book::{Edit, MAX_HORIZON, Project};
-use project_file::{read_project, write_project};
+use project_file::{ProjectFault, read_project, write_project};
 use std::alloc::{AllocError, Global};
 use std::fmt;
 use std::thread::Threads;
@@ -78,14 +82,16 @@ fn to_file_or_output(
 /// The project that a file's bytes are.
 fn project_in<'a>(alloc: Global, bytes: &[u8]) -> Result<Project, End<'a>>
     ensures filed { IfOk result (λ project. filed bytes.now ≡ Ok project) }
-    ensures refused { IfErr result (IsNoProject bytes.now) }
+    ensures refused { IfErr result (IsNotMade bytes.now (λ P. ⊥)) }
 {
     match read_project(alloc, bytes) {
         Ok(project) => Ok(project),
+        Err(ProjectFault::Memory) => Err(End::Memory),
         Err(fault) => Err(End::Project(fault)),
     }
 }
 
+#[tactic(auto, using(crate::proofs::Stops::not_made))]
 fn map<'a>(alloc: Global, words: &MapWords<'a>, bytes: &[u8]) -> Result<Outcome, End<'a>>
     ensures done { IfOk result (IsMadeOf bytes.now (text_of words.now.out) (IsMapText words.now)) }
     ensures refused { IfErr result (λ end. IsNotMade bytes.now (λ P. IsNoMap P words.now end) end) }
@@ -93,6 +99,16 @@ fn map<'a>(alloc: Global, words: &MapWords<'a>, bytes: &[u8]) -> Result<Outcome,
     let project = project_in(alloc, bytes)?;
     let plan = map_plan(words, &project)?;
     let text = map_picture(alloc, words.file, &project, plan)?;
+    Ok(to_file_or_output(alloc, words.out, text.into_bytes())?)
+}
+
+fn order<'a>(alloc: Global, words: &OrderWords<'a>, bytes: &[u8]) -> Result<Outcome, End<'a>>
+    ensures done { IfOk result (IsMadeOf bytes.now (text_of words.now.out) (IsOrderText words.now)) }
+    ensures refused { IfErr result (λ end. IsNotMade bytes.now (λ P. IsNoOrder P words.now end) end) }
+{
+    let project = project_in(alloc, bytes)?;
+    let window = order_window(words, &project)?;
+    let text = order_text(alloc, words, &project, window)?;
     Ok(to_file_or_output(alloc, words.out, text.into_bytes())?)
 }
 
@@ -117,7 +133,8 @@ impl fmt::Display for FileName {
     fn fmt<W: fmt::Write>(&self, f: &mut fmt::Formatter<W>) -> fmt::Result {
         let (k, hot) = (self.0.k, self.0.hot);
         let net = net_name(self.0);
-        write!(f, "k{k}-hot{hot}-{net}.toml")
+        let seed = self.0.seed;
+        write!(f, "k{k}-hot{hot}-{net}-seed{seed}.toml")
     }
 }
 
@@ -272,6 +289,7 @@ fn delays<'a, T: Threads + Sync, P: Progress>(
     with_kept(alloc, words, loads.as_slice(), outcome)
 }
 
+#[tactic(auto, using(crate::proofs::Stops::not_made))]
 fn sweep<'a, T: Threads + Sync>(
     rt: &T,
     alloc: Global,
@@ -325,6 +343,7 @@ pub fn perform<'a, T: Threads + Sync, P: Progress>(
 {
     match asked {
         Asked::Map(words) => map(alloc, words, bytes),
+        Asked::Order(words) => order(alloc, words, bytes),
         Asked::Rates(words) => rates(rt, alloc, words, progress),
         Asked::Delays(words) => delays(rt, alloc, words, progress),
         Asked::Sweep(words) => sweep(rt, alloc, words, bytes),

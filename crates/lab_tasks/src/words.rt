@@ -1,8 +1,13 @@
 //! The words behind the program's name.
-ghost use Rattle.std.specs.Prelude.{◌≡◌, IfOk, codes, map};
-ghost use Rattle.lab_tasks.specs.Words.{file_at, text_at, text_of, texts_at};
+ghost use Rattle.std.specs.Prelude.{◌≡◌, [], IfNone, IfOk, IfSome, Some, false, map};
+ghost use Rattle.std.specs.Option.{option_map_or};
+ghost use Rattle.clap.specs.Matches.{matched_of, raw_values};
+ghost use Rattle.clap.specs.Walk.{texts};
+ghost use Rattle.clap.specs.Words.{FailsBy, fault_of, first_of, found_of, new_app, rows_of, rule_of, subcommand_of};
+ghost use Rattle.lab_tasks.specs.CommandLine.{bare, check_task, convert_task, delays_task, file_rule, kept_rules, lab, map_task, measured_task, option_rule, order_task, rates_task, several_rule, sweep_task, HasAll, HasMore, HasTask, IsApp, IsLab, IsNoTask, IsTask};
+ghost use Rattle.lab_tasks.specs.Words.{file_at, text_of, texts_at, AreCurveWords, AreMapWords, AreOrderWords, AreSweepWords, AsksFor};
 
-use clap::error::ErrorKind;
+use crate::order::OrderWords;
 use clap::{Arg, ArgAction, ArgMatches, Command, Error};
 use std::alloc::{AllocError, Global};
 
@@ -24,6 +29,9 @@ pub struct CurveWords<'a> {
     pub hot: Option<&'a str>,
     pub cycles: Option<&'a str>,
     pub seed: Option<&'a str>,
+    /// Of `rates` alone.
+    pub seeds: Option<&'a str>,
+    pub of: Option<&'a str>,
     pub csv: Option<&'a str>,
     pub out: Option<&'a str>,
     pub keep: Option<&'a str>,
@@ -42,6 +50,7 @@ pub struct SweepWords<'a> {
 #[derive(Drop)]
 pub enum Asked<'a> {
     Map(MapWords<'a>),
+    Order(OrderWords<'a>),
     Rates(CurveWords<'a>),
     Delays(CurveWords<'a>),
     Sweep(SweepWords<'a>),
@@ -58,6 +67,7 @@ impl<'a> Asked<'a> {
     {
         match self {
             Asked::Map(words) => Some(words.file),
+            Asked::Order(words) => Some(words.file),
             Asked::Rates(_) | Asked::Delays(_) => None,
             Asked::Sweep(words) => Some(words.file),
             Asked::Check { file } => Some(*file),
@@ -70,8 +80,11 @@ const FILE_HELP: &str = "The project file";
 
 const MAP_ABOUT: &str = "Draws tree saturation: the queues towards a module, cycle by cycle";
 
+const ORDER_ABOUT: &str =
+    "Draws or tabulates the one order of all references: when each was issued, served and answered";
+
 const RATES_ABOUT: &str =
-    "Measures references served per cycle against the number of processors, for some shares of hot references";
+    "Measures references answered per cycle against the number of processors, for some shares of hot references";
 
 const DELAYS_ABOUT: &str =
     "Measures how long references that aren't hot wait for their replies, against the share of hot ones";
@@ -82,7 +95,12 @@ const CHECK_ABOUT: &str = "Says in words what a project file is, or where it is 
 
 const CONVERT_ABOUT: &str = "Writes a project file in format 2";
 
-const MEASURED: &str = "\
+const RATES_MEASURED: &str = "\
+Each processor issues 256 references, at most 8 of them unanswered: of a hundred as many as --hot says add 1 to word 0, the
+others load a word of page 1, which is spread over all modules. They are drawn anew for each seed. The start is left out, until
+the rate is steady. Without --csv and --out the table goes to standard output.";
+
+const DELAYS_MEASURED: &str = "\
 Each processor issues 256 references, at most 8 of them unanswered: of a hundred as many as --hot says add 1 to word 0, the
 others load a word of page 1, which is spread over all modules. They are drawn from --seed. The second half of the cycles is
 measured. Without --csv and --out the table goes to standard output.";
@@ -92,7 +110,10 @@ Status: 0 done; 2 the command line; 3 a file can't be read or written; 4 the pro
 output can't be written; 7 a number outside of what there is. A file is written beside its name and then renamed, so none
 stays half written.";
 
-fn option<'a>(alloc: Global, id: &'a str, value: &'a str, help: &'a str) -> Arg<'a> {
+fn option<'a>(alloc: Global, id: &'a str, value: &'a str, help: &'a str) -> Arg<'a>
+    ensures rule { rule_of result ≡ option_rule id.entry.now }
+    ensures global { result.global ≡ false }
+{
     Arg::new(alloc, id)
         .long(id)
         .value_name(value)
@@ -100,7 +121,10 @@ fn option<'a>(alloc: Global, id: &'a str, value: &'a str, help: &'a str) -> Arg<
         .help(help)
 }
 
-fn several<'a>(alloc: Global, id: &'a str, value: &'a str, help: &'a str) -> Arg<'a> {
+fn several<'a>(alloc: Global, id: &'a str, value: &'a str, help: &'a str) -> Arg<'a>
+    ensures rule { rule_of result ≡ several_rule id.entry.now }
+    ensures global { result.global ≡ false }
+{
     Arg::new(alloc, id)
         .long(id)
         .value_name(value)
@@ -109,120 +133,288 @@ fn several<'a>(alloc: Global, id: &'a str, value: &'a str, help: &'a str) -> Arg
         .help(help)
 }
 
-fn named<'a>(alloc: Global, name: &'a str, about: &'a str) -> Command<'a> {
-    Command::new(alloc, name).about(about).after_help(ENDS)
+fn file_argument<'a>(alloc: Global) -> Arg<'a>
+    ensures rule { rule_of result ≡ file_rule }
+    ensures global { result.global ≡ false }
+{
+    Arg::new(alloc, "FILE").required(true).help(FILE_HELP)
 }
 
-fn with_file<'a>(alloc: Global, command: Command<'a>) -> Result<Command<'a>, AllocError> {
-    command.arg(Arg::new(alloc, "FILE").required(true).help(FILE_HELP))
+/// A task without arguments, with a text behind its help.
+fn named<'a>(alloc: Global, name: &'a str, about: &'a str, behind: &'a str) -> Command<'a>
+    ensures { IsApp (new_app name.entry.now) result }
+{
+    Command::new(alloc, name).about(about).after_help(behind)
 }
 
-fn map_command<'a>(alloc: Global) -> Result<Command<'a>, AllocError> {
-    with_file(alloc, named(alloc, "map", MAP_ABOUT))?
-        .arg(option(alloc, "net", "NET", "low or comb; without it low"))?
-        .arg(option(alloc, "module", "M", "The module, from 0; without it 0"))?
-        .arg(option(alloc, "from", "T", "The first cycle; without it 0"))?
-        .arg(option(alloc, "to", "T", "The last cycle; without it the horizon"))?
-        .arg(option(
-            alloc,
-            "out",
-            "MAP.svg",
-            "Where the picture goes; without it to standard output",
-        ))
+/// The task with one argument more.
+fn with<'a>(task: Command<'a>, argument: Arg<'a>) -> Result<Command<'a>, AllocError>
+    requires { argument.global ≡ false }
+    ensures { IfOk result (HasMore task.entry (rule_of argument.entry)) }
+{
+    task.arg(argument)
 }
 
-fn curves_command<'a>(
+fn with_file<'a>(alloc: Global, task: Command<'a>) -> Result<Command<'a>, AllocError>
+    ensures { IfOk result (HasMore task.entry file_rule) }
+{
+    with(task, file_argument(alloc))
+}
+
+fn with_option<'a>(
+    alloc: Global,
+    task: Command<'a>,
+    id: &'a str,
+    value: &'a str,
+    help: &'a str,
+) -> Result<Command<'a>, AllocError>
+    ensures { IfOk result (HasMore task.entry (option_rule id.entry.now)) }
+{
+    with(task, option(alloc, id, value, help))
+}
+
+fn with_several<'a>(
+    alloc: Global,
+    task: Command<'a>,
+    id: &'a str,
+    value: &'a str,
+    help: &'a str,
+) -> Result<Command<'a>, AllocError>
+    ensures { IfOk result (HasMore task.entry (several_rule id.entry.now)) }
+{
+    with(task, several(alloc, id, value, help))
+}
+
+fn map_command<'a>(alloc: Global) -> Result<Command<'a>, AllocError>
+    ensures { IfOk result (IsTask map_task) }
+{
+    let task = with_file(alloc, named(alloc, "map", MAP_ABOUT, ENDS))?;
+    let task = with_option(alloc, task, "net", "NET", "low or comb; without it low")?;
+    let task = with_option(
+        alloc,
+        task,
+        "module",
+        "M",
+        "The module, from 0; without it 0",
+    )?;
+    let task = with_option(alloc, task, "from", "T", "The first cycle; without it 0")?;
+    let task = with_option(
+        alloc,
+        task,
+        "to",
+        "T",
+        "The last cycle; without it the horizon",
+    )?;
+    let task = with_option(
+        alloc,
+        task,
+        "out",
+        "MAP.svg",
+        "Where the picture goes; without it to standard output",
+    )?;
+    Ok(task)
+}
+
+fn order_command<'a>(alloc: Global) -> Result<Command<'a>, AllocError>
+    ensures { IfOk result (IsTask order_task) }
+{
+    let task = with_file(alloc, named(alloc, "order", ORDER_ABOUT, ENDS))?;
+    let task = with_option(alloc, task, "from", "T", "The first cycle; without it 0")?;
+    let task = with_option(
+        alloc,
+        task,
+        "to",
+        "T",
+        "The last cycle; without it the horizon",
+    )?;
+    let task = with_option(
+        alloc,
+        task,
+        "out",
+        "ORDER.svg",
+        "Where a picture goes; without it a table to standard output",
+    )?;
+    Ok(task)
+}
+
+/// A task of curves, with the arguments that say what is measured.
+fn measured_command<'a>(
     alloc: Global,
     name: &'a str,
     about: &'a str,
-) -> Result<Command<'a>, AllocError> {
-    Command::new(alloc, name)
-        .about(about)
-        .after_help(MEASURED)
-        .arg(option(
-            alloc,
-            "k",
-            "K",
-            "2^K processors at most, from 1 to 6; without it 6",
-        ))?
-        .arg(option(
-            alloc,
-            "hot",
-            "PERCENT,..",
-            "How many of a hundred references are hot, up to seven numbers; without it 0,1,2,4,8,16,32",
-        ))?
-        .arg(option(
-            alloc,
-            "cycles",
-            "N",
-            "How many cycles are run, from 2 to 256; without it 256",
-        ))?
-        .arg(option(
-            alloc,
-            "seed",
-            "S",
-            "The seed of the references; without it 1",
-        ))?
-        .arg(option(alloc, "csv", "TABLE.csv", "Where the table goes"))?
-        .arg(option(alloc, "out", "PICTURE.svg", "Where the picture goes"))?
-        .arg(option(
-            alloc,
-            "keep",
-            "DIR",
-            "A folder for the project files of all points",
-        ))
-}
-
-fn sweep_command<'a>(alloc: Global) -> Result<Command<'a>, AllocError> {
-    with_file(alloc, named(alloc, "sweep", SWEEP_ABOUT))?
-        .arg(several(
-            alloc,
-            "depth",
-            "QUEUES=FROM..TO",
-            "The depths of some queues, as low-forward=2..16; where given several times, each with each",
-        ))?
-        .arg(several(
-            alloc,
-            "ask",
-            "QUESTION",
-            "A question of the workbench, as 'tree low 0'",
-        ))?
-        .arg(option(
-            alloc,
-            "csv",
-            "TABLE.csv",
-            "Where the table goes; without it to standard output",
-        ))
-}
-
-fn convert_command<'a>(alloc: Global) -> Result<Command<'a>, AllocError> {
-    with_file(alloc, named(alloc, "convert", CONVERT_ABOUT))?.arg(option(
+    behind: &'a str,
+) -> Result<Command<'a>, AllocError>
+    ensures { IfOk result (IsTask (measured_task name.entry.now)) }
+{
+    let task = named(alloc, name, about, behind);
+    let task = with_option(
         alloc,
+        task,
+        "k",
+        "K",
+        "2^K processors at most, from 1 to 6; without it 6",
+    )?;
+    let task = with_option(
+        alloc,
+        task,
+        "hot",
+        "PERCENT,..",
+        "How many of a hundred references are hot, up to seven numbers; without it 0,1,2,4,8,16,32",
+    )?;
+    let task = with_option(
+        alloc,
+        task,
+        "cycles",
+        "N",
+        "How many cycles are run, from 2 to 256; without it 256",
+    )?;
+    let task = with_option(
+        alloc,
+        task,
+        "seed",
+        "S",
+        "The seed of the references; without it 1",
+    )?;
+    Ok(task)
+}
+
+/// A task with the arguments that say where tables, pictures and files go.
+fn kept_command<'a>(alloc: Global, task: Command<'a>) -> Result<Command<'a>, AllocError>
+    ensures { IfOk result (HasAll task.entry kept_rules) }
+{
+    let task = with_option(alloc, task, "csv", "TABLE.csv", "Where the table goes")?;
+    let task = with_option(alloc, task, "out", "PICTURE.svg", "Where the picture goes")?;
+    let task = with_option(
+        alloc,
+        task,
+        "keep",
+        "DIR",
+        "A folder for the project files of all points",
+    )?;
+    Ok(task)
+}
+
+fn rates_command<'a>(alloc: Global) -> Result<Command<'a>, AllocError>
+    ensures { IfOk result (IsTask rates_task) }
+{
+    let task = measured_command(alloc, "rates", RATES_ABOUT, RATES_MEASURED)?;
+    let task = with_option(
+        alloc,
+        task,
+        "seeds",
+        "N",
+        "How many seeds, from --seed on, from 1 to 20; without it 5",
+    )?;
+    let task = with_option(
+        alloc,
+        task,
+        "of",
+        "WHAT",
+        "What is drawn: answered, the references answered, or served, the requests that modules served; without it answered",
+    )?;
+    let task = kept_command(alloc, task)?;
+    Ok(task)
+}
+
+fn delays_command<'a>(alloc: Global) -> Result<Command<'a>, AllocError>
+    ensures { IfOk result (IsTask delays_task) }
+{
+    let task = measured_command(alloc, "delays", DELAYS_ABOUT, DELAYS_MEASURED)?;
+    let task = kept_command(alloc, task)?;
+    Ok(task)
+}
+
+fn sweep_command<'a>(alloc: Global) -> Result<Command<'a>, AllocError>
+    ensures { IfOk result (IsTask sweep_task) }
+{
+    let task = with_file(alloc, named(alloc, "sweep", SWEEP_ABOUT, ENDS))?;
+    let task = with_several(
+        alloc,
+        task,
+        "depth",
+        "QUEUES=FROM..TO",
+        "The depths of some queues, as low-forward=2..16; where given several times, each with each",
+    )?;
+    let task = with_several(
+        alloc,
+        task,
+        "ask",
+        "QUESTION",
+        "A question of the workbench, as 'tree low 0'",
+    )?;
+    let task = with_option(
+        alloc,
+        task,
+        "csv",
+        "TABLE.csv",
+        "Where the table goes; without it to standard output",
+    )?;
+    Ok(task)
+}
+
+fn check_command<'a>(alloc: Global) -> Result<Command<'a>, AllocError>
+    ensures { IfOk result (IsTask check_task) }
+{
+    let task = with_file(alloc, named(alloc, "check", CHECK_ABOUT, ENDS))?;
+    Ok(task)
+}
+
+fn convert_command<'a>(alloc: Global) -> Result<Command<'a>, AllocError>
+    ensures { IfOk result (IsTask convert_task) }
+{
+    let task = with_file(alloc, named(alloc, "convert", CONVERT_ABOUT, ENDS))?;
+    let task = with_option(
+        alloc,
+        task,
         "out",
         "FILE.toml",
         "Where it goes; without it to standard output",
-    ))
+    )?;
+    Ok(task)
 }
 
-fn lab_command<'a>(alloc: Global) -> Result<Command<'a>, AllocError> {
-    Command::new(alloc, "lab")
+/// The program's command without its tasks.
+fn bare_command<'a>(alloc: Global) -> Result<Command<'a>, AllocError>
+    ensures { IfOk result (IsApp bare) }
+{
+    let command = Command::new(alloc, "lab")
         .no_binary_name(true)
-        .bin_name("lab")?
-        .version("1.0.0")
-        .about("Pictures and tables of hot-spot experiments on a machine with a combining network")
-        .after_help(ENDS)
-        .subcommand_required(true)
-        .subcommand(map_command(alloc)?)?
-        .subcommand(curves_command(alloc, "rates", RATES_ABOUT)?)?
-        .subcommand(curves_command(alloc, "delays", DELAYS_ABOUT)?)?
-        .subcommand(sweep_command(alloc)?)?
-        .subcommand(with_file(alloc, named(alloc, "check", CHECK_ABOUT))?)?
-        .subcommand(convert_command(alloc)?)
+        .bin_name("lab")?;
+    Ok(
+        command
+            .version("1.0.0")
+            .about(
+                "Pictures and tables of hot-spot experiments on a machine with a combining network",
+            )
+            .after_help(ENDS)
+            .subcommand_required(true),
+    )
 }
 
-/// The texts of all uses of an option.
-fn all_of<'a>(alloc: Global, matches: &ArgMatches<'a>, id: &str) -> Result<Vec<&'a str>, AllocError>
-    ensures { IfOk result (λ v. map (λ w. w.now) v.items ≡ texts_at matches.now id.now) }
+/// The command with one task more.
+fn with_task<'a>(command: Command<'a>, task: Command<'a>) -> Result<Command<'a>, AllocError>
+    ensures { IfOk result (HasTask command.entry task.entry) }
+{
+    command.subcommand(task)
+}
+
+fn lab_command<'a>(alloc: Global) -> Result<Command<'a>, AllocError>
+    ensures { IfOk result IsLab }
+{
+    let command = bare_command(alloc)?;
+    let command = with_task(command, map_command(alloc)?)?;
+    let command = with_task(command, order_command(alloc)?)?;
+    let command = with_task(command, rates_command(alloc)?)?;
+    let command = with_task(command, delays_command(alloc)?)?;
+    let command = with_task(command, sweep_command(alloc)?)?;
+    let command = with_task(command, check_command(alloc)?)?;
+    let command = with_task(command, convert_command(alloc)?)?;
+    Ok(command)
+}
+
+/// The texts that the matches hold of an option.
+fn held<'a>(alloc: Global, matches: &ArgMatches<'a>, id: &str) -> Result<Vec<&'a str>, AllocError>
+    ensures { IfOk result (λ v. map (λ w. w.now) v.items ≡ option_map_or raw_values (matched_of (found_of matches.now) id.now) []) }
 {
     match matches.get_strs(id) {
         Some(texts) => texts.to_vec(alloc),
@@ -230,55 +422,68 @@ fn all_of<'a>(alloc: Global, matches: &ArgMatches<'a>, id: &str) -> Result<Vec<&
     }
 }
 
-fn file_in<'a>(matches: &ArgMatches<'a>) -> &'a str
-    ensures { result.now ≡ file_at matches.now }
+/// The texts of all uses of an option.
+fn all_of<'a>(alloc: Global, matches: &ArgMatches<'a>, id: &str) -> Result<Vec<&'a str>, AllocError>
+    ensures { IfOk result (λ v. map (λ w. w.now) v.items ≡ texts_at (rows_of (found_of matches.now)) id.now) }
 {
-    matches.get_str("FILE").unwrap_or("")
+    held(alloc, matches, id)
+}
+
+/// The first text at an option.
+fn text_in<'a>(matches: &ArgMatches<'a>, id: &str) -> Option<&'a str>
+    ensures { text_of result ≡ first_of id.now (rows_of (found_of matches.now)) }
+{
+    matches.get_str(id)
+}
+
+fn file_in<'a>(matches: &ArgMatches<'a>) -> &'a str
+    ensures { result.now ≡ file_at (rows_of (found_of matches.now)) }
+{
+    text_in(matches, "FILE").unwrap_or("")
 }
 
 fn map_words<'a>(matches: &ArgMatches<'a>) -> MapWords<'a>
-    ensures file { result.file.now ≡ file_at matches.now }
-    ensures net { text_of result.net ≡ text_at matches.now (codes "net") }
-    ensures number { text_of result.«module» ≡ text_at matches.now (codes "module") }
-    ensures from { text_of result.from ≡ text_at matches.now (codes "from") }
-    ensures to { text_of result.to ≡ text_at matches.now (codes "to") }
-    ensures out { text_of result.out ≡ text_at matches.now (codes "out") }
+    ensures { AreMapWords (rows_of (found_of matches.now)) result }
 {
     MapWords {
         file: file_in(matches),
-        net: matches.get_str("net"),
-        module: matches.get_str("module"),
-        from: matches.get_str("from"),
-        to: matches.get_str("to"),
-        out: matches.get_str("out"),
+        net: text_in(matches, "net"),
+        module: text_in(matches, "module"),
+        from: text_in(matches, "from"),
+        to: text_in(matches, "to"),
+        out: text_in(matches, "out"),
+    }
+}
+
+fn order_words<'a>(matches: &ArgMatches<'a>) -> OrderWords<'a>
+    ensures { AreOrderWords (rows_of (found_of matches.now)) result }
+{
+    OrderWords {
+        file: file_in(matches),
+        from: text_in(matches, "from"),
+        to: text_in(matches, "to"),
+        out: text_in(matches, "out"),
     }
 }
 
 fn curve_words<'a>(matches: &ArgMatches<'a>) -> CurveWords<'a>
-    ensures k { text_of result.k ≡ text_at matches.now (codes "k") }
-    ensures hot { text_of result.hot ≡ text_at matches.now (codes "hot") }
-    ensures cycles { text_of result.cycles ≡ text_at matches.now (codes "cycles") }
-    ensures seed { text_of result.seed ≡ text_at matches.now (codes "seed") }
-    ensures csv { text_of result.csv ≡ text_at matches.now (codes "csv") }
-    ensures out { text_of result.out ≡ text_at matches.now (codes "out") }
-    ensures keep { text_of result.keep ≡ text_at matches.now (codes "keep") }
+    ensures { AreCurveWords (rows_of (found_of matches.now)) result }
 {
     CurveWords {
-        k: matches.get_str("k"),
-        hot: matches.get_str("hot"),
-        cycles: matches.get_str("cycles"),
-        seed: matches.get_str("seed"),
-        csv: matches.get_str("csv"),
-        out: matches.get_str("out"),
-        keep: matches.get_str("keep"),
+        k: text_in(matches, "k"),
+        hot: text_in(matches, "hot"),
+        cycles: text_in(matches, "cycles"),
+        seed: text_in(matches, "seed"),
+        seeds: text_in(matches, "seeds"),
+        of: text_in(matches, "of"),
+        csv: text_in(matches, "csv"),
+        out: text_in(matches, "out"),
+        keep: text_in(matches, "keep"),
     }
 }
 
 fn sweep_words<'a>(alloc: Global, matches: &ArgMatches<'a>) -> Result<SweepWords<'a>, AllocError>
-    ensures file { IfOk result (λ words. words.file.now ≡ file_at matches.now) }
-    ensures depths { IfOk result (λ words. map (λ w. w.now) words.depths.items ≡ texts_at matches.now (codes "depth")) }
-    ensures asks { IfOk result (λ words. map (λ w. w.now) words.asks.items ≡ texts_at matches.now (codes "ask")) }
-    ensures csv { IfOk result (λ words. text_of words.csv ≡ text_at matches.now (codes "csv")) }
+    ensures { IfOk result (AreSweepWords (rows_of (found_of matches.now))) }
 {
     let depths = all_of(alloc, matches, "depth")?;
     let asks = all_of(alloc, matches, "ask")?;
@@ -286,7 +491,33 @@ fn sweep_words<'a>(alloc: Global, matches: &ArgMatches<'a>) -> Result<SweepWords
         file: file_in(matches),
         depths,
         asks,
-        csv: matches.get_str("csv"),
+        csv: text_in(matches, "csv"),
+    })
+}
+
+/// What the task of a name is asked for by its matches; None where no task has the name.
+fn asked_of<'a>(
+    alloc: Global,
+    name: &str,
+    matches: &ArgMatches<'a>,
+) -> Result<Option<Asked<'a>>, AllocError>
+    ensures asked { IfOk result (λ o. IfSome o (AsksFor (Some (name.now, rows_of (found_of matches.now))))) }
+    ensures none { IfOk result (λ o. IfNone o (IsNoTask name.now)) }
+{
+    Ok(match name {
+        "map" => Some(Asked::Map(map_words(matches))),
+        "order" => Some(Asked::Order(order_words(matches))),
+        "rates" => Some(Asked::Rates(curve_words(matches))),
+        "delays" => Some(Asked::Delays(curve_words(matches))),
+        "sweep" => Some(Asked::Sweep(sweep_words(alloc, matches)?)),
+        "check" => Some(Asked::Check {
+            file: file_in(matches),
+        }),
+        "convert" => Some(Asked::Convert {
+            file: file_in(matches),
+            out: text_in(matches, "out"),
+        }),
+        _ => None,
     })
 }
 
@@ -296,25 +527,27 @@ fn sweep_words<'a>(alloc: Global, matches: &ArgMatches<'a>) -> Result<SweepWords
 ///
 /// Where the words are no command line of the program, or ask for help or the version, or a growth was refused. The
 /// error's text is for the user.
-pub fn read_words<'a>(alloc: Global, words: &'a [&'a str]) -> Result<Asked<'a>, Error> {
-    let matches = lab_command(alloc)?.try_get_matches_from(words)?;
-    let Some((name, matches)) = matches.subcommand() else {
-        return Err(lab_command(alloc)?.error(
-            ErrorKind::MissingSubcommand,
-            "a subcommand is wanted",
-        )?);
+pub fn read_words<'a>(alloc: Global, words: &'a [&'a str]) -> Result<Asked<'a>, Error>
+    ensures asked { IfOk result (AsksFor (subcommand_of lab (texts words.entry.now))) }
+    ensures refused { FailsBy (fault_of lab (texts words.entry.now)) result }
+{
+    let command = match lab_command(alloc) {
+        Ok(command) => command,
+        Err(fault) => return Err(Error::from(fault)),
     };
-    Ok(match name {
-        "map" => Asked::Map(map_words(matches)),
-        "rates" => Asked::Rates(curve_words(matches)),
-        "delays" => Asked::Delays(curve_words(matches)),
-        "sweep" => Asked::Sweep(sweep_words(alloc, matches)?),
-        "check" => Asked::Check {
-            file: file_in(matches),
-        },
-        _ => Asked::Convert {
-            file: file_in(matches),
-            out: matches.get_str("out"),
-        },
-    })
+    let matches = match command.try_get_matches_from(words) {
+        Ok(matches) => matches,
+        Err(fault) => return Err(fault),
+    };
+    let Some((name, rows)) = matches.subcommand() else {
+        unreachable!()
+    };
+    let asked = match asked_of(alloc, name, rows) {
+        Ok(asked) => asked,
+        Err(fault) => return Err(Error::from(fault)),
+    };
+    match asked {
+        Some(asked) => Ok(asked),
+        None => unreachable!(),
+    }
 }

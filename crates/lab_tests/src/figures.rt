@@ -2,13 +2,15 @@
 use bench_core::Bench;
 use expect::equal;
 use experiments::{
-    Fault, Load, Window, cold_waits, project_of, saturation_map, served, served_each, sweep_row,
+    Fault, Load, Steady, Window, cold_waits, flows_of, project_of, saturation_map, steady_each,
+    sweep_row, told, waited_each,
 };
 use monitor_sums::Counter;
 use omega_net::{Net, ScriptEntry};
 use project_book::{Depths, Edit};
 use run_queries::{Body, Query};
 use std::test::Fail;
+use word_ops::{Kind, Op};
 
 /// One processor, which has one module; its references go by the low network.
 const ONE: Load = Load {
@@ -35,7 +37,35 @@ fn one_processor_is_served_each_cycle(rt: HostRuntime) -> Result<(), Fail> {
     }
     let waits = cold_waits(rt.alloc(), &project, WHOLE)?;
     assert!(rt; equal(&rt, waits.as_slice(), [3; 13].as_slice()));
-    assert!(rt; equal(&rt, served(&rt, rt.alloc(), project, WHOLE).ok(), Some(14)));
+    let flows = flows_of(rt.alloc(), &project)?;
+    let answered = [0, 0, 0, 0, 1, 1, 1, 1, 1, 1, 1, 1, 1, 1, 1, 1, 1];
+    assert!(rt; equal(&rt, flows.answered.as_slice(), answered.as_slice()));
+    let served = [0, 0, 0, 1, 1, 1, 1, 1, 1, 1, 1, 1, 1, 1, 1, 1, 1];
+    assert!(rt; equal(&rt, flows.served.as_slice(), served.as_slice()));
+    Ok(())
+}
+
+// The first entry refers three times to the hot word, so that of the 13 references that are answered three are hot.
+#[test]
+fn references_are_those_of_their_entries(rt: HostRuntime) -> Result<(), Fail> {
+    let hot = Edit::Entry {
+        proc: 0,
+        index: 0,
+        entry: ScriptEntry::Reference {
+            sync: false,
+            op: Op {
+                kind: Kind::Add,
+                operand: 1,
+            },
+            address: 0,
+            times: 3,
+        },
+    };
+    let Ok((project, _)) = project_of(rt.alloc(), ONE)?.apply(hot) else {
+        return Err(Fail::from("a project"));
+    };
+    let waits = cold_waits(rt.alloc(), &project, WHOLE)?;
+    assert!(rt; equal(&rt, waits.as_slice(), [3; 10].as_slice()));
     Ok(())
 }
 
@@ -70,13 +100,31 @@ fn scripts_are_drawn(rt: HostRuntime) -> Result<(), Fail> {
     Ok(())
 }
 
-// Each load has the answer that it has alone; a machine that there isn't has none.
+// Each load has the answer that it has alone, over the second half of its few cycles; a machine that there isn't has none.
 #[test]
 fn loads_are_run_side_by_side(rt: HostRuntime) -> Result<(), Fail> {
     let loads = [ONE, Load { k: 9, ..ONE }, Load { cycles: 20, ..ONE }];
-    let counts = served_each(&rt, rt.alloc(), &loads, 0)?;
-    let told = [Ok(14), Err(Fault::Load), Ok(18)];
+    let counts = steady_each(&rt, rt.alloc(), &loads)?;
+    let steady = |first: u32, count: u64| Steady {
+        first,
+        answered: count,
+        served: count,
+    };
+    let told = [Ok(steady(9, 8)), Err(Fault::Load), Ok(steady(11, 10))];
     assert!(rt; counts.as_slice() == told.as_slice());
+    let waits = waited_each(&rt, rt.alloc(), &[ONE], 17)?;
+    assert!(rt; matches!(waits.as_slice(), [Err(Fault::Load)]));
+    Ok(())
+}
+
+// A bench whose clock is at its last value can compute nothing.
+#[test]
+fn a_spent_clock_is_told(rt: HostRuntime) -> Result<(), Fail> {
+    let Ok(mut bench) = Bench::new(rt.alloc(), project_of(rt.alloc(), ONE)?, u64::MAX) else {
+        return Err(Fail::from("a bench"));
+    };
+    let query = Query::Reply { proc: 0, issue: 0 };
+    assert!(rt; matches!(told(&rt, &mut bench, query), Err(Fault::Clock)));
     Ok(())
 }
 
@@ -96,9 +144,14 @@ fn edits_are_swept(rt: HostRuntime) -> Result<(), Fail> {
         queue: Depths::ModuleQueue,
         depth: 2,
     };
-    let row = sweep_row(&rt, rt.alloc(), &mut bench, edit, &[query]);
+    // Of the reference 255 there is no reply, since it isn't issued.
+    let late = Query::Reply {
+        proc: 0,
+        issue: 255,
+    };
+    let row = sweep_row(&rt, rt.alloc(), &mut bench, edit, &[late, query]);
     let row = row.ok().ok_or("a row")?;
-    assert!(rt; matches!(row.as_slice(), [Body::Count(14)]));
+    assert!(rt; matches!(row.as_slice(), [Err(4), Ok(Body::Count(14))]));
     let none = Edit::Depth {
         queue: Depths::ModuleQueue,
         depth: 17,

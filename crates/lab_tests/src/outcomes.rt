@@ -94,6 +94,47 @@ fn depths_are_gone_through(rt: HostRuntime) -> Result<(), Fail> {
     Ok(())
 }
 
+// By cycle 8 the first processor has issued references 0 and 1 of word 5, and never a fifth.
+#[test]
+fn what_has_no_answer_is_told(rt: HostRuntime) -> Result<(), Fail> {
+    let words = [
+        "sweep",
+        "two.toml",
+        "--depth",
+        "module=4..5",
+        "--ask",
+        "reply 0 9",
+        "--ask",
+        "memory 7 8",
+    ];
+    let outcome = made(&rt, &words, TWO)?;
+    let table = b"module,reply 0 9,memory 7 8
+4,bad 4,0
+5,bad 4,0
+";
+    assert!(rt; equal(&rt, outcome.printed.as_slice(), table.as_slice()));
+    Ok(())
+}
+
+// Where all references are hot there are none whose delay is a figure.
+#[test]
+fn no_delay_is_no_figure(rt: HostRuntime) -> Result<(), Fail> {
+    let outcome = made(
+        &rt,
+        &["delays", "--k", "1", "--hot", "100", "--cycles", "16"],
+        b"",
+    )?;
+    let text = std::str::from_utf8(outcome.printed.as_slice())?;
+    assert!(rt;
+        equal(
+            &rt,
+            text,
+            "network,processors,combining,hot_percent,replies,cycles_waited,mean_delay\nlow,2,off,100,0,0,\ncombining,2,off,100,0,0,\ncombining,2,on,100,0,0,\n"
+        )
+    );
+    Ok(())
+}
+
 #[test]
 fn a_project_is_converted(rt: HostRuntime) -> Result<(), Fail> {
     let old = b"format = 1\nk = 1\nhorizon = 8\npage = [{number = 0, amount = 0, base = 1}]\n";
@@ -121,12 +162,50 @@ fn a_map_is_drawn(rt: HostRuntime) -> Result<(), Fail> {
     Ok(())
 }
 
+/// Two processors that add 1 to word 0, which one switch combines.
+const COMBINED: &[u8] = b"format = 2
+k = 1
+horizon = 8
+combine = [true]
+
+[[script]]
+processor = 0
+entries = [\"sync add 0 1\"]
+
+[[script]]
+processor = 1
+entries = [\"sync add 0 1\"]
+";
+
+// Both are issued at cycle 1, served as one request at 4 and answered at 6. In a picture of cycles 0 to 8 the columns are 85
+// pixels apart from 90 on, and the middles of lanes 0 and 1 are at 80.5 and 94.5.
+#[test]
+fn one_order_is_tabulated_and_drawn(rt: HostRuntime) -> Result<(), Fail> {
+    let outcome = made(&rt, &["order", "two.toml"], COMBINED)?;
+    let table = "number,reference,word,issued,served,answered,old_word
+1,0.0,0,1,4,6,0
+2,1.0,0,1,4,6,1
+";
+    assert!(rt; equal(&rt, outcome.printed.as_slice(), table.as_bytes()));
+    let drawn = made(&rt, &["order", "two.toml", "--out", "two.svg"], COMBINED)?;
+    let file = drawn.files.first().ok_or("a file")?;
+    let text = std::str::from_utf8(file.bytes.as_slice())?;
+    for part in [
+        "<rect x=\"175\" y=\"78.5\" width=\"425\" height=\"4\" fill=\"#08306b\"/>",
+        "<line x1=\"430\" y1=\"80.5\" x2=\"430\" y2=\"94.5\" stroke=\"#1a1a1a\" stroke-width=\"1.5\"/>",
+        ">processor 1</text>",
+    ] {
+        assert!(rt; text.contains(part));
+    }
+    Ok(())
+}
+
 // One processor whose references are all cold, its module alone: no queue delays it, and the bound of one is one.
 #[test]
 fn rates_are_tabled(rt: HostRuntime) -> Result<(), Fail> {
     let words = [
-        "rates", "--k", "1", "--hot", "0", "--cycles", "16", "--csv", "a.csv", "--out", "a.svg",
-        "--keep", "kept",
+        "rates", "--k", "1", "--hot", "0", "--cycles", "16", "--seeds", "2", "--csv", "a.csv",
+        "--out", "a.svg", "--keep", "kept",
     ];
     let outcome = made(&rt, &words, b"")?;
     assert!(rt; equal(&rt, outcome.printed.len(), 0));
@@ -138,17 +217,21 @@ fn rates_are_tabled(rt: HostRuntime) -> Result<(), Fail> {
     let all = [
         "a.svg",
         "a.csv",
-        "kept/k0-hot0-off.toml",
-        "kept/k0-hot0-on.toml",
-        "kept/k1-hot0-off.toml",
-        "kept/k1-hot0-on.toml",
+        "kept/k0-hot0-off-seed1.toml",
+        "kept/k0-hot0-off-seed2.toml",
+        "kept/k0-hot0-on-seed1.toml",
+        "kept/k0-hot0-on-seed2.toml",
+        "kept/k1-hot0-off-seed1.toml",
+        "kept/k1-hot0-off-seed2.toml",
+        "kept/k1-hot0-on-seed1.toml",
+        "kept/k1-hot0-on-seed2.toml",
     ];
     assert!(rt; equal(&rt, names.as_slice(), all.as_slice()));
     let table = outcome.files.get(1).ok_or("a table")?;
     let text = std::str::from_utf8(table.bytes.as_slice())?;
     assert!(rt;
         text.starts_with(
-            "processors,combining,hot_percent,served,cycles,served_per_cycle,bound\n1,off,0,8,8,1.000,1.000\n1,on,0,8,8,1.000,1.000\n2,off,0,",
+            "processors,combining,hot_percent,seed,first_cycle,cycles,answered,served,answered_per_cycle,served_per_cycle,bound\n1,off,0,1,9,8,8,8,1.000,1.000,1.000\n1,off,0,2,9,8,8,8,1.000,1.000,1.000\n1,on,0,1,",
         )
     );
     Ok(())

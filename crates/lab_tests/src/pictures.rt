@@ -2,8 +2,9 @@
 use expect::equal;
 use std::test::Fail;
 use svg_plots::{
-    Anchor, Axis, CellGroup, CellMap, Crossing, Curve, Curves, Escaped, Mark, Panel, Picture,
-    Scale, Spot, Stroke, Tenths, Tick, Writing, draw_curves, draw_map, log2_hundredths, tick_step,
+    Anchor, Axis, CellGroup, CellMap, CellRow, CellRows, Cells, Colour, Crossing, Curve, Curves,
+    Escaped, Label, Mark, Panel, Picture, Scale, ShadeKey, Spot, Stroke, Tenths, Tick, Writing,
+    draw_curves, draw_map, log2_hundredths, tick_step,
 };
 
 #[test]
@@ -95,12 +96,12 @@ const DRAWN: &str = "\
 fn elements_are_written(rt: HostRuntime) -> Result<(), Fail> {
     let (from, to) = (Spot { x: 10, y: 20 }, Spot { x: 30, y: 45 });
     let plain = Stroke {
-        colour: "#000000",
+        colour: Colour::Black,
         width: 10,
         dashed: false,
     };
     let dashed = Stroke {
-        colour: "#000000",
+        colour: Colour::Black,
         width: 10,
         dashed: true,
     };
@@ -109,20 +110,20 @@ fn elements_are_written(rt: HostRuntime) -> Result<(), Fail> {
         size: 12,
         bold: true,
     };
-    let mut picture = Picture::new(rt.alloc(), 40, 30, "1 < 2")?;
+    let mut picture = Picture::new(rt.alloc());
     picture.line(from, to, dashed)?;
-    picture.cell(from, 70, 5, "#ffffff")?;
+    picture.cell(from, 70, 5, Colour::Shade(0))?;
     picture.frame(from, to, plain)?;
     picture.words(from, how, "a&b")?;
-    picture.path(&[from, to], plain)?;
-    picture.path(&[from], plain)?;
-    picture.mark(to, Mark::Square, "#000000")?;
-    assert!(rt; equal(&rt, picture.close()?.as_str(), DRAWN));
+    picture.path(vec![in rt.alloc(); from, to]?, plain)?;
+    picture.path(vec![in rt.alloc(); from]?, plain)?;
+    picture.mark(to, Mark::Square, Colour::Black)?;
+    assert!(rt; equal(&rt, picture.draw(40, 30, "1 < 2")?.as_str(), DRAWN));
     Ok(())
 }
 
 const PLAIN: Stroke = Stroke {
-    colour: "#000000",
+    colour: Colour::Black,
     width: 10,
     dashed: false,
 };
@@ -162,7 +163,7 @@ fn curves_are_drawn(rt: HostRuntime) -> Result<(), Fail> {
         panels: panels.as_slice(),
         legend_columns: 1,
     };
-    let text = draw_curves(rt.alloc(), &drawn, &["seed 1"])?;
+    let text = draw_curves(rt.alloc(), &drawn, &[Label::new(rt.alloc(), "seed 1")?])?;
     for part in [
         "height=\"487\"",
         "<polyline points=\"46,386 413,311 780,86 \"",
@@ -179,31 +180,50 @@ fn curves_are_drawn(rt: HostRuntime) -> Result<(), Fail> {
 // Two columns are 285 pixels wide each, one row is 20 high, and its cells begin at 87 under one crossing's label.
 #[test]
 fn maps_are_drawn(rt: HostRuntime) -> Result<(), Fail> {
-    let mut rows = Vec::new(rt.alloc());
-    rows.push(vec![in rt.alloc(); 2, 3]?)?;
-    let mut groups = Vec::new(rt.alloc());
-    groups.push(CellGroup {
-        label: "stage 0",
-        rows,
-    })?;
-    let crossings = [Crossing {
-        column: 1,
-        label: "level 1",
-    }];
+    let rows = vec![in rt.alloc();
+        CellRow {
+            label: Label::new(rt.alloc(), "l0.0")?,
+            cells: Cells::from_vec(vec![in rt.alloc(); 2, 3]?),
+        },
+    ]?;
+    let groups = vec![in rt.alloc();
+        CellGroup {
+            label: Label::new(rt.alloc(), "stage 0")?,
+            rows: CellRows::from_vec(rows),
+        },
+    ]?;
+    let key = vec![in rt.alloc();
+        ShadeKey {
+            number: 3,
+            label: Label::new(rt.alloc(), "3 full")?,
+        },
+    ]?;
+    let crossings = vec![in rt.alloc();
+        Crossing {
+            column: Some(1),
+            label: Label::new(rt.alloc(), "level 1: cycle 8")?,
+        },
+    ]?;
     let map = CellMap {
-        title: "queues",
+        title: Label::new(rt.alloc(), "queues")?,
         across: "cycle",
-        first: 7,
-        groups: groups.as_slice(),
+        ticks: vec![in rt.alloc();
+            Tick {
+                value: 1,
+                number: 8,
+            },
+        ]?,
+        groups,
         most: 4,
         marked: 3,
-        crossings: &crossings,
-        levels: &[0, 1],
+        key,
+        crossings,
+        levels: vec![in rt.alloc(); 0, 1]?,
         level_title: "level",
         highest: 1,
-        strokes: &[false, true],
+        strokes: vec![in rt.alloc(); false, true]?,
         stroke_title: "served",
-        notes: &[],
+        notes: Vec::new(rt.alloc()),
     };
     let text = draw_map(rt.alloc(), &map)?;
     for part in [
@@ -213,7 +233,10 @@ fn maps_are_drawn(rt: HostRuntime) -> Result<(), Fail> {
         "<line x1=\"385\" y1=\"42\" x2=\"385\" y2=\"135\" stroke=\"#d55e00\"",
         "<polyline points=\"100,71 385,71 385,62 670,62 \"",
         "<text x=\"385\" y=\"153\" font-size=\"12\" text-anchor=\"middle\">8</text>",
-        ">3 full</text>",
+        ">l0.0</text>",
+        ">level 1: cycle 8</text>",
+        "<rect x=\"685\" y=\"87\" width=\"24\" height=\"11\" fill=\"#2171b5\"/>",
+        "<text x=\"715\" y=\"96.5\" font-size=\"12\" text-anchor=\"start\">3 full</text>",
     ] {
         assert!(rt; text.as_str().contains(part));
     }

@@ -52,7 +52,7 @@ fn maps_are_refused(rt: HostRuntime) -> Result<(), Fail> {
 
 #[test]
 fn curves_are_refused(rt: HostRuntime) -> Result<(), Fail> {
-    let refused: [(&[&str], u8, &str); 8] = [
+    let refused: [(&[&str], u8, &str); 10] = [
         (
             &["rates", "--k", "0"],
             7,
@@ -92,6 +92,16 @@ fn curves_are_refused(rt: HostRuntime) -> Result<(), Fail> {
             &["rates", "--seed", "4294967296"],
             2,
             "lab: --seed: 4294967296 is not a number",
+        ),
+        (
+            &["rates", "--seeds", "21"],
+            7,
+            "lab: --seeds: 21 is not within 1 to 20",
+        ),
+        (
+            &["rates", "--of", "issued"],
+            2,
+            "lab: --of: issued is not answered or served",
         ),
     ];
     for (words, number, line) in refused {

@@ -40,8 +40,8 @@ fn words_of_a_map_are_taken(rt: HostRuntime) -> Result<(), Fail> {
 #[test]
 fn words_of_curves_are_taken(rt: HostRuntime) -> Result<(), Fail> {
     let words = [
-        "rates", "--k", "3", "--hot", "0,8", "--cycles", "64", "--seed", "5", "--csv", "a.csv",
-        "--out", "a.svg", "--keep", "kept",
+        "rates", "--k", "3", "--hot", "0,8", "--cycles", "64", "--seed", "5", "--seeds", "2",
+        "--of", "served", "--csv", "a.csv", "--out", "a.svg", "--keep", "kept",
     ];
     let asked = read_words(rt.alloc(), &words)?;
     let Asked::Rates(rates) = &asked else {
@@ -49,8 +49,8 @@ fn words_of_curves_are_taken(rt: HostRuntime) -> Result<(), Fail> {
     };
     let first = [asked.file(), rates.k, rates.hot, rates.cycles, rates.seed];
     compare(&rt, &first, &["-", "3", "0,8", "64", "5"]);
-    let last = [rates.csv, rates.out, rates.keep];
-    compare(&rt, &last, &["a.csv", "a.svg", "kept"]);
+    let last = [rates.seeds, rates.of, rates.csv, rates.out, rates.keep];
+    compare(&rt, &last, &["2", "served", "a.csv", "a.svg", "kept"]);
     Ok(())
 }
 
@@ -103,7 +103,7 @@ fn words_of_a_file_are_taken(rt: HostRuntime) -> Result<(), Fail> {
 }
 
 // Help and the version are no fault; a number that begins with a minus is an option that isn't known.
-const REFUSED: [(&[&str], u8); 12] = [
+const REFUSED: [(&[&str], u8); 13] = [
     (&[], 2),
     (&["draw"], 2),
     (&["map"], 2),
@@ -111,6 +111,7 @@ const REFUSED: [(&[&str], u8); 12] = [
     (&["map", "a.toml", "--depth", "module=2..3"], 2),
     (&["rates", "a.toml"], 2),
     (&["rates", "--k", "-1"], 2),
+    (&["delays", "--seeds", "2"], 2),
     (&["rates", "--k", "1", "--k", "2"], 2),
     (&["sweep", "a.toml", "--ask", "place 0"], 2),
     (&["sweep", "a.toml", "--depth", "module=2..3"], 2),
@@ -142,10 +143,11 @@ fn the_version_is_told(rt: HostRuntime) -> Result<(), Fail> {
     Ok(())
 }
 
-const ENDS: [(End<'static>, u8, &str); 4] = [
+const ENDS: [(End<'static>, u8, &str); 5] = [
     (End::NotRead("a.toml"), 3, "lab: cannot read a.toml"),
     (End::NotWritten("a.svg"), 3, "lab: cannot write a.svg"),
     (End::Memory, 5, "lab: no memory"),
+    (End::Spent, 5, "lab: the bench takes no more edits"),
     (End::Output, 5, "lab: cannot write to standard output"),
 ];
 

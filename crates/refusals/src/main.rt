@@ -13,6 +13,7 @@ mod cells;
 mod counts;
 mod examples;
 mod lines;
+mod memory_orders;
 mod passes;
 mod projects;
 mod runs;
@@ -34,6 +35,7 @@ fn main(rt: HostRuntime) -> ExitCode {
     held &= tell(&rt, "fault_place", projects::placed(alloc));
     held &= tell(&rt, "from_scratch", projects::simulated(alloc));
     held &= tell(&rt, "order", projects::ordered(alloc));
+    held &= tell(&rt, "one_order", memory_orders::ordered(alloc));
     held &= tell(&rt, "Line::share, readers", lines::shared(alloc));
     held &= tell(
         &rt,

@@ -1,7 +1,7 @@
 //! Runs of the shell and of the program.
 use crate::again::again;
 use crate::benches::fresh;
-use bench_shell::{RunFault, run};
+use bench_shell::{Reading, RunFault, Writing, run};
 use command_line::{End, Folder, read_bytes, serve_words};
 use project_file::ProjectFault;
 use std::alloc::Global;
@@ -90,7 +90,9 @@ pub(crate) fn served<R: Hall>(rt: &R, alloc: Global, words: &[&str]) -> bool {
     let Some(mut writer) = room(alloc) else {
         return false;
     };
-    let stop = serve_words(rt, alloc, words, &folder, &mut reader, &mut writer);
+    let mut source = Reading::within(&mut reader, u32::MAX);
+    let mut sink = Writing::new(&mut writer);
+    let stop = serve_words(rt, alloc, words, &folder, &mut source, &mut sink);
     let end = stop.end();
     let is_refused = matches!(
         end,

@@ -31,7 +31,7 @@ counts_now k slots id m v d may is = rw is (allows k slots id (v, (0, Some d) �
     let after : List Noted = journal_of k w'.since in
     let base : ℕ = length (opened_of k) in
     let f : Fits k w id v = r.each id v sits in
-    let serves : StageFits k w.since w.queue id v.seen (Serving may_pass.ticket may_pass.was) = rw may_pass.serves at f.stage in
+    let serves : StageFits k w.since w.queue id v.seen (Serving may_pass.ticket may_pass.met) = rw may_pass.serves at f.stage in
     let seen : v.seen ≡ before = serves.4 in
     let turn : w.holder w.served ≡ id = ap w.holder (sym serves.0) ∙ serves.2 in
     let longer : after ≡ before ++ e ∷ [] = sym (append_assoc (opened_of k) w.since (e ∷ [])) in
@@ -63,6 +63,7 @@ counts_now k slots id m v d may is = rw is (allows k slots id (v, (0, Some d) �
       goes_on = rw now_seen (starts_refl after);
       spent = f.spent;
       owns = f.owns;
+      theirs = f.theirs;
       room = f.room;
       stage = rw may_pass.serves (serves.0, serves.1, serves.2, serves.3, now_seen, serves.5);
     } in (
@@ -87,8 +88,9 @@ counts_now k slots id m v d may is = rw is (allows k slots id (v, (0, Some d) �
               goes_on = starts_trans u.seen before after on g.goes_on;
               spent = g.spent;
               owns = g.owns;
+              theirs = g.theirs;
               room = g.room;
-              stage = stage_aside k w.since w'.since u.seen w.queue w.served w.slot w.clock id j turn other (omega arith) (λ h. absurd (omega arith)) u.stage g.stage;
+              stage = stage_aside k w.since w'.since u.seen w.queue w.served w.slot w.last id j turn other (omega arith) (λ h. absurd (omega arith)) u.stage g.stage;
             }),
       ),
       (λ a' n' more'.

@@ -33,6 +33,7 @@ splits k id v s kept sits =
       goes_on = f.goes_on;
       spent = f.spent;
       owns = λ n h. absurd (let no : false ≡ true = h in cc);
+      theirs = λ n h. (f.owns n h).2;
       room = (omega arith, λ h. absurd (omega arith));
       stage = tt;
     }) in (
@@ -81,8 +82,8 @@ module _ (k : Opening) (since : List Noted) (q : Queue) (id other : ℕ) where
       stage_held k since seen q q.issued (moved q.holder other id) other id (omega arith) (λ t _ is. moved_to q.holder other id t is) st'
       (stage_seen k since q other seen' seen st' not g)
   stage_both ne seen seen' (Waiting t) st' not f g = stage_beside id ne seen (Waiting t) f
-  stage_both ne seen seen' (Serving t was) st' not f g = stage_beside id ne seen (Serving t was) f
-  stage_both ne seen seen' (Filling t was) st' not f g = stage_beside id ne seen (Filling t was) f
+  stage_both ne seen seen' (Serving t met) st' not f g = stage_beside id ne seen (Serving t met) f
+  stage_both ne seen seen' (Filling t met) st' not f g = stage_beside id ne seen (Filling t met) f
 
 live_one : (st : Stage) → live st ≤ 1
 live_one Idle = omega arith
@@ -131,6 +132,7 @@ joins k id v other u not s kept sits apart other_sits =
           (λ (t : has n v.numbers ≡ true). let o = f.owns n t in (moved_past w.owner other id id n (λ e. apart (sym e)) o.0, o.1, o.2))
           (λ (t : has n v.numbers ≡ false). let o = g.owns n (rw (has_append n v.numbers u.numbers, t) at h) in (moved_to w.owner other id n o.0, o.1, o.2))
           (bool_cases (has n v.numbers));
+      theirs = f.theirs;
       room = (omega arith, λ h. let lost = more (omega arith) in omega arith);
       stage = stage_both k w.since w.queue id other (λ e. apart (sym e)) v.seen u.seen v.stage u.stage not f.stage g.stage;
     } in
@@ -144,6 +146,7 @@ joins k id v other u not s kept sits apart other_sits =
       goes_on = (journal_of k w.since, refl);
       spent = λ e. absurd (let no : false ≡ true = e in cc);
       owns = λ n h. absurd (let no : false ≡ true = h in cc);
+      theirs = λ n h. absurd (let no : false ≡ true = h in cc);
       room = (lit≤ tt, λ h. absurd (omega arith));
       stage = tt;
     } in (
@@ -162,6 +165,7 @@ joins k id v other u not s kept sits apart other_sits =
               goes_on = h.goes_on;
               spent = h.spent;
               owns = λ n e. let o = h.owns n e in (moved_past w.owner other id j n ne o.0, o.1, o.2);
+              theirs = h.theirs;
               room = h.room;
               stage = stage_beside k w.since w.queue id other j ne x.seen x.stage h.stage;
             }) j x there ne);

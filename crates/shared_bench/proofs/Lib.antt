@@ -5,5 +5,5 @@ pub mod Numbers
 pub mod Counting
 pub mod Joining
 pub mod Told
-pub mod Passes
 pub mod Benches
+pub mod Passes

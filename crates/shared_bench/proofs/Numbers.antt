@@ -1,5 +1,5 @@
 -- Drawing a number keeps the rule.
-use Rattle.std.proofs.Common.{◌≡◌, ◌≢◌, ℕ, zero, suc, ◌<◌, ◌≤◌, false, [], length, set, sym, refl, ap, ◌∙◌, arith, eq-eqb, ne_eqb, bit_or, w64}
+use Rattle.std.proofs.Common.{◌≡◌, ◌≢◌, ⊎_elim, ℕ, zero, suc, ◌<◌, ◌≤◌, true, false, [], length, set, sym, refl, ap, ◌∙◌, arith, eq-eqb, ne_eqb, bit_or, w64}
 use Rattle.std.proofs.lemmas.Nat.Bits.{bit_at_set_same, bit_at_set_other, bit_at-zero, bit_at_or, bit_at-lt, same_from_bits}
 use mathlib.Core.Option.{none}
 use mathlib.Core.Logic.{dite}
@@ -9,11 +9,12 @@ use Rattle.atomic_table.proofs.Lists.{set_again}
 use Rattle.shared_bench.specs.declared.view.View.{View}
 use Rattle.shared_bench.specs.declared.view.Opening.{Opening}
 use Rattle.shared_bench.specs.declared.view.Stage.TheVariants.{Idle}
+use Rattle.shared_bench.specs.Legal.{has}
 use Rattle.shared_bench.specs.Rule.{World, Kept, IsSound, Fits, state_of, count_bits, bit_of, tickets, many, journal_of, opened_of}
 use Rattle.shared_bench.specs.Turn.{numbered, IsBit, draws}
 use Rattle.shared_bench.proofs.Seats.{Mine, allows, one_step, put, put_here, put_other}
 use Rattle.shared_bench.proofs.Turns.{has_one, legal_at}
-use Rattle.shared_bench.proofs.Journals.{drawn_more, entries_nobody, entries_undrawn}
+use Rattle.shared_bench.proofs.Journals.{bool_cases, drawn_more, entries_nobody, entries_undrawn}
 
 -- where each bit of x is one of y's, and y has the bit n and x doesn't, more of the lowest bits are set
 count_bits_more : (k x y n : ℕ) → bit_of x n < bit_of y n → ((i : ℕ) → bit_of x i ≤ bit_of y i)
@@ -71,9 +72,12 @@ draws_one k slots id b n me bit below idle bare here = allows k slots id me 3 (�
       goes_on = f.goes_on;
       spent = f.spent;
       owns = λ m h. rw (has_one m n h) (put_here w.owner n id, rw (← (f.knows.opened here).1) below, now);
+      theirs = λ m h. still m (f.theirs m h);
       room = (omega arith, λ _. omega arith);
       stage = f.stage;
-    } in (
+    } in
+    let others : has n v.others ≡ false =
+    ⊎_elim (λ (t : has n v.others ≡ true). absurd (let a = f.theirs n t in omega arith)) (λ (h : has n v.others ≡ false). h) (bool_cases (has n v.others)) in (
       v',
       keeps,
       tt,
@@ -87,11 +91,12 @@ draws_one k slots id b n me bit below idle bare here = allows k slots id me 3 (�
               goes_on = g.goes_on;
               spent = g.spent;
               owns = λ m h. let o = g.owns m h in (put_other w.owner n id m (λ e. let a : bit_of x n ≡ 1 = rw e at o.2 in omega arith) ∙ o.0, o.1, still m o.2);
+              theirs = λ m h. still m (g.theirs m h);
               room = g.room;
               stage = g.stage;
             }),
       ),
-      λ m other. rw (same_bit b m n other bit, eq-eqb (bit_of x n) 0 unset) (refl, (journal_of k w.since, legal_at k w' id v' sound here mine)),
+      λ m other. rw (same_bit b m n other bit, eq-eqb (bit_of x n) 0 unset) (refl, (journal_of k w.since, legal_at k w' id v' sound here mine), others),
     ))
     (λ was_set. (
       v,

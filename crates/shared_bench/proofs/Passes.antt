@@ -3,19 +3,25 @@ use Rattle.std.proofs.Common.{◌≡◌, ℕ, ◌+◌, ◌<◌, ◌||◌, true, 
 use Rattle.atomic_table.specs.Seated.{TableId}
 use Rattle.bench_core.specs.declared.noted.Noted.{Noted}
 use Rattle.std.proofs.lemmas.List.{drop_at}
-use Rattle.std.specs.Prelude.{drop, Ok}
+use Rattle.std.specs.Prelude.{drop}
 use Rattle.project_book.specs.Project.{Project}
 use Rattle.project_book.specs.declared.edit.Edit.{Edit as AnyEdit, Edit}
-use Rattle.bench_core.specs.Shown.{Shown, project_of, version_of}
-use Rattle.shared_bench.specs.Answers.{HasSeen, EditsAs, project_seen}
-use Rattle.project_book.specs.Edits.{accepts, edited as edited_by}
+use Rattle.project_book.specs.declared.fault.EditFault.{EditFault}
+use Rattle.project_book.specs.declared.fault.EditFault.TheVariants.{ClockSpent, Memory}
+use Rattle.bench_core.specs.Shown.{Shown, project_of}
+use Rattle.bench_core.specs.Edits.{Refuses}
+use Rattle.bench_core.specs.Told.{RefusesAt}
+use Rattle.bench_core.proofs.Admitting.{refuses_at, refused_spent, refused_wants}
+use Rattle.shared_bench.specs.Answers.{HasSeen, project_seen}
+use Rattle.project_book.specs.Edits.{edited as edited_by}
 use Rattle.shared_bench.specs.Legal.{noted, receipts_of, has}
 use Rattle.shared_bench.specs.Rule.{spent_of}
 use Rattle.shared_bench.specs.declared.view.View.{View}
 use Rattle.shared_bench.specs.declared.view.Stage.{Stage}
 use Rattle.shared_bench.specs.Turn.{HasBench, HasLegal, AtSeat, LooksAt, left_with, counted_in, looked, joined, stage_of, TicketFits}
-use Rattle.shared_bench.specs.Known.{Known, IsLater, IsJoined, IsLegalFor, HasAllNumbers, IsAllItsOwn, SomeIsLegal}
+use Rattle.shared_bench.specs.Known.{Known, IsLater, TookTurn, IsJoined, IsLegalFor, HasAllNumbers, IsAllItsOwn, SomeIsLegal}
 use Rattle.shared_bench.specs.Inside.{known_of, IsPass}
+use Rattle.shared_bench.proofs.Benches.{is_spent, spent_is}
 use Rattle.shared_bench.proofs.Told.{edited_project}
 use Rattle.shared_bench.proofs.Seats.{starts_refl, starts_trans}
 use Rattle.shared_bench.proofs.Journals.{has_append, distinct_apart, entries_all}
@@ -26,6 +32,15 @@ use Rattle.shared_bench.proofs.Journals.{has_append, distinct_apart, entries_all
 pub in_turn : (z : TableId) (number : ℕ) (v : View) (m1 m4 : AtSeat) (d d' : Shown) → HasBench v m1 d → m4 ≡ (left_with d' m1.0, [])
     → HasSeen (known_of z m4 number) d
 in_turn z number v m1 m4 d d' h is = rw (is, h.is) (refl, h.project)
+
+-- the turn that the pass took
+pub turn_taken : (z z4 : TableId) (number : ℕ) (m m1 m4 : AtSeat) (d d' : Shown) → HasBench m.0 m1 d → m4 ≡ (left_with d' m1.0, [])
+    → TookTurn (known_of z m number) (known_of z4 m4 number) d d'
+turn_taken z z4 number m m1 m4 d d' h is = rw (is, h.is) refl
+
+pub turn_taken_edited : (z z4 : TableId) (number : ℕ) (m m1 m4 : AtSeat) (d d' : Shown) (a : ℕ) (n : Edit) → HasBench m.0 m1 d
+    → m4 ≡ (left_with d' (counted_in a n m1.0), []) → TookTurn (known_of z m number) (known_of z4 m4 number) d d'
+turn_taken_edited z z4 number m m1 m4 d d' a n h is = rw (is, h.is) refl
 
 -- what the pass knows after a turn in which the journal stayed
 pub turn_later : (z z4 : TableId) (number : ℕ) (m m1 m4 : AtSeat) (d d' : Shown) → HasBench m.0 m1 d → m4 ≡ (left_with d' m1.0, []) → HasLegal m4.0
@@ -67,17 +82,22 @@ edit_receipt v m1 m4 d d' a n version h is more long =
     let v_is : version ≡ length d.journal + 1 = long ∙ (ap length more ∙ length-append d.journal (noted a n ∷ [])) in
     rw (is, h.is) (long ∙ ap length more, ap (λ (q : ℕ). v.receipts ++ (q, n) ∷ []) (sym v_is))
 
--- what an accepted edit says of the bench before and after it
-pub edits_ok : (d d' : Shown) (a : ℕ) (n : AnyEdit) (v : ℕ) → accepts (project_of d) (version_of d) n ≡ Ok tt
-    → d'.journal ≡ d.journal ++ noted a n ∷ [] → project_of d' ≡ edited_by (project_of d) n → v ≡ length d'.journal
-    → EditsAs d a n (Ok v) d'
-edits_ok d d' a n v accepted more project long = (accepted, more, project, long ∙ (ap length more ∙ length-append d.journal (noted a n ∷ [])))
-
 -- the edited bench
 pub in_turn_edited : (z : TableId) (number : ℕ) (v : View) (m1 m4 : AtSeat) (d d' : Shown) (a : ℕ) (n : AnyEdit) → HasBench v m1 d
     → m4 ≡ (left_with d' (counted_in a n m1.0), []) → d'.journal ≡ d.journal ++ noted a n ∷ [] → project_of d' ≡ edited_by (project_of d) n
     → HasSeen (known_of z m4 number) d'
 in_turn_edited z number v m1 m4 d d' a n h is more next = rw (is, h.is) (more, edited_project v m1 d d' a n h next)
+
+-- what a refused edit says of what the pass has then seen, and of the clock
+module _ (z : TableId) (number : ℕ) (v : View) (m1 m4 : AtSeat) (d : Shown) (e : Edit) (h : HasBench v m1 d) (is : m4 ≡ (left_with d m1.0, [])) where
+  pub edit_refused : (f : EditFault) → Refuses d e f → RefusesAt (project_seen (known_of z m4 number)) (length (known_of z m4 number).seen) e f
+  edit_refused f refused = said_seen (λ P n. RefusesAt P n e f) (known_of z m4 number) d (in_turn z number v m1 m4 d d h is) (refuses_at d e f refused)
+
+  pub edit_spent : Refuses d e ClockSpent → (known_of z m4 number).spent ≡ true
+  edit_spent refused = rw is (is_spent d (refused_spent d e refused))
+
+  pub edit_wants : Refuses d e Memory → (known_of z m4 number).spent ≡ true → ⊥
+  edit_wants refused now = refused_wants d e refused (spent_is d (rw is at now))
 
 -- ---- a join
 
@@ -115,6 +135,7 @@ module _ (m u m2 m' : AtSeat) (r : ℕ) (first : m2 ≡ (joined m.0 u.0, m.1)) (
     numbers = refl;
     apart = distinct_apart m.0.numbers u.0.numbers (rw first at look.6);
     receipts = refl;
+    turns = refl;
     spent = refl;
     legal = rw after_join at look.7;
   })

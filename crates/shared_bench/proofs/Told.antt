@@ -28,7 +28,7 @@ pub may_leave_changed : (v : View) (m : AtSeat) (d d' : Shown) → HasBench v m 
     → project_of d' ≡ project_of d → (spent_of d ≡ true → spent_of d' ≡ true) → MayLeave m d'
 may_leave_changed v m d d' h here same project spent =
     let now = project ∙ (h.project ∙ ap (project_at v.project v.opened) (sym same)) in
-    rw h.is (refl, record { ticket = h.ticket; was = spent_of d; serves = refl; spent = spent; seen = same; here = here; project = now })
+    rw h.is (refl, record { ticket = h.ticket; met = d; serves = refl; spent = spent; seen = same; here = here; project = now })
 
 pub may_leave : (v : View) (m : AtSeat) (d : Shown) → HasBench v m d → v.gone ≡ false → MayLeave m d
 may_leave v m d h here = may_leave_changed v m d d h here refl refl (λ e. e)
@@ -49,7 +49,7 @@ pub may_edit : (v : View) (m : AtSeat) (d d' : Shown) (a : ℕ) (n : Edit) → H
 may_edit v m d d' a n h here more next accepted unspent own short =
     let passes : MayPass (counted_in a n (entered h.ticket d v)) d' = record {
       ticket = h.ticket;
-      was = spent_of d;
+      met = d;
       serves = refl;
       spent = λ e. absurd (let no : true ≡ false = sym e ∙ unspent in cc);
       seen = more;

@@ -8,7 +8,7 @@ use Rattle.shared_bench.specs.Turn.{AtSeat, HasLegal, Fresh, TicketFits}
 
 -- what a seat of this table, in this state, knows of its pass with this number
 abbrev pub known_of : TableId → AtSeat → ℕ → Known
-known_of z m number = record { opening = z; project = m.0.project; opened = m.0.opened; seats = m.0.seats; number = number; seen = m.0.seen; numbers = m.0.numbers; receipts = m.0.receipts; spent = m.0.spent }
+known_of z m number = record { opening = z; project = m.0.project; opened = m.0.opened; seats = m.0.seats; number = number; seen = m.0.seen; numbers = m.0.numbers; receipts = m.0.receipts; turns = m.0.turns; spent = m.0.spent }
 
 -- the table's and the seat's number, what the seat knows, and the pass's own fields
 pub record IsPass (table seat : TableId) (m : AtSeat) (number seats base k : ℕ) (ticket : Option ℕ) : Type 0 where

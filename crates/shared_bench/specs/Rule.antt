@@ -50,13 +50,13 @@ AuthorsDrawn bits [] = Unit {0}
 AuthorsDrawn bits (e ∷ es) = (bit_of bits e.author ≡ 1) × AuthorsDrawn bits es
 
 -- the tickets served and handed out, not modulo 2^64, and the place of the seat that has one; what lies in the slot; and
--- whether the clock was spent as the slot was last left
+-- the bench that was last left there
 pub record Queue : Type 0 where
   pub served : ℕ
   pub issued : ℕ
   pub holder : ℕ → ℕ
   pub slot : maybe.Option (Option Shown)
-  pub clock : Bool
+  pub last : Shown
 
 -- the entries after the opening; the tickets and the slot; a bit for each number drawn, and the place of the seat that
 -- has the number
@@ -83,8 +83,8 @@ state_of k w views = record {
 abbrev pub live : Stage → ℕ
 live Idle = 0
 live (Waiting t) = 1
-live (Serving t was) = 1
-live (Filling t was) = 1
+live (Serving t met) = 1
+live (Filling t met) = 1
 
 -- the tickets of a seat, those included that no pass waits for any more
 abbrev pub tickets : View → ℕ
@@ -98,24 +98,25 @@ many v = length v.numbers
 abbrev pub IsServer : Stage → Type 0
 IsServer Idle = ⊥
 IsServer (Waiting t) = ⊥
-IsServer (Serving t was) = Unit {0}
-IsServer (Filling t was) = Unit {0}
+IsServer (Serving t met) = Unit {0}
+IsServer (Filling t met) = Unit {0}
 
 module _ (k : Opening) (since : List Noted) (q : Queue) where
-  -- the bench lies in the slot, with the journal and its project
+  -- the bench that was last left lies in the slot, with the journal and its project
   abbrev pub AtHome : Type 0
-  AtHome = (d : Shown) × (q.slot ≡ some (Some d)) × (d.journal ≡ journal_of k since) × (spent_of d ≡ q.clock) × (project_of d ≡ project_at (first_project k) (opened_of k) d.journal)
+  AtHome = (q.slot ≡ some (Some q.last)) × (q.last.journal ≡ journal_of k since) × (project_of q.last ≡ project_at (first_project k) (opened_of k) q.last.journal)
 
-  -- the seat at place j has the ticket t, which is served, has seen all of the journal, and has left the slot so
-  abbrev pub Serves : ℕ → List Noted → ℕ → Bool → maybe.Option (Option Shown) → Type 0
-  Serves j seen t was slot = (t ≡ q.served) × (t < q.issued) × (q.holder t ≡ j) × (q.slot ≡ slot) × (seen ≡ journal_of k since) × (was ≡ q.clock)
+  -- the seat at place j has the ticket t, which is served, has seen all of the journal, has left the slot so, and met the
+  -- bench that was last left there
+  abbrev pub Serves : ℕ → List Noted → ℕ → Shown → maybe.Option (Option Shown) → Type 0
+  Serves j seen t met slot = (t ≡ q.served) × (t < q.issued) × (q.holder t ≡ j) × (q.slot ≡ slot) × (seen ≡ journal_of k since) × (met ≡ q.last)
 
   -- the ticket of a seat that waits is not served before, and once it is served the bench is there
   abbrev pub StageFits : ℕ → List Noted → Stage → Type 0
   StageFits j seen Idle = Unit {0}
   StageFits j seen (Waiting t) = (q.served ≤ t) × (t < q.issued) × (q.holder t ≡ j) × (t ≡ q.served → AtHome)
-  StageFits j seen (Serving t was) = Serves j seen t was none
-  StageFits j seen (Filling t was) = Serves j seen t was (some None)
+  StageFits j seen (Serving t met) = Serves j seen t met none
+  StageFits j seen (Filling t met) = Serves j seen t met (some None)
 
 -- what a seat knows of the opening, of its numbers and of its entries is so; one that was joined into another knows nothing
 abbrev pub Knows : Opening → List Noted → View → Type 0
@@ -130,8 +131,9 @@ Knows k since v = record {
 pub record Fits (k : Opening) (w : World) (j : ℕ) (v : View) : Type 0 where
   pub knows : Knows k w.since v
   pub goes_on : StartsWith (journal_of k w.since) v.seen
-  pub spent : v.spent ≡ true → w.clock ≡ true
+  pub spent : v.spent ≡ true → spent_of w.last ≡ true
   pub owns : (n : ℕ) → has n v.numbers ≡ true → (w.owner n ≡ j) × (n < k.seats) × (bit_of w.bits n ≡ 1)
+  pub theirs : (n : ℕ) → has n v.others ≡ true → bit_of w.bits n ≡ 1
   pub room : (tickets v ≤ many v) × (0 < many v → v.lost < many v)
   pub stage : StageFits k w.since w.queue j v.seen v.stage
 
@@ -157,4 +159,4 @@ Kept k s = (w : World) × (views : List View) × (s ≡ state_of k w views) × O
 
 -- the first seat has number 0 and the first ticket, and is about to fill the slot
 abbrev pub first_view : Opening → View
-first_view k = record { gone = false; project = first_project k; opened = opened_of k; seats = k.seats; seen = opened_of k; heard = []; numbers = 0 ∷ []; receipts = []; spent = false; stage = Filling 0 (spent_of k.bench.value); lost = 0 }
+first_view k = record { gone = false; project = first_project k; opened = opened_of k; seats = k.seats; seen = opened_of k; heard = []; numbers = 0 ∷ []; receipts = []; others = []; turns = []; spent = false; stage = Filling 0 k.bench.value; lost = 0 }

@@ -1,7 +1,7 @@
 -- The steps of a turn: what each makes of a seat's view, what it tells, and what it asks for.
 --
 -- Nothing here has to be believed: the contracts of the public calls name none of it.
-use Rattle.std.specs.Prelude.{◌≡◌, ℕ, ◌+◌, ◌-◌, ◌*◌, ◌%◌, ◌^◌, ◌<◌, ◌≤◌, ◌==◌, ◌||◌, Bool, true, false, List, [], ◌∷◌, ◌++◌, length, Option, Some, None, Ok, MatchBool, IfSome}
+use Rattle.std.specs.Prelude.{◌≡◌, ℕ, ◌+◌, ◌-◌, ◌*◌, ◌%◌, ◌^◌, ◌<◌, ◌≤◌, ◌==◌, ◌||◌, true, false, List, [], ◌∷◌, ◌++◌, length, Option, Some, None, Ok, MatchBool, IfSome}
 use Rattle.atomic_table.specs.Table.{Me, Step}
 use Rattle.atomic_table.specs.Seated.{TableId}
 use Rattle.bench_core.specs.declared.noted.Noted.{Noted}
@@ -49,9 +49,9 @@ took st m r m' = (t : ℕ) × (r ≡ t % 2 ^ 64) × (m' ≡ (staged (Waiting t) 
 abbrev pub IsProjectIn : View → Shown → Type 0
 IsProjectIn v d = project_of d ≡ project_at v.project v.opened d.journal
 
--- the view of the seat that has taken the slot, with the bench d in it
+-- the view of the seat that has taken the slot, and has met the bench d in it
 abbrev pub entered : ℕ → Shown → View → View
-entered t d v = record v { seen = d.journal; stage = Serving t (spent_of d) }
+entered t d v = record v { seen = d.journal; stage = Serving t d }
 
 -- the seat with the ticket t has taken the slot, with the bench in it
 abbrev pub HasTurn : ℕ → AtSeat → AtSeat → Type 0
@@ -67,15 +67,26 @@ comes st m r m' = Comes m r m' m.0.stage
 
 -- the first seat took the slot, which is empty
 abbrev pub Fills : AtSeat → AtSeat → Stage → Type 0
-Fills m m' (Filling t was) = m' ≡ (staged (Serving t was) m.0, (0, None) ∷ m.1)
+Fills m m' (Filling t met) = m' ≡ (staged (Serving t met) m.0, (0, None) ∷ m.1)
 Fills m m' _ = m' ≡ m
 
 abbrev pub fills : Tells
 fills st m r m' = Fills m m' m.0.stage
 
--- the turn is passed, and the bench d left in the slot
+-- a bench that nobody has met
+abbrev pub no_bench : Shown
+no_bench = record { table = record { slots = blank 0 0; horizon = 0; clock = 0; rows = [] }; journal = [] }
+
+-- the bench that was met in this turn
+abbrev pub met_in : Stage → Shown
+met_in Idle = no_bench
+met_in (Waiting t) = no_bench
+met_in (Serving t met) = met
+met_in (Filling t met) = met
+
+-- the turn is passed, and the bench d left in the slot: one turn more was taken
 abbrev pub left_with : Shown → View → View
-left_with d v = record v { spent = spent_of d; stage = Idle }
+left_with d v = record v { turns = v.turns ++ record { met = met_in v.stage; left = d } ∷ []; spent = spent_of d; stage = Idle }
 
 -- the slot was given back
 abbrev pub leaves : Tells
@@ -108,28 +119,28 @@ numbered n v = record v { numbers = n ∷ [] }
 abbrev pub IsBit : ℕ → ℕ → Type 0
 IsBit b n = (n < 64) × (b ≡ 1 * 2 ^ n % 2 ^ 64)
 
--- the number was drawn, where its bit was not set
+-- the number was drawn, where its bit was not set, so that no other has it
 abbrev pub draws : Tells
-draws st m r m' = (n : ℕ) → IsBit st.first n → MatchBool (bit_of r n == 0) ((m' ≡ (numbered n m.0, m.1)) × HasLegal m'.0) (m' ≡ m)
+draws st m r m' = (n : ℕ) → IsBit st.first n → MatchBool (bit_of r n == 0) ((m' ≡ (numbered n m.0, m.1)) × HasLegal m'.0 × (has n m.0.others ≡ false)) (m' ≡ m)
 
 -- a new seat, which has seen what this one has
 abbrev pub newcomer : View → View
-newcomer v = record v { numbers = []; receipts = []; stage = Idle; lost = 0 }
+newcomer v = record v { numbers = []; receipts = []; others = v.numbers; turns = []; stage = Idle; lost = 0 }
 
 -- of two stages, the first that has a ticket
 abbrev pub stage_of : Stage → Stage → Stage
 stage_of Idle stage = stage
 stage_of (Waiting t) stage = Waiting t
-stage_of (Serving t was) stage = Serving t was
-stage_of (Filling t was) stage = Filling t was
+stage_of (Serving t met) stage = Serving t met
+stage_of (Filling t met) stage = Filling t met
 
 -- one view of two
 abbrev pub joined : View → View → View
-joined v w = record v { heard = w.seen; numbers = v.numbers ++ w.numbers; receipts = merge v.receipts w.receipts; spent = v.spent || w.spent; stage = stage_of v.stage w.stage; lost = v.lost + w.lost + (live v.stage + live w.stage - live (stage_of v.stage w.stage)) }
+joined v w = record v { heard = w.seen; numbers = v.numbers ++ w.numbers; receipts = merge v.receipts w.receipts; turns = v.turns ++ w.turns; spent = v.spent || w.spent; stage = stage_of v.stage w.stage; lost = v.lost + w.lost + (live v.stage + live w.stage - live (stage_of v.stage w.stage)) }
 
 -- a view that was joined into another
 abbrev pub nobody : View
-nobody = record { gone = true; project = blank 0 0; opened = []; seats = 0; seen = []; heard = []; numbers = []; receipts = []; spent = false; stage = Idle; lost = 0 }
+nobody = record { gone = true; project = blank 0 0; opened = []; seats = 0; seen = []; heard = []; numbers = []; receipts = []; others = []; turns = []; spent = false; stage = Idle; lost = 0 }
 
 -- ---- what the functions of `steps` say of a seat
 
@@ -154,9 +165,9 @@ pub record HasBench (v : View) (m : AtSeat) (d : Shown) : Type 0 where
 -- a seat with this view has the turn, and may pass it with the bench d, whose journal it has seen
 pub record MayPass (v : View) (d : Shown) : Type 0 where
   pub ticket : ℕ
-  pub was : Bool
-  pub serves : v.stage ≡ Serving ticket was
-  pub spent : was ≡ true → spent_of d ≡ true
+  pub met : Shown
+  pub serves : v.stage ≡ Serving ticket met
+  pub spent : spent_of met ≡ true → spent_of d ≡ true
   pub seen : d.journal ≡ v.seen
   pub here : v.gone ≡ false
   pub project : IsProjectIn v d

@@ -8,11 +8,11 @@ ghost use Rattle.bench_core.specs.Asks.{AsksAs};
 ghost use Rattle.bench_core.specs.Stands.{HasHistory};
 ghost use Rattle.shared_bench.specs.Rule.{spent_of};
 ghost use Rattle.shared_bench.specs.Legal.{noted};
-ghost use Rattle.bench_core.specs.Told.{TellsAt, RefusesAt};
-ghost use Rattle.shared_bench.specs.Answers.{TellsAs, NotPending, told_for, ClaimsAs, IsGivenSpent};
+ghost use Rattle.bench_core.specs.Told.{TellsAt};
+ghost use Rattle.shared_bench.specs.Answers.{TellsAs, NotPending, told_for, ClaimsAs, EditsAs, SettlesAs, IsGivenSpent};
 
 use bench_core::{Asked, Bench, Told};
-use cell_table::{Cell, Claim, Done, Given, SettleFault};
+use cell_table::{Cell, Claim, Done, Given};
 use grid_law::NoMemory;
 use machine_cells::Rp3;
 use project_book::{Edit, EditFault, Project};
@@ -63,12 +63,12 @@ impl Carried {
         ensures kept { spent_of self.old ≡ true → spent_of self.new ≡ true }
         ensures told { TellsAt (project_of self.new) (version_of self.new) query result }
         ensures spent { result ≡ Told.ClockSpent → spent_of self.new ≡ true }
+        ensures settles { SettlesAs result self.old self.new }
         ensures asks { TellsAs self.new query result }
     {
         match self.bench.settle() {
             Ok(_) => {}
-            Err(SettleFault::ClockSpent { .. }) => return Told::ClockSpent,
-            Err(SettleFault::Memory { .. }) => return Told::Memory,
+            Err(fault) => return self.bench.told_at_fault(fault, query),
         }
         let asked = self.bench.ask(rt, query);
         told_of(asked)
@@ -119,8 +119,7 @@ impl Carried {
         ensures accepted { IfOk result (λ v. accepts (project_of self.old) (version_of self.old) edit ≡ Ok tt) }
         ensures clock { IfOk result (λ v. spent_of self.old ≡ false) }
         ensures err { IfErr result (λ f. self.new ≡ self.old) }
-        ensures refused { IfErr result (λ f. RefusesAt (project_of self.old) (version_of self.old) edit f) }
-        ensures spent { result ≡ Err EditFault.ClockSpent → spent_of self.old ≡ true }
+        ensures edits { EditsAs self.old author edit result self.new }
         ensures short { length self.new.journal ≤ 65535 }
         ensures history { HasHistory self.new }
     {

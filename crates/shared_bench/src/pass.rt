@@ -29,7 +29,8 @@ pub enum SplitFault {
 /// A pass to a shared bench: who holds it may edit the bench and ask it, in its turn.
 ///
 /// Contracts see what it knows: its opening, its number, the journal that it has seen, the edits that it was answered for
-/// (its receipts), and whether the clock is spent. After every call it is a pass of the same opening, and has seen no
+/// (its receipts), the turns that it took, each with the bench that it met and the bench that it left, and whether the
+/// clock is spent. After every call it is a pass of the same opening, and has seen no
 /// less.
 #[derive(Drop)]
 pub struct Pass {
@@ -62,7 +63,7 @@ impl Model for Pass {
 /// Where a growth was refused: the bench, as it was handed over.
 pub fn open(alloc: Global, bench: Bench, seats: u32) -> Result<Pass, Bench>
     requires { (0 < seats) × (seats ≤ 64) }
-    ensures ok { IfOk result (λ p. (p.project ≡ project_of bench) × (p.opened ≡ bench.journal) × (p.seen ≡ bench.journal) × (p.seats ≡ seats) × (p.number ≡ 0) × (p.numbers ≡ 0 ∷ []) × (p.receipts ≡ []) × SomeIsLegal p) }
+    ensures ok { IfOk result (λ p. (p.project ≡ project_of bench) × (p.opened ≡ bench.journal) × (p.seen ≡ bench.journal) × (p.seats ≡ seats) × (p.number ≡ 0) × (p.numbers ≡ 0 ∷ []) × (p.receipts ≡ []) × (p.turns ≡ record { met = bench; left = bench } ∷ []) × SomeIsLegal p) }
     ensures err { IfErr result (λ b. b ≡ bench) }
 {
     let opening = Opening {
@@ -127,7 +128,7 @@ impl Pass {
     /// The journal's length now, at least what this pass had seen. It doesn't wait.
     pub fn length(&mut self) -> u32
         ensures later { IsLater self.old self.new }
-        ensures own { (self.new.numbers ≡ self.old.numbers) × (self.new.receipts ≡ self.old.receipts) }
+        ensures own { (self.new.numbers ≡ self.old.numbers) × (self.new.receipts ≡ self.old.receipts) × (self.new.turns ≡ self.old.turns) }
         ensures answer { result ≡ length self.new.seen }
     {
         look(&self.table.shared, &mut self.seat) as u32

@@ -1,11 +1,11 @@
 //! The steps of a turn, each one step on a word, or one on the slot.
 ghost use Rattle.std.specs.Prelude.{◌≡◌, ℕ, ◌+◌, ◌%◌, ◌^◌, ◌<◌, ◌≤◌, true, false, [], ◌∷◌, ◌++◌, length, Some, None, IfSome, IfNone, MatchBool};
 ghost use Rattle.shared_bench.specs.declared.view.Stage.TheVariants.{Idle, Waiting, Serving, Filling};
-ghost use Rattle.shared_bench.specs.Rule.{IsServer, spent_of};
+ghost use Rattle.shared_bench.specs.Rule.{IsServer};
 ghost use Rattle.shared_bench.specs.Turn.{staged, entered, left_with, Fresh, TicketFits, HasBench, HasLegal, LooksAt, MayCount, MayLeave, counted_in, numbered, IsProjectIn};
 ghost use Rattle.project_book.specs.declared.edit.Edit.{Edit as AnyEdit};
 ghost use Rattle.bench_core.specs.Stands.{HasHistory};
-ghost use Rattle.shared_bench.specs.Legal.{noted};
+ghost use Rattle.shared_bench.specs.Legal.{noted, has};
 
 use crate::carried::Carried;
 use crate::plays::{
@@ -70,10 +70,11 @@ fn sleep<R: Wait>(rt: &R, turns: &SharedTurns, ticket: u64)
     }
 }
 
-/// Wakes those who wait, once this ticket was served. Where no further ticket was handed out, nobody waits: who takes one
-/// later finds the turn passed.
-fn wake(turns: &SharedTurns, served: u64)
-    requires { Fresh turns.now.table_id }
+/// Wakes those who wait, once the seat's ticket was served. Where no further ticket was handed out, nobody waits: who takes
+/// one later finds the turn passed.
+fn wake(turns: &SharedTurns, seat: &TurnSeat, served: u64)
+    requires here { Fresh turns.now.table_id }
+    requires passed { seat.now.me.0.stage ≡ Idle }
 {
     if turns.peek(TICKETS) != served.wrapping_add(1) {
         turns.wake_all(SERVING);
@@ -117,13 +118,13 @@ pub fn leave(turns: &SharedTurns, seat: &mut TurnSeat, bench: Carried)
 {
     turns.exchange(seat, 0, Some(bench));
     let served = turns.fetch_add::<Leaves>(seat, SERVING, 1);
-    wake(turns, served);
+    wake(turns, seat, served);
 }
 
 /// The first turn: puts the bench into the empty slot, and passes the turn.
 pub fn fill(turns: &SharedTurns, seat: &mut TurnSeat, bench: Carried)
     requires own { (seat.old.table_id ≡ turns.now.table_id) × Fresh turns.now.table_id }
-    requires fills { ((t : ℕ) × (seat.old.me.0.stage ≡ Filling t (spent_of bench))) × (seat.old.me.1 ≡ []) × (bench.journal ≡ seat.old.me.0.seen) × (seat.old.me.0.gone ≡ false) × IsProjectIn seat.old.me.0 bench }
+    requires fills { ((t : ℕ) × (seat.old.me.0.stage ≡ Filling t bench)) × (seat.old.me.1 ≡ []) × (bench.journal ≡ seat.old.me.0.seen) × (seat.old.me.0.gone ≡ false) × IsProjectIn seat.old.me.0 bench }
     ensures own { (seat.new.table_id ≡ seat.old.table_id) × (seat.new.id ≡ seat.old.id) }
     ensures left { seat.new.me ≡ (left_with bench seat.old.me.0, []) }
     ensures legal { HasLegal seat.new.me.0 }
@@ -143,7 +144,7 @@ pub fn leave_edited(turns: &SharedTurns, seat: &mut TurnSeat, bench: Carried)
     turns.exchange(seat, 0, Some(bench));
     turns.fetch_add::<Counts>(seat, LENGTH, 1);
     let served = turns.fetch_add::<Leaves>(seat, SERVING, 1);
-    wake(turns, served);
+    wake(turns, seat, served);
     turns.wake_all(LENGTH);
 }
 
@@ -162,7 +163,7 @@ pub fn draw(turns: &SharedTurns, seat: &mut TurnSeat, number: u32) -> bool
     requires own { (seat.old.table_id ≡ turns.now.table_id) × Fresh turns.now.table_id }
     requires bare { (seat.old.me.0.stage ≡ Idle) × (seat.old.me.0.numbers ≡ []) × (seat.old.me.0.gone ≡ false) × (number < seat.old.me.0.seats) × (number < 64) }
     ensures own { (seat.new.table_id ≡ seat.old.table_id) × (seat.new.id ≡ seat.old.id) }
-    ensures drawn { MatchBool result ((seat.new.me ≡ (numbered number seat.old.me.0, seat.old.me.1)) × HasLegal seat.new.me.0) (seat.new.me ≡ seat.old.me) }
+    ensures drawn { MatchBool result ((seat.new.me ≡ (numbered number seat.old.me.0, seat.old.me.1)) × HasLegal seat.new.me.0 × (has number seat.old.me.0.others ≡ false)) (seat.new.me ≡ seat.old.me) }
 {
     let found = turns.fetch_or::<Draws>(seat, NUMBERS, 1u64 << number);
     (found >> number) & 1 == 0
@@ -173,7 +174,7 @@ pub fn draw_first(turns: &SharedTurns, seat: &mut TurnSeat, seats: u32) -> Optio
     requires own { (seat.old.table_id ≡ turns.now.table_id) × Fresh turns.now.table_id }
     requires bare { (seat.old.me.0.stage ≡ Idle) × (seat.old.me.0.numbers ≡ []) × (seat.old.me.0.gone ≡ false) × (seat.old.me.0.seats ≡ seats) × (seats ≤ 64) }
     ensures own { (seat.new.table_id ≡ seat.old.table_id) × (seat.new.id ≡ seat.old.id) }
-    ensures drawn { IfSome result (λ n. (n < seats) × (seat.new.me ≡ (numbered n seat.old.me.0, seat.old.me.1)) × HasLegal seat.new.me.0) }
+    ensures drawn { IfSome result (λ n. (n < seats) × (seat.new.me ≡ (numbered n seat.old.me.0, seat.old.me.1)) × HasLegal seat.new.me.0 × (has n seat.old.me.0.others ≡ false)) }
 {
     for number in 0..seats {
         if draw(turns, seat, number) {

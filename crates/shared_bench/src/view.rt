@@ -12,16 +12,22 @@ pub struct Opening {
     pub bench: Snapshot<Bench>,
 }
 
+/// A turn: the bench that was met, and the bench that was left.
+pub struct Turn {
+    pub met: Bench,
+    pub left: Bench,
+}
+
 /// Where a seat is in a turn.
 pub enum Stage {
     /// It has no ticket.
     Idle,
     /// Its ticket isn't served yet.
     Waiting(u64),
-    /// It has the slot: its ticket, and whether the clock was spent as it took the slot.
-    Serving(u64, bool),
+    /// It has the slot: its ticket, and the bench that it met there.
+    Serving(u64, Bench),
     /// It has the first turn, and the slot is at home, empty.
-    Filling(u64, bool),
+    Filling(u64, Bench),
 }
 
 /// The view of a seat.
@@ -39,6 +45,10 @@ pub struct View {
     /// The authors' numbers that it has, and the edits made under them, each with its version.
     pub numbers: LinkedList<u32>,
     pub receipts: LinkedList<(u32, Edit)>,
+    /// Numbers that others had drawn before it came.
+    pub others: LinkedList<u32>,
+    /// The turns that it took.
+    pub turns: LinkedList<Turn>,
     /// It knows that the clock is at its last value.
     pub spent: bool,
     pub stage: Stage,

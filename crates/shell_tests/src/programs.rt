@@ -1,14 +1,16 @@
 //! Command lines that are taken and refused, and how the program begins and ends.
-use bench_shell::RunFault;
+use bench_shell::{Reading, RunFault, Writing};
 use command_line::{
-    CommandLine, Disk, End, Folder, MOST_BYTES, Stop, arguments, opening, read_bytes, refusal,
-    serve_words, status,
+    CommandLine, Disk, End, Folder, MOST_BYTES, Stop, arguments, ended, opening, read_bytes,
+    refusal, serve_words, status,
 };
 use expect::equal;
 use project_file::ProjectFault;
 use std::alloc::Global;
+use std::cell::Cell;
+use std::fmt::Display;
 use std::io;
-use std::io::{Error, ErrorKind};
+use std::io::{Eprint, Error, ErrorKind, Print};
 use std::test::Fail;
 use worker_sessions::Hall;
 
@@ -263,7 +265,9 @@ fn served<T: AllocGlobal + Hall>(rt: &T, words: &[&str]) -> Result<String, Fail>
     let mut reader = b"state p1 0\n".as_slice();
     let mut writer = Vec::new(rt.alloc());
     let files = TwoFiles { alloc: rt.alloc() };
-    let stop = serve_words(rt, rt.alloc(), words, &files, &mut reader, &mut writer);
+    let mut source = Reading::within(&mut reader, u32::MAX);
+    let mut sink = Writing::new(&mut writer);
+    let stop = serve_words(rt, rt.alloc(), words, &files, &mut source, &mut sink);
     let end = stop.end();
     Ok(format!(in rt.alloc(); "{}{} {end}", String::from_utf8(writer)?, status(&end))?)
 }
@@ -301,4 +305,73 @@ fn a_beginning_has_its_workers_and_a_refusal_its_place(rt: HostRuntime) {
         }
         _ => assert!(rt; false),
     }
+}
+
+/// Keeps what is printed on standard error.
+#[derive(Drop)]
+struct Listening {
+    alloc: Global,
+    heard: Cell<String>,
+}
+
+impl Print for Listening {
+    fn print<D: Display + Drop>(&self, _value: D) -> io::Result<()> {
+        Ok(())
+    }
+
+    fn println<D: Display + Drop>(&self, _value: D) -> io::Result<()> {
+        Ok(())
+    }
+
+    fn write_all(&self, _bytes: &[u8]) -> io::Result<()> {
+        Ok(())
+    }
+}
+
+impl Eprint for Listening {
+    fn eprint<D: Display + Drop>(&self, value: D) -> io::Result<()> {
+        let heard = self.heard.replace(String::new(self.alloc));
+        self.heard.set(format!(in self.alloc; "{heard}{value}")?);
+        Ok(())
+    }
+
+    fn eprintln<D: Display + Drop>(&self, value: D) -> io::Result<()> {
+        let heard = self.heard.replace(String::new(self.alloc));
+        self.heard.set(format!(in self.alloc; "{heard}{value}\n")?);
+        Ok(())
+    }
+}
+
+/// With which status the program ends on words with which it doesn't begin, and what it prints then.
+fn heard(alloc: Global, words: &[&str]) -> Result<String, Fail> {
+    let files = TwoFiles { alloc };
+    let stop = opening(alloc, words, &files).err().ok_or("a stop")?;
+    let host = Listening {
+        alloc,
+        heard: Cell::new(String::new(alloc)),
+    };
+    let status = ended(&host, &stop);
+    Ok(format!(in alloc; "{status:?} {}", host.heard.into_inner())?)
+}
+
+// What `clap` says of the words, the end's line, and the place where a file is wrong.
+#[test]
+fn an_end_is_printed_with_its_place(rt: HostRuntime) -> Result<(), Fail> {
+    let says = text_of(rt.alloc(), &["--unknown"])?;
+    let refused = format!(in rt.alloc(); "ExitCode(unix_exit_status(2)) {says}")?;
+    let ends: [(&[&str], &str); 3] = [
+        (&["--unknown"], refused.as_str()),
+        (
+            &["two.toml"],
+            "ExitCode(unix_exit_status(3)) hotspot: cannot read two.toml\n",
+        ),
+        (
+            &[" empty.toml "],
+            "ExitCode(unix_exit_status(4)) hotspot: project refused: 3\nhotspot: format: missing\n",
+        ),
+    ];
+    for (words, want) in ends {
+        assert!(rt; equal(&rt, heard(rt.alloc(), words)?.as_str(), want));
+    }
+    Ok(())
 }

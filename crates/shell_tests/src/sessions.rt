@@ -1,4 +1,5 @@
 //! Sessions at the built-in project: in one piece, byte by byte, and with faults.
+mod ends;
 mod workers;
 
 use bench_core::Bench;
@@ -149,15 +150,24 @@ fn a_writer_fails_at_each_call(rt: HostRuntime) -> std::result::Result<(), Fail>
     Ok(())
 }
 
-// At the clock's last value an edit ends the run, and nothing is written.
+// At the clock's last value an edit or a query that isn't refused for another reason ends the run, and no other line does.
 #[test]
 fn a_spent_clock_ends_the_run(rt: HostRuntime) -> std::result::Result<(), Fail> {
-    let mut desk = bench(rt.alloc(), u64::MAX)?;
-    let mut reader = b"word 0 10\n".as_slice();
-    let mut writer = Vec::new(rt.alloc());
-    let ended = run(&rt, rt.alloc(), &mut reader, &mut writer, &mut desk);
-    assert!(rt; equal(&rt, ended, Err(RunFault::Clock)));
-    assert!(rt; writer.is_empty());
+    let runs: [(&[u8], &[u8]); 2] = [
+        (
+            b"word 16384 0\nstate p1 0\nmemory 16384 0\nword 0 10\nplace 0\n",
+            b"refused 5\nbad 1\nbad 3\n",
+        ),
+        (b"memory 0 9\nmemory 0 8\nplace 0\n", b"bad 2\n"),
+    ];
+    for (input, output) in runs {
+        let mut desk = bench(rt.alloc(), u64::MAX)?;
+        let mut reader = input;
+        let mut writer = Vec::new(rt.alloc());
+        let ended = run(&rt, rt.alloc(), &mut reader, &mut writer, &mut desk);
+        assert!(rt; equal(&rt, ended, Err(RunFault::Clock)));
+        assert!(rt; equal(&rt, writer.as_slice(), output));
+    }
     Ok(())
 }
 

@@ -225,7 +225,7 @@ pub(crate) fn put_at<S: Drop>(
     }
 }
 
-/// The stretch that covers a cycle: one below a top, or else it is searched by halves.
+/// The stretch that covers a cycle, searched by halves: in `next` from its top, in `past` from one below its top.
 #[inline(never)]
 #[tactic(auto, using(crate::proofs::Spans::covers_climb, crate::proofs::Spans::before_place, crate::proofs::Spans::from_place_alone))]
 fn stretch_searched<'a, S>(

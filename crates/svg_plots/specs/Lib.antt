@@ -1,4 +1,11 @@
+pub mod CellMaps
+pub mod Colours
+pub mod CurvePanels
+pub mod Drawings
 pub mod Entities
+pub mod Lists
 pub mod Places
 pub mod Texts
 pub mod Ticks
+pub mod Timelines
+pub mod Writings

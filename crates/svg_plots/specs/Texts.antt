@@ -1,14 +1,16 @@
 -- What is written for each part of a document.
 use Rattle.std.specs.Prelude.{ℕ, ◌/◌, ◌%◌, ◌-◌, ◌==◌, nat_lt, Bool, if◌then◌else◌, List, [], ◌∷◌, ◌++◌, length, unwrap_or, codes, decimal, chars, encode_utf8}
 use Rattle.std.specs.List.{flat_map, concat}
+use Rattle.svg_plots.specs.Colours.{colour_text}
 use Rattle.svg_plots.specs.Entities.{entity_of}
-use Rattle.svg_plots.specs.declared.picture.Spot.{Spot}
-use Rattle.svg_plots.specs.declared.picture.Stroke.{Stroke}
-use Rattle.svg_plots.specs.declared.picture.Writing.{Writing}
-use Rattle.svg_plots.specs.declared.picture.Anchor.{Anchor}
-use Rattle.svg_plots.specs.declared.picture.Anchor.TheVariants.{Start, Middle, End}
-use Rattle.svg_plots.specs.declared.picture.Mark.{Mark}
-use Rattle.svg_plots.specs.declared.picture.Mark.TheVariants.{Circle, Square, Diamond, Up, Down, Cross, Plus}
+use Rattle.svg_plots.specs.declared.colour.Colour.{Colour}
+use Rattle.svg_plots.specs.declared.element.Spot.{Spot}
+use Rattle.svg_plots.specs.declared.element.Stroke.{Stroke}
+use Rattle.svg_plots.specs.declared.element.Writing.{Writing}
+use Rattle.svg_plots.specs.declared.element.Anchor.{Anchor}
+use Rattle.svg_plots.specs.declared.element.Anchor.TheVariants.{Start, Middle, End}
+use Rattle.svg_plots.specs.declared.element.Mark.{Mark}
+use Rattle.svg_plots.specs.declared.element.Mark.TheVariants.{Circle, Square, Diamond, Up, Down, Cross, Plus}
 
 -- tenths of a pixel in pixels, as `12.5`
 unfoldable pub tenths_text : ℕ → List ℕ
@@ -31,7 +33,7 @@ unfoldable pub dashes_text : Bool → List ℕ
 dashes_text dashed = if dashed then codes " stroke-dasharray=\"5 4\"" else []
 
 abbrev pub stroke_text : Stroke → List ℕ
-stroke_text s = codes "stroke=\"" ++ (s.colour.now ++ (codes "\" stroke-width=\"" ++ (tenths_text s.width ++ (codes "\"" ++ dashes_text s.dashed))))
+stroke_text s = codes "stroke=\"" ++ (colour_text s.colour ++ (codes "\" stroke-width=\"" ++ (tenths_text s.width ++ (codes "\"" ++ dashes_text s.dashed))))
 
 unfoldable pub weight_text : Bool → List ℕ
 weight_text bold = if bold then codes " font-weight=\"bold\"" else []
@@ -56,10 +58,10 @@ line_text from to stroke =
     concat (codes "<line x1=\"" ∷ tenths_text from.x ∷ codes "\" y1=\"" ∷ tenths_text from.y ∷ codes "\" x2=\"" ∷ tenths_text to.x
     ∷ codes "\" y2=\"" ∷ tenths_text to.y ∷ codes "\" " ∷ stroke_text stroke ∷ codes "/>\n" ∷ [])
 
-abbrev pub cell_text : Spot → ℕ → ℕ → List ℕ → List ℕ
+abbrev pub cell_text : Spot → ℕ → ℕ → Colour → List ℕ
 cell_text at width height fill =
     concat (codes "<rect x=\"" ∷ tenths_text at.x ∷ codes "\" y=\"" ∷ tenths_text at.y ∷ codes "\" width=\"" ∷ tenths_text width
-    ∷ codes "\" height=\"" ∷ tenths_text height ∷ codes "\" fill=\"" ∷ fill ∷ codes "\"/>\n" ∷ [])
+    ∷ codes "\" height=\"" ∷ tenths_text height ∷ codes "\" fill=\"" ∷ colour_text fill ∷ codes "\"/>\n" ∷ [])
 
 abbrev pub frame_text : Spot → Spot → Stroke → List ℕ
 frame_text from to stroke =
@@ -82,10 +84,10 @@ path_text spots stroke =
     else concat (codes "<polyline points=\"" ∷ spots_text spots ∷ codes "\" fill=\"none\" stroke-linejoin=\"round\" " ∷ stroke_text stroke
     ∷ codes "/>\n" ∷ [])
 
-abbrev pub marked_text : Spot → Mark → List ℕ → List ℕ
+abbrev pub marked_text : Spot → Mark → Colour → List ℕ
 marked_text at mark colour =
-    concat (codes "<path d=\"M" ∷ tenths_text at.x ∷ codes " " ∷ tenths_text at.y ∷ mark_text mark ∷ codes "\" fill=\"" ∷ colour
-    ∷ codes "\" stroke=\"" ∷ colour ∷ codes "\" stroke-width=\"1.5\"/>\n" ∷ [])
+    concat (codes "<path d=\"M" ∷ tenths_text at.x ∷ codes " " ∷ tenths_text at.y ∷ mark_text mark ∷ codes "\" fill=\"" ∷ colour_text colour
+    ∷ codes "\" stroke=\"" ∷ colour_text colour ∷ codes "\" stroke-width=\"1.5\"/>\n" ∷ [])
 
 -- the begin of a white picture of so many pixels with its title, and the end
 abbrev pub root_text : ℕ → ℕ → List ℕ

@@ -1,16 +1,14 @@
 //! Panels of curves, side by side.
-ghost use Rattle.std.specs.Prelude.{◌<◌};
+ghost use Rattle.std.specs.Prelude.{◌≡◌, ◌<◌, ◌≤◌, ◌+◌, ◌-◌, ◌*◌, ◌/◌, ◌%◌, ◌++◌, IfOk, OnOk, length, map, min, string_bytes};
+ghost use Rattle.std.specs.List.{flat_map};
+ghost use Rattle.svg_plots.specs.Lists.{each, few_of};
+ghost use Rattle.svg_plots.specs.Writings.{note_drawn};
+ghost use Rattle.svg_plots.specs.declared.element.Element.TheVariants.{Marked};
+ghost use Rattle.svg_plots.specs.CurvePanels.{across_drawn, across_tick, area_of, columns_of, curve_drawn, curves_elements, curves_height, curves_text, label_drawn, left_of, legend_from, legend_of, legend_rows, is_named, mark_drawn, marks_drawn, named_drawn, named_in, place_after, panel_drawn, panels_drawn, placed, spot_in, up_drawn, up_tick, width_of, IsInside};
 
-use crate::{Anchor, Mark, Picture, Scale, Spot, Stroke, Writing};
+use crate::writings::{FINE, FRAME, TITLE, WIDTH, draw_notes, few, plain};
+use crate::{Anchor, Colour, Label, Mark, Picture, Scale, Spot, Stroke, Tick, Writing};
 use std::alloc::{AllocError, Global};
-
-/// A place of an axis that has a number.
-#[derive(Clone, Copy, PartialEq, Eq, Debug)]
-pub struct Tick {
-    pub value: u32,
-    /// What is written there.
-    pub number: u32,
-}
 
 /// An axis with the values from `from` to `to`.
 #[derive(Clone, Copy)]
@@ -50,51 +48,39 @@ pub struct Curves<'a> {
     pub legend_columns: u16,
 }
 
-/// The width of a picture, in pixels.
-pub(crate) const WIDTH: u16 = 800;
-
-pub(crate) const INK: &str = "#1a1a1a";
-
-pub(crate) const FINE: Stroke = Stroke {
-    colour: "#d4d4d4",
-    width: 8,
-    dashed: false,
-};
-
-pub(crate) const FRAME: Stroke = Stroke {
-    colour: INK,
-    width: 10,
-    dashed: false,
-};
-
-pub(crate) const TITLE: Writing = Writing {
-    anchor: Anchor::Start,
-    size: 15,
-    bold: true,
-};
-
-/// Plain text with one end at its place.
-pub(crate) fn plain(anchor: Anchor) -> Writing {
-    Writing {
-        anchor,
-        size: 12,
-        bold: false,
-    }
-}
-
 /// The places of a panel's frame and of its values.
 #[derive(Clone, Copy)]
 struct Area {
     left: u32,
     right: u32,
-    top: u32,
-    bottom: u32,
     across: Scale,
     up: Scale,
 }
 
+const PANEL_TITLE: Writing = Writing {
+    anchor: Anchor::Start,
+    size: 13,
+    bold: true,
+};
+
 impl Area {
-    fn spot(self, point: (u32, u32)) -> Spot {
+    fn x(self, value: u32) -> u32
+        ensures { result ≡ placed self.across value }
+    {
+        self.across.place(value)
+    }
+
+    fn y(self, value: u32) -> u32
+        requires { IsInside self }
+        ensures place { result ≡ placed self.up value }
+        ensures within { result ≤ 3860 }
+    {
+        self.up.place(value)
+    }
+
+    fn spot(self, point: (u32, u32)) -> Spot
+        ensures { result ≡ spot_in self point }
+    {
         Spot {
             x: self.across.place(point.0),
             y: self.up.place(point.1),
@@ -102,29 +88,25 @@ impl Area {
     }
 }
 
-const TOP: u32 = 860;
-
-const BOTTOM: u32 = 3_860;
-
-/// The left edge of the first panel, what lies between panels, and what is free on the right.
-const LEFT: u32 = 460;
-
-const BETWEEN: u32 = 520;
-
-const RIGHT: u32 = 7_800;
+/// The width of each of so many panels, with what lies between two.
+fn width_of(count: usize) -> u32
+    ensures width { result ≡ width_of count }
+    ensures most { result ≤ 7860 }
+{
+    7_860 / (count.min(8) as u32).max(1)
+}
 
 /// The area of one of so many panels.
-fn area_of(panel: &Panel<'_>, place: usize, count: usize) -> Area {
-    let count = (count as u64).min(8).max(1) as u32;
-    let place = (place as u64).min(8) as u32;
-    let width = (RIGHT - LEFT + BETWEEN) / count;
-    let left = LEFT + place.saturating_mul(width).min(100_000);
-    let right = left + width.saturating_sub(BETWEEN);
+fn area_of(panel: &Panel<'_>, place: usize, count: usize) -> Area
+    ensures area { result ≡ area_of panel.now place count }
+    ensures inside { IsInside result }
+{
+    let width = width_of(count);
+    let left = 460 + place.min(8) as u32 * width;
+    let right = left + width.saturating_sub(520);
     Area {
         left,
         right,
-        top: TOP,
-        bottom: BOTTOM,
         across: Scale {
             from: panel.across.from,
             to: panel.across.to,
@@ -134,218 +116,373 @@ fn area_of(panel: &Panel<'_>, place: usize, count: usize) -> Area {
         up: Scale {
             from: panel.up.from,
             to: panel.up.to,
-            start: BOTTOM,
-            end: TOP,
+            start: 3_860,
+            end: 860,
         },
     }
 }
 
-/// The numbers across, with a fine line up from each.
+/// A number across, with a fine line up from it.
+#[tactic(auto, unfolding(crate::specs::CurvePanels::across_tick))]
+fn draw_across_tick(
+    alloc: Global,
+    picture: &mut Picture,
+    area: Area,
+    tick: Tick,
+) -> Result<(), AllocError>
+    ensures { OnOk result (picture.new ≡ picture.old ++ across_tick area tick) }
+{
+    let x = area.x(tick.value);
+    let number = format!(in alloc; "{}", tick.number)?;
+    picture.line(Spot { x, y: 860 }, Spot { x, y: 3_860 }, FINE)?;
+    picture.words(Spot { x, y: 4_030 }, plain(Anchor::Middle), number.as_str())
+}
+
+fn draw_across_ticks(
+    alloc: Global,
+    picture: &mut Picture,
+    area: Area,
+    ticks: &[Tick],
+) -> Result<(), AllocError>
+    ensures { OnOk result (picture.new ≡ picture.old ++ flat_map (across_tick area) ticks.now) }
+{
+    for tick in ticks {
+        draw_across_tick(alloc, picture, area, *tick)?;
+    }
+    Ok(())
+}
+
+/// The numbers across, and what they are.
+#[tactic(auto, unfolding(crate::specs::CurvePanels::across_drawn))]
 fn draw_across(
     alloc: Global,
     picture: &mut Picture,
     area: Area,
-    axis: Axis<'_>,
-) -> Result<(), AllocError> {
-    for tick in axis.ticks {
-        let x = area.across.place(tick.value);
-        let number = format!(in alloc; "{}", tick.number)?;
-        picture.line(Spot { x, y: area.top }, Spot { x, y: area.bottom }, FINE)?;
-        picture.words(
-            Spot {
-                x,
-                y: area.bottom.saturating_add(170),
-            },
-            plain(Anchor::Middle),
-            number.as_str(),
-        )?;
-    }
-    picture.words(
-        Spot {
-            x: area.left / 2 + area.right / 2,
-            y: area.bottom.saturating_add(340),
-        },
-        plain(Anchor::Middle),
-        axis.title,
-    )
+    axis: &Axis<'_>,
+) -> Result<(), AllocError>
+    requires { IsInside area }
+    ensures { OnOk result (picture.new ≡ picture.old ++ across_drawn area axis.now) }
+{
+    draw_across_ticks(alloc, picture, area, axis.ticks)?;
+    let x = (area.left + area.right) / 2;
+    picture.words(Spot { x, y: 4_200 }, plain(Anchor::Middle), axis.title)
 }
 
-/// The numbers up, with a fine line across from each.
+/// A number up, with a fine line across from it.
+#[tactic(auto, unfolding(crate::specs::CurvePanels::up_tick))]
+fn draw_up_tick(
+    alloc: Global,
+    picture: &mut Picture,
+    area: Area,
+    tick: Tick,
+) -> Result<(), AllocError>
+    requires { IsInside area }
+    ensures { OnOk result (picture.new ≡ picture.old ++ up_tick area tick) }
+{
+    let y = area.y(tick.value);
+    let number = format!(in alloc; "{}", tick.number)?;
+    picture.line(Spot { x: area.left, y }, Spot { x: area.right, y }, FINE)?;
+    let at = Spot {
+        x: area.left.saturating_sub(60),
+        y: y + 40,
+    };
+    picture.words(at, plain(Anchor::End), number.as_str())
+}
+
+fn draw_up_ticks(
+    alloc: Global,
+    picture: &mut Picture,
+    area: Area,
+    ticks: &[Tick],
+) -> Result<(), AllocError>
+    requires { IsInside area }
+    ensures { OnOk result (picture.new ≡ picture.old ++ flat_map (up_tick area) ticks.now) }
+{
+    for tick in ticks {
+        draw_up_tick(alloc, picture, area, *tick)?;
+    }
+    Ok(())
+}
+
+/// The numbers up, and what they are.
+#[tactic(auto, unfolding(crate::specs::CurvePanels::up_drawn))]
 fn draw_up(
     alloc: Global,
     picture: &mut Picture,
     area: Area,
-    axis: Axis<'_>,
-) -> Result<(), AllocError> {
-    for tick in axis.ticks {
-        let y = area.up.place(tick.value);
-        let number = format!(in alloc; "{}", tick.number)?;
-        picture.line(Spot { x: area.left, y }, Spot { x: area.right, y }, FINE)?;
-        picture.words(
-            Spot {
-                x: area.left.saturating_sub(60),
-                y: y.saturating_add(40),
-            },
-            plain(Anchor::End),
-            number.as_str(),
-        )?;
-    }
-    picture.words(
-        Spot {
-            x: area.left.saturating_sub(260),
-            y: area.top.saturating_sub(120),
-        },
-        plain(Anchor::Start),
-        axis.title,
-    )
+    axis: &Axis<'_>,
+) -> Result<(), AllocError>
+    requires { IsInside area }
+    ensures { OnOk result (picture.new ≡ picture.old ++ up_drawn area axis.now) }
+{
+    draw_up_ticks(alloc, picture, area, axis.ticks)?;
+    let x = area.left.saturating_sub(260);
+    picture.words(Spot { x, y: 740 }, plain(Anchor::Start), axis.title)
 }
 
+/// The places of a curve's points.
+fn spots_of(alloc: Global, area: Area, points: &[(u32, u32)]) -> Result<Vec<Spot>, AllocError>
+    ensures { IfOk result (λ v. v.items ≡ map (spot_in area) points.now) }
+{
+    let mut spots = Vec::new(alloc);
+    for point in points {
+        spots.push(area.spot(*point))?;
+    }
+    Ok(spots)
+}
+
+fn draw_each_mark(
+    picture: &mut Picture,
+    area: Area,
+    colour: Colour,
+    points: &[(u32, u32)],
+    mark: Mark,
+) -> Result<(), AllocError>
+    ensures { OnOk result (picture.new ≡ picture.old ++ map (λ point. Marked (spot_in area point) mark colour) points.now) }
+{
+    for point in points {
+        picture.mark(area.spot(*point), mark, colour)?;
+    }
+    Ok(())
+}
+
+/// A line through a curve's points, and its mark at each of them.
+#[tactic(auto, unfolding(crate::specs::CurvePanels::curve_drawn))]
 fn draw_curve(
     alloc: Global,
     picture: &mut Picture,
     area: Area,
     curve: &Curve<'_>,
-) -> Result<(), AllocError> {
-    let mut spots = Vec::new(alloc);
-    for point in curve.points.as_slice() {
-        spots.push(area.spot(*point))?;
-    }
-    picture.path(spots.as_slice(), curve.stroke)?;
+) -> Result<(), AllocError>
+    ensures { OnOk result (picture.new ≡ picture.old ++ curve_drawn area curve.now) }
+{
+    let points = curve.points.as_slice();
+    let spots = spots_of(alloc, area, points)?;
+    picture.path(spots, curve.stroke)?;
     let Some(mark) = curve.mark else {
         return Ok(());
     };
-    for spot in spots.as_slice() {
-        picture.mark(*spot, mark, curve.stroke.colour)?;
-    }
-    Ok(())
+    draw_each_mark(picture, area, curve.stroke.colour, points, mark)
 }
 
-fn draw_panel(
+fn draw_each_curve(
     alloc: Global,
     picture: &mut Picture,
-    panel: &Panel<'_>,
     area: Area,
-) -> Result<(), AllocError> {
-    let from = Spot {
-        x: area.left,
-        y: area.top,
-    };
-    let to = Spot {
-        x: area.right,
-        y: area.bottom,
-    };
-    picture.words(
-        Spot {
-            x: area.left.saturating_sub(260),
-            y: area.top.saturating_sub(320),
-        },
-        Writing {
-            anchor: Anchor::Start,
-            size: 13,
-            bold: true,
-        },
-        panel.title,
-    )?;
-    draw_across(alloc, picture, area, panel.across)?;
-    draw_up(alloc, picture, area, panel.up)?;
-    picture.frame(from, to, FRAME)?;
-    for curve in panel.curves.as_slice() {
+    curves: &[Curve<'_>],
+) -> Result<(), AllocError>
+    ensures { OnOk result (picture.new ≡ picture.old ++ flat_map (curve_drawn area) curves.now) }
+{
+    for curve in curves {
         draw_curve(alloc, picture, area, curve)?;
     }
     Ok(())
 }
 
-/// The legend of a curve at a place: a piece of its line, its mark, its label.
-fn draw_label(picture: &mut Picture, at: Spot, curve: &Curve<'_>) -> Result<(), AllocError> {
-    let y = at.y.saturating_sub(40);
-    let end = Spot {
-        x: at.x.saturating_add(240),
-        y,
+/// A panel: its title, its axes, its frame, its curves.
+#[tactic(auto, unfolding(crate::specs::CurvePanels::panel_drawn))]
+fn draw_panel(
+    alloc: Global,
+    picture: &mut Picture,
+    area: Area,
+    panel: &Panel<'_>,
+) -> Result<(), AllocError>
+    requires { IsInside area }
+    ensures { OnOk result (picture.new ≡ picture.old ++ panel_drawn area panel.now) }
+{
+    let x = area.left.saturating_sub(260);
+    let from = Spot {
+        x: area.left,
+        y: 860,
     };
-    picture.line(Spot { x: at.x, y }, end, curve.stroke)?;
-    if let Some(mark) = curve.mark {
-        picture.mark(
-            Spot {
-                x: at.x.saturating_add(120),
-                y,
-            },
-            mark,
-            curve.stroke.colour,
-        )?;
-    }
-    picture.words(
-        Spot {
-            x: at.x.saturating_add(300),
-            y: at.y,
-        },
-        plain(Anchor::Start),
-        curve.label,
-    )
+    let to = Spot {
+        x: area.right,
+        y: 3_860,
+    };
+    picture.words(Spot { x, y: 540 }, PANEL_TITLE, panel.title)?;
+    draw_across(alloc, picture, area, &panel.across)?;
+    draw_up(alloc, picture, area, &panel.up)?;
+    picture.frame(from, to, FRAME)?;
+    draw_each_curve(alloc, picture, area, panel.curves.as_slice())
 }
 
-/// The legend, from a height on, in so many columns: the height behind it.
-fn draw_legend(
-    picture: &mut Picture,
-    curves: &[Curve<'_>],
-    columns: u32,
-    from: u32,
-) -> Result<u32, AllocError> {
-    let columns = columns.max(1);
-    let width = (RIGHT - LEFT) / columns;
-    let mut place: u32 = 0;
-    for curve in curves {
-        if !curve.label.is_empty() {
-            let x = (place % columns).saturating_mul(width).saturating_add(LEFT);
-            let y = (place / columns).saturating_mul(200).saturating_add(from);
-            draw_label(picture, Spot { x, y }, curve)?;
-            place = place.saturating_add(1);
-        }
-    }
-    let rows = place.saturating_add(columns - 1) / columns;
-    Ok(rows.saturating_mul(200).saturating_add(from))
-}
-
-/// Lines of text, from a height on.
-pub(crate) fn draw_notes(
-    picture: &mut Picture,
-    notes: &[&str],
-    left: u32,
-    from: u32,
-) -> Result<(), AllocError> {
-    let mut y = from;
-    for note in notes {
-        picture.words(
-            Spot { x: left, y },
-            Writing {
-                anchor: Anchor::Start,
-                size: 12,
-                bold: false,
-            },
-            note,
-        )?;
-        y = y.saturating_add(170);
+#[tactic(auto, unfolding(crate::specs::CurvePanels::panels_drawn))]
+fn draw_panels(alloc: Global, picture: &mut Picture, panels: &[Panel<'_>]) -> Result<(), AllocError>
+    ensures { OnOk result (picture.new ≡ picture.old ++ panels_drawn panels.now) }
+{
+    for (place, panel) in panels.iter().enumerate() {
+        let area = area_of(panel, place, panels.len());
+        draw_panel(alloc, picture, area, panel)?;
     }
     Ok(())
 }
 
-/// So many as a small number.
-pub(crate) fn few(count: usize) -> u32
-    ensures { result < 1000 }
+/// The mark of a curve that has one.
+fn draw_mark(
+    picture: &mut Picture,
+    at: Spot,
+    colour: Colour,
+    mark: Option<Mark>,
+) -> Result<(), AllocError>
+    ensures { OnOk result (picture.new ≡ picture.old ++ mark_drawn at colour mark) }
 {
-    if count < 1000 { count as u32 } else { 999 }
+    match mark {
+        None => Ok(()),
+        Some(mark) => picture.mark(at, mark, colour),
+    }
+}
+
+/// The legend of a curve at a place: a piece of its line, its mark, its label.
+#[tactic(auto, unfolding(crate::specs::CurvePanels::label_drawn))]
+fn draw_label(picture: &mut Picture, x: u32, y: u32, curve: &Curve<'_>) -> Result<(), AllocError>
+    requires across { x ≤ 1000000 }
+    requires down { y ≤ 1000000 }
+    ensures { OnOk result (picture.new ≡ picture.old ++ label_drawn x y curve.now) }
+{
+    let line = y.saturating_sub(40);
+    let (from, to) = (
+        Spot { x, y: line },
+        Spot {
+            x: x + 240,
+            y: line,
+        },
+    );
+    picture.line(from, to, curve.stroke)?;
+    let middle = Spot {
+        x: x + 120,
+        y: line,
+    };
+    draw_mark(picture, middle, curve.stroke.colour, curve.mark)?;
+    picture.words(Spot { x: x + 300, y }, plain(Anchor::Start), curve.label)
+}
+
+/// Whether the legend names a curve.
+fn is_named(curve: &Curve<'_>) -> bool
+    ensures { result ≡ is_named curve.now }
+{
+    curve.label.len() > 0
+}
+
+/// The place behind a curve's in the legend.
+fn place_after(place: u32, curve: &Curve<'_>) -> u32
+    requires { place ≤ 999 }
+    ensures place { result ≡ place_after place curve.now }
+    ensures few { result ≤ 999 }
+{
+    if is_named(curve) {
+        few(place as usize + 1)
+    } else {
+        place
+    }
+}
+
+/// How far a column of so many is from the first one.
+fn across_share(column: u32, columns: u32) -> u32
+    requires { column < columns }
+    ensures share { result ≡ column * (7340 / columns) }
+    ensures most { result ≤ 7340 }
+{
+    column * (7_340 / columns)
+}
+
+/// The legend of a curve that is named, at its place.
+#[tactic(auto, unfolding(crate::specs::CurvePanels::named_drawn))]
+fn draw_named(
+    picture: &mut Picture,
+    columns: u32,
+    place: u32,
+    curve: &Curve<'_>,
+) -> Result<(), AllocError>
+    requires some { 0 < columns }
+    requires few { place ≤ 999 }
+    ensures { OnOk result (picture.new ≡ picture.old ++ named_drawn columns place curve.now) }
+{
+    if !is_named(curve) {
+        return Ok(());
+    }
+    let x = 460 + across_share(place % columns, columns);
+    let y = 4_500 + place / columns * 200;
+    draw_label(picture, x, y, curve)
+}
+
+/// The legend in so many columns.
+fn draw_legend(picture: &mut Picture, columns: u32, curves: &[Curve<'_>]) -> Result<(), AllocError>
+    requires { 0 < columns }
+    ensures { OnOk result (picture.new ≡ picture.old ++ legend_from columns 0 curves.now) }
+{
+    let mut place: u32 = 0;
+    for curve in curves {
+        draw_named(picture, columns, place, curve)?;
+        place = place_after(place, curve);
+    }
+    Ok(())
 }
 
 /// How many curves the legend names.
-fn named(curves: &[Curve<'_>]) -> u32
-    ensures { result < 1000 }
+fn named_in(curves: &[Curve<'_>]) -> u32
+    ensures named { result ≡ named_in curves.now }
+    ensures few { result ≤ 999 }
 {
-    let mut count: usize = 0;
+    let mut place: u32 = 0;
     for curve in curves {
-        if !curve.label.is_empty() {
-            count = count.saturating_add(1);
-        }
+        place = place_after(place, curve);
     }
-    few(count)
+    place
+}
+
+/// The curves that the legend names.
+#[tactic(auto, unfolding(crate::specs::CurvePanels::legend_of))]
+fn legend_of<'a>(panels: &'a [Panel<'a>]) -> &'a [Curve<'a>]
+    ensures { result.now ≡ legend_of panels.now }
+{
+    match panels.first() {
+        Some(panel) => panel.curves.as_slice(),
+        None => &[],
+    }
+}
+
+/// How many columns the legend has.
+fn columns_of(curves: &Curves<'_>) -> u32
+    ensures columns { result ≡ columns_of curves.now }
+    ensures some { 0 < result }
+    ensures few { result ≤ 65535 }
+{
+    u32::from(curves.legend_columns).max(1)
+}
+
+/// How many rows the legend has.
+fn legend_rows(named: u32, columns: u32) -> u32
+    requires some { 0 < columns }
+    requires few { columns ≤ 65535 }
+    requires most { named ≤ 999 }
+    ensures { result ≡ (named + columns - 1) / columns }
+{
+    (named + columns - 1) / columns
+}
+
+/// Lines of text, from a height on.
+fn draw_texts(picture: &mut Picture, notes: &[Label], rows: u32) -> Result<(), AllocError>
+    ensures { OnOk result (picture.new ≡ picture.old ++ each (note_drawn (4560 + 200 * few_of rows)) notes.now) }
+{
+    draw_notes(picture, notes, 4_560 + 200 * few(rows as usize))
+}
+
+/// All parts, in the order in which they lie over one another.
+fn draw_parts(
+    alloc: Global,
+    picture: &mut Picture,
+    curves: &Curves<'_>,
+    notes: &[Label],
+) -> Result<(), AllocError>
+    ensures { OnOk result (picture.new ≡ picture.old ++ curves_elements curves.now notes.now) }
+{
+    let columns = columns_of(curves);
+    let labelled = legend_of(curves.panels);
+    let rows = legend_rows(named_in(labelled), columns);
+    picture.words(Spot { x: 200, y: 250 }, TITLE, curves.title)?;
+    draw_panels(alloc, picture, curves.panels)?;
+    draw_legend(picture, columns, labelled)?;
+    draw_texts(picture, notes, rows)
 }
 
 /// The picture, with lines of text under it, as an SVG document.
@@ -353,25 +490,18 @@ fn named(curves: &[Curve<'_>]) -> u32
 /// # Errors
 ///
 /// Where a growth was refused. What was taken is given back.
+#[tactic(auto, unfolding(crate::specs::CurvePanels::curves_text))]
 pub fn draw_curves(
     alloc: Global,
     curves: &Curves<'_>,
-    notes: &[&str],
-) -> Result<String, AllocError> {
-    let labelled = match curves.panels.first() {
-        Some(panel) => panel.curves.as_slice(),
-        None => &[],
-    };
-    let columns = u32::from(curves.legend_columns).max(1);
-    let rows = (named(labelled) + columns - 1) / columns;
+    notes: &[Label],
+) -> Result<String, AllocError>
+    ensures { IfOk result (λ text. string_bytes text ≡ curves_text curves.now notes.now) }
+{
+    let columns = columns_of(curves);
+    let rows = legend_rows(named_in(legend_of(curves.panels)), columns);
     let height = 450 + 20 * few(rows as usize) + 17 * few(notes.len());
-    let mut picture = Picture::new(alloc, WIDTH, height as u16, curves.title)?;
-    picture.words(Spot { x: 200, y: 250 }, TITLE, curves.title)?;
-    for (place, panel) in curves.panels.iter().enumerate() {
-        let area = area_of(panel, place, curves.panels.len());
-        draw_panel(alloc, &mut picture, panel, area)?;
-    }
-    let below = draw_legend(&mut picture, labelled, columns, BOTTOM + 640)?;
-    draw_notes(&mut picture, notes, 200, below.saturating_add(60))?;
-    picture.close()
+    let mut picture = Picture::new(alloc);
+    draw_parts(alloc, &mut picture, curves, notes)?;
+    picture.draw(WIDTH, height as u16, curves.title)
 }

@@ -1,156 +1,65 @@
-//! An SVG document that grows.
-ghost use Rattle.std.specs.Prelude.{◌≡◌, ◌++◌, IfOk, OnOk, Some, string_bytes};
-ghost use Rattle.svg_plots.specs.Texts.{anchor_text, cell_text, closing_text, dashes_text, frame_text, line_text, mark_text, marked_text, opening_text, path_text, spots_text, stroke_text, weight_text, words_text, writing_text};
+//! Drawings, and the documents that they are written as.
+ghost use Rattle.std.specs.Prelude.{◌≡◌, ◌++◌, ◌∷◌, [], IfOk, OnOk, string_bytes};
+ghost use Rattle.svg_plots.specs.Texts.{cell_text, frame_text, line_text, marked_text, opening_text, path_text, spots_text, words_text};
+ghost use Rattle.svg_plots.specs.Drawings.{drawing_text, element_text, elements_text};
+ghost use Rattle.svg_plots.specs.declared.element.Element.TheVariants.{Cell, Frame, Line, Marked, Path, Words};
 
-use crate::{Escaped, Tenths};
+use crate::element::{Element, Label, Mark, Spot, Spots, Stroke, Writing};
+use crate::{Colour, Escaped, Tenths};
 use std::alloc::{AllocError, Global};
-use std::fmt;
+use std::fmt::Write;
 use std::marker::Model;
 
-/// A place in tenths of a pixel, from the left and from the top.
-#[derive(Clone, Copy, PartialEq, Eq, Debug)]
-pub struct Spot {
-    pub x: u32,
-    pub y: u32,
-}
-
-/// How a line is drawn.
-#[derive(Clone, Copy, PartialEq, Eq, Debug)]
-pub struct Stroke {
-    pub colour: &'static str,
-    /// In tenths of a pixel.
-    pub width: u32,
-    pub dashed: bool,
-}
-
-#[tactic(auto, unfolding(crate::specs::Texts::dashes_text))]
-fn dashes(dashed: bool) -> &'static str
-    ensures { result.now ≡ dashes_text dashed }
+/// Adds a straight line.
+fn write_line(text: &mut String, from: Spot, to: Spot, stroke: Stroke) -> Result<(), AllocError>
+    ensures { OnOk result (string_bytes text.new ≡ string_bytes text.old ++ line_text from to stroke) }
 {
-    if dashed {
-        " stroke-dasharray=\"5 4\""
-    } else {
-        ""
-    }
+    let (x, y) = (Tenths(from.x), Tenths(from.y));
+    let (to_x, to_y) = (Tenths(to.x), Tenths(to.y));
+    writeln!(
+        text,
+        "<line x1=\"{x}\" y1=\"{y}\" x2=\"{to_x}\" y2=\"{to_y}\" {stroke}/>"
+    )
 }
 
-/// A stroke prints as the attributes of an element.
-impl fmt::Display for Stroke {
-    ghost output = { λ stroke. Some (stroke_text stroke) };
-
-    fn fmt<W: fmt::Write>(&self, f: &mut fmt::Formatter<W>) -> fmt::Result {
-        let Stroke {
-            colour,
-            width,
-            dashed,
-        } = *self;
-        let width = Tenths(width);
-        let dashes = dashes(dashed);
-        write!(f, "stroke=\"{colour}\" stroke-width=\"{width}\"{dashes}")
-    }
-}
-
-/// Which end of a text stands at its place.
-#[derive(Clone, Copy, PartialEq, Eq, Debug)]
-pub enum Anchor {
-    Start,
-    Middle,
-    End,
-}
-
-impl fmt::Display for Anchor {
-    ghost output = { λ anchor. Some (anchor_text anchor) };
-
-    #[tactic(auto, unfolding(crate::specs::Texts::anchor_text))]
-    fn fmt<W: fmt::Write>(&self, f: &mut fmt::Formatter<W>) -> fmt::Result {
-        match self {
-            Anchor::Start => write!(f, "start"),
-            Anchor::Middle => write!(f, "middle"),
-            Anchor::End => write!(f, "end"),
-        }
-    }
-}
-
-/// How a text is written: which end stands at its place, its size in pixels, and whether it is bold. It prints as the
-/// attributes of an element.
-#[derive(Clone, Copy, PartialEq, Eq, Debug)]
-pub struct Writing {
-    pub anchor: Anchor,
-    pub size: u8,
-    pub bold: bool,
-}
-
-#[tactic(auto, unfolding(crate::specs::Texts::weight_text))]
-fn weight(bold: bool) -> &'static str
-    ensures { result.now ≡ weight_text bold }
+/// Adds a filled rectangle.
+fn write_cell(
+    text: &mut String,
+    at: Spot,
+    width: u32,
+    height: u32,
+    fill: Colour,
+) -> Result<(), AllocError>
+    ensures { OnOk result (string_bytes text.new ≡ string_bytes text.old ++ cell_text at width height fill) }
 {
-    if bold { " font-weight=\"bold\"" } else { "" }
+    let (x, y) = (Tenths(at.x), Tenths(at.y));
+    let (width, height) = (Tenths(width), Tenths(height));
+    writeln!(
+        text,
+        "<rect x=\"{x}\" y=\"{y}\" width=\"{width}\" height=\"{height}\" fill=\"{fill}\"/>"
+    )
 }
 
-impl fmt::Display for Writing {
-    ghost output = { λ how. Some (writing_text how) };
-
-    fn fmt<W: fmt::Write>(&self, f: &mut fmt::Formatter<W>) -> fmt::Result {
-        let Writing { anchor, size, bold } = *self;
-        let weight = weight(bold);
-        write!(f, "font-size=\"{size}\" text-anchor=\"{anchor}\"{weight}")
-    }
+/// Adds the outline of a rectangle.
+fn write_frame(text: &mut String, from: Spot, to: Spot, stroke: Stroke) -> Result<(), AllocError>
+    ensures { OnOk result (string_bytes text.new ≡ string_bytes text.old ++ frame_text from to stroke) }
+{
+    let (x, y) = (Tenths(from.x), Tenths(from.y));
+    let width = Tenths(to.x.saturating_sub(from.x));
+    let height = Tenths(to.y.saturating_sub(from.y));
+    writeln!(
+        text,
+        "<rect x=\"{x}\" y=\"{y}\" width=\"{width}\" height=\"{height}\" fill=\"none\" {stroke}/>"
+    )
 }
 
-/// A mark at a point of a curve. It prints as the path that draws it from its middle.
-#[derive(Clone, Copy, PartialEq, Eq, Debug)]
-pub enum Mark {
-    Circle,
-    Square,
-    Diamond,
-    Up,
-    Down,
-    Cross,
-    Plus,
-}
-
-impl Mark {
-    /// All marks, in the order in which curves take them.
-    pub const ALL: [Mark; 7] = [
-        Mark::Circle,
-        Mark::Square,
-        Mark::Up,
-        Mark::Diamond,
-        Mark::Down,
-        Mark::Cross,
-        Mark::Plus,
-    ];
-}
-
-impl fmt::Display for Mark {
-    ghost output = { λ mark. Some (mark_text mark) };
-
-    #[tactic(auto, unfolding(crate::specs::Texts::mark_text))]
-    fn fmt<W: fmt::Write>(&self, f: &mut fmt::Formatter<W>) -> fmt::Result {
-        match self {
-            Mark::Circle => write!(f, "m-3.5 0a3.5 3.5 0 1 0 7 0a3.5 3.5 0 1 0 -7 0z"),
-            Mark::Square => write!(f, "m-3 -3h6v6h-6z"),
-            Mark::Diamond => write!(f, "m0 -4.5l4 4.5l-4 4.5l-4 -4.5z"),
-            Mark::Up => write!(f, "m0 -4l4 7h-8z"),
-            Mark::Down => write!(f, "m0 4l4 -7h-8z"),
-            Mark::Cross => write!(f, "m-3.5 -3.5l7 7m0 -7l-7 7"),
-            Mark::Plus => write!(f, "m-4 0h8m-4 -4v8"),
-        }
-    }
-}
-
-/// An SVG document that grows. Each call adds one element, where memory isn't refused. Contracts see its text.
-#[derive(Drop)]
-pub struct Picture {
-    text: String,
-}
-
-impl Model for Picture {
-    ghost use Rattle.std.specs.Prelude.{ℕ, List, string_bytes};
-
-    ghost Value = { List ℕ };
-
-    ghost view = { λ picture. string_bytes picture.text };
+/// Adds a text, whose characters are replaced where they can't stand in a document.
+fn write_words(text: &mut String, at: Spot, how: Writing, words: &str) -> Result<(), AllocError>
+    ensures { OnOk result (string_bytes text.new ≡ string_bytes text.old ++ words_text at how words.now) }
+{
+    let (x, y) = (Tenths(at.x), Tenths(at.y));
+    let words = Escaped(words);
+    writeln!(text, "<text x=\"{x}\" y=\"{y}\" {how}>{words}</text>")
 }
 
 /// Adds places, each with a space behind it.
@@ -164,139 +73,202 @@ fn write_spots(text: &mut String, spots: &[Spot]) -> Result<(), AllocError>
     Ok(())
 }
 
+/// Adds a line through several places, none where there are fewer than two.
+fn write_path(text: &mut String, spots: &[Spot], stroke: Stroke) -> Result<(), AllocError>
+    ensures { OnOk result (string_bytes text.new ≡ string_bytes text.old ++ path_text spots.now stroke) }
+{
+    if spots.len() < 2 {
+        return Ok(());
+    }
+    write!(text, "<polyline points=\"")?;
+    write_spots(text, spots)?;
+    writeln!(
+        text,
+        "\" fill=\"none\" stroke-linejoin=\"round\" {stroke}/>"
+    )
+}
+
+/// Adds a mark.
+fn write_mark(text: &mut String, at: Spot, mark: Mark, colour: Colour) -> Result<(), AllocError>
+    ensures { OnOk result (string_bytes text.new ≡ string_bytes text.old ++ marked_text at mark colour) }
+{
+    let (x, y) = (Tenths(at.x), Tenths(at.y));
+    writeln!(
+        text,
+        "<path d=\"M{x} {y}{mark}\" fill=\"{colour}\" stroke=\"{colour}\" stroke-width=\"1.5\"/>"
+    )
+}
+
+/// Adds an element.
+#[tactic(auto, unfolding(crate::specs::Drawings::element_text))]
+fn write_element(text: &mut String, element: &Element) -> Result<(), AllocError>
+    ensures { OnOk result (string_bytes text.new ≡ string_bytes text.old ++ element_text element.now) }
+{
+    match element {
+        Element::Line { from, to, stroke } => write_line(text, *from, *to, *stroke),
+        Element::Cell {
+            at,
+            width,
+            height,
+            fill,
+        } => write_cell(text, *at, *width, *height, *fill),
+        Element::Frame { from, to, stroke } => write_frame(text, *from, *to, *stroke),
+        Element::Words { at, how, words } => write_words(text, *at, *how, words.as_str()),
+        Element::Path { spots, stroke } => write_path(text, spots.as_slice(), *stroke),
+        Element::Marked { at, mark, colour } => write_mark(text, *at, *mark, *colour),
+    }
+}
+
+/// Adds elements, one after another.
+fn write_elements(text: &mut String, elements: &[Element]) -> Result<(), AllocError>
+    ensures { OnOk result (string_bytes text.new ≡ string_bytes text.old ++ elements_text elements.now) }
+{
+    for element in elements {
+        write_element(text, element)?;
+    }
+    Ok(())
+}
+
+/// The begin of a document: a white picture of so many pixels, with a title that readers of the screen are told.
+fn opening(alloc: Global, width: u16, height: u16, title: &str) -> Result<String, AllocError>
+    ensures { IfOk result (λ text. string_bytes text ≡ opening_text width height title.now) }
+{
+    let mut text = String::new(alloc);
+    writeln!(
+        text,
+        "<svg xmlns=\"http://www.w3.org/2000/svg\" width=\"{width}\" height=\"{height}\" viewBox=\"0 0 {width} {height}\" font-family=\"Helvetica, Arial, sans-serif\" fill=\"#1a1a1a\">"
+    )?;
+    let title = Escaped(title);
+    writeln!(
+        text,
+        "<title>{title}</title>\n<rect width=\"{width}\" height=\"{height}\" fill=\"#ffffff\"/>"
+    )?;
+    Ok(text)
+}
+
+/// A drawing: elements, of which later ones lie over earlier ones. Contracts see their list. Each call adds one, where memory
+/// isn't refused.
+#[derive(Drop)]
+pub struct Picture {
+    alloc: Global,
+    elements: Vec<Element>,
+}
+
+impl Model for Picture {
+    ghost use Rattle.std.specs.Prelude.{List};
+    ghost use Rattle.svg_plots.specs.declared.element.Element.{Element};
+
+    ghost Value = { List Element };
+
+    ghost view = { λ picture. picture.elements.items };
+}
+
 impl Picture {
-    /// A white picture of so many pixels, with a title that readers of the screen are told.
-    ///
-    /// # Errors
-    ///
-    /// Where a growth was refused. What was taken is given back.
-    pub fn new(alloc: Global, width: u16, height: u16, title: &str) -> Result<Picture, AllocError>
-        ensures { IfOk result (λ picture. picture ≡ opening_text width height title.now) }
+    /// A drawing without elements.
+    pub fn new(alloc: Global) -> Picture
+        ensures { result ≡ [] }
     {
-        let mut text = String::new(alloc);
-        writeln!(
-            text,
-            "<svg xmlns=\"http://www.w3.org/2000/svg\" width=\"{width}\" height=\"{height}\" viewBox=\"0 0 {width} {height}\" font-family=\"Helvetica, Arial, sans-serif\" fill=\"#1a1a1a\">"
-        )?;
-        let title = Escaped(title);
-        writeln!(
-            text,
-            "<title>{title}</title>\n<rect width=\"{width}\" height=\"{height}\" fill=\"#ffffff\"/>"
-        )?;
-        Ok(Picture { text })
+        Picture {
+            alloc,
+            elements: Vec::new(alloc),
+        }
     }
 
     /// A straight line.
     ///
     /// # Errors
     ///
-    /// Where a growth was refused. The document may have a part of it then, and is to be dropped.
+    /// Where a growth was refused. Nothing is added then.
     pub fn line(&mut self, from: Spot, to: Spot, stroke: Stroke) -> Result<(), AllocError>
-        ensures { OnOk result (self.new ≡ self.old ++ line_text from to stroke) }
+        ensures { OnOk result (self.new ≡ self.old ++ Line from to stroke ∷ []) }
     {
-        let (x, y) = (Tenths(from.x), Tenths(from.y));
-        let (to_x, to_y) = (Tenths(to.x), Tenths(to.y));
-        writeln!(
-            self.text,
-            "<line x1=\"{x}\" y1=\"{y}\" x2=\"{to_x}\" y2=\"{to_y}\" {stroke}/>"
-        )
+        self.elements.push(Element::Line { from, to, stroke })?;
+        Ok(())
     }
 
     /// A filled rectangle, by its left upper corner and its size.
     ///
     /// # Errors
     ///
-    /// Where a growth was refused. The document may have a part of it then, and is to be dropped.
+    /// Where a growth was refused. Nothing is added then.
     pub fn cell(
         &mut self,
         at: Spot,
         width: u32,
         height: u32,
-        fill: &'static str,
+        fill: Colour,
     ) -> Result<(), AllocError>
-        ensures { OnOk result (self.new ≡ self.old ++ cell_text at width height fill.now) }
+        ensures { OnOk result (self.new ≡ self.old ++ Cell at width height fill ∷ []) }
     {
-        let (x, y) = (Tenths(at.x), Tenths(at.y));
-        let (width, height) = (Tenths(width), Tenths(height));
-        writeln!(
-            self.text,
-            "<rect x=\"{x}\" y=\"{y}\" width=\"{width}\" height=\"{height}\" fill=\"{fill}\"/>"
-        )
+        self.elements.push(Element::Cell {
+            at,
+            width,
+            height,
+            fill,
+        })?;
+        Ok(())
     }
 
     /// The outline of a rectangle, by its left upper and right lower corners.
     ///
     /// # Errors
     ///
-    /// Where a growth was refused. The document may have a part of it then, and is to be dropped.
+    /// Where a growth was refused. Nothing is added then.
     pub fn frame(&mut self, from: Spot, to: Spot, stroke: Stroke) -> Result<(), AllocError>
-        ensures { OnOk result (self.new ≡ self.old ++ frame_text from to stroke) }
+        ensures { OnOk result (self.new ≡ self.old ++ Frame from to stroke ∷ []) }
     {
-        let (x, y) = (Tenths(from.x), Tenths(from.y));
-        let width = Tenths(to.x.saturating_sub(from.x));
-        let height = Tenths(to.y.saturating_sub(from.y));
-        writeln!(
-            self.text,
-            "<rect x=\"{x}\" y=\"{y}\" width=\"{width}\" height=\"{height}\" fill=\"none\" {stroke}/>"
-        )
+        self.elements.push(Element::Frame { from, to, stroke })?;
+        Ok(())
     }
 
-    /// A text, whose characters are replaced where they can't stand in a document.
+    /// A text.
     ///
     /// # Errors
     ///
-    /// Where a growth was refused. The document may have a part of it then, and is to be dropped.
+    /// Where a growth was refused. Nothing is added then.
     pub fn words(&mut self, at: Spot, how: Writing, words: &str) -> Result<(), AllocError>
-        ensures { OnOk result (self.new ≡ self.old ++ words_text at how words.now) }
+        ensures { OnOk result (self.new ≡ self.old ++ Words at how words.now ∷ []) }
     {
-        let (x, y) = (Tenths(at.x), Tenths(at.y));
-        let words = Escaped(words);
-        writeln!(self.text, "<text x=\"{x}\" y=\"{y}\" {how}>{words}</text>")
+        let words = Label::new(self.alloc, words)?;
+        self.elements.push(Element::Words { at, how, words })?;
+        Ok(())
     }
 
-    /// A line through these places, none where there are fewer than two.
+    /// A line through these places, which isn't written where there are fewer than two.
     ///
     /// # Errors
     ///
-    /// Where a growth was refused. The document may have a part of it then, and is to be dropped.
-    pub fn path(&mut self, spots: &[Spot], stroke: Stroke) -> Result<(), AllocError>
-        ensures { OnOk result (self.new ≡ self.old ++ path_text spots.now stroke) }
+    /// Where a growth was refused. Nothing is added then.
+    pub fn path(&mut self, spots: Vec<Spot>, stroke: Stroke) -> Result<(), AllocError>
+        ensures { OnOk result (self.new ≡ self.old ++ Path spots.items stroke ∷ []) }
     {
-        if spots.len() < 2 {
-            return Ok(());
-        }
-        write!(self.text, "<polyline points=\"")?;
-        write_spots(&mut self.text, spots)?;
-        writeln!(
-            self.text,
-            "\" fill=\"none\" stroke-linejoin=\"round\" {stroke}/>"
-        )
+        let spots = Spots::from_vec(spots);
+        self.elements.push(Element::Path { spots, stroke })?;
+        Ok(())
     }
 
     /// A mark with its middle at a place.
     ///
     /// # Errors
     ///
-    /// Where a growth was refused. The document may have a part of it then, and is to be dropped.
-    pub fn mark(&mut self, at: Spot, mark: Mark, colour: &'static str) -> Result<(), AllocError>
-        ensures { OnOk result (self.new ≡ self.old ++ marked_text at mark colour.now) }
+    /// Where a growth was refused. Nothing is added then.
+    pub fn mark(&mut self, at: Spot, mark: Mark, colour: Colour) -> Result<(), AllocError>
+        ensures { OnOk result (self.new ≡ self.old ++ Marked at mark colour ∷ []) }
     {
-        let (x, y) = (Tenths(at.x), Tenths(at.y));
-        writeln!(
-            self.text,
-            "<path d=\"M{x} {y}{mark}\" fill=\"{colour}\" stroke=\"{colour}\" stroke-width=\"1.5\"/>"
-        )
+        self.elements.push(Element::Marked { at, mark, colour })?;
+        Ok(())
     }
 
-    /// The whole document.
+    /// The drawing as an SVG document: white, of so many pixels, with a title that readers of the screen are told.
     ///
     /// # Errors
     ///
-    /// Where a growth was refused. The picture is dropped.
-    pub fn close(self) -> Result<String, AllocError>
-        ensures { IfOk result (λ text. string_bytes text ≡ self ++ closing_text) }
+    /// Where a growth was refused. What was taken is given back.
+    pub fn draw(&self, width: u16, height: u16, title: &str) -> Result<String, AllocError>
+        ensures { IfOk result (λ text. string_bytes text ≡ drawing_text width height title.now self.now) }
     {
-        let Picture { mut text } = self;
+        let mut text = opening(self.alloc, width, height, title)?;
+        write_elements(&mut text, &self.elements)?;
         writeln!(text, "</svg>")?;
         Ok(text)
     }

@@ -27,7 +27,9 @@ impl Scale {
     /// The place of a value. One below the scale's values stands at `start`, one above them at `end`; so does every value
     /// at `start` where the scale has no values between its ends.
     pub fn place(self, value: u32) -> u32
-        ensures { result ≡ place_of self.from self.to self.start self.end value }
+        ensures place { result ≡ place_of self.from self.to self.start self.end value }
+        ensures within { self.start ≤ self.end → result ≤ self.end }
+        ensures down { self.end ≤ self.start → result ≤ self.start }
     {
         if self.to <= self.from {
             return self.start;

@@ -1,10 +1,15 @@
 -- A pass that goes on, and passes that are joined.
-use Rattle.std.proofs.Common.{◌≡◌, ℕ, ◌+◌, ◌≤◌, List, [], ◌∷◌, ◌++◌, length, Option, None, refl, sym, ap, ◌∙◌, arith, subst, length-append, append-nil, append_assoc}
+use Rattle.std.proofs.Common.{◌≡◌, ℕ, ◌+◌, ◌<◌, ◌≤◌, List, [], ◌∷◌, ◌++◌, length, Option, None, Some, refl, sym, ap, ◌∙◌, arith, subst, length-append, append-nil, append_assoc}
 use Rattle.shared_bench.specs.Known.{Known, IsLater, IsSplit, IsJoined, SomeIsLegal}
 use Rattle.shared_bench.specs.Legal.{merge}
 use Rattle.shared_bench.proofs.Seats.{starts_trans}
 use Rattle.shared_bench.proofs.Passes.{later_same, later_joined}
-use Rattle.wave_workers.specs.Working.{IsKept, IsWorked}
+use Rattle.cell_table.specs.Claims.{NoneDue}
+use Rattle.machine_cells.specs.GridRules.{rp3_rules}
+use Rattle.bench_core.specs.Shown.{Shown}
+use Rattle.wave_workers.specs.Working.{IsKept, IsWorked, HasLeft, HasLooked}
+use Rattle.wave_workers.specs.declared.tally.Came.{Came}
+use Rattle.wave_workers.specs.declared.tally.Came.TheVariants.{Idle}
 use Rattle.wave_workers.specs.declared.worked.WorkFault.{WorkFault}
 
 pub later_trans : (a b c : Known) → IsLater a b → IsLater b c → IsLater a c
@@ -26,19 +31,21 @@ pub kept_same : (p : Known) → SomeIsLegal p → IsKept p p
 kept_same p legal = (later_same p legal, refl, refl)
 
 -- with no further worker
-pub worked_none : (p q : Known) (gates : ℕ) (fault : Option WorkFault) → SomeIsLegal p → q ≡ p → (fault ≡ None → gates ≡ 0) → IsWorked p q gates fault
-worked_none p q gates fault legal same none = subst (λ (x : Known). IsWorked p x gates fault) (sym same) (record {
+pub worked_none : (p q : Known) (gates : ℕ) (fault : Option WorkFault) → SomeIsLegal p → q ≡ p → (fault ≡ None → gates ≡ 0) → ((why : WorkFault) → fault ≡ Some why → 0 < gates) → IsWorked p q gates 0 fault
+worked_none p q gates fault legal same none some = subst (λ (x : Known). IsWorked p x gates 0 fault) (sym same) (record {
   later = later_same p legal;
   receipts = refl;
   more = [];
   numbers = sym (append-nil p.numbers);
+  each = refl;
   few = omega arith;
-  one_each = λ e. sym (none e);
+  all = λ e. sym (none e);
+  not_all = some;
 })
 
 -- a worker's pass is joined into the one with those of the others
-pub worked_one : (p own others done both : Known) (gates : ℕ) (fault : Option WorkFault) → IsSplit p own → IsKept own done → IsWorked p others gates fault → IsJoined others done both → IsWorked p both (gates + 1) fault
-worked_one p own others done both gates fault split kept worked join =
+pub worked_one : (p own others done both : Known) (gates started : ℕ) (fault : Option WorkFault) → IsSplit p own → IsKept own done → IsWorked p others gates started fault → IsJoined others done both → IsWorked p both (gates + 1) (started + 1) fault
+worked_one p own others done both gates started fault split kept worked join =
     let one : done.numbers ≡ own.number ∷ [] = kept.1 ∙ split.numbers in
     let none : done.receipts ≡ [] = kept.2 ∙ split.receipts in
     let long : length (worked.more ++ own.number ∷ []) ≡ length worked.more + 1 = length-append worked.more (own.number ∷ []) in
@@ -47,6 +54,16 @@ worked_one p own others done both gates fault split kept worked join =
       receipts = join.receipts ∙ (ap (merge others.receipts) none ∙ worked.receipts);
       more = worked.more ++ own.number ∷ [];
       numbers = join.numbers ∙ (ap (λ (l : List ℕ). others.numbers ++ l) one ∙ (ap (λ (l : List ℕ). l ++ own.number ∷ []) worked.numbers ∙ append_assoc p.numbers worked.more (own.number ∷ [])));
+      each = long ∙ ap (λ n. n + 1) worked.each;
       few = let few = worked.few in omega arith;
-      one_each = λ e. let each = worked.one_each e in omega arith;
+      all = λ e. ap (λ n. n + 1) (worked.all e);
+      not_all = λ why e. let fewer = worked.not_all why e in omega arith;
     }
+
+-- a look at the length, and then a turn of a bench that has all that the pass has then seen
+pub looked : (first last : Known) (came : Came) (before : ℕ) (d : Shown) → before ≡ length first.seen → IsLater first last → HasLeft last d → (came ≡ Idle → NoneDue rp3_rules d.table) → HasLooked last came before
+looked first last came before d is later left idle =
+    let rest = later.seen.0 in
+    let more : length last.seen ≡ length first.seen + length rest = ap length later.seen.1 ∙ length-append first.seen rest in
+    let seen : length d.journal ≡ length last.seen = ap length left.3.0.0 in
+    (d, left, idle, omega (arith, is, more, seen))

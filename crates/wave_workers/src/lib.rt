@@ -5,10 +5,10 @@
 //! says whether its worker goes on. `attend` does the same for as long as the gates go on, and its workers sleep while no
 //! cell is due. Both join all threads and all passes before they answer.
 //!
-//! Promise: the pass comes back as one of its opening, which has seen no less, with the same receipts, and, without a
-//! fault, with one number more for each gate; no more results were stored than given (`specs/Working.antt`). What the
-//! bench does with a result is the bench's promise. That workers run side by side is shown by tests, and nothing is
-//! promised of their progress.
+//! Promise: the pass comes back as one of its opening, which has seen no less, with the same receipts, and with one number
+//! more for each worker that was started, without a fault one for each gate; no more results were stored than given
+//! (`specs/Working.antt`). What the bench does with a result is the bench's promise. That workers run side by side, and
+//! are woken, is shown by tests, and nothing is promised of their progress.
 //!
 //! It stands on `shared_bench` for the passes.
 #![tactic(auto)]

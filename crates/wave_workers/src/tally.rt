@@ -1,17 +1,48 @@
 //! How many results were given and stored.
-ghost use Rattle.std.specs.Prelude.{◌≤◌};
+ghost use Rattle.std.specs.Prelude.{◌≡◌, ◌≤◌};
+ghost use Rattle.wave_workers.specs.Working.{came_for, counted, does_nothing, given_by, stored_by};
+
+use cell_table::{Done, Given};
+use machine_cells::Rp3;
 
 /// What a turn came to.
 #[derive(Clone, Copy)]
 pub enum Came {
-    /// Nothing was claimed, or its result wasn't computed.
-    Nothing,
+    /// No cell was due that could be computed.
+    Idle,
+    /// A growth was refused before a result was there.
+    Failed,
     /// The result was given, and refused since the clock is spent.
     Spent,
     /// The result was given, and refused for another reason.
     Refused,
     /// The result was stored.
     Stored,
+}
+
+impl Came {
+    /// What a turn came to whose result was answered so.
+    pub fn of(given: Given<Done<Rp3>>) -> Came
+        ensures came { result ≡ came_for given }
+        ensures not_idle { result ≡ Came.Idle → ⊥ }
+    {
+        match given {
+            Given::Stored { .. } => Came::Stored,
+            Given::ClockSpent(_) => Came::Spent,
+            Given::Gone | Given::NotDue | Given::Overtaken | Given::Foreign | Given::Memory(_) =>
+                Came::Refused,
+        }
+    }
+
+    /// Whether the turn has changed nothing, so that the next one would find the same.
+    pub fn is_for_nothing(self) -> bool
+        ensures { result ≡ does_nothing self }
+    {
+        match self {
+            Came::Idle | Came::Failed | Came::Spent => true,
+            Came::Refused | Came::Stored => false,
+        }
+    }
 }
 
 /// How many results were given, and how many of them stored. Both stop at their greatest value.
@@ -23,7 +54,10 @@ pub struct Tally {
 }
 
 impl Tally {
-    pub fn new() -> Tally {
+    pub fn new() -> Tally
+        ensures given { result.given ≡ 0 }
+        ensures stored { result.stored ≡ 0 }
+    {
         Tally {
             given: 0,
             stored: 0,
@@ -31,9 +65,12 @@ impl Tally {
     }
 
     /// With what a turn came to.
-    pub fn after(self, came: Came) -> Tally {
+    pub fn after(self, came: Came) -> Tally
+        ensures given { result.given ≡ counted self.given (given_by came) }
+        ensures stored { result.stored ≡ counted self.stored (stored_by came) }
+    {
         match came {
-            Came::Nothing => self,
+            Came::Idle | Came::Failed => self,
             Came::Spent | Came::Refused => Tally {
                 given: self.given.saturating_add(1),
                 stored: self.stored,
@@ -46,7 +83,10 @@ impl Tally {
     }
 
     /// Both together.
-    pub fn and(self, other: Tally) -> Tally {
+    pub fn and(self, other: Tally) -> Tally
+        ensures given { result.given ≡ counted self.given other.given }
+        ensures stored { result.stored ≡ counted self.stored other.stored }
+    {
         Tally {
             given: self.given.saturating_add(other.given),
             stored: self.stored.saturating_add(other.stored),

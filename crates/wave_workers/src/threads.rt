@@ -1,51 +1,58 @@
 //! Workers in threads of their own.
-ghost use Rattle.std.specs.Prelude.{◌≡◌, ◌≤◌, vec_len};
+ghost use Rattle.std.specs.Prelude.{◌≡◌, ◌≤◌, IfOk, IfErr, vec_len};
 ghost use Rattle.wave_workers.specs.Working.{IsKept, IsWorked};
 
 use crate::gate::Gate;
 use crate::tally::Tally;
 use crate::worked::{WorkFault, Worked};
 use crate::worker::{Attended, Brings, Plan, run_worker};
-use shared_bench::{Pass, SplitFault};
+use shared_bench::Pass;
 use std::snapshot::Snapshot;
 use std::sync::Wait;
 use std::thread;
-use std::thread::Threads;
+use std::thread::{PromisedHandle, Threads};
 
 /// What came of it: nothing so far.
 fn none(pass: Pass, fault: Option<WorkFault>) -> Worked
     ensures pass { result.pass ≡ pass }
     ensures fault { result.fault ≡ fault }
-    ensures counts { (result.given ≡ 0) × (result.stored ≡ 0) }
+    ensures counts { (result.given ≡ 0) × (result.stored ≡ 0) × (result.started ≡ 0) }
 {
     Worked {
         pass,
         given: 0,
         stored: 0,
+        started: 0,
         fault,
     }
 }
 
-/// Starts a worker for the last gate, then those for the others, and then joins it.
-fn all<R: Threads + Wait + Sync + Send + Copy + 'static, G: Gate + Send + Drop + 'static>(
+/// A worker in a thread of its own. It isn't `Drop`, so it can't be let go: who starts one joins it.
+struct Working {
+    thread: PromisedHandle<Attended, Brings>,
+}
+
+impl Working {
+    /// Waits for the worker's end.
+    fn join<R: Threads>(self, rt: &R) -> Attended
+        ensures { IsKept self.thread.promise.pass.value result.pass }
+    {
+        let Working { thread } = self;
+        thread.join(rt)
+    }
+}
+
+/// Starts a worker on a pass of its own.
+fn start<R: Threads + Wait + Sync + Send + Copy + 'static, G: Gate + Send + Drop + 'static>(
     rt: &R,
-    mut pass: Pass,
-    mut gates: Vec<G>,
+    own: Pass,
+    gate: G,
+    component: u32,
     plan: Plan,
-) -> Worked
-    ensures worked { IsWorked pass result.pass (vec_len gates) result.fault }
-    ensures counts { result.stored ≤ result.given }
+) -> Result<Working, WorkFault>
+    ensures ok { IfOk result (λ worker. worker.thread.promise.pass.value ≡ own) }
+    ensures err { IfErr result (λ fault. fault ≡ WorkFault.NoThread) }
 {
-    pass.base();
-    let Some(gate) = gates.pop() else {
-        return none(pass, None);
-    };
-    let own = match pass.split() {
-        Ok(own) => own,
-        Err(SplitFault::NoSeat) => return none(pass, Some(WorkFault::NoSeat)),
-        Err(SplitFault::Memory) => return none(pass, Some(WorkFault::Memory)),
-    };
-    let component = u32::try_from(gates.len()).unwrap_or(u32::MAX);
     let brings = Brings {
         pass: Snapshot::of(&own),
     };
@@ -57,16 +64,42 @@ fn all<R: Threads + Wait + Sync + Send + Copy + 'static, G: Gate + Send + Drop +
             ensures { IsKept own result.pass }
         { run_worker(&host, own, gate, component, plan) },
     );
-    let thread = match started {
-        Ok(thread) => thread,
-        Err(_) => return none(pass, Some(WorkFault::NoThread)),
+    match started {
+        Ok(thread) => Ok(Working { thread }),
+        Err(_) => Err(WorkFault::NoThread),
+    }
+}
+
+/// Starts a worker for the last gate, then those for the others, and then joins it.
+fn all<R: Threads + Wait + Sync + Send + Copy + 'static, G: Gate + Send + Drop + 'static>(
+    rt: &R,
+    mut pass: Pass,
+    mut gates: Vec<G>,
+    plan: Plan,
+) -> Worked
+    ensures worked { IsWorked pass result.pass (vec_len gates) result.started result.fault }
+    ensures counts { result.stored ≤ result.given }
+{
+    pass.base();
+    let Some(gate) = gates.pop() else {
+        return none(pass, None);
+    };
+    let own = match pass.split() {
+        Ok(own) => own,
+        Err(fault) => return none(pass, Some(WorkFault::of(fault))),
+    };
+    let component = u32::try_from(gates.len()).unwrap_or(u32::MAX);
+    let worker = match start(rt, own, gate, component, plan) {
+        Ok(worker) => worker,
+        Err(fault) => return none(pass, Some(fault)),
     };
     let others = all(rt, pass, gates, plan);
-    let Attended { pass, tally } = thread.join(rt);
+    let Attended { pass, tally } = worker.join(rt);
     let Worked {
         pass: rest,
         given,
         stored,
+        started,
         fault,
     } = others;
     let tally = tally.and(Tally { given, stored });
@@ -74,6 +107,7 @@ fn all<R: Threads + Wait + Sync + Send + Copy + 'static, G: Gate + Send + Drop +
         pass: rest.join(pass),
         given: tally.given,
         stored: tally.stored,
+        started: started + 1,
         fault,
     }
 }
@@ -85,21 +119,17 @@ fn all<R: Threads + Wait + Sync + Send + Copy + 'static, G: Gate + Send + Drop +
 /// and the worker goes on.
 ///
 /// All threads have ended when it answers, and their passes are joined into the one that comes back. On a fault no further
-/// worker was started, and the results of those that were stand.
+/// worker was started, and the results of those that were stand. `started` is their number.
 pub fn work<R: Threads + Wait + Sync + Send + Copy + 'static, G: Gate + Send + Drop + 'static>(
     rt: &R,
     pass: Pass,
     gates: Vec<G>,
     turns: u64,
 ) -> Worked
-    ensures threads_work { IsWorked pass result.pass (vec_len gates) result.fault }
+    ensures threads_work { IsWorked pass result.pass (vec_len gates) result.started result.fault }
     ensures counts { result.stored ≤ result.given }
 {
-    let plan = Plan {
-        workers: u32::try_from(gates.len()).unwrap_or(u32::MAX),
-        turns,
-        sleeps: false,
-    };
+    let plan = Plan::of_turns(gates.len(), turns);
     all(rt, pass, gates, plan)
 }
 
@@ -110,13 +140,9 @@ pub fn attend<R: Threads + Wait + Sync + Send + Copy + 'static, G: Gate + Send +
     pass: Pass,
     gates: Vec<G>,
 ) -> Worked
-    ensures threads_work { IsWorked pass result.pass (vec_len gates) result.fault }
+    ensures threads_work { IsWorked pass result.pass (vec_len gates) result.started result.fault }
     ensures counts { result.stored ≤ result.given }
 {
-    let plan = Plan {
-        workers: u32::try_from(gates.len()).unwrap_or(u32::MAX),
-        turns: u64::MAX,
-        sleeps: true,
-    };
+    let plan = Plan::attending(gates.len());
     all(rt, pass, gates, plan)
 }

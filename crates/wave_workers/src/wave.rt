@@ -14,6 +14,7 @@ ghost use Rattle.bench_core.specs.Asks.{pending};
 ghost use Rattle.bench_core.specs.Events.{Event, Opening};
 ghost use Rattle.bench_core.specs.Stands.{Stands};
 ghost use Rattle.bench_core.specs.Answers.{Settles, SettlesFirst};
+ghost use Rattle.wave_workers.specs.Working.{unstored};
 
 use crate::gate::{Gate, Ungated};
 use bench_core::Bench;
@@ -23,6 +24,14 @@ use machine_cells::Rp3;
 use omega_net::Shape;
 use std::alloc::Global;
 use std::thread::{Threads, join_mut};
+
+/// Tells a gate of a cell that was computed.
+fn tell_computed<G: Gate>(table: &Table<Rp3>, work: &Work<Rp3>, gate: &mut G)
+    requires { IsWork rp3_rules table.now.slots work.now }
+{
+    let _ = table;
+    gate.computed(work.cell());
+}
 
 /// Computes a cell, and tells the first gate, if there is one.
 fn compute<G: Gate>(table: &Table<Rp3>, work: &mut Work<Rp3>, gates: &mut [G])
@@ -36,7 +45,7 @@ fn compute<G: Gate>(table: &Table<Rp3>, work: &mut Work<Rp3>, gates: &mut [G])
     let gate = &mut gates[0];
     gate.claimed(work.cell());
     work.compute(table);
-    gate.computed(work.cell());
+    tell_computed(table, work, gate);
 }
 
 /// Computes cells in turn.
@@ -124,6 +133,18 @@ fn settle_next<R: Threads + Sync, G: Gate + Send>(
     bench.settle_work(from, works.pop())
 }
 
+/// Why a bench was settled in part, where a cell wasn't stored.
+fn stopped(fault: StoreFault, computed: u64) -> SettleFault
+    ensures fault { result ≡ unstored fault computed }
+    ensures computed { computed_of result ≡ computed }
+    ensures spent { IsClockSpent result → fault ≡ StoreFault.ClockSpent }
+{
+    match fault {
+        StoreFault::ClockSpent => SettleFault::ClockSpent { computed },
+        StoreFault::Memory => SettleFault::Memory { computed },
+    }
+}
+
 /// Settles a bench by waves.
 fn settle_by_waves<R: Threads + Sync, G: Gate + Send>(
     rt: &R,
@@ -163,8 +184,7 @@ fn settle_by_waves<R: Threads + Sync, G: Gate + Send>(
                 bench.is_bench();
                 return Ok(Settled { computed });
             }
-            Err(StoreFault::ClockSpent) => return Err(SettleFault::ClockSpent { computed }),
-            Err(StoreFault::Memory) => return Err(SettleFault::Memory { computed }),
+            Err(fault) => return Err(stopped(fault, computed)),
         }
     }
 }

@@ -1,5 +1,8 @@
 //! What comes of work.
-use shared_bench::Pass;
+ghost use Rattle.std.specs.Prelude.{◌≡◌};
+ghost use Rattle.wave_workers.specs.Working.{unsplit};
+
+use shared_bench::{Pass, SplitFault};
 
 /// Why no further worker was started.
 #[derive(Clone, Copy, PartialEq, Eq, Debug, Drop)]
@@ -12,6 +15,18 @@ pub enum WorkFault {
     Memory,
 }
 
+impl WorkFault {
+    /// Why no further worker was started, where no further pass was made.
+    pub(crate) fn of(fault: SplitFault) -> WorkFault
+        ensures { result ≡ unsplit fault }
+    {
+        match fault {
+            SplitFault::NoSeat => WorkFault::NoSeat,
+            SplitFault::Memory => WorkFault::Memory,
+        }
+    }
+}
+
 /// What comes of work.
 #[derive(Drop)]
 pub struct Worked {
@@ -21,6 +36,8 @@ pub struct Worked {
     pub given: u64,
     /// How many of them were stored.
     pub stored: u64,
+    /// How many workers were started. All have ended.
+    pub started: usize,
     /// Why no further worker was started, where one wasn't.
     pub fault: Option<WorkFault>,
 }

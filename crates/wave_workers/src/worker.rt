@@ -1,10 +1,13 @@
 //! One worker.
-ghost use Rattle.std.specs.Prelude.{◌≡◌};
-ghost use Rattle.wave_workers.specs.Working.{IsKept};
+ghost use Rattle.std.specs.Prelude.{◌≡◌, ℕ, ◌-◌, ◌^◌, min, true, false, length};
+ghost use Rattle.cell_table.specs.Claims.{NoneDue};
+ghost use Rattle.machine_cells.specs.GridRules.{rp3_rules};
+ghost use Rattle.bench_core.specs.Shown.{Shown as AnyBench};
+ghost use Rattle.wave_workers.specs.Working.{IsKept, HasLeft, HasLooked};
 
 use crate::gate::Gate;
 use crate::tally::{Came, Tally};
-use cell_table::{Cell, Given};
+use cell_table::Cell;
 use shared_bench::Pass;
 use std::snapshot::Snapshot;
 use std::sync::Wait;
@@ -19,6 +22,30 @@ pub struct Plan {
     pub turns: u64,
     /// Whether it sleeps while nothing is due.
     pub sleeps: bool,
+}
+
+impl Plan {
+    /// So many turns for each of so many gates, and no sleep.
+    pub fn of_turns(gates: usize, turns: u64) -> Plan
+        ensures { result ≡ record { workers = min gates (2 ^ 32 - 1); turns = turns; sleeps = false } }
+    {
+        Plan {
+            workers: gates.min(u32::MAX as usize) as u32,
+            turns,
+            sleeps: false,
+        }
+    }
+
+    /// Turns for as long as each of so many gates goes on, and sleep while nothing is due.
+    pub fn attending(gates: usize) -> Plan
+        ensures { result ≡ record { workers = min gates (2 ^ 32 - 1); turns = 2 ^ 64 - 1; sleeps = true } }
+    {
+        Plan {
+            workers: gates.min(u32::MAX as usize) as u32,
+            turns: u64::MAX,
+            sleeps: true,
+        }
+    }
 }
 
 /// What a worker brings back.
@@ -38,6 +65,13 @@ impl Promise<Attended> for Brings {
     ghost kept_by = { λ brings attended. IsKept brings.pass.value attended.pass };
 }
 
+/// What a turn came to, and the length that the journal had before it.
+#[derive(Clone, Copy)]
+struct Watched {
+    came: Came,
+    length: u32,
+}
+
 /// Claims the first cell from `from` on, computes it and gives it back.
 fn turn<R: Wait, G: Gate>(
     rt: &R,
@@ -46,11 +80,13 @@ fn turn<R: Wait, G: Gate>(
     from: &mut Cell,
     workers: u32,
 ) -> Came
-    ensures { IsKept pass.old pass.new }
+    ensures kept { IsKept pass.old pass.new }
+    ensures left { (d : AnyBench) × HasLeft pass.new d × (result ≡ Came.Idle → NoneDue rp3_rules d.table) }
 {
     let claim = match pass.claim(rt, *from) {
         Ok(Some(claim)) => claim,
-        _ => return Came::Nothing,
+        Ok(None) => return Came::Idle,
+        Err(_) => return Came::Failed,
     };
     let cell = claim.cell();
     *from = Cell {
@@ -60,14 +96,34 @@ fn turn<R: Wait, G: Gate>(
     gate.claimed(cell);
     let done = match claim.compute() {
         Ok(done) => done,
-        Err(_) => return Came::Nothing,
+        Err(_) => return Came::Failed,
     };
     gate.computed(cell);
-    match pass.give(rt, done) {
-        Given::Stored { .. } => Came::Stored,
-        Given::ClockSpent(_) => Came::Spent,
-        _ => Came::Refused,
-    }
+    Came::of(pass.give(rt, done))
+}
+
+/// A turn, and the journal's length before it.
+fn watched_turn<R: Wait, G: Gate>(
+    rt: &R,
+    pass: &mut Pass,
+    gate: &mut G,
+    from: &mut Cell,
+    workers: u32,
+) -> Watched
+    ensures kept { IsKept pass.old pass.new }
+    ensures looked { HasLooked pass.new result.came result.length }
+{
+    let length = pass.length();
+    let came = turn(rt, pass, gate, from, workers);
+    Watched { came, length }
+}
+
+/// Sleeps while the journal has the length that it had before the turn: an edit that came since the look at the cells has
+/// changed it.
+fn sleep<R: Wait>(rt: &R, pass: &Pass, watched: Watched)
+    requires { HasLooked pass.now watched.came watched.length }
+{
+    pass.park(rt, watched.length);
 }
 
 /// A worker that begins at this component: it works until its gate stops it, or its turns are used up. Where it sleeps,
@@ -90,11 +146,10 @@ pub fn run_worker<R: Wait, G: Gate + Drop>(
         if !gate.go_on(number) {
             break;
         }
-        let length = pass.length();
-        let came = turn(rt, &mut pass, &mut gate, &mut from, plan.workers);
-        tally = tally.after(came);
-        if plan.sleeps && matches!(came, Came::Nothing | Came::Spent) {
-            pass.park(rt, length);
+        let watched = watched_turn(rt, &mut pass, &mut gate, &mut from, plan.workers);
+        tally = tally.after(watched.came);
+        if plan.sleeps && watched.came.is_for_nothing() {
+            sleep(rt, &pass, watched);
         }
     }
     Attended { pass, tally }

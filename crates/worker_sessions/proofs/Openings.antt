@@ -1,13 +1,15 @@
 -- A session, without workers and beside them.
-use Rattle.std.proofs.Common.{◌≡◌, ℕ, zero, suc, ◌<◌, List, [], ◌++◌, subst, sym, arith, Option}
+use Rattle.std.proofs.Common.{◌≡◌, ℕ, ◌+◌, ◌-◌, ◌^◌, ◌<◌, true, List, [], ◌++◌, Result, subst, sym}
 use Rattle.project_book.specs.Project.{Project}
 use Rattle.bench_core.specs.Shown.{Shown, project_of}
 use Rattle.shared_bench.specs.Known.{Known}
 use Rattle.shared_bench.specs.Answers.{project_at}
+use Rattle.wave_workers.specs.declared.worked.Worked.{Worked}
 use Rattle.bench_shell.specs.Store.{Store, store_of, first_store}
-use Rattle.worker_sessions.specs.Seated.{entries_of, seated_store}
-use Rattle.bench_shell.specs.Output.{AnswersAll, AnswersPart, AnswersOwn}
-use Rattle.worker_sessions.specs.Serving.{ServesAll, ServesPart}
+use Rattle.bench_shell.specs.declared.fault.RunFault.{RunFault}
+use Rattle.worker_sessions.specs.Seated.{entries_of, own_journal, seated_store}
+use Rattle.worker_sessions.specs.Serving.{Bytes, Runs, HasEnded, Leaves}
+use Rattle.worker_sessions.specs.declared.serving.Left.TheVariants.{Bench, Passes}
 
 first_bench : (b : Shown) (P : Project) → project_of b ≡ P → b.journal ≡ [] → store_of b ≡ first_store P
 first_bench b P is none = λ i. record { project = is i; author = 0; journal = none i }
@@ -19,20 +21,30 @@ first_seated p P is none zeroth edits = λ i. record {
   journal = none i ++ entries_of (zeroth i) (edits i);
 }
 
--- a run of a bench at its opening
-pub alone_all : (n : ℕ) (r r' w w' : Option (List ℕ)) (b : Shown) (P : Project) (t : Store) → n ≡ 0 → project_of b ≡ P → b.journal ≡ [] → AnswersAll r r' w w' (store_of b) t → ServesAll n (first_store P) r r' w w'
-alone_all n r r' w w' b P t none is empty h =
-    subst (λ k. ServesAll k (first_store P) r r' w w') (sym none) (t, subst (λ s. AnswersAll r r' w w' s t) (first_bench b P is empty) h)
+module _ (b : Bytes) (cant_read cant_write : Type 0) (ended : Result (Unit {0}) RunFault) where
+  -- a run of the pass q, which is p, that leaves r, which is u
+  pub runs_as : (p q r u : Known) → q ≡ p → u ≡ r → Runs (seated_store q) (seated_store r) b cant_read cant_write (r.seen ≡ own_journal r) (r.spent ≡ true) ended
+      → Runs (seated_store p) (seated_store u) b cant_read cant_write (u.seen ≡ own_journal u) (u.spent ≡ true) ended
+  runs_as p q r u first last h =
+      subst (λ x. Runs (seated_store p) (seated_store x) b cant_read cant_write (x.seen ≡ own_journal x) (x.spent ≡ true) ended) (sym last)
+      (subst (λ x. Runs (seated_store x) (seated_store r) b cant_read cant_write (r.seen ≡ own_journal r) (r.spent ≡ true) ended) first h)
 
-pub alone_part : (n : ℕ) (r r' w w' : Option (List ℕ)) (b : Shown) (P : Project) (t : Store) → n ≡ 0 → project_of b ≡ P → b.journal ≡ [] → AnswersPart r r' w w' (store_of b) t → ServesPart n (first_store P) r r' w w'
-alone_part n r r' w w' b P t none is empty h =
-    subst (λ k. ServesPart k (first_store P) r r' w w') (sym none) (t, subst (λ s. AnswersPart r r' w w' s t) (first_bench b P is empty) h)
+  -- a run of a bench at its opening
+  pub leaves_bench : (n : ℕ) (d last left : Shown) (P : Project) → n ≡ 0 → project_of d ≡ P → d.journal ≡ [] → left ≡ last
+      → Runs (store_of d) (store_of last) b cant_read cant_write (Unit {0}) (last.table.clock ≡ 2 ^ 64 - 1) ended
+      → Leaves n (first_store P) cant_read cant_write b ended (Bench left)
+  leaves_bench n d last left P none is empty same h = (
+    none,
+    subst (λ x. Runs (first_store P) (store_of x) b cant_read cant_write (Unit {0}) (x.table.clock ≡ 2 ^ 64 - 1) ended) (sym same)
+        (subst (λ s. Runs s (store_of last) b cant_read cant_write (Unit {0}) (last.table.clock ≡ 2 ^ 64 - 1) ended) (first_bench d P is empty) h),
+  )
 
--- a run beside workers
-pub beside_all : (n : ℕ) (r r' w w' : Option (List ℕ)) (p : Known) (P : Project) → 0 < n → p.project ≡ P → p.opened ≡ [] → p.number ≡ 0 → p.receipts ≡ [] → AnswersOwn r r' w w' (seated_store p) → ServesAll n (first_store P) r r' w w'
-beside_all zero r r' w w' p P some is none zeroth edits h = absurd (omega (arith, some))
-beside_all (suc n) r r' w w' p P some is none zeroth edits h = subst (λ s. AnswersOwn r r' w w' s) (first_seated p P is none zeroth edits) h
-
-pub beside_part : (n : ℕ) (s : Store) (r r' w w' : Option (List ℕ)) → 0 < n → ServesPart n s r r' w w'
-beside_part zero s r r' w w' some = absurd (omega (arith, some))
-beside_part (suc n) s r r' w w' some = tt
+  -- a run beside workers
+  pub leaves_passes : (n : ℕ) (p q : Known) (worked : Worked) (P : Project) → 0 < n → p.project ≡ P → p.opened ≡ [] → p.number ≡ 0 → p.receipts ≡ [] → p.seats ≡ n + 2
+      → Runs (seated_store p) (seated_store q) b cant_read cant_write (q.seen ≡ own_journal q) (q.spent ≡ true) ended → HasEnded p n worked
+      → Leaves n (first_store P) cant_read cant_write b ended (Passes q worked)
+  leaves_passes n p q worked P some is none zeroth edits seats h all = (
+    some,
+    subst (λ s. Runs s (seated_store q) b cant_read cant_write (q.seen ≡ own_journal q) (q.spent ≡ true) ended) (first_seated p P is none zeroth edits) h,
+    (p, record { project = is; opened = none; number = zeroth; seats = seats }, all),
+  )

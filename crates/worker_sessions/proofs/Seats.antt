@@ -1,7 +1,7 @@
 -- What a pass does is what a desk is to do.
 use Rattle.std.proofs.Common.{◌≡◌, ℕ, ◌+◌, ◌≤◌, List, [], ◌∷◌, ◌++◌, length, refl, sym, ap, ◌∙◌, subst, arith, append_assoc, append-nil}
 use Rattle.std.proofs.lemmas.List.{length-append, map-append, nil_from_length}
-use Rattle.std.specs.Prelude.{drop, Ok, Err}
+use Rattle.std.specs.Prelude.{drop, Result, Ok, Err, IfOk, OnOk}
 use Rattle.project_book.specs.Project.{Project}
 use Rattle.project_book.specs.Edits.{accepts, edited}
 use Rattle.project_book.specs.declared.edit.Edit.{Edit}
@@ -13,11 +13,12 @@ use Rattle.bench_core.specs.declared.told.Told.{Told}
 use Rattle.bench_core.specs.declared.told.Told.TheVariants as told
 use Rattle.bench_core.specs.Shown.{Shown, project_of}
 use Rattle.bench_core.specs.Told.{TellsAt, RefusesAt}
+use Rattle.bench_core.proofs.Admitting.{admitted}
 use Rattle.serial_order.specs.Answers.{AnswersOrder}
 use Rattle.serial_order.specs.declared.ordered.Ordered.{Ordered}
 use Rattle.shared_bench.specs.Legal.{Receipt, noted, StartsWith}
-use Rattle.shared_bench.specs.Known.{Known, IsLater}
-use Rattle.shared_bench.specs.Answers.{project_at, project_seen, after_entries, IsMet, EditsAs}
+use Rattle.shared_bench.specs.Known.{Known, IsLater, TookTurn}
+use Rattle.shared_bench.specs.Answers.{project_at, project_seen, after_entries, IsMet, IsInTurn, EditsAs}
 use Rattle.shared_bench.proofs.Journals.{project_push}
 use Rattle.bench_shell.specs.Store.{Store, version_in, edited_store, EditGives, IsToldAt, Orders}
 use Rattle.worker_sessions.specs.Seated.{entries_of, own_journal, seated_store, IsSeated}
@@ -132,7 +133,7 @@ module _ (p q : Known) (e : Edit) (v : ℕ) (d next : Shown) (is : IsSeated p) (
   own_long = ap length own ∙ length-append (own_journal p) (noted p.number e ∷ [])
 
   seen_is : q.seen ≡ d.journal ++ noted p.number e ∷ []
-  seen_is = sym seen ∙ ed.1
+  seen_is = sym seen ∙ ed.1.journal
 
   seen_long : length q.seen ≡ length d.journal + 1
   seen_long = ap length seen_is ∙ length-append d.journal (noted p.number e ∷ [])
@@ -164,16 +165,25 @@ module _ (p q : Known) (e : Edit) (v : ℕ) (d next : Shown) (is : IsSeated p) (
   pub edited_counts : version_in (seated_store q) ≡ version_in (seated_store p) + 1
   edited_counts = own_long
 
+  pub edited_store_is : seated_store q ≡ edited_store (seated_store p) e
+  edited_store_is =
+      let pushed : project_at q.project q.opened (own_journal q) ≡ edited (seated_store p).project e =
+      (λ i. project_at (later.project i) (later.opened i) (own i)) ∙ project_push p.project p.opened (entries_of p.number p.receipts) (own_journal p) (noted p.number e) refl in
+      λ i. record { project = pushed i; author = later.number i; journal = own i }
+
   pub edited_gives : q.seen ≡ own_journal q → EditGives (seated_store p) e (Ok v) (seated_store q)
   edited_gives alone =
       let journal : d.journal ≡ own_journal p = (back (ap length alone)).1 in
       let project : project_of d ≡ (seated_store p).project = met.1 ∙ ap (project_at p.project p.opened) journal in
       let accepted : accepts (seated_store p).project (version_in (seated_store p)) e ≡ Ok tt =
-      subst (λ (n : ℕ). accepts (seated_store p).project n e ≡ Ok tt) (ap length journal) (subst (λ (P : Project). accepts P (length d.journal) e ≡ Ok tt) project ed.0) in
-      let pushed : project_at q.project q.opened (own_journal q) ≡ edited (seated_store p).project e =
-      (λ i. project_at (later.project i) (later.opened i) (own i)) ∙ project_push p.project p.opened (entries_of p.number p.receipts) (own_journal p) (noted p.number e) refl in
-      let store : seated_store q ≡ edited_store (seated_store p) e = λ i. record { project = pushed i; author = later.number i; journal = own i } in
-      (accepted, store, ed.3 ∙ ap (λ n. n + 1) (ap length journal))
+      subst (λ (n : ℕ). accepts (seated_store p).project n e ≡ Ok tt) (ap length journal) (subst (λ (P : Project). accepts P (length d.journal) e ≡ Ok tt) project (admitted d e ed.0)) in
+      (accepted, edited_store_is, ed.2 ∙ ap (λ n. n + 1) (ap length journal))
+
+-- the own edits go on with one that is taken, whoever else edits
+pub made : (p q : Known) (e : Edit) (r : Result ℕ EditFault) → IsSeated p → IsLater p q → IfOk r (λ v. (v ≡ length q.seen) × (q.receipts ≡ p.receipts ++ (v, e) ∷ []))
+    → ((d : Shown) × (next : Shown) × IsMet p d × IsInTurn q next × EditsAs d p.number e r next × TookTurn p q d next) → OnOk r (seated_store q ≡ edited_store (seated_store p) e)
+made p q e (Ok v) is later ok turn = edited_store_is p q e v turn.0 turn.1 is later ok.1 turn.2 turn.3.0.0 turn.4
+made p q e (Err f) is later ok turn = tt
 
 pub refused_gives : (p q : Known) (e : Edit) (f : EditFault) → IsLater p q → q.receipts ≡ p.receipts → RefusesAt (project_seen q) (length q.seen) e f → q.seen ≡ own_journal q
     → EditGives (seated_store p) e (Err f) (seated_store q)

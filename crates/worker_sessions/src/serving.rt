@@ -1,27 +1,26 @@
 //! A session on a project, with workers beside it.
-ghost use Rattle.std.specs.Prelude.{◌≡◌, ◌≤◌, [], vec_len, IfOk, IfSome, OnOk, OnErr};
+ghost use Rattle.std.specs.Prelude.{◌≡◌, ◌≤◌, true, [], vec_len, IfOk, IfSome, OnErr};
 ghost use Rattle.std.specs.Io.KnownBytes.{Keeps};
 ghost use Rattle.bench_core.specs.Shown.{project_of};
 ghost use Rattle.shared_bench.specs.Legal.{StartsWith};
 ghost use Rattle.wave_workers.specs.Working.{IsWorked};
 ghost use Rattle.bench_shell.specs.Store.{first_store};
-ghost use Rattle.worker_sessions.specs.Seated.{seated_store};
-ghost use Rattle.bench_shell.specs.Output.{AnswersOwn};
-ghost use Rattle.worker_sessions.specs.Serving.{ServesAs, HasEnded};
+ghost use Rattle.bench_shell.specs.Cause.{CantRead};
+ghost use Rattle.worker_sessions.specs.Seated.{own_journal, seated_store};
+ghost use Rattle.worker_sessions.specs.Serving.{Runs, ServesAs, HasEnded};
 
 use crate::attendance::{Session, with_session};
 use crate::seated::Seated;
 use crate::waves::Waves;
 use bench_core::Bench;
-use bench_shell::{RunFault, run};
+use bench_shell::{RunFault, Sink, Source, run_watched};
 use project_book::Project;
 use shared_bench::{Pass, open};
 use std::alloc::Global;
-use std::io::{Read, Write};
 use std::snapshot::Snapshot;
 use std::sync::{Arc, Wait};
 use std::thread;
-use std::thread::{Promise, Threads};
+use std::thread::{Promise, PromisedHandle, Threads};
 use wave_workers::{Gate, Worked, attend};
 
 /// What lets a session run with workers: a handle that each thread takes with it.
@@ -29,13 +28,26 @@ pub trait Hall: Threads + Wait + Sync + Send + Copy + Drop + 'static {}
 
 impl<H: Threads + Wait + Sync + Send + Copy + Drop + 'static> Hall for H {}
 
-/// Why a session ended before its input did.
+/// There was no memory or no thread at the start of a session. Nothing was read.
 #[derive(Clone, Copy, PartialEq, Eq, Debug, Drop)]
-pub enum ServeFault {
-    /// There was no memory or no thread at the start. Nothing was read.
-    Start,
-    /// The run met a fault.
-    Run(RunFault),
+pub struct NoStart;
+
+/// What a session leaves behind.
+#[derive(Drop)]
+pub enum Left {
+    /// Without workers: the bench of its run.
+    Bench(Bench),
+    /// Beside workers: the pass of its run, and what came of the workers.
+    Passes(Pass, Worked),
+}
+
+/// What became of a session.
+#[derive(Drop)]
+pub struct Served {
+    /// How its run ended.
+    pub ended: Result<(), RunFault>,
+    /// What it leaves behind.
+    pub left: Left,
 }
 
 /// What became of a run beside workers.
@@ -43,6 +55,8 @@ pub enum ServeFault {
 pub struct Beside {
     /// How the run ended.
     pub ended: Result<(), RunFault>,
+    /// The pass of the run.
+    pub pass: Pass,
     /// What came of the workers.
     pub worked: Worked,
 }
@@ -55,7 +69,22 @@ struct Attends {
 }
 
 impl Promise<Worked> for Attends {
-    ghost kept_by = { λ a w. IsWorked a.pass.value w.pass a.gates w.fault };
+    ghost kept_by = { λ a w. IsWorked a.pass.value w.pass a.gates w.started w.fault };
+}
+
+/// The thread that attends to the workers. It isn't `Drop`, so it can't be let go: who starts it joins it.
+struct Workers {
+    thread: PromisedHandle<Worked, Attends>,
+}
+
+impl Workers {
+    /// Waits for the end of all workers.
+    fn join<R: Threads>(self, rt: &R) -> Worked
+        ensures { IsWorked self.thread.promise.pass.value result.pass self.thread.promise.gates result.started result.fault }
+    {
+        let Workers { thread } = self;
+        thread.join(rt)
+    }
 }
 
 /// Runs a session on a pass that hasn't edited, with a worker for each gate in a thread of its own, until the input ends or
@@ -65,7 +94,7 @@ impl Promise<Worked> for Attends {
 /// # Errors
 ///
 /// The pass, where there is no memory, no seat or no thread for the workers at all. Then nothing was read.
-pub fn run_beside<H: Hall, R: Read, W: Write, G: Gate + Send + Drop + 'static>(
+pub fn run_beside<H: Hall, R: Source, W: Sink, G: Gate + Send + Drop + 'static>(
     rt: &H,
     alloc: Global,
     reader: &mut R,
@@ -75,11 +104,16 @@ pub fn run_beside<H: Hall, R: Read, W: Write, G: Gate + Send + Drop + 'static>(
 ) -> Result<Beside, Pass>
     requires edits { pass.receipts ≡ [] }
     requires seen { StartsWith pass.seen pass.opened }
-    ensures own { IfOk result (λ b. OnOk b.ended (AnswersOwn (R.remaining reader.old) (R.remaining reader.new)
-        (W.contents writer.old) (W.contents writer.new) (seated_store pass))) }
+    requires flushed { W.is_flushed writer.old ≡ true }
+    ensures runs { IfOk result (λ b. Runs (seated_store pass) (seated_store b.pass)
+        (record { unread = R.remaining reader.old; rest = R.remaining reader.new; before = W.contents writer.old; after = W.contents writer.new })
+        (CantRead (R.has_failed reader.new) (R.left reader.new)) (W.has_failed writer.new ≡ true)
+        (b.pass.seen ≡ own_journal b.pass) (b.pass.spent ≡ true) b.ended) }
     ensures all_ended { IfOk result (λ b. HasEnded pass (vec_len gates) b.worked) }
     ensures reader { OnErr result (Keeps (R.remaining reader.old) (R.remaining reader.new)) }
     ensures writer { OnErr result (Keeps (W.contents writer.old) (W.contents writer.new)) }
+    ensures same_reader { R.lender reader.new ≡ R.lender reader.old }
+    ensures same_writer { W.lender writer.new ≡ W.lender writer.old }
 {
     let count = gates.len();
     let Ok(session) = Arc::new(alloc, Session::new()) else {
@@ -103,7 +137,7 @@ pub fn run_beside<H: Hall, R: Read, W: Write, G: Gate + Send + Drop + 'static>(
         rt,
         attends,
         move || -> Worked
-            ensures { IsWorked own result.pass (vec_len gates) result.fault }
+            ensures { IsWorked own result.pass (vec_len gates) result.started result.fault }
         {
             let worked = attend(&host, own, gates);
             theirs.leave();
@@ -111,14 +145,19 @@ pub fn run_beside<H: Hall, R: Read, W: Write, G: Gate + Send + Drop + 'static>(
         },
     );
     let workers = match started {
-        Ok(workers) => workers,
+        Ok(thread) => Workers { thread },
         Err(_) => return Err(pass),
     };
     let mut desk = Seated::new(*rt, alloc, pass);
-    let ended = run(rt, alloc, reader, writer, &mut desk);
-    session.end(rt, &desk.into_pass());
+    let ended = run_watched(rt, alloc, reader, writer, &mut desk);
+    let pass = desk.into_pass();
+    session.end(rt, &pass);
     let worked = workers.join(rt);
-    Ok(Beside { ended, worked })
+    Ok(Beside {
+        ended,
+        pass,
+        worked,
+    })
 }
 
 /// A bench at the opening of a project, with its clock at 0.
@@ -139,40 +178,53 @@ fn fresh(alloc: Global, project: Project) -> Option<Bench>
 ///
 /// # Errors
 ///
-/// `Start` where there was no memory or no thread at the start, and then nothing was read; the fault of the run.
-pub fn serve<H: Hall, R: Read, W: Write, G: Gate + Send + Drop + 'static>(
+/// Where there was no memory or no thread at the start, and then nothing was read. A fault of the run stands in `ended`.
+pub fn serve<H: Hall, R: Source, W: Sink, G: Gate + Send + Drop + 'static>(
     rt: &H,
     alloc: Global,
     reader: &mut R,
     writer: &mut W,
     project: Project,
     gates: Vec<G>,
-) -> Result<(), ServeFault>
-    requires { vec_len gates ≤ 16 }
-    ensures { ServesAs (vec_len gates) (first_store project) (R.remaining reader.old) (R.remaining reader.new)
-        (W.contents writer.old) (W.contents writer.new) result }
+) -> Result<Served, NoStart>
+    requires few { vec_len gates ≤ 16 }
+    requires flushed { W.is_flushed writer.old ≡ true }
+    ensures serves { ServesAs (vec_len gates) (first_store project)
+        (CantRead (R.has_failed reader.new) (R.left reader.new)) (W.has_failed writer.new ≡ true)
+        (record { unread = R.remaining reader.old; rest = R.remaining reader.new; before = W.contents writer.old; after = W.contents writer.new })
+        result }
+    ensures same_reader { R.lender reader.new ≡ R.lender reader.old }
+    ensures same_writer { W.lender writer.new ≡ W.lender writer.old }
 {
     let bench = match fresh(alloc, project) {
         Some(bench) => bench,
-        None => return Err(ServeFault::Start),
+        None => return Err(NoStart),
     };
     let workers = gates.len();
     if workers == 0 {
         let mut desk = Waves::new(alloc, bench);
-        match run(rt, alloc, reader, writer, &mut desk) {
-            Ok(()) => return Ok(()),
-            Err(fault) => return Err(ServeFault::Run(fault)),
-        }
+        let ended = run_watched(rt, alloc, reader, writer, &mut desk);
+        return Ok(Served {
+            ended,
+            left: Left::Bench(desk.into_bench()),
+        });
     }
     let pass = match open(alloc, bench, workers as u32 + 2) {
         Ok(pass) => pass,
-        Err(_) => return Err(ServeFault::Start),
+        Err(_) => return Err(NoStart),
     };
     match run_beside(rt, alloc, reader, writer, pass, gates) {
-        Ok(beside) => match beside.ended {
-            Ok(()) => Ok(()),
-            Err(fault) => Err(ServeFault::Run(fault)),
-        },
-        Err(_) => Err(ServeFault::Start),
+        Ok(beside) => {
+            let Beside {
+                ended,
+                pass,
+                worked,
+            } = beside;
+            Ok(Served {
+                ended,
+                left: Left::Passes(pass, worked),
+            })
+        }
+        Err(_) => Err(NoStart),
     }
 }

@@ -35,6 +35,13 @@ impl Waves {
     {
         Waves { alloc, bench }
     }
+
+    /// The bench.
+    pub fn into_bench(self) -> Bench
+        ensures { result ≡ self }
+    {
+        self.bench
+    }
 }
 
 impl Desk for Waves {

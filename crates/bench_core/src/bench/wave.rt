@@ -1,7 +1,7 @@
 //! Computing due cells a cycle at a time, on whatever threads.
 ghost use Rattle.std.specs.Prelude.{◌≡◌, ℕ, ◌+◌, ◌^◌, ◌<◌, All, IfOk, OnErr, IfNone, IfSome, Err};
 ghost use Rattle.cell_table.specs.Settling.{NoneDueBefore, IsSettled, SettlesNext, IsSpent};
-ghost use Rattle.cell_table.specs.Waves.{IsReady, IsWork};
+ghost use Rattle.cell_table.specs.Waves.{IsReady, IsWork, IsNextWave};
 ghost use Rattle.machine_cells.specs.GridRules.{rp3_rules};
 ghost use Rattle.bench_core.specs.Shown.{project_of};
 
@@ -26,7 +26,8 @@ impl Bench {
     /// Where a growth was refused. Nothing is changed.
     pub fn next_works(&self, from: Cell) -> Result<Vec<Work<Rp3>>, NoMemory>
         requires { NoneDueBefore rp3_rules self.now.table from.cycle from.component }
-        ensures { IfOk result (λ works. All (λ w. IsReady rp3_rules self.now.table w.cell.cycle w.cell.component) works.items) }
+        ensures ready { IfOk result (λ works. All (λ w. IsReady rp3_rules self.now.table w.cell.cycle w.cell.component) works.items) }
+        ensures all { IfOk result (λ works. IsNextWave rp3_rules self.now.table works.items) }
     {
         self.table.next_works(from)
     }

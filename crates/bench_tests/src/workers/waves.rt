@@ -2,9 +2,9 @@
 use super::answers::answer_the_same;
 use super::benches::contended;
 use super::gates::{Board, Counting, Meeting};
-use crate::base::{entry, fresh, word};
+use crate::base::{base, bench_of, entry, fresh, word};
 use bench_core::Bench;
-use cell_table::Settled;
+use cell_table::{SettleFault, Settled};
 use expect::equal;
 use omega_net::ScriptEntry;
 use project_book::{Depths, Edit};
@@ -56,6 +56,17 @@ fn example_9_by_waves(rt: HostRuntime) -> Result<(), Fail> {
         bench.edit(0, then)?;
         assert!(rt; equal(&rt, (first, waved(&rt, &mut bench)?), cells));
     }
+    Ok(())
+}
+
+/// At the clock's last value no state is stored: the first cell's would be a new one.
+#[test]
+fn waves_tell_a_spent_clock(rt: HostRuntime) -> Result<(), Fail> {
+    let alloc = rt.alloc();
+    let mut bench = bench_of(alloc, base(alloc)?, u64::MAX)?;
+    let gates = vec![in alloc; Ungated, Ungated]?;
+    let settled = settle_wave(&rt, &mut bench, gates);
+    assert!(rt; equal(&rt, settled, Err(SettleFault::ClockSpent { computed: 0 })));
     Ok(())
 }
 

@@ -1,13 +1,13 @@
 //! Settling by states that were computed beside the table, a cycle at a time.
-ghost use Rattle.std.specs.Prelude.{◌≡◌, ◌≢◌, ℕ, ◌+◌, ◌-◌, ◌^◌, ◌<◌, ◌≤◌, All, IfOk, OnErr, IfNone, IfSome, Err, is_some, option_map, true, false, Some};
+ghost use Rattle.std.specs.Prelude.{◌≡◌, ◌≢◌, ℕ, ◌+◌, ◌-◌, ◌^◌, ◌<◌, ◌≤◌, ◌++◌, ◌∷◌, [], All, IfOk, OnOk, OnErr, IfNone, IfSome, Err, is_some, option_map, true, false, None, Some, if◌then◌else◌};
 ghost use Rattle.std.specs.Arc.{arc_value};
-ghost use Rattle.cell_table.specs.Seen.{held_at};
+ghost use Rattle.cell_table.specs.Seen.{due_at, held_at};
 ghost use Rattle.cell_table.specs.Cells.{IsThere};
 ghost use Rattle.cell_table.specs.Inputs.{inputs_of};
 ghost use Rattle.cell_table.specs.Consistent.{current_of};
 ghost use Rattle.cell_table.specs.Gives.{IsAfterStore};
 ghost use Rattle.cell_table.specs.Settling.{NoneDueBefore, IsSettled, SettlesNext, IsSpent};
-ghost use Rattle.cell_table.specs.Waves.{known_of, IsFound, IsWork, IsReady};
+ghost use Rattle.cell_table.specs.Waves.{known_of, works_below, IsFound, IsWork, IsReady, IsNextWave};
 
 use super::Table;
 use crate::{Cell, StoreFault, Work};
@@ -63,21 +63,30 @@ impl<G: Grid> Table<G> {
         }
     }
 
-    /// The due cells of a cycle, from a component on.
+    /// Adds the work of a cell, where that is due.
+    fn add_work(&self, works: &mut Vec<Work<G>>, cell: Cell) -> Result<(), NoMemory>
+        ensures { OnOk result (works.new.items ≡ works.old.items
+            ++ (if due_at self.now.rows cell.cycle cell.component then record { cell = cell; known = None } ∷ [] else [])) }
+    {
+        if self.due(cell) {
+            works.push(Work::new(cell))?;
+        }
+        Ok(())
+    }
+
+    /// The due cells of a cycle.
     fn due_works(&self, cycle: u32) -> Result<Vec<Work<G>>, NoMemory>
         requires cycle { cycle ≤ self.now.horizon }
         requires earlier { NoneDueBefore G.rules self.now cycle 0 }
-        ensures { IfOk result (λ works. All (λ w. IsReady G.rules self.now w.cell.cycle w.cell.component) works.items) }
+        ensures ready { IfOk result (λ works. All (λ w. IsReady G.rules self.now w.cell.cycle w.cell.component) works.items) }
+        ensures all { IfOk result (λ works. works.items ≡ works_below self.now.rows cycle (G.rules.components self.now.slots)) }
     {
         let mut works = Vec::with_capacity(
             self.cells.allocator(),
             self.cells.due_count(cycle) as usize,
         )?;
         for component in 0..G::components(&self.slots) {
-            let cell = Cell { cycle, component };
-            if self.due(cell) {
-                works.push(Work::new(cell))?;
-            }
+            self.add_work(&mut works, Cell { cycle, component })?;
         }
         Ok(works)
     }
@@ -90,7 +99,8 @@ impl<G: Grid> Table<G> {
     /// Where a growth was refused. Nothing is changed.
     pub fn next_works(&self, from: Cell) -> Result<Vec<Work<G>>, NoMemory>
         requires { NoneDueBefore G.rules self.now from.cycle from.component }
-        ensures { IfOk result (λ works. All (λ w. IsReady G.rules self.now w.cell.cycle w.cell.component) works.items) }
+        ensures ready { IfOk result (λ works. All (λ w. IsReady G.rules self.now w.cell.cycle w.cell.component) works.items) }
+        ensures all { IfOk result (λ works. IsNextWave G.rules self.now works.items) }
     {
         match self.next_due(from) {
             Some(cell) => self.due_works(cell.cycle),

@@ -1,14 +1,14 @@
 //! What a pass does in its turn. Each call waits for the turn, makes one call of the bench (`ask` settles it before), and
-//! passes the turn on; while another pass has the turn, the thread sleeps. Where a call returns is all that is said: that
+//! passes the turn on: one turn more, with the bench that it met and the bench that it left. While another pass has the turn, the thread sleeps. Where a call returns is all that is said: that
 //! another pass ever passes its turn on isn't.
 ghost use Rattle.std.specs.Prelude.{◌≡◌, true, [], ◌∷◌, ◌++◌, length, IfOk, IfErr, IfSome, Err};
 ghost use Rattle.cell_table.specs.Gives.{GivesAs};
 ghost use Rattle.machine_cells.specs.GridRules.{rp3_rules};
 ghost use Rattle.bench_core.specs.Shown.{Shown as AnyBench};
 ghost use Rattle.bench_core.specs.Asks.{AsksAs};
-ghost use Rattle.shared_bench.specs.Known.{IsLater};
+ghost use Rattle.shared_bench.specs.Known.{IsLater, TookTurn};
 ghost use Rattle.bench_core.specs.Told.{TellsAt, AnswersAt, RefusesAt};
-ghost use Rattle.shared_bench.specs.Answers.{project_seen, IsMet, IsInTurn, EditsAs, ClaimsAs, TellsAs, IsGivenSpent};
+ghost use Rattle.shared_bench.specs.Answers.{project_seen, IsMet, IsInTurn, EditsAs, ClaimsAs, SettlesAs, TellsAs, IsGivenSpent};
 
 use super::Pass;
 use crate::steps::{leave, leave_edited, wait_turn};
@@ -29,7 +29,7 @@ impl Pass {
         ensures threads_ask { TellsAt (project_seen self.new) (length self.new.seen) query result }
         ensures later { IsLater self.old self.new }
         ensures own { (self.new.numbers ≡ self.old.numbers) × (self.new.receipts ≡ self.old.receipts) }
-        ensures in_turn { (d : AnyBench) × (next : AnyBench) × IsInTurn self.new d × IsInTurn self.new next × TellsAs next query result }
+        ensures in_turn { (d : AnyBench) × (next : AnyBench) × IsInTurn self.new d × IsInTurn self.new next × SettlesAs result d next × TellsAs next query result × TookTurn self.old self.new d next }
         ensures spent { result ≡ Told.ClockSpent → self.new.spent ≡ true }
     {
         self.ask_with(rt, rt, query)
@@ -40,7 +40,7 @@ impl Pass {
         ensures threads_ask { TellsAt (project_seen self.new) (length self.new.seen) query result }
         ensures later { IsLater self.old self.new }
         ensures own { (self.new.numbers ≡ self.old.numbers) × (self.new.receipts ≡ self.old.receipts) }
-        ensures in_turn { (d : AnyBench) × (next : AnyBench) × IsInTurn self.new d × IsInTurn self.new next × TellsAs next query result }
+        ensures in_turn { (d : AnyBench) × (next : AnyBench) × IsInTurn self.new d × IsInTurn self.new next × SettlesAs result d next × TellsAs next query result × TookTurn self.old self.new d next }
         ensures spent { result ≡ Told.ClockSpent → self.new.spent ≡ true }
     {
         let mut bench = wait_turn(host, &self.table.shared, &mut self.seat, self.ticket);
@@ -57,7 +57,7 @@ impl Pass {
         ensures answer { AnswersAt (project_seen self.new) (length self.new.seen) query result }
         ensures later { IsLater self.old self.new }
         ensures own { (self.new.numbers ≡ self.old.numbers) × (self.new.receipts ≡ self.old.receipts) }
-        ensures in_turn { (d : AnyBench) × IsInTurn self.new d × AsksAs d query result }
+        ensures in_turn { (d : AnyBench) × IsInTurn self.new d × AsksAs d query result × TookTurn self.old self.new d d }
     {
         let mut bench = wait_turn(rt, &self.table.shared, &mut self.seat, self.ticket);
         self.ticket = None;
@@ -77,7 +77,7 @@ impl Pass {
         ensures project { IfOk result (λ r. IfSome r (λ claim. claim.slots ≡ project_seen self.new)) }
         ensures later { IsLater self.old self.new }
         ensures own { (self.new.numbers ≡ self.old.numbers) × (self.new.receipts ≡ self.old.receipts) }
-        ensures in_turn { (d : AnyBench) × IsInTurn self.new d × ClaimsAs d from result }
+        ensures in_turn { (d : AnyBench) × IsInTurn self.new d × ClaimsAs d from result × TookTurn self.old self.new d d }
     {
         let bench = wait_turn(rt, &self.table.shared, &mut self.seat, self.ticket);
         self.ticket = None;
@@ -90,7 +90,7 @@ impl Pass {
     pub fn give<R: Wait>(&mut self, rt: &R, done: Done<Rp3>) -> Given<Done<Rp3>>
         ensures later { IsLater self.old self.new }
         ensures own { (self.new.numbers ≡ self.old.numbers) × (self.new.receipts ≡ self.old.receipts) }
-        ensures in_turn { (d : AnyBench) × (next : AnyBench) × IsInTurn self.new d × IsInTurn self.new next × GivesAs rp3_rules d.table done result next.table }
+        ensures in_turn { (d : AnyBench) × (next : AnyBench) × IsInTurn self.new d × IsInTurn self.new next × GivesAs rp3_rules d.table done result next.table × TookTurn self.old self.new d next }
         ensures spent { IsGivenSpent result → self.new.spent ≡ true }
     {
         let mut bench = wait_turn(rt, &self.table.shared, &mut self.seat, self.ticket);
@@ -104,15 +104,17 @@ impl Pass {
     ///
     /// # Errors
     ///
-    /// Those of `Bench::edit`, judged by the project and the journal that the pass has then seen. Then nothing is changed.
+    /// Those of `Bench::edit`, judged by the bench in the turn, whose project and journal the pass has then seen. Then nothing
+    /// is changed.
     pub fn edit<R: Wait>(&mut self, rt: &R, edit: Edit) -> Result<u32, EditFault>
         ensures ok { IfOk result (λ v. (v ≡ length self.new.seen) × (self.new.receipts ≡ self.old.receipts ++ (v, edit) ∷ [])) }
         ensures err { IfErr result (λ f. self.new.receipts ≡ self.old.receipts) }
         ensures refused { IfErr result (λ f. RefusesAt (project_seen self.new) (length self.new.seen) edit f) }
         ensures later { IsLater self.old self.new }
         ensures numbers { self.new.numbers ≡ self.old.numbers }
-        ensures in_turn { (d : AnyBench) × (next : AnyBench) × IsMet self.old d × IsInTurn self.new next × EditsAs d self.old.number edit result next }
+        ensures in_turn { (d : AnyBench) × (next : AnyBench) × IsMet self.old d × IsInTurn self.new next × EditsAs d self.old.number edit result next × TookTurn self.old self.new d next }
         ensures spent { result ≡ Err EditFault.ClockSpent → self.new.spent ≡ true }
+        ensures wants { result ≡ Err EditFault.Memory → self.new.spent ≡ true → ⊥ }
     {
         let mut bench = wait_turn(rt, &self.table.shared, &mut self.seat, self.ticket);
         self.ticket = None;
@@ -139,6 +141,7 @@ impl Pass {
         ensures threads_project { IfOk result (λ r. (r.0 ≡ length self.new.seen) × (r.1 ≡ project_seen self.new)) }
         ensures later { IsLater self.old self.new }
         ensures own { (self.new.numbers ≡ self.old.numbers) × (self.new.receipts ≡ self.old.receipts) }
+        ensures in_turn { (d : AnyBench) × IsInTurn self.new d × TookTurn self.old self.new d d }
     {
         let bench = wait_turn(rt, &self.table.shared, &mut self.seat, self.ticket);
         self.ticket = None;

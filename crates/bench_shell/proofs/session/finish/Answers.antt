@@ -1,9 +1,9 @@
-use Rattle.std.proofs.Common.{sym, refl, subst, ℕ, List, [], ◌∷◌, ◌∙◌, ◌<◌, ◌≤◌, length, append-nil, arith}
+use Rattle.std.proofs.Common.{true, ◌≡◌, sym, refl, subst, ℕ, List, [], ◌∷◌, ◌∙◌, ◌<◌, ◌≤◌, length, append-nil, arith}
 use Rattle.std.proofs.lemmas.Result.{on_ok_weaker, on_err_weaker}
 use Rattle.bench_shell.specs.Text.{line_text}
 use Rattle.bench_shell.specs.declared.answer.Answer.TheVariants.{BadLine, BadCut}
 use Rattle.bench_shell.proofs.Lines.{zero_lt}
-use Rattle.bench_shell.proofs.Steps.{cut_answered, long_cut_answered, cut_one_line}
+use Rattle.bench_shell.proofs.Steps.{cut_answered, long_cut_answered, cut_one_line, no_body}
 use Rattle.bench_shell.proofs.session.finish.Goals as goal
 
 pub returns-then-held-clause-ok : goal.returns-then-held-clause-ok
@@ -43,3 +43,9 @@ returns-clause-err g c =
     let fits : length h ≤ 4096 = rw (← c.as_slice.ensures.value) c.as_slice.ensures.fits in
     let some : 0 < length h = rw (← c.as_slice.ensures.value) (zero_lt c.as_slice.result.now (sym c.is_empty.ensures ∙ c.if-is_empty.false)) in
     on_err_weaker c.tell-2.result (λ q. (q.0, q.2, λ line p s. (q.1, cut_answered held.is_long h line s c.if-held.false some fits p ∙ q.3))) c.tell-2.ensures.err
+
+pub returns-then-held-clause-cause : goal.returns-then-held-clause-cause
+returns-then-held-clause-cause g c = no_body c.tell.result _ _ (λ h. absurd cc) c.tell.ensures.cause
+
+pub returns-clause-cause : goal.returns-clause-cause
+returns-clause-cause g c = no_body c.tell-2.result _ _ (λ h. absurd cc) c.tell-2.ensures.cause

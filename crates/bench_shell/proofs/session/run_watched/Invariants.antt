@@ -1,6 +1,7 @@
 use Rattle.std.proofs.Common.{◌≡◌, ◌≤◌, true}
 use Rattle.bench_shell.specs.Store.{version_in}
 use Rattle.bench_shell.proofs.Steps.{SoFarOn}
+use Rattle.bench_shell.proofs.Own.{OwnSoFar}
 use Rattle.bench_shell.proofs.session.run_watched.Given as goal
 
 abbrev pub invariant-pieces : goal.invariant-pieces
@@ -14,6 +15,7 @@ invariant-pieces g l = record {
   so_far : SoFarOn (g.R.Source.remaining l.initial.reader) (g.R.Source.remaining l.reader)
       (g.W.Sink.contents l.initial.writer) (g.W.Sink.contents l.writer) (g.D.Desk.is_alone l.initial.desk) (g.D.Desk.is_alone l.desk)
       (g.D.Desk.store l.initial.desk) (g.D.Desk.store l.desk) l.held.is_long l.held.bytes.items;
+  own : OwnSoFar (g.R.Source.remaining l.initial.reader) (g.R.Source.remaining l.reader) (g.D.Desk.store l.initial.desk) (g.D.Desk.store l.desk) l.held.is_long l.held.bytes.items;
 }
 
 abbrev pub decreases-pieces : goal.decreases-pieces

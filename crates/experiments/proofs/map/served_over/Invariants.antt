@@ -6,4 +6,4 @@ use Rattle.experiments.specs.Maps.{has_served}
 use Rattle.experiments.proofs.map.served_over.Given as goal
 
 abbrev pub invariant-loop-i : goal.invariant-loop-i
-invariant-loop-i l = l.served.items ≡ map (λ i. has_served (state_in (map (λ row. map arc_value row.items) l.rows) (i + l.window.from) l.component)) (below l.i)
+invariant-loop-i l = l.served.items ≡ map (λ i. has_served l.net (state_in (map (λ row. map arc_value row.items) l.rows) (i + l.window.from) l.component)) (below l.i)

@@ -6,13 +6,13 @@ use Rattle.std.proofs.lemmas.Slice.Zip.{Zip-more, either_empty_from_Zip}
 use Rattle.experiments.specs.declared.load.Load.{Load}
 use Rattle.experiments.specs.declared.fault.Fault.{Fault}
 use Rattle.experiments.specs.declared.delays.ColdWaits.{ColdWaits}
-use Rattle.experiments.specs.Delays.{IsWaited}
+use Rattle.experiments.specs.Delays.{IsWaitedBy}
 use Rattle.lab_tasks.specs.Points.{first_measured, IsDelay}
 use Rattle.lab_tasks.proofs.Adding.{adding-begin, adding-next, adding-end}
 use Rattle.lab_tasks.proofs.delays.add_points.Goals as goal
 
 abbrev Given : ℕ → Load → Result ColdWaits Fault → Type 0
-Given from load r = IfOk r (IsWaited load from)
+Given from load r = IsWaitedBy load from r
 
 pub loop-load-init : goal.loop-load-init
 loop-load-init g c =

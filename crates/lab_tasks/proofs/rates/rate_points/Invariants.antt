@@ -4,4 +4,4 @@ use Rattle.lab_tasks.proofs.Adding.{Awaits}
 use Rattle.lab_tasks.proofs.rates.rate_points.Given as goal
 
 abbrev pub invariant-loop-some : goal.invariant-loop-some
-invariant-loop-some g l = Awaits (IsRate l.plan) (rate_loads l.plan) (chunks_rest l.some-iterator) l.points.items
+invariant-loop-some g l = Awaits IsRate (rate_loads l.plan) (chunks_rest l.some-iterator) l.points.items

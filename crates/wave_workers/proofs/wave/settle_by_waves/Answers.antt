@@ -2,8 +2,7 @@ use Rattle.std.proofs.Common.{◌≡◌, ◌+◌, ◌<◌, ◌^◌, ◌∙◌, O
 use Rattle.std.proofs.lemmas.List.Elements.{All-nil}
 use Rattle.cell_table.specs.declared.given.Settled.{Settled}
 use Rattle.cell_table.specs.declared.given.SettleFault.{SettleFault}
-use Rattle.cell_table.specs.declared.given.SettleFault.TheVariants.{ClockSpent, Memory}
-use Rattle.cell_table.specs.Settling.{IsSettled, IsSpent, SettlesNext, IsAt}
+use Rattle.cell_table.specs.Settling.{IsSettled, IsSpent, SettlesNext, IsAt, computed_of}
 use Rattle.cell_table.specs.Waves.{IsWork}
 use Rattle.cell_table.proofs.Passes.{begins, of_some, of_none, few_next, goes_on, spent_first, first_settled, all_settled}
 use Rattle.machine_cells.specs.GridRules.{rp3_rules}
@@ -40,21 +39,16 @@ returns-in-Ok-None-clause-headline_settles g c =
     settle_all c.args.bench.now c.settle_next.new.bench (c.in-Ok-None.ensures.journal ∙ c.loop-cell.invariant.journal) {E = SettleFault} (Ok (record { computed = c.loop-cell.computed }))
     (at.done, all_settled rp3_rules rp3_laws c.args.bench.now.table c.settle_next.new.bench.table c.loop-cell.from.cycle c.loop-cell.from.component c.loop-cell.computed at settled)
 
-pub returns-in-Err-ClockSpent-clause-after_fault : goal.returns-in-Err-ClockSpent-clause-after_fault
-returns-in-Err-ClockSpent-clause-after_fault g c =
-    let at = subst (λ (v : Shown). IsAt rp3_rules c.args.bench.now.table v.table c.loop-cell.from.cycle c.loop-cell.from.component c.loop-cell.computed) (sym c.in-Err-ClockSpent.ensures.err) c.loop-cell.invariant.at in
-    settle_some c.args.bench.now c.settle_next.new.bench (c.in-Err-ClockSpent.ensures.journal ∙ c.loop-cell.invariant.journal) {T = Settled} (Err (ClockSpent c.loop-cell.computed))
-    (at.done, first_settled rp3_rules rp3_laws c.args.bench.now.table c.settle_next.new.bench.table c.loop-cell.from.cycle c.loop-cell.from.component c.loop-cell.computed at)
+pub returns-in-Err-clause-after_fault : goal.returns-in-Err-clause-after_fault
+returns-in-Err-clause-after_fault g c =
+    let here = subst (λ (v : Shown). IsAt rp3_rules c.args.bench.now.table v.table c.loop-cell.from.cycle c.loop-cell.from.component c.loop-cell.computed) (sym c.in-Err.ensures.err) c.loop-cell.invariant.at in
+    let at = subst (λ n. IsAt rp3_rules c.args.bench.now.table c.settle_next.new.bench.table c.loop-cell.from.cycle c.loop-cell.from.component n) (sym c.stopped.ensures.computed) here in
+    settle_some c.args.bench.now c.settle_next.new.bench (c.in-Err.ensures.journal ∙ c.loop-cell.invariant.journal) {T = Settled} (Err c.stopped.result)
+    (at.done, first_settled rp3_rules rp3_laws c.args.bench.now.table c.settle_next.new.bench.table c.loop-cell.from.cycle c.loop-cell.from.component (computed_of c.stopped.result) at)
 
-pub returns-in-Err-Memory-clause-after_fault : goal.returns-in-Err-Memory-clause-after_fault
-returns-in-Err-Memory-clause-after_fault g c =
-    let at = subst (λ (v : Shown). IsAt rp3_rules c.args.bench.now.table v.table c.loop-cell.from.cycle c.loop-cell.from.component c.loop-cell.computed) (sym c.in-Err-Memory.ensures.err) c.loop-cell.invariant.at in
-    settle_some c.args.bench.now c.settle_next.new.bench (c.in-Err-Memory.ensures.journal ∙ c.loop-cell.invariant.journal) {T = Settled} (Err (Memory c.loop-cell.computed))
-    (at.done, first_settled rp3_rules rp3_laws c.args.bench.now.table c.settle_next.new.bench.table c.loop-cell.from.cycle c.loop-cell.from.component c.loop-cell.computed at)
-
-pub returns-in-Err-ClockSpent-clause-differs : goal.returns-in-Err-ClockSpent-clause-differs
-returns-in-Err-ClockSpent-clause-differs g c =
-    λ _. subst (λ (v : Shown). IsSpent rp3_rules v.table 0 0) (sym c.in-Err-ClockSpent.ensures.err) (spent_first rp3_rules c.loop-cell.bench.table c.loop-cell.from.cycle c.loop-cell.from.component c.loop-cell.invariant.at.none_before (c.in-Err-ClockSpent.ensures.spent (ap Err c.in-Err-ClockSpent.field-0-is)))
+pub returns-in-Err-clause-differs : goal.returns-in-Err-clause-differs
+returns-in-Err-clause-differs g c =
+    λ spent. subst (λ (v : Shown). IsSpent rp3_rules v.table 0 0) (sym c.in-Err.ensures.err) (spent_first rp3_rules c.loop-cell.bench.table c.loop-cell.from.cycle c.loop-cell.from.component c.loop-cell.invariant.at.none_before (c.in-Err.ensures.spent (ap Err (c.stopped.ensures.spent spent))))
 
 pub loop-cell-init : goal.loop-cell-init
 loop-cell-init g c = record {

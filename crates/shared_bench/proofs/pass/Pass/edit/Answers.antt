@@ -1,9 +1,8 @@
-use Rattle.std.proofs.Common.{◌≡◌, ◌∙◌, subst, ap, ℕ, [], ◌∷◌, ◌++◌}
-use Rattle.shared_bench.specs.Legal.{noted}
+use Rattle.std.proofs.Common.{◌≡◌, ◌∙◌, subst, ap}
 use Rattle.shared_bench.specs.Answers.{IsMet}
 use Rattle.shared_bench.specs.Known.{Known}
 use Rattle.shared_bench.proofs.Told.{may_leave, may_edit}
-use Rattle.shared_bench.proofs.Passes.{edit_later, edit_receipt, seen_in_turn, in_turn_edited, edits_ok}
+use Rattle.shared_bench.proofs.Passes.{edit_later, edit_receipt, edit_refused, seen_in_turn, in_turn_edited, turn_taken_edited}
 use Rattle.shared_bench.proofs.pass.Pass.edit.Goals as goal
 
 pub leave-requires-clause-may : goal.leave-requires-clause-may
@@ -41,5 +40,12 @@ returns-in-Ok-clause-in_turn g c =
       c.edit.new.self,
       met,
       (in_turn_edited c.leave_edited.new.seat.table_id c.self.inside.number _ _ c.leave_edited.new.seat.me d c.edit.new.self c.self.inside.number c.args.edit h left ok.journal ok.project, ok.history),
-      edits_ok d c.edit.new.self c.args.self.now.number c.args.edit c.in-Ok.version ok.accepted (ok.journal ∙ ap (λ (a : ℕ). d.journal ++ noted a c.args.edit ∷ []) by) ok.project ok.version,
+      rw (← by) ok.edits,
+      rw (← c.self.view_is) (turn_taken_edited c.self.inside.seat.table_id c.leave_edited.new.seat.table_id c.self.inside.number c.self.inside.seat.me _ c.leave_edited.new.seat.me d c.edit.new.self c.self.inside.number c.args.edit h left),
     )
+
+pub returns-in-Err-clause-refused : goal.returns-in-Err-clause-refused
+returns-in-Err-clause-refused g c =
+    let d = c.wait_turn-bench.result in
+    let err = c.in-Err.ensures in
+    edit_refused c.leave.new.seat.table_id c.self.inside.number _ _ c.leave.new.seat.me d c.args.edit c.wait_turn-bench.ensures.bench (rw err.err at c.leave.ensures.left) c.in-Err.fault err.edits.0

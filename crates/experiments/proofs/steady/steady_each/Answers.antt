@@ -1,0 +1,16 @@
+use Rattle.std.proofs.Common.{ap, ◌∙◌, Result}
+use Rattle.std.specs.Prelude.{IfOk}
+use Rattle.rayon.proofs.ListFacts.{IfOk-then}
+use Rattle.rayon.proofs.ToStd.{slice-AllZip}
+use Rattle.experiments.specs.declared.load.Load.{Load}
+use Rattle.experiments.specs.declared.fault.Fault.{Fault}
+use Rattle.experiments.specs.declared.steady.Steady.{Steady}
+use Rattle.experiments.specs.Steady.{IsSteadyBy}
+use Rattle.experiments.proofs.steady.steady_each.Goals as goal
+
+pub returns : goal.returns
+returns g c =
+    let slice = ap (λ it. it.slice.now) c.map.ensures.base ∙ c.par_iter.ensures in
+    IfOk-then c.collect.result _ _ c.collect.ensures (λ v h.
+    let chain = rw c.map.ensures.f at h.1 in
+    rw h.2 (slice-AllZip chain.0 c.args.loads.now (chain.1 ∙ slice) (λ (load : Load) (r : Result Steady Fault). IsSteadyBy load r) h.0 chain.2))

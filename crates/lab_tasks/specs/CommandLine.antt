@@ -1,0 +1,86 @@
+-- The program's command line, as `clap` reads it.
+use Rattle.std.specs.Prelude.{◌≡◌, true, false, List, [], ◌∷◌, ◌++◌, map, fold, Some, All, codes, bytes_eq}
+use Rattle.clap.specs.Words.{App, Rule, Shape, Text, app_of, new_app, new_rule, with_rule, with_subcommand}
+use Rattle.clap.specs.Simple.{new_shape, on_top}
+use Rattle.clap.specs.declared.builder.command.Command.{Command}
+use Rattle.clap.specs.declared.builder.command.Command.TheViews.{out-Command}
+use Rattle.clap.specs.declared.builder.action.ArgAction.TheVariants.{Set, Append}
+
+-- an argument `--ID VALUE`, one that is given once or more, and the project file
+abbrev pub option_rule : Text → Rule
+option_rule id = record (new_rule id) { long = Some id; action = Some Set; value_names = 1 }
+
+abbrev pub several_rule : Text → Rule
+several_rule id = record (new_rule id) { long = Some id; action = Some Append; value_names = 1; required = true }
+
+abbrev pub file_rule : Rule
+file_rule = record (new_rule (codes "FILE")) { required = true }
+
+-- a task with these arguments
+abbrev pub task : Text → List Rule → Shape
+task name rules = record (new_shape name) { rules = rules }
+
+abbrev pub map_task : Shape
+map_task = task (codes "map") (file_rule ∷ map option_rule (codes "net" ∷ codes "module" ∷ codes "from" ∷ codes "to" ∷ codes "out" ∷ []))
+
+abbrev pub order_task : Shape
+order_task = task (codes "order") (file_rule ∷ map option_rule (codes "from" ∷ codes "to" ∷ codes "out" ∷ []))
+
+abbrev pub measured_rules : List Rule
+measured_rules = map option_rule (codes "k" ∷ codes "hot" ∷ codes "cycles" ∷ codes "seed" ∷ [])
+
+abbrev pub measured_task : Text → Shape
+measured_task name = task name measured_rules
+
+abbrev pub kept_rules : List Rule
+kept_rules = map option_rule (codes "csv" ∷ codes "out" ∷ codes "keep" ∷ [])
+
+abbrev pub rates_task : Shape
+rates_task = task (codes "rates") (measured_rules ++ (map option_rule (codes "seeds" ∷ codes "of" ∷ []) ++ kept_rules))
+
+abbrev pub delays_task : Shape
+delays_task = task (codes "delays") (measured_rules ++ kept_rules)
+
+abbrev pub sweep_task : Shape
+sweep_task = task (codes "sweep") (file_rule ∷ several_rule (codes "depth") ∷ several_rule (codes "ask") ∷ option_rule (codes "csv") ∷ [])
+
+abbrev pub check_task : Shape
+check_task = task (codes "check") (file_rule ∷ [])
+
+abbrev pub convert_task : Shape
+convert_task = task (codes "convert") (file_rule ∷ option_rule (codes "out") ∷ [])
+
+-- the tasks
+abbrev pub tasks : List Shape
+tasks = map_task ∷ order_task ∷ rates_task ∷ delays_task ∷ sweep_task ∷ check_task ∷ convert_task ∷ []
+
+-- no task has this name
+abbrev pub IsNoTask : Text → Type 0
+IsNoTask name = All (λ t. bytes_eq t.name name ≡ false) tasks
+
+-- `lab TASK ..`, with a version; the words are those behind the program's name
+abbrev pub bare : App
+bare = on_top (λ s. record s { no_binary_name = true; has_version = true; subcommand_required = true }) (new_app (codes "lab"))
+
+unfoldable pub lab : App
+lab = fold with_subcommand bare tasks
+
+-- a command that is built so, without an argument for its tasks too
+abbrev pub IsApp : App → Command → Type 0
+IsApp app c = (app_of c ≡ app) × ((out-Command c).has_globals ≡ false)
+
+abbrev pub IsTask : Shape → Command → Type 0
+IsTask shape c = IsApp (record { top = shape; subs = [] }) c
+
+abbrev pub IsLab : Command → Type 0
+IsLab c = IsApp lab c
+
+-- a command is another one with an argument of this rule more, with arguments of these rules, or with a task more
+abbrev pub HasMore : Command → Rule → Command → Type 0
+HasMore old rule new = (app : App) → IsApp app old → IsApp (with_rule app rule) new
+
+abbrev pub HasAll : Command → List Rule → Command → Type 0
+HasAll old rules new = (app : App) → IsApp app old → IsApp (fold with_rule app rules) new
+
+abbrev pub HasTask : Command → Command → Command → Type 0
+HasTask old task new = (app : App) (shape : Shape) → IsApp app old → IsTask shape task → IsApp (with_subcommand app shape) new

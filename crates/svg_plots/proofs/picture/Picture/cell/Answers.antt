@@ -1,5 +1,0 @@
-use Rattle.std.proofs.Common.{sym}
-use Rattle.svg_plots.proofs.picture.Picture.cell.Goals as goal
-
-pub returns : goal.returns
-returns c = rw (sym c.self.view_is) c.writeln.ensures.bytes

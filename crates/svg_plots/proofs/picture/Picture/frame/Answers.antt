@@ -1,5 +1,0 @@
-use Rattle.std.proofs.Common.{sym}
-use Rattle.svg_plots.proofs.picture.Picture.frame.Goals as goal
-
-pub returns : goal.returns
-returns c = rw (sym c.self.view_is, sym c.saturating_sub.ensures, sym c.saturating_sub-2.ensures) c.writeln.ensures.bytes
