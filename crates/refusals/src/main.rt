@@ -36,6 +36,7 @@ fn main(rt: HostRuntime) -> ExitCode {
     held &= tell(&rt, "from_scratch", projects::simulated(alloc));
     held &= tell(&rt, "order", projects::ordered(alloc));
     held &= tell(&rt, "one_order", memory_orders::ordered(alloc));
+    held &= tell(&rt, "memory_order", memory_orders::linearized(alloc));
     held &= tell(&rt, "Line::share, readers", lines::shared(alloc));
     held &= tell(
         &rt,
@@ -60,6 +61,7 @@ fn main(rt: HostRuntime) -> ExitCode {
     );
     held &= tell(&rt, "Bench::ask", benches::asked(&rt, alloc));
     held &= tell(&rt, "Bench::order", benches::ordered(alloc));
+    held &= tell(&rt, "Bench::one_order", memory_orders::of_benches(alloc));
     held &= tell(
         &rt,
         "Bench::ask, a first counter",
