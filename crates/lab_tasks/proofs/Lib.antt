@@ -2,7 +2,7 @@ pub mod Adding
 pub mod ColumnSteps
 pub mod Fields
 pub mod Helps
-pub mod Hot
+pub mod Hottest
 pub mod Listing
 pub mod Lines
 pub mod Lists

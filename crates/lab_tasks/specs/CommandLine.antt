@@ -4,14 +4,17 @@ use Rattle.clap.specs.Words.{App, Rule, Shape, Text, app_of, new_app, new_rule, 
 use Rattle.clap.specs.Simple.{new_shape, on_top}
 use Rattle.clap.specs.declared.builder.command.Command.{Command}
 use Rattle.clap.specs.declared.builder.command.Command.TheViews.{out-Command}
-use Rattle.clap.specs.declared.builder.action.ArgAction.TheVariants.{Set, Append}
+use Rattle.clap.specs.declared.builder.action.ArgAction.TheVariants.{Set, Append, SetTrue}
 
--- an argument `--ID VALUE`, one that is given once or more, and the project file
+-- an argument `--ID VALUE`, one that is given once or more, one without a value, and the project file
 abbrev pub option_rule : Text → Rule
 option_rule id = record (new_rule id) { long = Some id; action = Some Set; value_names = 1 }
 
 abbrev pub several_rule : Text → Rule
 several_rule id = record (new_rule id) { long = Some id; action = Some Append; value_names = 1; required = true }
+
+abbrev pub flag_rule : Text → Rule
+flag_rule id = record (new_rule id) { long = Some id; action = Some SetTrue }
 
 abbrev pub file_rule : Rule
 file_rule = record (new_rule (codes "FILE")) { required = true }
@@ -48,7 +51,7 @@ abbrev pub check_task : Shape
 check_task = task (codes "check") (file_rule ∷ [])
 
 abbrev pub convert_task : Shape
-convert_task = task (codes "convert") (file_rule ∷ option_rule (codes "out") ∷ [])
+convert_task = task (codes "convert") (file_rule ∷ option_rule (codes "out") ∷ flag_rule (codes "force") ∷ [])
 
 -- the tasks
 abbrev pub tasks : List Shape

@@ -1,28 +1,51 @@
 -- What a summary counts.
-use Rattle.std.specs.Prelude.{◌≡◌, ◌≤◌, ◌<◌, ℕ, ◌^◌, ◌*◌, List, map, length, min, All, AllPairs, Contains, slice_index, ◌⊎◌, ◌==◌, if◌then◌else◌, sum_by, Option, None, Some}
+use Rattle.std.specs.Prelude.{◌≡◌, ◌≤◌, ◌<◌, ◌==◌, ◌⊎◌, ◌^◌, ◌*◌, ℕ, Bool, true, if◌then◌else◌, List, map, length, min, All, AllPairs, Contains, slice_index, sum_by, Option, None, Some}
 use Rattle.omega_net.specs.declared.script.ScriptEntry.{ScriptEntry}
 use Rattle.omega_net.specs.declared.script.ScriptEntry.TheVariants.{Reference, Until}
 use Rattle.omega_net.specs.Wires.{below}
+use Rattle.page_map.specs.Limits.{address_count}
 use Rattle.project_book.specs.Limits.{max_times, script_entries}
-use Rattle.project_book.specs.Project.{Project, entry_at, length_at}
+use Rattle.project_book.specs.Project.{Project, entry_at, length_at, place_in}
+use Rattle.lab_tasks.specs.declared.hot.Hot.{Hot}
+use Rattle.lab_tasks.specs.declared.hot.Parts.{Parts}
+use Rattle.lab_tasks.specs.declared.hot.Parts.TheVariants.{Words, Modules}
 
--- a number of times where a word is the one that is counted, or any is
-abbrev pub counted : Option ℕ → ℕ → ℕ → ℕ
-counted None address times = times
-counted (Some word) address times = if word == address then times else 0
-
--- how often an entry refers to the word that is counted, at most
-abbrev pub times_in : Option ScriptEntry → Option ℕ → ℕ
-times_in (Some (Reference sync op address times)) word = counted word address times
-times_in (Some (Until sync op address value times)) word = counted word address times
-times_in _ word = 0
+-- how often an entry refers to words of a kind, at most
+abbrev pub times_in : (ℕ → Bool) → Option ScriptEntry → ℕ
+times_in is (Some (Reference sync op address times)) = if is address then times else 0
+times_in is (Some (Until sync op address value times)) = if is address then times else 0
+times_in is _ = 0
 
 -- how often a processor's script does, and all scripts
-abbrev pub times_of : Project → Option ℕ → ℕ → ℕ
-times_of P word p = sum_by (λ i. times_in (entry_at P p i) word) (below (length_at P p))
+abbrev pub times_of : Project → (ℕ → Bool) → ℕ → ℕ
+times_of P is p = sum_by (λ i. times_in is (entry_at P p i)) (below (length_at P p))
 
-abbrev pub references : Project → Option ℕ → ℕ
-references P word = sum_by (times_of P word) (below (2 ^ P.k))
+abbrev pub references : Project → (ℕ → Bool) → ℕ
+references P is = sum_by (times_of P is) (below (2 ^ P.k))
+
+-- how many processors do
+abbrev pub referrers : Project → (ℕ → Bool) → ℕ
+referrers P is = sum_by (λ p. min (times_of P is p) 1) (below (2 ^ P.k))
+
+-- words of any kind
+abbrev pub any : ℕ → Bool
+any address = true
+
+-- the memory is counted by words, or by modules: how many there are, and the number of the one that an address is of
+abbrev pub part_count : Project → Parts → ℕ
+part_count P Words = address_count
+part_count P Modules = 2 ^ P.k
+
+abbrev pub part_of : Project → Parts → ℕ → ℕ
+part_of P Words address = address
+part_of P Modules address = (place_in P address).module
+
+abbrev pub is_of : Project → Parts → ℕ → ℕ → Bool
+is_of P parts n address = part_of P parts address == n
+
+-- a word or a module, with how many processors refer to it, and how often they do at most
+abbrev pub hot_of : Project → Parts → ℕ → Hot
+hot_of P parts n = record { number = n; processors = referrers P (is_of P parts n); references = references P (is_of P parts n) }
 
 -- how many scripts have an entry, and how many entries they have
 abbrev pub script_count : Project → ℕ
@@ -35,17 +58,25 @@ entry_count P = sum_by (length_at P) (below (2 ^ P.k))
 abbrev pub script_times : ℕ
 script_times = script_entries * max_times
 
--- a word comes before another one by the number of references: more of them, or as many and a lower address
-abbrev pub Before : (ℕ → ℕ) → ℕ → ℕ → Type 0
-Before count a b = (count b < count a) ⊎ ((count a ≡ count b) × (a < b))
+-- the first is hotter: of more processors; or of as many, with more references; or with as many, and a lower number
+abbrev pub Hotter : Hot → Hot → Type 0
+Hotter v w =
+    (w.processors < v.processors)
+    ⊎ ((v.processors ≡ w.processors) × ((w.references < v.references) ⊎ ((v.references ≡ w.references) × (v.number < w.number))))
 
--- the place of the greatest of counts, and the first of several
-abbrev pub IsMost : List ℕ → ℕ → Type 0
-IsMost counts a = (a < length counts) × (0 < slice_index counts a) × ((b : ℕ) → 0 < slice_index counts b → (b ≡ a) ⊎ Before (slice_index counts) a b)
+-- a word or a module with its number among the processors and among the references that are counted
+abbrev pub hot_at : List ℕ → List ℕ → ℕ → Hot
+hot_at processors references n = record { number = n; processors = slice_index processors n; references = slice_index references n }
 
--- the words, with their counts, that are referred to most: eight of them, or all that are referred to
-pub record AreHot (count : ℕ → ℕ) (words : List (ℕ × ℕ)) : Type 0 where
-  pub few : length words ≤ 8
-  pub numbers : All (λ w. (w.1 ≡ count w.0) × (0 < w.1)) words
-  pub ordered : AllPairs (λ v w. Before count v.0 w.0) words
-  pub others : (a : ℕ) → 0 < count a → Contains (map (λ w. w.0) words) a ⊎ ((length words ≡ 8) × All (λ w. Before count w.0 a) words)
+-- the hottest of those that are counted
+abbrev pub IsHottest : List ℕ → List ℕ → Hot → Type 0
+IsHottest processors references h =
+    (h.number < length processors) × (h.processors ≡ slice_index processors h.number) × (h.references ≡ slice_index references h.number)
+    × (0 < h.processors) × ((n : ℕ) → 0 < slice_index processors n → (n ≡ h.number) ⊎ Hotter h (hot_at processors references n))
+
+-- the hottest ones, told as they are and the hottest first: eight of them, or all that are referred to
+pub record AreHottest (hot : ℕ → Hot) (hots : List Hot) : Type 0 where
+  pub few : length hots ≤ 8
+  pub told : All (λ h. (h ≡ hot h.number) × (0 < h.processors)) hots
+  pub ordered : AllPairs Hotter hots
+  pub others : (n : ℕ) → 0 < (hot n).processors → Contains (map (λ h. h.number) hots) n ⊎ ((length hots ≡ 8) × All (λ h. Hotter h (hot n)) hots)

@@ -1,5 +1,5 @@
 -- What the program does for its words, and why it doesn't.
-use Rattle.std.specs.Prelude.{◌≡◌, ◌⊎◌, ℕ, List, ◌∷◌, [], ◌++◌, Option, None, Ok, Err, codes}
+use Rattle.std.specs.Prelude.{◌≡◌, ◌⊎◌, ℕ, List, ◌∷◌, [], ◌++◌, Option, None, Some, Ok, Err, Bool, false, true, not, ◌&&◌, bytes_eq, codes}
 use Rattle.std.specs.List.{AllZip}
 use Rattle.project_book.specs.Project.{Project}
 use Rattle.project_file.specs.declared.fault.ProjectFault.{ProjectFault}
@@ -17,6 +17,7 @@ use Rattle.lab_tasks.specs.declared.words.Asked.TheVariants.{Map, Order, Rates, 
 use Rattle.lab_tasks.specs.declared.words.MapWords.{MapWords}
 use Rattle.lab_tasks.specs.declared.words.CurveWords.{CurveWords}
 use Rattle.lab_tasks.specs.declared.words.SweepWords.{SweepWords}
+use Rattle.lab_tasks.specs.declared.convert.ConvertWords.{ConvertWords}
 use Rattle.lab_tasks.specs.Words.{text_of, texts_of}
 use Rattle.lab_tasks.specs.Orders.{IsOrderText, IsNoOrder}
 use Rattle.lab_tasks.specs.MapPictures.{IsMapDrawn}
@@ -27,6 +28,8 @@ use Rattle.lab_tasks.specs.Outcomes.{IsGiven, AreGiven}
 use Rattle.lab_tasks.specs.Kept.{IsWithKept}
 use Rattle.lab_tasks.specs.SweepTables.{IsTable, IsNoTable, OrStop}
 use Rattle.lab_tasks.specs.Summaries.{IsSummary}
+use Rattle.lab_tasks.specs.ProjectTexts.{project_text}
+use Rattle.lab_tasks.specs.Ends.{Refuses}
 
 -- a text that is made of the project that a file's bytes are goes to a file, or to standard output
 abbrev pub IsMadeOf : List ℕ → Option (List ℕ) → (Project → List ℕ → Type 0) → Outcome → Type 0
@@ -71,6 +74,22 @@ IsSweepText words P text = IsTable P (texts_of words.depths.items) (texts_of wor
 abbrev pub IsNoSweep : SweepWords → End → Project → Type 0
 IsNoSweep words e P = OrStop (IsNoTable P (texts_of words.depths.items) (texts_of words.asks.items)) e
 
+-- a name is that of the file that is read, which may not be written over
+abbrev pub names_source : Option (List ℕ) → List ℕ → Bool
+names_source None file = false
+names_source (Some out) file = bytes_eq out file
+
+abbrev pub is_over : ConvertWords → Bool
+is_over words = not words.force && names_source (text_of words.out) words.file.now
+
+-- a converted file: its text is this one, which is read as the project
+abbrev pub IsConverted : Project → List ℕ → Type 0
+IsConverted P text = (text ≡ project_text P) × (filed text ≡ Ok P)
+
+-- why a file isn't to be written over itself
+abbrev pub IsOver : ConvertWords → End → Type 0
+IsOver words e = (is_over words ≡ true) × Refuses (codes "--out") words.file.now 2 (codes "is the file that is read; --force writes over it") e
+
 -- what is done for what is asked, with the bytes of its file
 abbrev pub IsDone : Asked → List ℕ → Outcome → Type 0
 IsDone (Map words) bytes outcome = IsMadeOf bytes (text_of words.out) (IsMapText words) outcome
@@ -79,7 +98,7 @@ IsDone (Rates words) bytes outcome = AreRates words outcome
 IsDone (Delays words) bytes outcome = AreDelays words outcome
 IsDone (Sweep words) bytes outcome = IsMadeOf bytes (text_of words.csv) (IsSweepText words) outcome
 IsDone (Check file) bytes outcome = IsMadeOf bytes None IsSummary outcome
-IsDone (Convert file out) bytes outcome = IsMadeOf bytes (text_of out) (λ P text. filed text ≡ Ok P) outcome
+IsDone (Convert words) bytes outcome = (is_over words ≡ false) × IsMadeOf bytes (text_of words.out) IsConverted outcome
 
 -- the bytes are refused as a project, by their fault
 abbrev pub IsNoProject : List ℕ → End → Type 0
@@ -97,4 +116,4 @@ IsNotDone (Rates words) bytes e = (e ≡ end.Memory) ⊎ IsNoCurve words e
 IsNotDone (Delays words) bytes e = (e ≡ end.Memory) ⊎ IsNoCurve words e
 IsNotDone (Sweep words) bytes e = IsNotMade bytes (IsNoSweep words e) e
 IsNotDone (Check file) bytes e = IsNotMade bytes (λ P. ⊥) e
-IsNotDone (Convert file out) bytes e = IsNotMade bytes (λ P. ⊥) e
+IsNotDone (Convert words) bytes e = IsOver words e ⊎ ((is_over words ≡ false) × IsNotMade bytes (λ P. ⊥) e)

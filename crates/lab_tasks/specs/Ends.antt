@@ -7,13 +7,15 @@ use Rattle.project_file.specs.Faults.{number_of}
 use Rattle.experiments.specs.declared.fault.Fault.{Fault}
 use Rattle.experiments.specs.declared.fault.Fault.TheVariants as fault
 use Rattle.lab_tasks.specs.declared.end.Reason.{Reason}
-use Rattle.lab_tasks.specs.declared.end.Reason.TheVariants.{Form, Within, Backwards, Refused}
+use Rattle.lab_tasks.specs.declared.end.Reason.TheVariants.{Form, Within, Backwards, Refused, Source}
 use Rattle.lab_tasks.specs.declared.end.End.{End}
 use Rattle.lab_tasks.specs.declared.end.End.TheVariants.{Done, Words, Word, NotRead, NotWritten, Project, Memory, Spent, Output}
 
--- a word that isn't written as it should is one of the command line, the others have numbers outside of what there is
+-- a word that isn't written as it should, or names the file that is read, is one of the command line; the others have numbers outside
+-- of what there is
 abbrev pub status_for : Reason → ℕ
 status_for (Form wanted) = 2
+status_for Source = 2
 status_for _ = 7
 
 abbrev pub status_of : End → ℕ
@@ -52,6 +54,7 @@ reason_text (Form wanted) = codes "is not " ++ wanted.now
 reason_text (Within least most) = codes "is not within " ++ decimal least ++ codes " to " ++ decimal most
 reason_text Backwards = codes "ends before it begins"
 reason_text (Refused n) = codes "is answered bad " ++ decimal n
+reason_text Source = codes "is the file that is read; --force writes over it"
 
 -- the line on standard error
 abbrev pub end_text : End → List ℕ

@@ -4,6 +4,7 @@ pub mod CommandLine
 pub mod Counts
 pub mod Done
 pub mod Ends
+pub mod Heats
 pub mod Kept
 pub mod MapPictures
 pub mod Numbers
@@ -12,6 +13,7 @@ pub mod Orders
 pub mod Outcomes
 pub mod Plans
 pub mod Points
+pub mod ProjectTexts
 pub mod Summaries
 pub mod SweepTables
 pub mod Sweeps

@@ -1,10 +1,13 @@
 -- What a project is, in words.
-use Rattle.std.specs.Prelude.{◌≡◌, ℕ, ◌^◌, None, Some, List, ◌++◌, codes, decimal}
+use Rattle.std.specs.Prelude.{◌≡◌, ℕ, ◌^◌, List, ◌++◌, codes, decimal}
 use Rattle.std.specs.List.{flat_map}
 use Rattle.omega_net.specs.Wires.{below}
 use Rattle.project_book.specs.declared.edit.Depths.TheVariants.{LowForward, LowReverse, CombForward, CombReverse, ModuleQueue}
 use Rattle.project_book.specs.Project.{Project, depth_of, combines_at}
-use Rattle.lab_tasks.specs.Counts.{script_count, entry_count, references, AreHot}
+use Rattle.lab_tasks.specs.Counts.{any, script_count, entry_count, references, hot_of, AreHottest}
+use Rattle.lab_tasks.specs.declared.hot.Hot.{Hot}
+use Rattle.lab_tasks.specs.declared.hot.Parts.TheVariants.{Words, Modules}
+use Rattle.lab_tasks.specs.Heats.{hot_lines}
 use Rattle.lab_tasks.specs.Tables.{switch_text}
 
 -- the machine: its processors and modules, its stages; the cycles and the window
@@ -36,14 +39,10 @@ combining_line P = codes "combining:" ++ (flat_map (λ stage. codes " " ++ switc
 abbrev pub scripts_line : Project → List ℕ
 scripts_line P =
     codes "scripts: " ++ (decimal (script_count P) ++ (codes ", with " ++ (decimal (entry_count P) ++ (codes " entries, "
-    ++ (decimal (references P None) ++ codes " references at most\n")))))
+    ++ (decimal (references P any) ++ codes " references at most\n")))))
 
--- words with their references
-abbrev pub hot_line : List (ℕ × ℕ) → List ℕ
-hot_line words = codes "hot words:" ++ (flat_map (λ w. codes " " ++ (decimal w.0 ++ (codes " (" ++ (decimal w.1 ++ codes ")")))) words ++ codes "\n")
-
--- these lines, the last of them with the words that are referred to most
+-- these lines, the last two with the words and the modules that are hottest
 abbrev pub IsSummary : Project → List ℕ → Type 0
 IsSummary P text =
-    (words : List (ℕ × ℕ)) × AreHot (λ a. references P (Some a)) words
-    × (text ≡ machine_line P ++ (places_line P ++ (combining_line P ++ (scripts_line P ++ hot_line words))))
+    (words : List Hot) × (modules : List Hot) × AreHottest (hot_of P Words) words × AreHottest (hot_of P Modules) modules
+    × (text ≡ machine_line P ++ (places_line P ++ (combining_line P ++ (scripts_line P ++ hot_lines words modules))))

@@ -1,10 +1,12 @@
 -- What the program is told by its words.
-use Rattle.std.specs.Prelude.{◌≡◌, List, [], map, ℕ, Option, Some, None, option_map, unwrap_or, codes}
+use Rattle.std.specs.Prelude.{◌≡◌, Bool, false, List, [], map, ℕ, Option, Some, None, option_map, unwrap_or, bytes_eq, codes}
+use Rattle.std.specs.Option.{option_map_or}
 use Rattle.std.specs.Borrow.{Bor}
 use Rattle.clap.specs.Words.{Row, Text, all_of, first_of}
 use Rattle.lab_tasks.specs.declared.words.Asked.{Asked}
 use Rattle.lab_tasks.specs.declared.words.Asked.TheVariants.{Map, Order, Rates, Delays, Sweep, Check, Convert}
 use Rattle.lab_tasks.specs.declared.words.MapWords.{MapWords}
+use Rattle.lab_tasks.specs.declared.convert.ConvertWords.{ConvertWords}
 use Rattle.lab_tasks.specs.declared.order.OrderWords.{OrderWords}
 use Rattle.lab_tasks.specs.declared.words.CurveWords.{CurveWords}
 use Rattle.lab_tasks.specs.declared.words.SweepWords.{SweepWords}
@@ -16,9 +18,12 @@ text_of word = option_map (λ w. w.now) word
 abbrev pub texts_of : List (Bor (List ℕ)) → List (List ℕ)
 texts_of words = map (λ w. w.now) words
 
--- the texts of all uses of an option, and the file that is read
+-- the texts of all uses of an option, whether a flag is given, and the file that is read
 abbrev pub texts_at : List Row → Text → List Text
 texts_at rows id = unwrap_or (all_of id rows) []
+
+abbrev pub is_given : List Row → Text → Bool
+is_given rows id = option_map_or (λ text. bytes_eq text (codes "true")) (first_of id rows) false
 
 abbrev pub file_at : List Row → Text
 file_at rows = unwrap_or (first_of (codes "FILE") rows) []
@@ -55,6 +60,11 @@ pub record AreSweepWords (rows : List Row) (words : SweepWords) : Type 0 where
   pub asks : texts_of words.asks.items ≡ texts_at rows (codes "ask")
   pub csv : text_of words.csv ≡ first_of (codes "csv") rows
 
+pub record AreConvertWords (rows : List Row) (words : ConvertWords) : Type 0 where
+  pub file : words.file.now ≡ file_at rows
+  pub out : text_of words.out ≡ first_of (codes "out") rows
+  pub force : words.force ≡ is_given rows (codes "force")
+
 -- a task is named, and its matches say this
 abbrev pub IsNamed : Option (Text × List Row) → Text → (List Row → Type 0) → Type 0
 IsNamed said name Says = (rows : List Row) × (said ≡ Some (name, rows)) × Says rows
@@ -67,7 +77,7 @@ AsksFor said (Rates words) = IsNamed said (codes "rates") (λ rows. AreCurveWord
 AsksFor said (Delays words) = IsNamed said (codes "delays") (λ rows. AreCurveWords rows words)
 AsksFor said (Sweep words) = IsNamed said (codes "sweep") (λ rows. AreSweepWords rows words)
 AsksFor said (Check file) = IsNamed said (codes "check") (λ rows. file.now ≡ file_at rows)
-AsksFor said (Convert file out) = IsNamed said (codes "convert") (λ rows. (file.now ≡ file_at rows) × (text_of out ≡ first_of (codes "out") rows))
+AsksFor said (Convert words) = IsNamed said (codes "convert") (λ rows. AreConvertWords rows words)
 
 abbrev pub file_of : Asked → Option (List ℕ)
 file_of (Map words) = Some words.file.now
@@ -76,4 +86,4 @@ file_of (Rates words) = None
 file_of (Delays words) = None
 file_of (Sweep words) = Some words.file.now
 file_of (Check file) = Some file.now
-file_of (Convert file out) = Some file.now
+file_of (Convert words) = Some words.file.now

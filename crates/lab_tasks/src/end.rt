@@ -23,6 +23,8 @@ pub enum Reason {
     Backwards,
     /// The question was refused with this number.
     Refused(u8),
+    /// It names the file that is read, which isn't to be written over.
+    Source,
 }
 
 /// Why there is no outcome. It prints as its line on standard error, without LF; `Asked` and `Words` have none, since help
@@ -61,7 +63,7 @@ pub fn status(end: &End<'_>) -> u8
         End::Done => 0,
         End::Words => 2,
         End::Word { reason, .. } => match reason {
-            Reason::Form(_) => 2,
+            Reason::Form(_) | Reason::Source => 2,
             Reason::Within(_, _) | Reason::Backwards | Reason::Refused(_) => 7,
         },
         End::NotRead(_) | End::NotWritten(_) => 3,
@@ -94,6 +96,7 @@ impl fmt::Display for Reason {
             Reason::Within(least, most) => write!(f, "is not within {least} to {most}"),
             Reason::Backwards => write!(f, "ends before it begins"),
             Reason::Refused(number) => write!(f, "is answered bad {number}"),
+            Reason::Source => write!(f, "is the file that is read; --force writes over it"),
         }
     }
 }

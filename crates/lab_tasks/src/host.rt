@@ -1,5 +1,5 @@
 //! The program at a terminal.
-use crate::end::{End, refusal, status};
+use crate::end::{End, Reason, refusal, status};
 use crate::outcome::{OutFile, Outcome};
 use crate::progress::Progress;
 use crate::task::perform;
@@ -172,6 +172,35 @@ fn performed<'a, R: Host>(
     outcome
 }
 
+/// Whether two names are of one file.
+fn is_one_file<R: Files + AllocGlobal>(rt: &R, name: &str, other: &str) -> io::Result<bool> {
+    let (path, other) = (fs::canonicalize(rt, name)?, fs::canonicalize(rt, other)?);
+    Ok(path == other)
+}
+
+/// Refuses to write a converted project over the file that is read, by whatever name, where it may not be.
+fn refuse_source<'a, R: Files + AllocGlobal>(rt: &R, asked: &Asked<'a>) -> Result<(), End<'a>> {
+    let Asked::Convert(words) = asked else {
+        return Ok(());
+    };
+    let Some(word) = words.out else {
+        return Ok(());
+    };
+    if words.force {
+        return Ok(());
+    }
+    match is_one_file(rt, words.file, word) {
+        Ok(true) => Err(End::Word {
+            option: "--out",
+            word,
+            reason: Reason::Source,
+        }),
+        Err(fault) if fault.kind() == io::ErrorKind::OutOfMemory => Err(End::Memory),
+        // Mostly there is no file of that name.
+        Ok(false) | Err(_) => Ok(()),
+    }
+}
+
 /// Says where a file is wrong that was refused as a project.
 fn tell_place<R: Eprint + AllocGlobal>(rt: &R, bytes: &[u8]) {
     if let Ok(Some(place)) = fault_place(rt.alloc(), bytes) {
@@ -181,6 +210,9 @@ fn tell_place<R: Eprint + AllocGlobal>(rt: &R, bytes: &[u8]) {
 
 /// Does what is asked for.
 fn done<R: Host>(rt: &R, asked: &Asked<'_>, terminal: bool) -> u8 {
+    if let Err(end) = refuse_source(rt, asked) {
+        return ended(rt, &end);
+    }
     let bytes = match bytes_for(rt, asked) {
         Ok(bytes) => bytes,
         Err(end) => return ended(rt, &end),

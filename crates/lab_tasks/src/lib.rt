@@ -12,17 +12,19 @@
 //! numbers, lists and ranges are read (`specs/Numbers.antt`), which word is refused first (`specs/Plans.antt`), which points
 //! are measured and that each is that of its load's run (`specs/Points.antt`), rates, means, the bound and fields of tables
 //! (`specs/Tables.antt`), the table of a sweep (`specs/SweepTables.antt`), what a summary counts and says
-//! (`specs/Counts.antt`, `specs/Summaries.antt`), which project files are kept (`specs/Kept.antt`), and the statuses and lines
-//! (`specs/Ends.antt`). What the pictures look like is shown by examples.
+//! (`specs/Counts.antt`, `specs/Summaries.antt`), the text of a converted file (`specs/ProjectTexts.antt`), which project
+//! files are kept (`specs/Kept.antt`), and the statuses and lines (`specs/Ends.antt`). What the pictures look like is shown by examples.
 #![tactic(auto)]
 
 mod check;
 mod columns;
+mod convert;
 mod curves;
 mod delay_picture;
 mod delays;
 mod end;
 mod host;
+mod hot;
 mod map;
 mod numbers;
 mod order;
@@ -39,6 +41,7 @@ mod tables;
 mod task;
 mod words;
 
+pub use convert::ConvertWords;
 pub use end::{End, Reason, refusal, status};
 pub use host::program;
 pub use order::OrderWords;

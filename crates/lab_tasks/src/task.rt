@@ -1,8 +1,8 @@
 //! What is asked for is done.
-ghost use Rattle.std.specs.Prelude.{◌≡◌, ◌⊎◌, [], ◌∷◌, ◌++◌, IfErr, IfOk, IsOkUnless, None, Ok, OnOk, Some, string_bytes};
+ghost use Rattle.std.specs.Prelude.{◌≡◌, ◌⊎◌, [], ◌∷◌, ◌++◌, false, IfErr, IfOk, IsOkUnless, None, Ok, OnOk, Some, string_bytes};
 ghost use Rattle.project_file.specs.Filed.{filed};
 ghost use Rattle.lab_tasks.specs.Added.{Adds};
-ghost use Rattle.lab_tasks.specs.Done.{delay_header, rate_header, AreDelays, AreRates, IsDone, IsMadeOf, IsMapText, IsNoSweep, IsNotDone, IsNotMade, IsSweepText, IsTableGiven};
+ghost use Rattle.lab_tasks.specs.Done.{delay_header, rate_header, is_over, AreDelays, AreRates, IsConverted, IsDone, IsMadeOf, IsMapText, IsNoSweep, IsNotDone, IsNotMade, IsOver, IsSweepText, IsTableGiven};
 ghost use Rattle.lab_tasks.specs.Kept.{kept_of, load_name, name_text, net_text, IsKept, IsWithKept};
 ghost use Rattle.lab_tasks.specs.Orders.{IsNoOrder, IsOrderText};
 ghost use Rattle.lab_tasks.specs.Outcomes.{files_of, folder_of, AreGiven, IsGiven};
@@ -12,6 +12,7 @@ ghost use Rattle.lab_tasks.specs.Tables.{delay_row, rate_row, table_text};
 ghost use Rattle.lab_tasks.specs.Words.{text_of};
 
 use crate::check::summary;
+use crate::convert::{ConvertWords, convert_file, refuse_source};
 use crate::delay_picture::delay_picture;
 use crate::delays::{delay_points, delay_table};
 use crate::end::End;
@@ -317,13 +318,14 @@ fn check<'a>(alloc: Global, bytes: &[u8]) -> Result<Outcome, End<'a>>
     Ok(to_file_or_output(alloc, None, text.into_bytes())?)
 }
 
-fn convert<'a>(alloc: Global, out: Option<&str>, bytes: &[u8]) -> Result<Outcome, End<'a>>
-    ensures done { IfOk result (IsMadeOf bytes.now (text_of out.entry) (λ P text. filed text ≡ Ok P)) }
-    ensures refused { IfErr result (IsNotMade bytes.now (λ P. ⊥)) }
+fn convert<'a>(alloc: Global, words: &ConvertWords<'a>, bytes: &[u8]) -> Result<Outcome, End<'a>>
+    ensures done { IfOk result (λ o. (is_over words.now ≡ false) × IsMadeOf bytes.now (text_of words.now.out) IsConverted o) }
+    ensures refused { IfErr result (λ end. IsOver words.now end ⊎ ((is_over words.now ≡ false) × IsNotMade bytes.now (λ P. ⊥) end)) }
 {
+    refuse_source(words)?;
     let project = project_in(alloc, bytes)?;
-    let bytes = write_project(alloc, &project)?;
-    Ok(to_file_or_output(alloc, out, bytes)?)
+    let text = convert_file(alloc, &project)?;
+    Ok(to_file_or_output(alloc, words.out, text)?)
 }
 
 /// Does what is asked for, over the bytes of its FILE where it has one.
@@ -351,9 +353,6 @@ pub fn perform<'a, T: Threads + Sync, P: Progress>(
             let outcome = check(alloc, bytes)?;
             Ok(outcome)
         }
-        Asked::Convert { out, .. } => {
-            let outcome = convert(alloc, *out, bytes)?;
-            Ok(outcome)
-        }
+        Asked::Convert(words) => convert(alloc, words, bytes),
     }
 }

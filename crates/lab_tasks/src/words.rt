@@ -4,9 +4,10 @@ ghost use Rattle.std.specs.Option.{option_map_or};
 ghost use Rattle.clap.specs.Matches.{matched_of, raw_values};
 ghost use Rattle.clap.specs.Walk.{texts};
 ghost use Rattle.clap.specs.Words.{FailsBy, fault_of, first_of, found_of, new_app, rows_of, rule_of, subcommand_of};
-ghost use Rattle.lab_tasks.specs.CommandLine.{bare, check_task, convert_task, delays_task, file_rule, kept_rules, lab, map_task, measured_task, option_rule, order_task, rates_task, several_rule, sweep_task, HasAll, HasMore, HasTask, IsApp, IsLab, IsNoTask, IsTask};
-ghost use Rattle.lab_tasks.specs.Words.{file_at, text_of, texts_at, AreCurveWords, AreMapWords, AreOrderWords, AreSweepWords, AsksFor};
+ghost use Rattle.lab_tasks.specs.CommandLine.{bare, check_task, convert_task, delays_task, file_rule, flag_rule, kept_rules, lab, map_task, measured_task, option_rule, order_task, rates_task, several_rule, sweep_task, HasAll, HasMore, HasTask, IsApp, IsLab, IsNoTask, IsTask};
+ghost use Rattle.lab_tasks.specs.Words.{file_at, is_given, text_of, texts_at, AreConvertWords, AreCurveWords, AreMapWords, AreOrderWords, AreSweepWords, AsksFor};
 
+use crate::convert::ConvertWords;
 use crate::order::OrderWords;
 use clap::{Arg, ArgAction, ArgMatches, Command, Error};
 use std::alloc::{AllocError, Global};
@@ -55,7 +56,7 @@ pub enum Asked<'a> {
     Delays(CurveWords<'a>),
     Sweep(SweepWords<'a>),
     Check { file: &'a str },
-    Convert { file: &'a str, out: Option<&'a str> },
+    Convert(ConvertWords<'a>),
 }
 
 impl<'a> Asked<'a> {
@@ -71,7 +72,7 @@ impl<'a> Asked<'a> {
             Asked::Rates(_) | Asked::Delays(_) => None,
             Asked::Sweep(words) => Some(words.file),
             Asked::Check { file } => Some(*file),
-            Asked::Convert { file, .. } => Some(*file),
+            Asked::Convert(words) => Some(words.file),
         }
     }
 }
@@ -93,7 +94,8 @@ const SWEEP_ABOUT: &str = "Asks a project the same for each depth of some queues
 
 const CHECK_ABOUT: &str = "Says in words what a project file is, or where it is wrong";
 
-const CONVERT_ABOUT: &str = "Writes a project file in format 2";
+const CONVERT_ABOUT: &str =
+    "Writes a project as a file of format 2, without what is as usual: comments aren't kept";
 
 const RATES_MEASURED: &str = "\
 Each processor issues 256 references, at most 8 of them unanswered: of a hundred as many as --hot says add 1 to word 0, the
@@ -130,6 +132,16 @@ fn several<'a>(alloc: Global, id: &'a str, value: &'a str, help: &'a str) -> Arg
         .value_name(value)
         .action(ArgAction::Append)
         .required(true)
+        .help(help)
+}
+
+fn flag<'a>(alloc: Global, id: &'a str, help: &'a str) -> Arg<'a>
+    ensures rule { rule_of result ≡ flag_rule id.entry.now }
+    ensures global { result.global ≡ false }
+{
+    Arg::new(alloc, id)
+        .long(id)
+        .action(ArgAction::SetTrue)
         .help(help)
 }
 
@@ -183,6 +195,17 @@ fn with_several<'a>(
     ensures { IfOk result (HasMore task.entry (several_rule id.entry.now)) }
 {
     with(task, several(alloc, id, value, help))
+}
+
+fn with_flag<'a>(
+    alloc: Global,
+    task: Command<'a>,
+    id: &'a str,
+    help: &'a str,
+) -> Result<Command<'a>, AllocError>
+    ensures { IfOk result (HasMore task.entry (flag_rule id.entry.now)) }
+{
+    with(task, flag(alloc, id, help))
 }
 
 fn map_command<'a>(alloc: Global) -> Result<Command<'a>, AllocError>
@@ -370,6 +393,12 @@ fn convert_command<'a>(alloc: Global) -> Result<Command<'a>, AllocError>
         "FILE.toml",
         "Where it goes; without it to standard output",
     )?;
+    let task = with_flag(
+        alloc,
+        task,
+        "force",
+        "Lets --out name the file that is read, which is then written over",
+    )?;
     Ok(task)
 }
 
@@ -442,6 +471,16 @@ fn file_in<'a>(matches: &ArgMatches<'a>) -> &'a str
     text_in(matches, "FILE").unwrap_or("")
 }
 
+/// Whether a flag was given.
+fn flag_in(matches: &ArgMatches<'_>, id: &str) -> bool
+    ensures { result ≡ is_given (rows_of (found_of matches.now)) id.now }
+{
+    match text_in(matches, id) {
+        Some(text) => text == "true",
+        None => false,
+    }
+}
+
 fn map_words<'a>(matches: &ArgMatches<'a>) -> MapWords<'a>
     ensures { AreMapWords (rows_of (found_of matches.now)) result }
 {
@@ -495,6 +534,16 @@ fn sweep_words<'a>(alloc: Global, matches: &ArgMatches<'a>) -> Result<SweepWords
     })
 }
 
+fn convert_words<'a>(matches: &ArgMatches<'a>) -> ConvertWords<'a>
+    ensures { AreConvertWords (rows_of (found_of matches.now)) result }
+{
+    ConvertWords {
+        file: file_in(matches),
+        out: text_in(matches, "out"),
+        force: flag_in(matches, "force"),
+    }
+}
+
 /// What the task of a name is asked for by its matches; None where no task has the name.
 fn asked_of<'a>(
     alloc: Global,
@@ -513,10 +562,7 @@ fn asked_of<'a>(
         "check" => Some(Asked::Check {
             file: file_in(matches),
         }),
-        "convert" => Some(Asked::Convert {
-            file: file_in(matches),
-            out: text_in(matches, "out"),
-        }),
+        "convert" => Some(Asked::Convert(convert_words(matches))),
         _ => None,
     })
 }

@@ -36,7 +36,8 @@ const SUMMARY: &str = "\
 places: low-forward 4, low-reverse 4, comb-forward 4, comb-reverse 8, module 4, wait 4
 combining: off
 scripts: 2, with 4 entries, 9 references at most
-hot words: 260 (6) 5 (3)
+hot words, by processors and references: 260 (2, 6), 5 (1, 3)
+hot modules, by processors and references: 0 (2, 6), 1 (1, 3)
 ";
 
 #[test]
@@ -63,7 +64,9 @@ fn eight_words_are_named(rt: HostRuntime) -> Result<(), Fail> {
     let outcome = made(&rt, &["check", "ten.toml"], bytes.as_bytes())?;
     let text = std::str::from_utf8(outcome.printed.as_slice())?;
     assert!(rt;
-        text.ends_with("hot words: 10 (1) 11 (1) 12 (1) 13 (1) 14 (1) 15 (1) 16 (1) 17 (1)\n")
+        text.ends_with(
+            "hot words, by processors and references: 10 (1, 1), 11 (1, 1), 12 (1, 1), 13 (1, 1), 14 (1, 1), 15 (1, 1), 16 (1, 1), 17 (1, 1)\nhot modules, by processors and references: 0 (1, 10)\n",
+        )
     );
     Ok(())
 }
@@ -135,17 +138,125 @@ fn no_delay_is_no_figure(rt: HostRuntime) -> Result<(), Fail> {
     Ok(())
 }
 
+// A word that one processor refers to often is colder than one that two refer to once.
+#[test]
+fn processors_are_ranked_first(rt: HostRuntime) -> Result<(), Fail> {
+    let bytes = b"format = 2
+k = 1
+horizon = 8
+script = [
+{processor = 0, entries = [\"plain add 7 1 98\", \"sync add 8 1\"]},
+{processor = 1, entries = [\"plain load 8 0\"]},
+]
+";
+    let outcome = made(&rt, &["check", "two.toml"], bytes)?;
+    let text = std::str::from_utf8(outcome.printed.as_slice())?;
+    assert!(rt;
+        text.ends_with(
+            "hot words, by processors and references: 8 (2, 2), 7 (1, 98)\nhot modules, by processors and references: 0 (2, 2), 1 (1, 98)\n",
+        )
+    );
+    Ok(())
+}
+
+#[test]
+fn no_word_is_hot(rt: HostRuntime) -> Result<(), Fail> {
+    let outcome = made(
+        &rt,
+        &["check", "a.toml"],
+        b"format = 2\nk = 1\nhorizon = 8\n",
+    )?;
+    let text = std::str::from_utf8(outcome.printed.as_slice())?;
+    assert!(rt;
+        text.ends_with(
+            "scripts: 0, with 0 entries, 0 references at most\nhot words, by processors and references: none\nhot modules, by processors and references: none\n"
+        )
+    );
+    Ok(())
+}
+
+/// A file of format 1 with keys in another order, some of them as usual.
+const OLD: &[u8] = b"script = [
+{processor = 1, entries = [\"  sync  add 0 1 1\", \"fence\", \"idle 7\", \"plain load 260 0 12\", \"plain store-if-zero 5 4294967295\", \"fence\", \"fence\", \"fence\", \"idle 1000\"]},
+{processor = 0, entries = []},
+]
+word = [{address = 300, value = 4294967295}, {address = 2, value = 7}, {address = 3, value = 0}]
+page = [{number = 1, amount = 2, base = 0}, {number = 63, amount = 1, base = 2}, {number = 0, amount = 0, base = 3}]
+depths = {wait = 3, module = 4, comb_reverse = 8, low_forward = 6}
+combine = [false, true]
+window = 1
+horizon = 10
+k = 2
+format = 1
+";
+
+const NEW: &str = "format = 2
+k = 2
+horizon = 10
+combine = [false, true]
+
+[depths]
+low_forward = 6
+wait = 3
+
+[[page]]
+number = 0
+amount = 0
+base = 3
+
+[[page]]
+number = 63
+amount = 1
+base = 2
+
+[[word]]
+address = 2
+value = 7
+
+[[word]]
+address = 300
+value = 4294967295
+
+[[script]]
+processor = 1
+entries = [\"sync add 0 1\", \"fence\", \"idle 7\", \"plain load 260 0 12\", \"plain store-if-zero 5 4294967295\", \"fence\", \"fence\", \"fence\",
+    \"idle 1000\"]
+";
+
+// What was converted is converted to itself.
 #[test]
 fn a_project_is_converted(rt: HostRuntime) -> Result<(), Fail> {
-    let old = b"format = 1\nk = 1\nhorizon = 8\npage = [{number = 0, amount = 0, base = 1}]\n";
-    let first = made(&rt, &["convert", "old.toml", "--out", "new.toml"], old)?;
+    let first = made(&rt, &["convert", "old.toml", "--out", "new.toml"], OLD)?;
     assert!(rt; equal(&rt, first.printed.len(), 0));
     let file = first.files.first().ok_or("a file")?;
     assert!(rt; equal(&rt, file.name.as_str(), "new.toml"));
     let text = std::str::from_utf8(file.bytes.as_slice())?;
-    assert!(rt; text.contains("format = 2"));
-    let again = made(&rt, &["convert", "new.toml"], file.bytes.as_slice())?;
-    assert!(rt; equal(&rt, again.printed.as_slice(), file.bytes.as_slice()));
+    assert!(rt; equal(&rt, text, NEW));
+    let words = ["convert", "new.toml", "--out", "new.toml", "--force"];
+    let again = made(&rt, &words, NEW.as_bytes())?;
+    let file = again.files.first().ok_or("a file")?;
+    let text = std::str::from_utf8(file.bytes.as_slice())?;
+    assert!(rt; equal(&rt, text, NEW));
+    Ok(())
+}
+
+/// Files that are written as `convert` writes them: the smallest, and each key alone.
+const CONVERTED: [&str; 7] = [
+    "format = 2\nk = 0\nhorizon = 8\n",
+    "format = 2\nk = 6\nhorizon = 2000\nwindow = 8\n",
+    "format = 2\nk = 1\nhorizon = 0\ncombine = [true]\n",
+    "format = 2\nk = 0\nhorizon = 0\n\n[depths]\nlow_reverse = 2\ncomb_forward = 16\ncomb_reverse = 4\nmodule = 5\nwait = 1\n",
+    "format = 2\nk = 1\nhorizon = 0\n\n[[page]]\nnumber = 7\namount = 0\nbase = 1\n",
+    "format = 2\nk = 0\nhorizon = 0\n\n[[word]]\naddress = 16383\nvalue = 1\n",
+    "format = 2\nk = 0\nhorizon = 0\n\n[[script]]\nprocessor = 0\nentries = [\"until sync load 256 0 1\", \"until plain and 0 3 4 5\"]\n",
+];
+
+#[test]
+fn converted_files_stay(rt: HostRuntime) -> Result<(), Fail> {
+    for text in &CONVERTED {
+        let outcome = made(&rt, &["convert", "a.toml"], text.as_bytes())?;
+        assert!(rt; equal(&rt, outcome.printed.as_slice(), text.as_bytes()));
+    }
     Ok(())
 }
 

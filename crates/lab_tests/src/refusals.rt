@@ -192,6 +192,24 @@ fn a_table_has_at_most_ten_thousand_rows(rt: HostRuntime) -> Result<(), Fail> {
     Ok(())
 }
 
+// Before the project is looked at.
+#[test]
+fn no_file_is_written_over_unasked(rt: HostRuntime) -> Result<(), Fail> {
+    let words = ["convert", "a.toml", "--out", "a.toml"];
+    for bytes in [TWO, b"format = 3".as_slice()] {
+        let (told, text) = ending(&rt, &words, bytes)?;
+        assert!(rt; equal(&rt, told, 2));
+        assert!(rt;
+            equal(
+                &rt,
+                text.as_str(),
+                "lab: --out: a.toml is the file that is read; --force writes over it"
+            )
+        );
+    }
+    Ok(())
+}
+
 #[test]
 fn projects_are_refused(rt: HostRuntime) -> Result<(), Fail> {
     for task in ["map", "check", "convert"] {

@@ -95,20 +95,28 @@ fn words_of_a_file_are_taken(rt: HostRuntime) -> Result<(), Fail> {
     let asked = read_words(rt.alloc(), &["check", "a.toml"])?;
     compare(&rt, &[asked.file()], &["a.toml"]);
     let asked = read_words(rt.alloc(), &["convert", "a.toml", "--out", "b.toml"])?;
-    let Asked::Convert { out, .. } = &asked else {
+    let Asked::Convert(words) = &asked else {
         return Err(Fail::from("a file"));
     };
-    compare(&rt, &[asked.file(), *out], &["a.toml", "b.toml"]);
+    compare(&rt, &[asked.file(), words.out], &["a.toml", "b.toml"]);
+    assert!(rt; !words.force);
+    let asked = read_words(rt.alloc(), &["convert", "--force", "a.toml"])?;
+    let Asked::Convert(words) = &asked else {
+        return Err(Fail::from("a file"));
+    };
+    compare(&rt, &[asked.file(), words.out], &["a.toml", "-"]);
+    assert!(rt; words.force);
     Ok(())
 }
 
 // Help and the version are no fault; a number that begins with a minus is an option that isn't known.
-const REFUSED: [(&[&str], u8); 13] = [
+const REFUSED: [(&[&str], u8); 14] = [
     (&[], 2),
     (&["draw"], 2),
     (&["map"], 2),
     (&["map", "a.toml", "b.toml"], 2),
     (&["map", "a.toml", "--depth", "module=2..3"], 2),
+    (&["convert", "a.toml", "--force=yes"], 2),
     (&["rates", "a.toml"], 2),
     (&["rates", "--k", "-1"], 2),
     (&["delays", "--seeds", "2"], 2),

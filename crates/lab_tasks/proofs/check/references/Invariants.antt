@@ -1,7 +1,0 @@
-use Rattle.std.proofs.Common.{◌≡◌, ◌≤◌, ◌*◌, sum_by}
-use Rattle.omega_net.specs.Wires.{below}
-use Rattle.lab_tasks.specs.Counts.{times_of}
-use Rattle.lab_tasks.proofs.check.references.Given as goal
-
-abbrev pub invariant-loop-proc : goal.invariant-loop-proc
-invariant-loop-proc l = (l.times ≡ sum_by (times_of l.project l.word) (below l.proc)) × (l.times ≤ 256000 * l.proc)
