@@ -77,7 +77,17 @@ script_text P p =
     if length_at P p == 0 then []
     else codes "\n[[script]]\n" ++ (setting (codes "processor") p ++ (codes "entries = [" ++ (entries_text P p ++ codes "]\n")))
 
+-- the pages, the first words and the scripts whose numbers are below this one, upwards
+unfoldable pub pages_text : Project → ℕ → List ℕ
+pages_text P n = flat_map (page_text P) (below n)
+
+unfoldable pub words_text : Project → ℕ → List ℕ
+words_text P n = flat_map (word_text P) (below n)
+
+unfoldable pub scripts_text : Project → ℕ → List ℕ
+scripts_text P n = flat_map (script_text P) (below n)
+
 abbrev pub project_text : Project → List ℕ
 project_text P =
     size_text P ++ (unusual (codes "window") 1 P.window ++ (combine_text P ++ (under_depths (depth_lines P)
-    ++ (flat_map (page_text P) (below page_count) ++ (flat_map (word_text P) (below address_count) ++ flat_map (script_text P) (below (2 ^ P.k)))))))
+    ++ (pages_text P page_count ++ (words_text P address_count ++ scripts_text P (2 ^ P.k))))))

@@ -1,11 +1,11 @@
 //! A project as a file of format 2, written as people write it.
-ghost use Rattle.std.specs.Prelude.{◌≡◌, ◌<◌, ◌++◌, ◌^◌, false, IfErr, IfOk, IsOkUnless, OnOk, codes, string_bytes};
+ghost use Rattle.std.specs.Prelude.{◌≡◌, ◌<◌, ◌≤◌, ◌++◌, false, IfErr, IfOk, IsOkUnless, OnOk, codes, string_bytes};
 ghost use Rattle.std.specs.List.{flat_map, list_any};
 ghost use Rattle.omega_net.specs.Wires.{below};
-ghost use Rattle.page_map.specs.Limits.{address_count, page_count};
+ghost use Rattle.page_map.specs.Limits.{page_count};
 ghost use Rattle.project_book.specs.Project.{combines_at};
 ghost use Rattle.lab_tasks.specs.Done.{is_over, IsConverted, IsOver};
-ghost use Rattle.lab_tasks.specs.ProjectTexts.{combine_line, combine_text, comma, depth_lines, entries_text, entry_start, flag_text, item_text, page_text, project_text, quoted, script_text, setting, size_text, under_depths, unusual, word_text};
+ghost use Rattle.lab_tasks.specs.ProjectTexts.{combine_line, combine_text, comma, depth_lines, entries_text, entry_start, flag_text, item_text, page_text, pages_text, project_text, quoted, script_text, scripts_text, setting, size_text, under_depths, unusual, word_text, words_text};
 
 use crate::end::{End, Reason};
 use omega_net::ScriptEntry;
@@ -180,11 +180,12 @@ fn add_page(text: &mut String, project: &Project, page: u32) -> Result<(), Alloc
     add_setting(text, "base", base)
 }
 
-#[tactic(auto, using(crate::proofs::Listing::flat_next))]
-fn add_pages(text: &mut String, project: &Project) -> Result<(), AllocError>
-    ensures { OnOk result (string_bytes text.new ≡ string_bytes text.old ++ flat_map (page_text project.now) (below page_count)) }
+#[tactic(auto, using(crate::proofs::Listing::flat_next), unfolding(crate::specs::ProjectTexts::pages_text))]
+fn add_pages(text: &mut String, project: &Project, count: u32) -> Result<(), AllocError>
+    requires { count ≤ page_count }
+    ensures { OnOk result (string_bytes text.new ≡ string_bytes text.old ++ pages_text project.now count) }
 {
-    for page in 0..PAGES {
+    for page in 0..count {
         add_page(text, project, page)?;
     }
     Ok(())
@@ -204,11 +205,11 @@ fn add_word(text: &mut String, project: &Project, address: u32) -> Result<(), Al
     add_setting(text, "value", word)
 }
 
-#[tactic(auto, using(crate::proofs::Listing::flat_next))]
-fn add_first_words(text: &mut String, project: &Project) -> Result<(), AllocError>
-    ensures { OnOk result (string_bytes text.new ≡ string_bytes text.old ++ flat_map (word_text project.now) (below address_count)) }
+#[tactic(auto, using(crate::proofs::Listing::flat_next), unfolding(crate::specs::ProjectTexts::words_text))]
+fn add_first_words(text: &mut String, project: &Project, count: u32) -> Result<(), AllocError>
+    ensures { OnOk result (string_bytes text.new ≡ string_bytes text.old ++ words_text project.now count) }
 {
-    for address in 0..ADDRESSES {
+    for address in 0..count {
         add_word(text, project, address)?;
     }
     Ok(())
@@ -272,11 +273,11 @@ fn add_script(text: &mut String, project: &Project, proc: u32) -> Result<(), All
     text.push_str("]\n")
 }
 
-#[tactic(auto, using(crate::proofs::Listing::flat_next))]
-fn add_scripts(text: &mut String, project: &Project) -> Result<(), AllocError>
-    ensures { OnOk result (string_bytes text.new ≡ string_bytes text.old ++ flat_map (script_text project.now) (below (2 ^ project.now.k))) }
+#[tactic(auto, using(crate::proofs::Listing::flat_next), unfolding(crate::specs::ProjectTexts::scripts_text))]
+fn add_scripts(text: &mut String, project: &Project, count: u32) -> Result<(), AllocError>
+    ensures { OnOk result (string_bytes text.new ≡ string_bytes text.old ++ scripts_text project.now count) }
 {
-    for proc in 0..project.processors() {
+    for proc in 0..count {
         add_script(text, project, proc)?;
     }
     Ok(())
@@ -291,9 +292,9 @@ pub(crate) fn project_text(alloc: Global, project: &Project) -> Result<String, A
     add_unusual(&mut text, "window", 1, project.window())?;
     add_combine(&mut text, project)?;
     add_depths(alloc, &mut text, project)?;
-    add_pages(&mut text, project)?;
-    add_first_words(&mut text, project)?;
-    add_scripts(&mut text, project)?;
+    add_pages(&mut text, project, PAGES)?;
+    add_first_words(&mut text, project, ADDRESSES)?;
+    add_scripts(&mut text, project, project.processors())?;
     Ok(text)
 }
 
