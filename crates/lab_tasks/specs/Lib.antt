@@ -2,7 +2,10 @@ pub mod Added
 pub mod Columns
 pub mod CommandLine
 pub mod Counts
+pub mod CurvePictures
+pub mod DelayPictures
 pub mod Done
+pub mod Elsewhere
 pub mod Ends
 pub mod Kept
 pub mod MapPictures
@@ -12,6 +15,7 @@ pub mod Orders
 pub mod Outcomes
 pub mod Plans
 pub mod Points
+pub mod RatePictures
 pub mod Summaries
 pub mod SweepTables
 pub mod Sweeps

@@ -13,7 +13,9 @@
 //! are measured and that each is that of its load's run (`specs/Points.antt`), rates, means, the bound and fields of tables
 //! (`specs/Tables.antt`), the table of a sweep (`specs/SweepTables.antt`), what a summary counts and says
 //! (`specs/Counts.antt`, `specs/Summaries.antt`), which project files are kept (`specs/Kept.antt`), and the statuses and lines
-//! (`specs/Ends.antt`). What the pictures look like is shown by examples.
+//! (`specs/Ends.antt`), the pictures of `rates` and `delays` (`specs/RatePictures.antt`, `specs/DelayPictures.antt`), and when it is
+//! told that a map draws the network where no reference is (`specs/Elsewhere.antt`). What the pictures look like is shown by
+//! examples.
 #![tactic(auto)]
 
 mod check;
@@ -27,6 +29,7 @@ mod map;
 mod numbers;
 mod order;
 mod order_picture;
+mod other_net;
 mod outcome;
 mod plan;
 mod points;

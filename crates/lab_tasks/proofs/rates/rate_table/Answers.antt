@@ -1,10 +1,13 @@
 use Rattle.std.proofs.Common.{false, string_bytes}
+use Rattle.experiments.specs.declared.load.Load.{Load}
+use Rattle.lab_tasks.specs.declared.tables.RatePoint.{RatePoint}
 use Rattle.lab_tasks.specs.Tables.{rate_row}
 use Rattle.lab_tasks.proofs.Lines.{line-more}
 use Rattle.lab_tasks.proofs.rates.rate_table.Goals as goal
 
 pub loop-point-preserved : goal.loop-point-preserved
 loop-point-preserved c =
-    let load = record { k = 0; hot = 0; seed = 0; cycles = 0; sync = false; combine = false } in
-    line-more rate_row c.args.points.now c.loop-point.point-index (record { load = load; first = 0; answered = 0; served = 0 }) (string_bytes c.in_ok-text.text)
+    let load : Load = record { k = 0; hot = 0; seed = 0; cycles = 0; sync = false; combine = false } in
+    let point : RatePoint = record { load = load; first = 0; answered = 0; served = 0 } in
+    line-more rate_row c.args.points.now c.loop-point.point-index point (string_bytes c.in_ok-text.text)
     (string_bytes c.loop-point.text) (string_bytes c.writeln.new.self) c.loop-point-test.true c.loop-point.invariant c.in_ok-writeln.ensures.bytes
