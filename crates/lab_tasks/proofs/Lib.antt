@@ -1,6 +1,8 @@
 pub mod Adding
 pub mod ColumnSteps
 pub mod Fields
+pub mod Given
+pub mod Halves
 pub mod Helps
 pub mod Hottest
 pub mod Listing

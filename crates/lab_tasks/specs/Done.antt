@@ -21,6 +21,9 @@ use Rattle.lab_tasks.specs.declared.convert.ConvertWords.{ConvertWords}
 use Rattle.lab_tasks.specs.Words.{text_of, texts_of}
 use Rattle.lab_tasks.specs.Orders.{IsOrderText, IsNoOrder}
 use Rattle.lab_tasks.specs.MapPictures.{IsMapDrawn}
+use Rattle.lab_tasks.specs.Elsewhere.{elsewhere}
+use Rattle.lab_tasks.specs.DelayPictures.{IsDelayPicture}
+use Rattle.lab_tasks.specs.RatePictures.{IsRatePicture}
 use Rattle.lab_tasks.specs.Plans.{IsMap, IsNoMap, IsCurves, IsNoCurve}
 use Rattle.lab_tasks.specs.Points.{rate_loads, delay_loads, IsRate, IsDelay}
 use Rattle.lab_tasks.specs.Tables.{table_text, rate_row, delay_row}
@@ -36,18 +39,21 @@ abbrev pub IsMadeOf : List ℕ → Option (List ℕ) → (Project → List ℕ �
 IsMadeOf bytes name IsText outcome =
     (P : Project) × (text : List ℕ) × (filed bytes ≡ Ok P) × IsText P text × IsGiven name text outcome
 
--- a picture of what the words ask for
-abbrev pub IsMapText : MapWords → Project → List ℕ → Type 0
-IsMapText words P text = (plan : MapPlan) × IsMap P words plan × IsMapDrawn P plan text
+-- a picture of what the words ask for; and it is told where all references of the file are on the other network
+abbrev pub IsMapMade : MapWords → List ℕ → Outcome → Type 0
+IsMapMade words bytes outcome =
+    (P : Project) × (plan : MapPlan) × (text : List ℕ) × (filed bytes ≡ Ok P) × IsMap P words plan × IsMapDrawn P plan text
+    × IsGiven (text_of words.out) text outcome × (outcome.elsewhere ≡ elsewhere P plan.net)
 
 -- a table where it is wanted, and a picture
-abbrev pub IsTableGiven : CurveWords → List ℕ → Outcome → Type 0
-IsTableGiven words table outcome = (picture : List ℕ) × AreGiven (text_of words.csv) (text_of words.out) table picture outcome
+abbrev pub IsTableGiven : CurveWords → (List ℕ → Type 0) → List ℕ → Outcome → Type 0
+IsTableGiven words IsPicture table outcome =
+    (picture : List ℕ) × IsPicture picture × AreGiven (text_of words.csv) (text_of words.out) table picture outcome
 
 -- and behind them the files of some loads
-abbrev pub IsTableWithKept : CurveWords → List Load → List ℕ → Outcome → Type 0
-IsTableWithKept words loads table outcome =
-    (drawn : Outcome) × IsTableGiven words table drawn × IsWithKept (text_of words.keep) loads drawn outcome
+abbrev pub IsTableWithKept : CurveWords → List Load → (List ℕ → Type 0) → List ℕ → Outcome → Type 0
+IsTableWithKept words loads IsPicture table outcome =
+    (drawn : Outcome) × IsTableGiven words IsPicture table drawn × IsWithKept (text_of words.keep) loads drawn outcome
 
 -- the first row of a table
 abbrev pub rate_header : List ℕ
@@ -60,12 +66,12 @@ delay_header = codes "network,processors,combining,hot_percent,replies,cycles_wa
 abbrev pub AreRates : CurveWords → Outcome → Type 0
 AreRates words outcome =
     (plan : CurvePlan) × (points : List RatePoint) × IsCurves words plan × AllZip IsRate (rate_loads plan) points
-    × IsTableWithKept words (rate_loads plan) (table_text rate_header rate_row points) outcome
+    × IsTableWithKept words (rate_loads plan) (IsRatePicture plan points) (table_text rate_header rate_row points) outcome
 
 abbrev pub AreDelays : CurveWords → Outcome → Type 0
 AreDelays words outcome =
     (plan : CurvePlan) × (points : List DelayPoint) × IsCurves words plan × AllZip (IsDelay plan) (delay_loads plan) points
-    × IsTableWithKept words (delay_loads plan) (table_text delay_header delay_row points) outcome
+    × IsTableWithKept words (delay_loads plan) (IsDelayPicture plan points) (table_text delay_header delay_row points) outcome
 
 -- the table that the words of a sweep ask for, and why there is none
 abbrev pub IsSweepText : SweepWords → Project → List ℕ → Type 0
@@ -92,7 +98,7 @@ IsOver words e = (is_over words ≡ true) × Refuses (codes "--out") words.file.
 
 -- what is done for what is asked, with the bytes of its file
 abbrev pub IsDone : Asked → List ℕ → Outcome → Type 0
-IsDone (Map words) bytes outcome = IsMadeOf bytes (text_of words.out) (IsMapText words) outcome
+IsDone (Map words) bytes outcome = IsMapMade words bytes outcome
 IsDone (Order words) bytes outcome = IsMadeOf bytes (text_of words.out) (IsOrderText words) outcome
 IsDone (Rates words) bytes outcome = AreRates words outcome
 IsDone (Delays words) bytes outcome = AreDelays words outcome

@@ -2,7 +2,10 @@ pub mod Added
 pub mod Columns
 pub mod CommandLine
 pub mod Counts
+pub mod CurvePictures
+pub mod DelayPictures
 pub mod Done
+pub mod Elsewhere
 pub mod Ends
 pub mod Heats
 pub mod Kept
@@ -14,6 +17,7 @@ pub mod Outcomes
 pub mod Plans
 pub mod Points
 pub mod ProjectTexts
+pub mod RatePictures
 pub mod Summaries
 pub mod SweepTables
 pub mod Sweeps

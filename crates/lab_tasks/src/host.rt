@@ -1,5 +1,6 @@
 //! The program at a terminal.
 use crate::end::{End, Reason, refusal, status};
+use crate::other_net::AllOn;
 use crate::outcome::{OutFile, Outcome};
 use crate::progress::Progress;
 use crate::task::perform;
@@ -115,6 +116,9 @@ fn delivered<R: Host>(rt: &R, outcome: &Outcome) -> u8 {
         .is_err()
     {
         return ended(rt, &End::Output);
+    }
+    if let Some(net) = outcome.elsewhere {
+        let _ = eprintln!(rt; "{}", AllOn(net));
     }
     status(&End::Done)
 }

@@ -13,7 +13,9 @@
 //! are measured and that each is that of its load's run (`specs/Points.antt`), rates, means, the bound and fields of tables
 //! (`specs/Tables.antt`), the table of a sweep (`specs/SweepTables.antt`), what a summary counts and says
 //! (`specs/Counts.antt`, `specs/Summaries.antt`), the text of a converted file (`specs/ProjectTexts.antt`), which project
-//! files are kept (`specs/Kept.antt`), and the statuses and lines (`specs/Ends.antt`). What the pictures look like is shown by examples.
+//! files are kept (`specs/Kept.antt`), the statuses and lines (`specs/Ends.antt`), the pictures of `rates` and `delays`
+//! (`specs/RatePictures.antt`, `specs/DelayPictures.antt`), and when it is told that a map draws the network where no reference
+//! is (`specs/Elsewhere.antt`). What the pictures look like is shown by examples.
 #![tactic(auto)]
 
 mod check;
@@ -29,6 +31,7 @@ mod map;
 mod numbers;
 mod order;
 mod order_picture;
+mod other_net;
 mod outcome;
 mod plan;
 mod points;

@@ -1,5 +1,5 @@
 //! The numbers that the words of `map`, `rates` and `delays` give.
-ghost use Rattle.std.specs.Prelude.{◌≡◌, ◌<◌, ◌≤◌, IfErr, IfOk, Some};
+ghost use Rattle.std.specs.Prelude.{◌≡◌, ◌<◌, ◌≤◌, IfErr, IfOk, Some, length};
 ghost use Rattle.omega_net.specs.Numbers.{lines};
 ghost use Rattle.page_map.specs.Limits.{max_k};
 ghost use Rattle.lab_tasks.specs.Numbers.{AreNoShares, AreShares, are_hundredths, IsTold, IsUntold};
@@ -153,6 +153,7 @@ fn are_hundredths(shares: &[u32]) -> bool
 /// The shares at `--hot`.
 fn shares_at<'a>(alloc: Global, word: Option<&'a str>) -> Result<Vec<u32>, End<'a>>
     ensures shares { IfOk result (λ v. AreShares (text_of word.entry) v.items) }
+    ensures few { IfOk result (λ v. length v.items ≤ 7) }
     ensures none { IfErr result (AreNoShares (text_of word.entry)) }
 {
     let Some(word) = word else {
@@ -180,6 +181,7 @@ pub(crate) fn curve_plan<'a>(alloc: Global, words: &CurveWords<'a>) -> Result<Cu
     ensures told { IfOk result (IsCurves words.now) }
     ensures refused { IfErr result (IsNoCurve words.now) }
     ensures small { IfOk result (λ plan. plan.k ≤ max_k) }
+    ensures few { IfOk result (λ plan. length plan.hot.items ≤ 7) }
 {
     let k = number_at("--k", words.k, MAX_K, 1, MAX_K)?;
     let hot = shares_at(alloc, words.hot)?;

@@ -1,101 +1,309 @@
 //! The picture of `rates`: references per cycle against the number of processors.
-use crate::curves::{doublings, labels_of, mark_of, stroke_of};
+ghost use Rattle.std.specs.Prelude.{◌≡◌, ◌+◌, ◌*◌, ◌<◌, ◌≤◌, ◌^◌, ◌++◌, if◌then◌else◌, IfOk, OnOk, length, map, string_bytes, sum_by};
+ghost use Rattle.std.specs.List.{flat_map};
+ghost use Rattle.omega_net.specs.Wires.{below};
+ghost use Rattle.page_map.specs.Limits.{max_k};
+ghost use Rattle.svg_plots.specs.Lists.{each};
+ghost use Rattle.lab_tasks.specs.CurvePictures.{doublings};
+ghost use Rattle.lab_tasks.specs.RatePictures.{bound_curve, bound_spot, drawn_of, greatest_drawn, least_drawn, mean_drawn, measured_curve, panel_title, rate_spot, rate_title, runs_at, share_curves, spread_at, what_of, IsRatePanel, IsRatePicture};
+
+use crate::curves::{doublings, labels_of, mark_of, part_of, stroke_of};
 use crate::plan::{CurvePlan, Measure};
 use crate::tables::{RatePoint, bound_thousandths, processors_of};
 use std::alloc::{AllocError, Global};
-use svg_plots::{Axis, Curve, Curves, Panel, Tick, draw_curves, log2_hundredths};
-
-/// A share as a label.
-pub(crate) fn share_labels(alloc: Global, shares: &[u32]) -> Result<Vec<String>, AllocError> {
-    let mut labels = Vec::new(alloc);
-    for share in shares {
-        labels.push(format!(in alloc; "{share} % hot")?)?;
-    }
-    Ok(labels)
-}
+use svg_plots::{
+    Axis, Curve, Curves, Label, Panel, Points, Tick, Whisker, Whiskers, draw_curves,
+    log2_hundredths,
+};
 
 /// What is drawn of a point, in thousandths.
-fn drawn_of(point: &RatePoint, of: Measure) -> u64 {
-    match of {
+fn drawn_of(point: &RatePoint, of: Measure) -> u32
+    ensures drawn { result ≡ drawn_of of point.now }
+    ensures most { result ≤ 1000000 }
+{
+    let rate = match of {
         Measure::Answered => point.answered_rate(),
         Measure::Served => point.served_rate(),
-    }
+    };
+    rate.min(1_000_000) as u32
 }
 
-/// The mean of the points of one load with several seeds, in thousandths.
-fn mean_of(points: &[RatePoint], of: Measure) -> u32 {
+/// What is drawn of some points in all.
+fn sum_of(points: &[RatePoint], of: Measure) -> u64
+    requires { length points.now < 2 ^ 32 }
+    ensures { result ≡ sum_by (drawn_of of) points.now }
+{
     let mut sum: u64 = 0;
     for point in points {
-        sum = sum.saturating_add(drawn_of(point, of));
+        sum += u64::from(drawn_of(point, of));
     }
-    (sum / points.len().max(1) as u64).min(1_000_000) as u32
+    sum
 }
 
-/// The measured places of one curve: the points whose place among the shares this is, the mean over their seeds.
-fn measured(
+/// The mean of the runs of one load with several seeds, in thousandths.
+fn mean_of(points: &[RatePoint], of: Measure) -> u32
+    requires { length points.now < 2 ^ 32 }
+    ensures { result ≡ mean_drawn of points.now }
+{
+    (sum_of(points, of) / points.len().max(1) as u64).min(1_000_000) as u32
+}
+
+fn least_of(points: &[RatePoint], of: Measure) -> u32
+    ensures { result ≡ least_drawn of points.now }
+{
+    let mut least: u32 = 1_000_000;
+    for point in points {
+        least = least.min(drawn_of(point, of));
+    }
+    least
+}
+
+fn greatest_of(points: &[RatePoint], of: Measure) -> u32
+    ensures { result ≡ greatest_drawn of points.now }
+{
+    let mut most: u32 = 0;
+    for point in points {
+        most = most.max(drawn_of(point, of));
+    }
+    most
+}
+
+/// How many shares stand before those of 2^k processors, without combining or with it, in runs of so many shares.
+#[tactic(auto, using(crate::proofs::Halves::few_before))]
+fn shares_before(k: u32, combine: bool, shares: usize) -> usize
+    requires small { k ≤ max_k }
+    requires few { shares ≤ 7 }
+    ensures before { result ≡ (k * 2 + (if combine then 1 else 0)) * shares }
+    ensures most { result ≤ 91 }
+{
+    let half = if combine {
+        k as usize * 2 + 1
+    } else {
+        k as usize * 2
+    };
+    half * shares
+}
+
+/// The runs of 2^k processors with the share at a place.
+fn runs_at<'a>(
+    plan: &CurvePlan,
+    points: &'a [RatePoint],
+    place: usize,
+    combine: bool,
+    k: u32,
+) -> &'a [RatePoint]
+    requires few { length plan.now.hot.items ≤ 7 }
+    requires place { place < 7 }
+    requires small { k ≤ max_k }
+    ensures runs { result.now ≡ runs_at plan.now points.now place combine k }
+    ensures few { length result.now < 2 ^ 32 }
+{
+    let before = shares_before(k, combine, plan.hot.len());
+    part_of(before + place, plan.seeds as usize, points)
+}
+
+/// Adds the spread of some runs, where there is one.
+fn add_spread(
+    whiskers: &mut Vec<Whisker>,
+    of: Measure,
+    k: u32,
+    runs: &[RatePoint],
+) -> Result<(), AllocError>
+    requires { k ≤ max_k }
+    ensures { OnOk result (whiskers.new.items ≡ whiskers.old.items ++ spread_at of k runs.now) }
+{
+    let (least, most) = (least_of(runs, of), greatest_of(runs, of));
+    if most == least {
+        return Ok(());
+    }
+    whiskers.push(Whisker {
+        across: k * 100,
+        from: log2_hundredths(least, 1000),
+        to: log2_hundredths(most, 1000),
+    })?;
+    Ok(())
+}
+
+/// The spreads of one curve.
+#[tactic(auto, using(crate::proofs::Listing::flat_next))]
+fn spreads_of(
     alloc: Global,
     plan: &CurvePlan,
     points: &[RatePoint],
     place: usize,
     combine: bool,
-) -> Result<Vec<(u32, u32)>, AllocError> {
+) -> Result<Vec<Whisker>, AllocError>
+    requires few { length plan.now.hot.items ≤ 7 }
+    requires place { place < 7 }
+    requires small { plan.now.k ≤ max_k }
+    ensures { IfOk result (λ v. v.items ≡ flat_map (λ k. spread_at plan.now.of k (runs_at plan.now points.now place combine k)) (below (plan.now.k + 1))) }
+{
+    let mut whiskers = Vec::new(alloc);
+    for k in 0..plan.k + 1 {
+        add_spread(
+            &mut whiskers,
+            plan.of,
+            k,
+            runs_at(plan, points, place, combine, k),
+        )?;
+    }
+    Ok(whiskers)
+}
+
+/// Where a mean stands.
+fn rate_spot(
+    plan: &CurvePlan,
+    points: &[RatePoint],
+    place: usize,
+    combine: bool,
+    k: u32,
+) -> (u32, u32)
+    requires few { length plan.now.hot.items ≤ 7 }
+    requires place { place < 7 }
+    requires small { k ≤ max_k }
+    ensures { result ≡ rate_spot plan.now points.now place combine k }
+{
+    let mean = mean_of(runs_at(plan, points, place, combine, k), plan.of);
+    (k * 100, log2_hundredths(mean, 1000))
+}
+
+/// The means of one curve.
+fn means_of(
+    alloc: Global,
+    plan: &CurvePlan,
+    points: &[RatePoint],
+    place: usize,
+    combine: bool,
+) -> Result<Vec<(u32, u32)>, AllocError>
+    requires few { length plan.now.hot.items ≤ 7 }
+    requires place { place < 7 }
+    requires small { plan.now.k ≤ max_k }
+    ensures { IfOk result (λ v. v.items ≡ map (rate_spot plan.now points.now place combine) (below (plan.now.k + 1))) }
+{
     let mut spots = Vec::new(alloc);
-    let shares = plan.hot.len().max(1);
-    for (at, some) in points.chunks(plan.seeds.max(1) as usize).enumerate() {
-        let Some(first) = some.first() else {
-            return Ok(spots);
-        };
-        if at % shares == place && first.load.combine == combine {
-            let up = log2_hundredths(mean_of(some, plan.of), 1000);
-            spots.push((first.load.k.min(6) * 100, up))?;
-        }
+    for k in 0..plan.k + 1 {
+        spots.push(rate_spot(plan, points, place, combine, k))?;
     }
     Ok(spots)
 }
 
-/// The bound at each number of processors.
-fn bounds(alloc: Global, k: u32, hot: u32) -> Result<Vec<(u32, u32)>, AllocError> {
-    let mut spots = Vec::new(alloc);
-    for power in 0..=k.min(6) {
-        let bound = bound_thousandths(processors_of(power), hot).min(1_000_000) as u32;
-        spots.push((power * 100, log2_hundredths(bound, 1000)))?;
-    }
-    Ok(spots)
-}
-
-/// The curves of a panel: for each share the bound, then what was measured.
-fn rate_curves<'a>(
+/// What was measured with the share at a place.
+fn measured_curve(
     alloc: Global,
     plan: &CurvePlan,
     points: &[RatePoint],
     combine: bool,
-    labels: &'a [String],
-) -> Result<Vec<Curve<'a>>, AllocError> {
+    place: usize,
+    hot: u32,
+) -> Result<Curve, AllocError>
+    requires few { length plan.now.hot.items ≤ 7 }
+    requires place { place < 7 }
+    requires small { plan.now.k ≤ max_k }
+    ensures { IfOk result (λ curve. curve ≡ measured_curve plan.now points.now combine place hot) }
+{
+    let label = format!(in alloc; "{hot} % hot")?;
+    let spots = means_of(alloc, plan, points, place, combine)?;
+    let whiskers = spreads_of(alloc, plan, points, place, combine)?;
+    Ok(Curve {
+        label: Label::from_string(label),
+        points: Points::from_vec(spots),
+        whiskers: Whiskers::from_vec(whiskers),
+        stroke: stroke_of(place, 18, false),
+        mark: Some(mark_of(place)),
+    })
+}
+
+/// Where the bound stands.
+fn bound_spot(hot: u32, k: u32) -> (u32, u32)
+    requires { k ≤ max_k }
+    ensures { result ≡ bound_spot hot k }
+{
+    let bound = bound_thousandths(processors_of(k), hot).min(1_000_000) as u32;
+    (k * 100, log2_hundredths(bound, 1000))
+}
+
+/// The bound at each number of processors.
+fn bounds_of(alloc: Global, k: u32, hot: u32) -> Result<Vec<(u32, u32)>, AllocError>
+    requires { k ≤ max_k }
+    ensures { IfOk result (λ v. v.items ≡ map (bound_spot hot) (below (k + 1))) }
+{
+    let mut spots = Vec::new(alloc);
+    for power in 0..k + 1 {
+        spots.push(bound_spot(hot, power))?;
+    }
+    Ok(spots)
+}
+
+/// The bound of the share at a place.
+fn bound_curve(alloc: Global, plan: &CurvePlan, place: usize, hot: u32) -> Result<Curve, AllocError>
+    requires { plan.now.k ≤ max_k }
+    ensures { IfOk result (λ curve. curve ≡ bound_curve plan.now place hot) }
+{
+    let spots = bounds_of(alloc, plan.k, hot)?;
+    Ok(Curve {
+        label: Label::from_string(String::new(alloc)),
+        points: Points::from_vec(spots),
+        whiskers: Whiskers::from_vec(Vec::new(alloc)),
+        stroke: stroke_of(place, 10, true),
+        mark: None,
+    })
+}
+
+/// Adds the bound of a share, then what was measured.
+fn add_share(
+    alloc: Global,
+    curves: &mut Vec<Curve>,
+    plan: &CurvePlan,
+    points: &[RatePoint],
+    combine: bool,
+    place: usize,
+    hot: u32,
+) -> Result<(), AllocError>
+    requires few { length plan.now.hot.items ≤ 7 }
+    requires place { place < 7 }
+    requires small { plan.now.k ≤ max_k }
+    ensures { OnOk result (curves.new.items ≡ curves.old.items ++ share_curves plan.now points.now combine place hot) }
+{
+    curves.push(bound_curve(alloc, plan, place, hot)?)?;
+    curves.push(measured_curve(alloc, plan, points, combine, place, hot)?)?;
+    Ok(())
+}
+
+/// The curves of a panel.
+fn rate_curves(
+    alloc: Global,
+    plan: &CurvePlan,
+    points: &[RatePoint],
+    combine: bool,
+) -> Result<Vec<Curve>, AllocError>
+    requires few { length plan.now.hot.items ≤ 7 }
+    requires small { plan.now.k ≤ max_k }
+    ensures { IfOk result (λ v. v.items ≡ each (share_curves plan.now points.now combine) plan.now.hot.items) }
+{
     let mut curves = Vec::new(alloc);
-    for (place, label) in labels.iter().enumerate() {
-        if let Some(hot) = plan.hot.get(place) {
-            curves.push(Curve {
-                label: "",
-                points: bounds(alloc, plan.k, *hot)?,
-                stroke: stroke_of(place, true),
-                mark: None,
-            })?;
-            curves.push(Curve {
-                label: label.as_str(),
-                points: measured(alloc, plan, points, place, combine)?,
-                stroke: stroke_of(place, false),
-                mark: Some(mark_of(place)),
-            })?;
-        }
+    for (place, hot) in plan.hot.iter().enumerate() {
+        add_share(alloc, &mut curves, plan, points, combine, place, *hot)?;
     }
     Ok(curves)
 }
 
 /// What is drawn, beside the axis.
-fn what_of(of: Measure) -> &'static str {
+fn what_of(of: Measure) -> &'static str
+    ensures { result.now ≡ what_of of }
+{
     match of {
         Measure::Answered => "answered per cycle",
         Measure::Served => "served per cycle",
+    }
+}
+
+fn panel_title(combine: bool) -> &'static str
+    ensures { result.now ≡ panel_title combine }
+{
+    if combine {
+        "With combining"
+    } else {
+        "Without combining"
     }
 }
 
@@ -105,16 +313,17 @@ fn rate_panel<'a>(
     plan: &CurvePlan,
     points: &[RatePoint],
     combine: bool,
-    labels: &'a [String],
     ticks: &'a [Tick],
-) -> Result<Panel<'a>, AllocError> {
-    let to = plan.k.min(6) * 100;
+) -> Result<Panel<'a>, AllocError>
+    requires few { length plan.now.hot.items ≤ 7 }
+    requires small { plan.now.k ≤ max_k }
+    requires ticks { ticks.now ≡ doublings plan.now.k }
+    ensures { IfOk result (IsRatePanel plan.now points.now combine) }
+{
+    let to = plan.k * 100;
+    let curves = rate_curves(alloc, plan, points, combine)?;
     Ok(Panel {
-        title: if combine {
-            "With combining"
-        } else {
-            "Without combining"
-        },
+        title: panel_title(combine),
         across: Axis {
             title: "processors",
             from: 0,
@@ -127,7 +336,7 @@ fn rate_panel<'a>(
             to,
             ticks,
         },
-        curves: rate_curves(alloc, plan, points, combine, labels)?,
+        curves,
     })
 }
 
@@ -155,41 +364,53 @@ fn rate_note(alloc: Global, plan: &CurvePlan, points: &[RatePoint]) -> Result<St
     )
 }
 
+/// The lines below.
+fn notes_of(
+    alloc: Global,
+    plan: &CurvePlan,
+    points: &[RatePoint],
+) -> Result<Vec<Label>, AllocError> {
+    let note = rate_note(alloc, plan, points)?;
+    labels_of(
+        alloc,
+        &[
+            note.as_str(),
+            "A whisker is from the least to the greatest of these runs; there is none where they are equal.",
+            "Combining network, queues of 4, at most 8 references unanswered. Requests that combine are served as one.",
+            "Dashed: the bound p / (1 + h (p - 1)) of Pfister and Norton (1985), where nothing combines.",
+        ],
+    )
+}
+
+fn title_of(of: Measure) -> &'static str
+    ensures { result.now ≡ rate_title of }
+{
+    match of {
+        Measure::Answered => "What a hot word does to a machine: references answered per cycle",
+        Measure::Served => "What a hot word does to a machine: requests served per cycle",
+    }
+}
+
 /// The picture of the points.
 pub(crate) fn rate_picture(
     alloc: Global,
     plan: &CurvePlan,
     points: &[RatePoint],
-) -> Result<String, AllocError> {
-    let labels = share_labels(alloc, plan.hot.as_slice())?;
+) -> Result<String, AllocError>
+    requires few { length plan.now.hot.items ≤ 7 }
+    requires small { plan.now.k ≤ max_k }
+    ensures { IfOk result (λ text. IsRatePicture plan.now points.now (string_bytes text)) }
+{
     let ticks = doublings(alloc, plan.k)?;
-    let note = rate_note(alloc, plan, points)?;
+    let ticks = ticks.as_slice();
+    let notes = notes_of(alloc, plan, points)?;
     let mut panels = Vec::new(alloc);
-    for combine in [false, true] {
-        panels.push(rate_panel(
-            alloc,
-            plan,
-            points,
-            combine,
-            labels.as_slice(),
-            ticks.as_slice(),
-        )?)?;
-    }
+    panels.push(rate_panel(alloc, plan, points, false, ticks)?)?;
+    panels.push(rate_panel(alloc, plan, points, true, ticks)?)?;
     let drawn = Curves {
-        title: match plan.of {
-            Measure::Answered => "What a hot word does to a machine: references answered per cycle",
-            Measure::Served => "What a hot word does to a machine: requests served per cycle",
-        },
+        title: title_of(plan.of),
         panels: panels.as_slice(),
         legend_columns: 4,
     };
-    let notes = labels_of(
-        alloc,
-        &[
-            note.as_str(),
-            "Combining network, queues of 4, at most 8 references unanswered. Requests that combine are served as one.",
-            "Dashed: the bound p / (1 + h (p - 1)) of Pfister and Norton (1985), where nothing combines.",
-        ],
-    )?;
     draw_curves(alloc, &drawn, notes.as_slice())
 }

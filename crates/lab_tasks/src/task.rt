@@ -1,12 +1,15 @@
 //! What is asked for is done.
-ghost use Rattle.std.specs.Prelude.{◌≡◌, ◌⊎◌, [], ◌∷◌, ◌++◌, false, IfErr, IfOk, IsOkUnless, None, Ok, OnOk, Some, string_bytes};
+ghost use Rattle.std.specs.Prelude.{◌≡◌, ◌≤◌, ◌⊎◌, [], ◌∷◌, ◌++◌, false, IfErr, IfOk, IsOkUnless, None, Ok, OnOk, Some, length, string_bytes};
+ghost use Rattle.page_map.specs.Limits.{max_k};
 ghost use Rattle.project_file.specs.Filed.{filed};
 ghost use Rattle.lab_tasks.specs.Added.{Adds};
-ghost use Rattle.lab_tasks.specs.Done.{delay_header, rate_header, is_over, AreDelays, AreRates, IsConverted, IsDone, IsMadeOf, IsMapText, IsNoSweep, IsNotDone, IsNotMade, IsOver, IsSweepText, IsTableGiven};
+ghost use Rattle.lab_tasks.specs.DelayPictures.{IsDelayPicture};
+ghost use Rattle.lab_tasks.specs.Done.{delay_header, rate_header, is_over, AreDelays, AreRates, IsConverted, IsDone, IsMadeOf, IsMapMade, IsNoSweep, IsNotDone, IsNotMade, IsOver, IsSweepText, IsTableGiven};
 ghost use Rattle.lab_tasks.specs.Kept.{kept_of, load_name, name_text, net_text, IsKept, IsWithKept};
 ghost use Rattle.lab_tasks.specs.Orders.{IsNoOrder, IsOrderText};
 ghost use Rattle.lab_tasks.specs.Outcomes.{files_of, folder_of, AreGiven, IsGiven};
 ghost use Rattle.lab_tasks.specs.Plans.{IsNoCurve, IsNoMap};
+ghost use Rattle.lab_tasks.specs.RatePictures.{IsRatePicture};
 ghost use Rattle.lab_tasks.specs.Summaries.{IsSummary};
 ghost use Rattle.lab_tasks.specs.Tables.{delay_row, rate_row, table_text};
 ghost use Rattle.lab_tasks.specs.Words.{text_of};
@@ -18,6 +21,7 @@ use crate::delays::{delay_points, delay_table};
 use crate::end::End;
 use crate::map::map_picture;
 use crate::order::{OrderWords, order_text, order_window};
+use crate::other_net::elsewhere;
 use crate::outcome::{OutFile, Outcome};
 use crate::plan::{CurvePlan, curve_plan, map_plan};
 use crate::points::{delay_loads, rate_loads};
@@ -40,11 +44,13 @@ fn nothing(alloc: Global) -> Outcome
     ensures printed { result.printed.items ≡ [] }
     ensures files { result.files.items ≡ [] }
     ensures folder { result.folder ≡ None }
+    ensures elsewhere { result.elsewhere ≡ None }
 {
     Outcome {
         printed: Vec::new(alloc),
         files: Vec::new(alloc),
         folder: None,
+        elsewhere: None,
     }
 }
 
@@ -94,13 +100,15 @@ fn project_in<'a>(alloc: Global, bytes: &[u8]) -> Result<Project, End<'a>>
 
 #[tactic(auto, using(crate::proofs::Stops::not_made))]
 fn map<'a>(alloc: Global, words: &MapWords<'a>, bytes: &[u8]) -> Result<Outcome, End<'a>>
-    ensures done { IfOk result (IsMadeOf bytes.now (text_of words.now.out) (IsMapText words.now)) }
+    ensures done { IfOk result (IsMapMade words.now bytes.now) }
     ensures refused { IfErr result (λ end. IsNotMade bytes.now (λ P. IsNoMap P words.now end) end) }
 {
     let project = project_in(alloc, bytes)?;
     let plan = map_plan(words, &project)?;
     let text = map_picture(alloc, words.file, &project, plan)?;
-    Ok(to_file_or_output(alloc, words.out, text.into_bytes())?)
+    let mut outcome = to_file_or_output(alloc, words.out, text.into_bytes())?;
+    outcome.elsewhere = elsewhere(&project, plan.net);
+    Ok(outcome)
 }
 
 fn order<'a>(alloc: Global, words: &OrderWords<'a>, bytes: &[u8]) -> Result<Outcome, End<'a>>
@@ -238,7 +246,9 @@ fn rates_drawn<'a>(
     plan: &CurvePlan,
     points: &[RatePoint],
 ) -> Result<Outcome, AllocError>
-    ensures { IfOk result (IsTableGiven words.now (table_text rate_header rate_row points.now)) }
+    requires few { length plan.now.hot.items ≤ 7 }
+    requires small { plan.now.k ≤ max_k }
+    ensures { IfOk result (IsTableGiven words.now (IsRatePicture plan.now points.now) (table_text rate_header rate_row points.now)) }
 {
     let table = rate_table(alloc, points)?;
     let picture = rate_picture(alloc, plan, points)?;
@@ -267,7 +277,7 @@ fn delays_drawn<'a>(
     plan: &CurvePlan,
     points: &[DelayPoint],
 ) -> Result<Outcome, AllocError>
-    ensures { IfOk result (IsTableGiven words.now (table_text delay_header delay_row points.now)) }
+    ensures { IfOk result (IsTableGiven words.now (IsDelayPicture plan.now points.now) (table_text delay_header delay_row points.now)) }
 {
     let table = delay_table(alloc, points)?;
     let picture = delay_picture(alloc, plan, points)?;

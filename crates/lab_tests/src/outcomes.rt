@@ -1,6 +1,7 @@
 //! What tasks print, and which files they write.
 use expect::equal;
 use lab_tasks::{Outcome, Silent, perform, read_words};
+use omega_net::Net;
 use std::test::Fail;
 use std::thread::Threads;
 
@@ -308,6 +309,67 @@ fn one_order_is_tabulated_and_drawn(rt: HostRuntime) -> Result<(), Fail> {
     ] {
         assert!(rt; text.contains(part));
     }
+    Ok(())
+}
+
+/// A number with three places behind its point, in thousandths.
+fn thousandths(text: &str) -> Option<u64> {
+    let (whole, part) = text.split_once('.')?;
+    let whole = whole.parse::<u32>().ok()?;
+    let part = part.parse::<u32>().ok()?;
+    Some(u64::from(whole) * 1000 + u64::from(part))
+}
+
+/// What was answered in a cycle by a row of the table, and the bound.
+fn rate_and_bound(row: &str) -> Option<(u64, u64)> {
+    let mut fields = row.split(',');
+    let rate = thousandths(fields.nth(8)?)?;
+    let bound = thousandths(fields.nth(1)?)?;
+    Some((rate, bound))
+}
+
+/// Whether the mean of five rates isn't above their bound by more than their spread.
+fn keeps_to_bound(five: &[(u64, u64)]) -> bool {
+    let (mut sum, mut least, mut most) = (0u64, u64::MAX, 0u64);
+    let mut bound = 0u64;
+    for (rate, its_bound) in five {
+        sum = sum.saturating_add(*rate);
+        least = least.min(*rate);
+        most = most.max(*rate);
+        bound = *its_bound;
+    }
+    let spread = most.saturating_sub(least);
+    five.len() == 5 && sum / 5 <= bound.saturating_add(spread)
+}
+
+// What is drawn isn't exactly the share, so a mean may be above the bound, but by no more than its spread.
+#[test]
+fn means_keep_to_the_bound(rt: HostRuntime) -> Result<(), Fail> {
+    let words = ["rates", "--k", "3", "--hot", "0,8,32"];
+    let outcome = made(&rt, &words, b"")?;
+    let text = std::str::from_utf8(outcome.printed.as_slice())?;
+    let mut rows = Vec::new(rt.alloc());
+    for row in text.lines() {
+        if row.contains(",off,") {
+            rows.push(rate_and_bound(row).ok_or("a rate and a bound")?)?;
+        }
+    }
+    assert!(rt; equal(&rt, rows.len(), 60));
+    for five in rows.chunks(5) {
+        assert!(rt; keeps_to_bound(five));
+    }
+    Ok(())
+}
+
+// All of it is on the low network: the combining one has nothing to draw. The other project is on the combining one alone.
+#[test]
+fn a_map_of_nothing_is_told(rt: HostRuntime) -> Result<(), Fail> {
+    let there = made(&rt, &["map", "two.toml"], TWO)?;
+    assert!(rt; there.elsewhere.is_none());
+    let nothing = made(&rt, &["map", "two.toml", "--net", "comb"], TWO)?;
+    assert!(rt; nothing.elsewhere == Some(Net::Low));
+    let nothing = made(&rt, &["map", "two.toml"], COMBINED)?;
+    assert!(rt; nothing.elsewhere == Some(Net::Comb));
     Ok(())
 }
 

@@ -3,8 +3,8 @@ use expect::equal;
 use std::test::Fail;
 use svg_plots::{
     Anchor, Axis, CellGroup, CellMap, CellRow, CellRows, Cells, Colour, Crossing, Curve, Curves,
-    Escaped, Label, Mark, Panel, Picture, Scale, ShadeKey, Spot, Stroke, Tenths, Tick, Writing,
-    draw_curves, draw_map, log2_hundredths, tick_step,
+    Escaped, Label, Mark, Panel, Picture, Points, Scale, ShadeKey, Spot, Stroke, Tenths, Tick,
+    Whisker, Whiskers, Writing, draw_curves, draw_map, log2_hundredths, tick_step,
 };
 
 #[test]
@@ -144,10 +144,18 @@ fn curves_are_drawn(rt: HostRuntime) -> Result<(), Fail> {
     for point in [(0, 0), (2, 1), (4, 9)] {
         points.push(point)?;
     }
+    let whiskers = vec![in rt.alloc();
+        Whisker {
+            across: 2,
+            from: 1,
+            to: 3,
+        },
+    ]?;
     let mut curves = Vec::new(rt.alloc());
     curves.push(Curve {
-        label: "h < 1",
-        points,
+        label: Label::new(rt.alloc(), "h < 1")?,
+        points: Points::from_vec(points),
+        whiskers: Whiskers::from_vec(whiskers),
         stroke: PLAIN,
         mark: Some(Mark::Up),
     })?;
@@ -167,6 +175,8 @@ fn curves_are_drawn(rt: HostRuntime) -> Result<(), Fail> {
     for part in [
         "height=\"487\"",
         "<polyline points=\"46,386 413,311 780,86 \"",
+        "<line x1=\"413\" y1=\"311\" x2=\"413\" y2=\"161\" stroke=\"#000000\" stroke-width=\"1\"/>",
+        "<line x1=\"407.5\" y1=\"161\" x2=\"418.5\" y2=\"161\" stroke=\"#000000\" stroke-width=\"1\"/>",
         "<path d=\"M413 311m0 -4l4 7h-8z\"",
         "<text x=\"229.5\" y=\"403\" font-size=\"12\" text-anchor=\"middle\">2</text>",
         ">h &lt; 1</text>",

@@ -3,6 +3,7 @@ pub mod Characters
 pub mod Each
 pub mod Groups
 pub mod Legends
+pub mod Logs
 pub mod Runs
 pub mod Shares
 pub mod Steps

@@ -1,6 +1,6 @@
 -- PANELS OF CURVES AS A DRAWING: a title, the panels side by side, the legend of the first one's curves, lines of text. Places are in tenths
 -- of a pixel; panels lie between 460 and 7800 across, and from 860 to 3860 down.
-use Rattle.std.specs.Prelude.{ℕ, ◌+◌, ◌-◌, ◌*◌, ◌/◌, ◌%◌, ◌≡◌, ◌≤◌, nat_lt, min, max, Bool, true, if◌then◌else◌, List, [], ◌∷◌, ◌++◌, map, length, decimal, Option, None, Some}
+use Rattle.std.specs.Prelude.{ℕ, ◌+◌, ◌-◌, ◌*◌, ◌/◌, ◌%◌, ◌≡◌, ◌≤◌, nat_lt, min, max, Bool, true, false, if◌then◌else◌, List, [], ◌∷◌, ◌++◌, map, length, decimal, Option, None, Some}
 use Rattle.std.specs.List.{flat_map, fold}
 use Rattle.svg_plots.specs.Places.{place_of}
 use Rattle.svg_plots.specs.Lists.{each, few_of}
@@ -12,11 +12,13 @@ use Rattle.svg_plots.specs.declared.curves.Axis.{Axis}
 use Rattle.svg_plots.specs.declared.curves.Curve.{Curve}
 use Rattle.svg_plots.specs.declared.curves.Curves.{Curves}
 use Rattle.svg_plots.specs.declared.curves.Panel.{Panel}
+use Rattle.svg_plots.specs.declared.curves.Whisker.{Whisker}
 use Rattle.svg_plots.specs.declared.element.Anchor.TheVariants.{Start, Middle, End}
 use Rattle.svg_plots.specs.declared.element.Element.{Element}
 use Rattle.svg_plots.specs.declared.element.Element.TheVariants.{Line, Frame, Words, Path, Marked}
 use Rattle.svg_plots.specs.declared.element.Mark.{Mark}
 use Rattle.svg_plots.specs.declared.element.Spot.{Spot}
+use Rattle.svg_plots.specs.declared.element.Stroke.{Stroke}
 use Rattle.svg_plots.specs.declared.scale.Scale.{Scale}
 use Rattle.svg_plots.specs.declared.tick.Tick.{Tick}
 
@@ -41,7 +43,8 @@ area_of panel place count = record {
 
 -- an area within the picture, whose values go up
 abbrev pub IsInside : Area → Type 0
-IsInside a = (a.left ≤ 100000) × (a.right ≤ 100000) × (a.up.start ≡ 3860) × (a.up.«end» ≡ 860)
+IsInside a =
+    (a.left ≤ 100000) × (a.right ≤ 100000) × (a.across.start ≤ 100000) × (a.across.«end» ≤ 100000) × (a.up.start ≡ 3860) × (a.up.«end» ≡ 860)
 
 -- A POINT stands where its scales place its values
 abbrev pub spot_in : Area → ℕ × ℕ → Spot
@@ -64,13 +67,28 @@ across_drawn a axis = flat_map (across_tick a) axis.ticks.now ++ Words (spot ((a
 unfoldable pub up_drawn : Area → Axis → List Element
 up_drawn a axis = flat_map (up_tick a) axis.ticks.now ++ Words (spot (a.left - 260) 740) (plain Start) axis.title.now ∷ []
 
--- A CURVE: a line through its points, and its mark at each of them
+-- A WHISKER: a line over its values, with a line of 11 pixels across at each end
+abbrev pub whisker_stroke : Colour → Stroke
+whisker_stroke colour = record { colour = colour; width = 10; dashed = false }
+
+abbrev pub cap_drawn : Area → Colour → ℕ → ℕ → Element
+cap_drawn a colour across value =
+    Line (spot (placed a.across across - 55) (placed a.up value)) (spot (placed a.across across + 55) (placed a.up value)) (whisker_stroke colour)
+
+unfoldable pub whisker_drawn : Area → Colour → Whisker → List Element
+whisker_drawn a colour w =
+    Line (spot_in a (w.across, w.from)) (spot_in a (w.across, w.to)) (whisker_stroke colour)
+    ∷ cap_drawn a colour w.across w.from ∷ cap_drawn a colour w.across w.to ∷ []
+
+-- A CURVE: a line through its points, its whiskers, and its mark at each of the points
 abbrev pub marks_drawn : Area → Colour → List (ℕ × ℕ) → Option Mark → List Element
 marks_drawn a colour points None = []
 marks_drawn a colour points (Some mark) = map (λ point. Marked (spot_in a point) mark colour) points
 
 unfoldable pub curve_drawn : Area → Curve → List Element
-curve_drawn a curve = Path (map (spot_in a) curve.points.items) curve.stroke ∷ marks_drawn a curve.stroke.colour curve.points.items curve.mark
+curve_drawn a curve =
+    Path (map (spot_in a) curve.points) curve.stroke
+    ∷ flat_map (whisker_drawn a curve.stroke.colour) curve.whiskers ++ marks_drawn a curve.stroke.colour curve.points curve.mark
 
 unfoldable pub panel_drawn : Area → Panel → List Element
 panel_drawn a panel =
@@ -89,11 +107,11 @@ mark_drawn at colour (Some mark) = Marked at mark colour ∷ []
 unfoldable pub label_drawn : ℕ → ℕ → Curve → List Element
 label_drawn x y curve =
     Line (spot x (y - 40)) (spot (x + 240) (y - 40)) curve.stroke
-    ∷ mark_drawn (spot (x + 120) (y - 40)) curve.stroke.colour curve.mark ++ Words (spot (x + 300) y) (plain Start) curve.label.now ∷ []
+    ∷ mark_drawn (spot (x + 120) (y - 40)) curve.stroke.colour curve.mark ++ Words (spot (x + 300) y) (plain Start) curve.label ∷ []
 
 -- a curve that has a label is named, at the next place of the legend
 abbrev pub is_named : Curve → Bool
-is_named curve = nat_lt 0 (length curve.label.now)
+is_named curve = nat_lt 0 (length curve.label)
 
 abbrev pub place_after : ℕ → Curve → ℕ
 place_after place curve = if is_named curve then few_of (place + 1) else place

@@ -4,6 +4,7 @@ pub mod CurvePanels
 pub mod Drawings
 pub mod Entities
 pub mod Lists
+pub mod Logarithms
 pub mod Places
 pub mod Texts
 pub mod Ticks

@@ -4,11 +4,12 @@ ghost use Rattle.std.specs.List.{flat_map};
 ghost use Rattle.svg_plots.specs.Lists.{each, few_of};
 ghost use Rattle.svg_plots.specs.Writings.{note_drawn};
 ghost use Rattle.svg_plots.specs.declared.element.Element.TheVariants.{Marked};
-ghost use Rattle.svg_plots.specs.CurvePanels.{across_drawn, across_tick, area_of, columns_of, curve_drawn, curves_elements, curves_height, curves_text, label_drawn, left_of, legend_from, legend_of, legend_rows, is_named, mark_drawn, marks_drawn, named_drawn, named_in, place_after, panel_drawn, panels_drawn, placed, spot_in, up_drawn, up_tick, width_of, IsInside};
+ghost use Rattle.svg_plots.specs.CurvePanels.{across_drawn, across_tick, area_of, columns_of, curve_drawn, curves_elements, curves_height, curves_text, label_drawn, left_of, legend_from, legend_of, legend_rows, is_named, mark_drawn, marks_drawn, named_drawn, named_in, place_after, panel_drawn, panels_drawn, placed, spot_in, up_drawn, up_tick, whisker_drawn, whisker_stroke, width_of, IsInside};
 
 use crate::writings::{FINE, FRAME, TITLE, WIDTH, draw_notes, few, plain};
 use crate::{Anchor, Colour, Label, Mark, Picture, Scale, Spot, Stroke, Tick, Writing};
 use std::alloc::{AllocError, Global};
+use std::marker::Model;
 
 /// An axis with the values from `from` to `to`.
 #[derive(Clone, Copy)]
@@ -19,12 +20,80 @@ pub struct Axis<'a> {
     pub ticks: &'a [Tick],
 }
 
-/// Points that belong together, as values across and up.
+/// A whisker: at a value across, from a value up to another one.
+#[derive(Clone, Copy, PartialEq, Eq, Debug)]
+pub struct Whisker {
+    pub across: u32,
+    pub from: u32,
+    pub to: u32,
+}
+
+/// Points, as values across and up, in their order. Contracts see the list.
 #[derive(Drop)]
-pub struct Curve<'a> {
+pub struct Points {
+    points: Vec<(u32, u32)>,
+}
+
+impl Model for Points {
+    ghost use Rattle.std.specs.Prelude.{ℕ, List};
+
+    ghost Value = { List (ℕ × ℕ) };
+
+    ghost view = { λ p. p.points.items };
+}
+
+impl Points {
+    /// The points of this list. It takes no memory.
+    pub fn from_vec(points: Vec<(u32, u32)>) -> Points
+        ensures { result ≡ points.items }
+    {
+        Points { points }
+    }
+
+    pub fn as_slice(&self) -> &[(u32, u32)]
+        ensures { result.now ≡ self.now }
+    {
+        &self.points
+    }
+}
+
+/// Whiskers in their order. Contracts see the list.
+#[derive(Drop)]
+pub struct Whiskers {
+    whiskers: Vec<Whisker>,
+}
+
+impl Model for Whiskers {
+    ghost use Rattle.std.specs.Prelude.{List};
+    ghost use Rattle.svg_plots.specs.declared.curves.Whisker.{Whisker};
+
+    ghost Value = { List Whisker };
+
+    ghost view = { λ w. w.whiskers.items };
+}
+
+impl Whiskers {
+    /// The whiskers of this list. It takes no memory.
+    pub fn from_vec(whiskers: Vec<Whisker>) -> Whiskers
+        ensures { result ≡ whiskers.items }
+    {
+        Whiskers { whiskers }
+    }
+
+    pub fn as_slice(&self) -> &[Whisker]
+        ensures { result.now ≡ self.now }
+    {
+        &self.whiskers
+    }
+}
+
+/// Points that belong together, and whiskers.
+#[derive(Drop)]
+pub struct Curve {
     /// What the legend says of it; nothing where the text is empty.
-    pub label: &'a str,
-    pub points: Vec<(u32, u32)>,
+    pub label: Label,
+    pub points: Points,
+    pub whiskers: Whiskers,
     pub stroke: Stroke,
     pub mark: Option<Mark>,
 }
@@ -35,7 +104,7 @@ pub struct Panel<'a> {
     pub title: &'a str,
     pub across: Axis<'a>,
     pub up: Axis<'a>,
-    pub curves: Vec<Curve<'a>>,
+    pub curves: Vec<Curve>,
 }
 
 /// A whole picture, 800 pixels wide: the panels side by side under a title, and the legend of the first panel's curves in
@@ -65,7 +134,9 @@ const PANEL_TITLE: Writing = Writing {
 
 impl Area {
     fn x(self, value: u32) -> u32
-        ensures { result ≡ placed self.across value }
+        requires { IsInside self }
+        ensures place { result ≡ placed self.across value }
+        ensures within { result ≤ 100000 }
     {
         self.across.place(value)
     }
@@ -130,6 +201,7 @@ fn draw_across_tick(
     area: Area,
     tick: Tick,
 ) -> Result<(), AllocError>
+    requires { IsInside area }
     ensures { OnOk result (picture.new ≡ picture.old ++ across_tick area tick) }
 {
     let x = area.x(tick.value);
@@ -144,6 +216,7 @@ fn draw_across_ticks(
     area: Area,
     ticks: &[Tick],
 ) -> Result<(), AllocError>
+    requires { IsInside area }
     ensures { OnOk result (picture.new ≡ picture.old ++ flat_map (across_tick area) ticks.now) }
 {
     for tick in ticks {
@@ -246,19 +319,75 @@ fn draw_each_mark(
     Ok(())
 }
 
-/// A line through a curve's points, and its mark at each of them.
+fn whisker_stroke(colour: Colour) -> Stroke
+    ensures { result ≡ whisker_stroke colour }
+{
+    Stroke {
+        colour,
+        width: 10,
+        dashed: false,
+    }
+}
+
+/// A line over the values of a whisker, with a short line across at each of its ends.
+#[tactic(auto, unfolding(crate::specs::CurvePanels::whisker_drawn))]
+fn draw_whisker(
+    picture: &mut Picture,
+    area: Area,
+    colour: Colour,
+    whisker: Whisker,
+) -> Result<(), AllocError>
+    requires { IsInside area }
+    ensures { OnOk result (picture.new ≡ picture.old ++ whisker_drawn area colour whisker) }
+{
+    let stroke = whisker_stroke(colour);
+    let x = area.x(whisker.across);
+    let (left, right) = (x.saturating_sub(55), x + 55);
+    let (from, to) = (area.y(whisker.from), area.y(whisker.to));
+    picture.line(Spot { x, y: from }, Spot { x, y: to }, stroke)?;
+    picture.line(
+        Spot { x: left, y: from },
+        Spot { x: right, y: from },
+        stroke,
+    )?;
+    picture.line(Spot { x: left, y: to }, Spot { x: right, y: to }, stroke)
+}
+
+fn draw_whiskers(
+    picture: &mut Picture,
+    area: Area,
+    colour: Colour,
+    whiskers: &[Whisker],
+) -> Result<(), AllocError>
+    requires { IsInside area }
+    ensures { OnOk result (picture.new ≡ picture.old ++ flat_map (whisker_drawn area colour) whiskers.now) }
+{
+    for whisker in whiskers {
+        draw_whisker(picture, area, colour, *whisker)?;
+    }
+    Ok(())
+}
+
+/// A line through a curve's points, its whiskers, and its mark at each of the points.
 #[tactic(auto, unfolding(crate::specs::CurvePanels::curve_drawn))]
 fn draw_curve(
     alloc: Global,
     picture: &mut Picture,
     area: Area,
-    curve: &Curve<'_>,
+    curve: &Curve,
 ) -> Result<(), AllocError>
+    requires { IsInside area }
     ensures { OnOk result (picture.new ≡ picture.old ++ curve_drawn area curve.now) }
 {
     let points = curve.points.as_slice();
     let spots = spots_of(alloc, area, points)?;
     picture.path(spots, curve.stroke)?;
+    draw_whiskers(
+        picture,
+        area,
+        curve.stroke.colour,
+        curve.whiskers.as_slice(),
+    )?;
     let Some(mark) = curve.mark else {
         return Ok(());
     };
@@ -269,8 +398,9 @@ fn draw_each_curve(
     alloc: Global,
     picture: &mut Picture,
     area: Area,
-    curves: &[Curve<'_>],
+    curves: &[Curve],
 ) -> Result<(), AllocError>
+    requires { IsInside area }
     ensures { OnOk result (picture.new ≡ picture.old ++ flat_map (curve_drawn area) curves.now) }
 {
     for curve in curves {
@@ -334,7 +464,7 @@ fn draw_mark(
 
 /// The legend of a curve at a place: a piece of its line, its mark, its label.
 #[tactic(auto, unfolding(crate::specs::CurvePanels::label_drawn))]
-fn draw_label(picture: &mut Picture, x: u32, y: u32, curve: &Curve<'_>) -> Result<(), AllocError>
+fn draw_label(picture: &mut Picture, x: u32, y: u32, curve: &Curve) -> Result<(), AllocError>
     requires across { x ≤ 1000000 }
     requires down { y ≤ 1000000 }
     ensures { OnOk result (picture.new ≡ picture.old ++ label_drawn x y curve.now) }
@@ -353,18 +483,22 @@ fn draw_label(picture: &mut Picture, x: u32, y: u32, curve: &Curve<'_>) -> Resul
         y: line,
     };
     draw_mark(picture, middle, curve.stroke.colour, curve.mark)?;
-    picture.words(Spot { x: x + 300, y }, plain(Anchor::Start), curve.label)
+    picture.words(
+        Spot { x: x + 300, y },
+        plain(Anchor::Start),
+        curve.label.as_str(),
+    )
 }
 
 /// Whether the legend names a curve.
-fn is_named(curve: &Curve<'_>) -> bool
+fn is_named(curve: &Curve) -> bool
     ensures { result ≡ is_named curve.now }
 {
-    curve.label.len() > 0
+    curve.label.as_str().len() > 0
 }
 
 /// The place behind a curve's in the legend.
-fn place_after(place: u32, curve: &Curve<'_>) -> u32
+fn place_after(place: u32, curve: &Curve) -> u32
     requires { place ≤ 999 }
     ensures place { result ≡ place_after place curve.now }
     ensures few { result ≤ 999 }
@@ -391,7 +525,7 @@ fn draw_named(
     picture: &mut Picture,
     columns: u32,
     place: u32,
-    curve: &Curve<'_>,
+    curve: &Curve,
 ) -> Result<(), AllocError>
     requires some { 0 < columns }
     requires few { place ≤ 999 }
@@ -406,7 +540,7 @@ fn draw_named(
 }
 
 /// The legend in so many columns.
-fn draw_legend(picture: &mut Picture, columns: u32, curves: &[Curve<'_>]) -> Result<(), AllocError>
+fn draw_legend(picture: &mut Picture, columns: u32, curves: &[Curve]) -> Result<(), AllocError>
     requires { 0 < columns }
     ensures { OnOk result (picture.new ≡ picture.old ++ legend_from columns 0 curves.now) }
 {
@@ -419,7 +553,7 @@ fn draw_legend(picture: &mut Picture, columns: u32, curves: &[Curve<'_>]) -> Res
 }
 
 /// How many curves the legend names.
-fn named_in(curves: &[Curve<'_>]) -> u32
+fn named_in(curves: &[Curve]) -> u32
     ensures named { result ≡ named_in curves.now }
     ensures few { result ≤ 999 }
 {
@@ -432,7 +566,7 @@ fn named_in(curves: &[Curve<'_>]) -> u32
 
 /// The curves that the legend names.
 #[tactic(auto, unfolding(crate::specs::CurvePanels::legend_of))]
-fn legend_of<'a>(panels: &'a [Panel<'a>]) -> &'a [Curve<'a>]
+fn legend_of<'a>(panels: &'a [Panel<'a>]) -> &'a [Curve]
     ensures { result.now ≡ legend_of panels.now }
 {
     match panels.first() {

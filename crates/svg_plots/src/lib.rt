@@ -25,7 +25,7 @@ mod timeline;
 mod writings;
 
 pub use colour::Colour;
-pub use curves::{Axis, Curve, Curves, Panel, draw_curves};
+pub use curves::{Axis, Curve, Curves, Panel, Points, Whisker, Whiskers, draw_curves};
 pub use element::{Anchor, Element, Label, Mark, Spot, Spots, Stroke, Writing};
 pub use escaped::{Escaped, entity};
 pub use map::{CellGroup, CellMap, CellRow, CellRows, Cells, Crossing, ShadeKey, draw_map};

@@ -1,5 +1,6 @@
 //! Scales: where values are placed, and which of them are marked.
-ghost use Rattle.std.specs.Prelude.{◌≡◌, ◌+◌, ◌-◌, ◌*◌, ◌/◌, ◌^◌, ◌<◌, ◌≤◌, nat_le};
+ghost use Rattle.std.specs.Prelude.{◌≡◌, ◌+◌, ◌-◌, ◌*◌, ◌/◌, ◌^◌, ◌<◌, ◌≤◌, if◌then◌else◌, nat_le};
+ghost use Rattle.svg_plots.specs.Logarithms.{hundredths_of, log2_of, squared};
 ghost use Rattle.svg_plots.specs.Places.{place_of, share_of};
 ghost use Rattle.svg_plots.specs.Ticks.{Doubles, step_of};
 
@@ -111,27 +112,65 @@ fn halvings(numerator: u32, denominator: u32) -> u32
 /// One as a number with 30 binary places.
 const ONE: u64 = 1 << 30;
 
+/// The square of a number from 1 on and before 2.
+#[tactic(auto, using(crate::proofs::Logs::square_small))]
+fn squared(number: u64) -> u64
+    requires { number < 2 ^ 31 }
+    ensures square { result ≡ squared number }
+    ensures most { result < 2 ^ 32 }
+{
+    number * number / ONE
+}
+
+/// Whether a number is at least 2, and then its half.
+fn halved(number: u64) -> (u64, u32)
+    requires { number < 2 ^ 32 }
+    ensures left { result.0 ≡ if nat_le (2 ^ 31) number then number / 2 else number }
+    ensures place { result.1 ≡ if nat_le (2 ^ 31) number then 1 else 0 }
+    ensures small { result.0 < 2 ^ 31 }
+    ensures bit { result.1 ≤ 1 }
+{
+    if number >= 2 * ONE {
+        (number / 2, 1)
+    } else {
+        (number, 0)
+    }
+}
+
 /// The binary logarithm of a number from 1 on and before 2, in hundredths, rounded down. It is found bit by bit: squaring a
 /// number doubles its logarithm.
 fn hundredths(number: u64) -> u32
-    ensures { result < 100 }
+    requires { number < 2 ^ 31 }
+    ensures hundredths { result ≡ hundredths_of number }
+    ensures most { result < 100 }
 {
     let mut rest = number;
     let mut bits: u32 = 0;
     for place in 0..10u32 {
-        rest = rest.saturating_mul(rest) / ONE;
-        bits *= 2;
-        if rest >= 2 * ONE {
-            rest /= 2;
-            bits += 1;
-        }
+        let (left, bit) = halved(squared(rest));
+        rest = left;
+        bits = bits * 2 + bit;
     }
     bits * 100 / 1024
+}
+
+/// What is left of a fraction that is halved so often.
+#[tactic(auto, using(crate::proofs::Logs::left_small))]
+fn left_of(numerator: u32, denominator: u32, whole: u32) -> u64
+    requires some { 0 < denominator }
+    requires doubles { Doubles numerator denominator whole }
+    requires few { whole < 32 }
+    ensures left { result ≡ numerator * 2 ^ 30 / denominator / 2 ^ whole }
+    ensures small { result < 2 ^ 31 }
+{
+    (u64::from(numerator) * ONE / u64::from(denominator)) >> whole
 }
 
 /// The binary logarithm of a fraction, in hundredths, rounded down; 0 of a fraction that is less than one, or that has no
 /// denominator.
 pub fn log2_hundredths(numerator: u32, denominator: u32) -> u32
+    ensures logarithm { result ≡ log2_of numerator denominator }
+    ensures few { result < 3200 }
     ensures less { numerator < denominator → result ≡ 0 }
     ensures none { denominator ≡ 0 → result ≡ 0 }
     ensures whole { 0 < denominator → denominator ≤ numerator → Doubles numerator denominator (result / 100) }
@@ -140,6 +179,5 @@ pub fn log2_hundredths(numerator: u32, denominator: u32) -> u32
         return 0;
     }
     let whole = halvings(numerator, denominator);
-    let rest = u64::from(numerator) * ONE / u64::from(denominator) >> whole;
-    whole * 100 + hundredths(rest)
+    whole * 100 + hundredths(left_of(numerator, denominator, whole))
 }

@@ -1,11 +1,16 @@
 use Rattle.std.proofs.Common.{string_bytes}
+use Rattle.lab_tasks.specs.Words.{text_of}
+use Rattle.lab_tasks.proofs.Given.{given_beside}
 use Rattle.lab_tasks.proofs.task.map.Goals as goal
 
 pub returns-clause-done : goal.returns-clause-done
 returns-clause-done c = (
   c.in_ok-project.project,
+  c.in_ok-plan.plan,
   string_bytes c.in_ok-text.text,
   c.in_ok-project.ensures.filed,
-  (c.in_ok-plan.plan, c.in_ok-plan.ensures.told, c.in_ok-text.ensures.drawn),
-  (rw (c.into_bytes.ensures.value) at c.in_ok-to_file_or_output.ensures),
+  c.in_ok-plan.ensures.told,
+  c.in_ok-text.ensures.drawn,
+  given_beside (text_of c.args.words.now.out) (string_bytes c.in_ok-text.text) c.in_ok-outcome.outcome c.elsewhere.result (rw (c.into_bytes.ensures.value) at c.in_ok-outcome.ensures),
+  c.elsewhere.ensures,
 )

@@ -3,15 +3,17 @@ use Rattle.std.proofs.lemmas.Result.{IfOk-weaker}
 use Rattle.lab_tasks.specs.Tables.{table_text, rate_row}
 use Rattle.lab_tasks.specs.Words.{text_of}
 use Rattle.lab_tasks.specs.Done.{rate_header, IsTableGiven}
+use Rattle.lab_tasks.specs.RatePictures.{IsRatePicture}
 use Rattle.lab_tasks.specs.Kept.{IsWithKept}
 use Rattle.lab_tasks.proofs.task.rates.Goals as goal
 
 pub returns-clause-done : goal.returns-clause-done
 returns-clause-done g c =
     let words = c.args.words.now in
+    let plan = c.in_ok-plan.plan in
     let drawn = c.in_ok-outcome.outcome in
     let table =
-    subst (λ points. IsTableGiven words (table_text rate_header rate_row points) drawn) c.as_slice.ensures.value c.in_ok-outcome.ensures in
+    subst (λ points. IsTableGiven words (IsRatePicture plan points) (table_text rate_header rate_row points) drawn) c.as_slice.ensures.value c.in_ok-outcome.ensures in
     IfOk-weaker c.with_kept.result _ _
     (λ outcome kept. (
       c.in_ok-plan.plan,

@@ -1,0 +1,9 @@
+use Rattle.std.proofs.Common.{◌≡◌, arith}
+use Rattle.std.specs.List.{flat_map}
+use Rattle.omega_net.specs.Wires.{below}
+use Rattle.lab_tasks.proofs.curves.even_ticks.Goals as goal
+
+pub returns : goal.returns
+returns c =
+    let last : c.loop-place.place ≡ 9 = omega arith in
+    rw (last, c.tick_step-step.ensures.step) at c.loop-place.invariant
