@@ -402,11 +402,10 @@ pub(crate) fn rate_picture(
     ensures { IfOk result (λ text. IsRatePicture plan.now points.now (string_bytes text)) }
 {
     let ticks = doublings(alloc, plan.k)?;
-    let ticks = ticks.as_slice();
     let notes = notes_of(alloc, plan, points)?;
     let mut panels = Vec::new(alloc);
-    panels.push(rate_panel(alloc, plan, points, false, ticks)?)?;
-    panels.push(rate_panel(alloc, plan, points, true, ticks)?)?;
+    panels.push(rate_panel(alloc, plan, points, false, ticks.as_slice())?)?;
+    panels.push(rate_panel(alloc, plan, points, true, ticks.as_slice())?)?;
     let drawn = Curves {
         title: title_of(plan.of),
         panels: panels.as_slice(),
