@@ -151,7 +151,7 @@ fn an_edit_wakes_who_is_parked(rt: HostRuntime) -> Result<(), Fail> {
 }
 
 /// Wakes until so many have come: whether they do in time.
-fn wakes<R: Clock>(rt: &R, pass: &Pass, board: &Board, all: u64) -> bool {
+fn wakes<R: Clock>(rt: &R, pass: Pass, board: &Board, all: u64) -> bool {
     for _ in 0..MOST_LOOKS {
         if board.count() >= all {
             return true;
@@ -168,6 +168,15 @@ fn parks<R: Wait>(rt: &R, pass: Pass, board: &Board) {
     board.comes();
 }
 
+/// Two passes are parked at once.
+fn both_park<R: Host>(rt: &R, one: Pass, other: Pass, board: &Board) {
+    thread::join(
+        rt,
+        move || parks(rt, one, board),
+        move || parks(rt, other, board),
+    );
+}
+
 /// All who are parked wake, without an edit.
 #[test]
 fn all_who_are_parked_are_woken(rt: HostRuntime) -> Result<(), Fail> {
@@ -176,12 +185,8 @@ fn all_who_are_parked_are_woken(rt: HostRuntime) -> Result<(), Fail> {
     let board = Board::new();
     thread::join(
         &rt,
-        || assert!(rt; wakes(&rt, &one, &board, 2)),
-        || thread::join(
-            &rt,
-            || parks(&rt, two, &board),
-            || parks(&rt, three, &board),
-        ),
+        || assert!(rt; wakes(&rt, one, &board, 2)),
+        || both_park(&rt, two, three, &board),
     );
     Ok(())
 }
