@@ -2,6 +2,7 @@
 use super::workers::{base, is_told, served};
 use cell_table::Cell;
 use expect::equal;
+use project_book::Project;
 use std::alloc::Global;
 use std::io::{Read, Result};
 use std::sync::Arc;
@@ -10,7 +11,7 @@ use std::test::Fail;
 use std::thread;
 use std::time::{Clock, Duration};
 use wave_workers::Gate;
-use worker_sessions::Left;
+use worker_sessions::{Hall, Left};
 
 /// How many milliseconds the end is waited for at most.
 const LONGEST: u32 = 5_000;
@@ -85,6 +86,27 @@ fn has_ended<R: Clock>(rt: &R, board: &Board) -> bool {
     false
 }
 
+/// A session of a line with two such workers: what it writes, and how many were started.
+fn serves<H: Hall>(
+    rt: &H,
+    alloc: Global,
+    project: Project,
+    board: &Arc<Board, Global>,
+) -> Option<(Vec<u8>, usize)> {
+    let mut gates = Vec::new(alloc);
+    let one = Arc::try_clone(board).ok()?;
+    gates.push(Late { board: one }).ok()?;
+    let other = Arc::try_clone(board).ok()?;
+    gates.push(Late { board: other }).ok()?;
+    let mut reader = Ending {
+        line: b"memory 0 0\n",
+        board: Arc::try_clone(board).ok()?,
+    };
+    let mut writer = Vec::new(alloc);
+    let left = served(rt, alloc, &mut reader, &mut writer, project, gates)?;
+    Some((writer, started(left)))
+}
+
 /// Both workers go to sleep only after the session has told its end, which wakes them nevertheless. All were started, and
 /// each was asked whether it goes on.
 #[test]
@@ -98,27 +120,17 @@ fn late_sleepers_are_woken(rt: HostRuntime) -> std::result::Result<(), Fail> {
             ended: AtomicU64::new(0),
         },
     )?;
-    let mut gates = Vec::new(alloc);
-    for _ in 0..2 {
-        let board = Arc::try_clone(&board)?;
-        gates.push(Late { board })?;
-    }
-    let mut reader = Ending {
-        line: b"memory 0 0\n",
-        board: Arc::try_clone(&board)?,
-    };
     let project = base(alloc, 10)?;
     let theirs = Arc::try_clone(&board)?;
     let thread = thread::spawn(&rt, move || {
-        let mut writer = Vec::new(alloc);
-        let served = served(&rt, alloc, &mut reader, &mut writer, project, gates);
+        let left = serves(&rt, alloc, project, &theirs);
         theirs.ended.store(1, Ordering::SeqCst);
-        (writer, served.map_or(0, started))
+        left
     })
     .ok()
     .ok_or("no thread")?;
     assert!(rt; has_ended(&rt, &board));
-    let (written, started) = thread.join(&rt);
+    let (written, started) = thread.join(&rt).ok_or("no session")?;
     assert!(rt;
         equal(
             &rt,
