@@ -1,6 +1,7 @@
 -- Sums and lists over the numbers below one more.
 use Rattle.std.proofs.Common.{◌≡◌, ◌||◌, ℕ, ◌+◌, Bool, true, false, List, [], ◌∷◌, ◌++◌, sum_by, refl, sym, ap, ◌∙◌, add-one, arith, append_assoc}
-use Rattle.std.specs.Prelude.{Result, OnOk}
+use Rattle.std.specs.Prelude.{Result, Ok, Err, OnOk, if◌then◌else◌}
+use Rattle.std.specs.Result.{is_ok}
 use Rattle.std.specs.List.{flat_map, list_any}
 use Rattle.std.proofs.lemmas.List.{append-nil}
 use Rattle.std.proofs.lemmas.List.Folds.{list_any-append}
@@ -30,6 +31,11 @@ after a b c x y p q = q ∙ (ap (λ (t : List ℕ). t ++ y) p ∙ append_assoc a
 
 pub on_after : {T E : Type 0} (r : Result T E) (a b c x y : List ℕ) → b ≡ a ++ x → OnOk r (c ≡ b ++ y) → OnOk r (c ≡ a ++ (x ++ y))
 on_after r a b c x y p q = on_ok_weaker r (after a b c x y p) q
+
+-- what a list is either way, where it went well
+pub on_told : {T E : Type 0} (r : Result T E) (c x y : List ℕ) → c ≡ (if is_ok r then x else y) → OnOk r (c ≡ x)
+on_told (Ok v) c x y h = h
+on_told (Err e) c x y h = tt
 
 pub flat_after : (f : ℕ → List ℕ) (n : ℕ) (a b c : List ℕ) → b ≡ a ++ flat_map f (below n) → c ≡ b ++ f n → c ≡ a ++ flat_map f (below (n + 1))
 flat_after f n a b c p q = after a b c (flat_map f (below n)) (f n) p q ∙ ap (λ (t : List ℕ). a ++ t) (sym (flat_next f n))
