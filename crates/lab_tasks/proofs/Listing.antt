@@ -39,3 +39,10 @@ on_told (Err e) c x y h = tt
 
 pub flat_after : (f : ℕ → List ℕ) (n : ℕ) (a b c : List ℕ) → b ≡ a ++ flat_map f (below n) → c ≡ b ++ f n → c ≡ a ++ flat_map f (below (n + 1))
 flat_after f n a b c p q = after a b c (flat_map f (below n)) (f n) p q ∙ ap (λ (t : List ℕ). a ++ t) (sym (flat_next f n))
+
+-- five pieces, behind nothing
+pub five_pieces : (t a b c d e m p q s h : List ℕ) → t ≡ [] → a ≡ t ++ m → b ≡ a ++ p → c ≡ b ++ q → d ≡ c ++ s → e ≡ d ++ h
+    → e ≡ m ++ (p ++ (q ++ (s ++ h)))
+five_pieces t a b c d e m p q s h none one two three four five =
+    after t a e m (p ++ (q ++ (s ++ h))) one (after a b e p (q ++ (s ++ h)) two (after b c e q (s ++ h) three (after c d e s h four five)))
+    ∙ ap (λ (u : List ℕ). u ++ (m ++ (p ++ (q ++ (s ++ h))))) none
