@@ -1,10 +1,13 @@
 -- Sums and lists over the numbers below one more.
-use Rattle.std.proofs.Common.{◌≡◌, ◌||◌, ℕ, ◌+◌, Bool, true, false, List, [], ◌∷◌, ◌++◌, sum_by, refl, ap, ◌∙◌, add-one, arith}
+use Rattle.std.proofs.Common.{◌≡◌, ◌||◌, ℕ, ◌+◌, Bool, true, false, List, [], ◌∷◌, ◌++◌, sum_by, refl, sym, ap, ◌∙◌, add-one, arith, append_assoc}
+use Rattle.std.specs.Prelude.{Result, Ok, Err, OnOk, if◌then◌else◌}
+use Rattle.std.specs.Result.{is_ok}
 use Rattle.std.specs.List.{flat_map, list_any}
 use Rattle.std.proofs.lemmas.List.{append-nil}
 use Rattle.std.proofs.lemmas.List.Folds.{list_any-append}
 use Rattle.std.proofs.lemmas.List.Sums.{sum_by-append}
 use Rattle.std.proofs.lemmas.Grind.{flat_map-append}
+use Rattle.std.proofs.lemmas.Result.{on_ok_weaker}
 use Rattle.omega_net.specs.Wires.{below}
 
 pub flat_next : {X : Type 0} (f : ℕ → List X) (n : ℕ) → flat_map f (below (n + 1)) ≡ flat_map f (below n) ++ f n
@@ -21,3 +24,25 @@ any_next f n = rw add-one (list_any-append f (below n) (n ∷ []) ∙ ap (λ b. 
     alone : (b : Bool) → (b || false) ≡ b
     alone true = refl
     alone false = refl
+
+-- a text, one piece after another
+after : (a b c x y : List ℕ) → b ≡ a ++ x → c ≡ b ++ y → c ≡ a ++ (x ++ y)
+after a b c x y p q = q ∙ (ap (λ (t : List ℕ). t ++ y) p ∙ append_assoc a x y)
+
+pub on_after : {T E : Type 0} (r : Result T E) (a b c x y : List ℕ) → b ≡ a ++ x → OnOk r (c ≡ b ++ y) → OnOk r (c ≡ a ++ (x ++ y))
+on_after r a b c x y p q = on_ok_weaker r (after a b c x y p) q
+
+-- what a list is either way, where it went well
+pub on_told : {T E : Type 0} (r : Result T E) (c x y : List ℕ) → c ≡ (if is_ok r then x else y) → OnOk r (c ≡ x)
+on_told (Ok v) c x y h = h
+on_told (Err e) c x y h = tt
+
+pub flat_after : (f : ℕ → List ℕ) (n : ℕ) (a b c : List ℕ) → b ≡ a ++ flat_map f (below n) → c ≡ b ++ f n → c ≡ a ++ flat_map f (below (n + 1))
+flat_after f n a b c p q = after a b c (flat_map f (below n)) (f n) p q ∙ ap (λ (t : List ℕ). a ++ t) (sym (flat_next f n))
+
+-- five pieces, behind nothing
+pub five_pieces : (t a b c d e m p q s h : List ℕ) → t ≡ [] → a ≡ t ++ m → b ≡ a ++ p → c ≡ b ++ q → d ≡ c ++ s → e ≡ d ++ h
+    → e ≡ m ++ (p ++ (q ++ (s ++ h)))
+five_pieces t a b c d e m p q s h none one two three four five =
+    after t a e m (p ++ (q ++ (s ++ h))) one (after a b e p (q ++ (s ++ h)) two (after b c e q (s ++ h) three (after c d e s h four five)))
+    ∙ ap (λ (u : List ℕ). u ++ (m ++ (p ++ (q ++ (s ++ h))))) none

@@ -18,7 +18,7 @@ unusual key usual n = if n == usual then [] else setting key n
 
 -- what each file has
 unfoldable pub size_text : Project → List ℕ
-size_text P = codes "format = 2\nk = " ++ (decimal P.k ++ (codes "\nhorizon = " ++ (decimal P.horizon ++ codes "\n")))
+size_text P = codes "format = 2\n" ++ (setting (codes "k") P.k ++ setting (codes "horizon") P.horizon)
 
 -- whether the switches of each stage combine, where those of any do
 abbrev pub flag_text : Bool → List ℕ
@@ -47,16 +47,21 @@ abbrev pub under_depths : List ℕ → List ℕ
 under_depths [] = []
 under_depths lines = codes "\n[depths]\n" ++ lines
 
--- a page that isn't spread over all modules
+-- a page, and none that is spread over all modules
+unfoldable pub page_lines : ℕ → ℕ → ℕ → List ℕ
+page_lines g amount base = codes "\n[[page]]\n" ++ (setting (codes "number") g ++ (setting (codes "amount") amount ++ setting (codes "base") base))
+
 unfoldable pub page_text : Project → ℕ → List ℕ
 page_text P g =
     if ((page_of P g).amount == P.k) && ((page_of P g).base == 0) then []
-    else codes "\n[[page]]\n" ++ (setting (codes "number") g ++ (setting (codes "amount") (page_of P g).amount ++ setting (codes "base") (page_of P g).base))
+    else page_lines g (page_of P g).amount (page_of P g).base
 
--- a first word that isn't 0
+-- a first word, and none that is 0
+unfoldable pub word_lines : ℕ → ℕ → List ℕ
+word_lines a w = codes "\n[[word]]\n" ++ (setting (codes "address") a ++ setting (codes "value") w)
+
 unfoldable pub word_text : Project → ℕ → List ℕ
-word_text P a =
-    if word_of P a == 0 then [] else codes "\n[[word]]\n" ++ (setting (codes "address") a ++ setting (codes "value") (word_of P a))
+word_text P a = if word_of P a == 0 then [] else word_lines a (word_of P a)
 
 -- a script that has entries, eight of them on a line
 abbrev pub entry_start : ℕ → List ℕ
@@ -72,10 +77,11 @@ item_text P p i = entry_start i ++ quoted (entry_at P p i)
 abbrev pub entries_text : Project → ℕ → List ℕ
 entries_text P p = flat_map (item_text P p) (below (length_at P p))
 
+unfoldable pub script_lines : Project → ℕ → List ℕ
+script_lines P p = codes "\n[[script]]\n" ++ (setting (codes "processor") p ++ (codes "entries = [" ++ (entries_text P p ++ codes "]\n")))
+
 unfoldable pub script_text : Project → ℕ → List ℕ
-script_text P p =
-    if length_at P p == 0 then []
-    else codes "\n[[script]]\n" ++ (setting (codes "processor") p ++ (codes "entries = [" ++ (entries_text P p ++ codes "]\n")))
+script_text P p = if length_at P p == 0 then [] else script_lines P p
 
 -- the pages, the first words and the scripts whose numbers are below this one, upwards
 unfoldable pub pages_text : Project → ℕ → List ℕ

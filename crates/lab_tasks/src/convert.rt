@@ -1,11 +1,11 @@
 //! A project as a file of format 2, written as people write it.
-ghost use Rattle.std.specs.Prelude.{◌≡◌, ◌<◌, ◌≤◌, ◌++◌, false, IfErr, IfOk, IsOkUnless, OnOk, codes, string_bytes};
+ghost use Rattle.std.specs.Prelude.{◌≡◌, ◌<◌, ◌≤◌, ◌++◌, ◌==◌, ◌&&◌, false, IfErr, IfOk, IsOkUnless, OnOk, codes, string_bytes};
 ghost use Rattle.std.specs.List.{flat_map, list_any};
 ghost use Rattle.omega_net.specs.Wires.{below};
 ghost use Rattle.page_map.specs.Limits.{page_count};
-ghost use Rattle.project_book.specs.Project.{combines_at};
+ghost use Rattle.project_book.specs.Project.{combines_at, depth_of};
 ghost use Rattle.lab_tasks.specs.Done.{is_over, IsConverted, IsOver};
-ghost use Rattle.lab_tasks.specs.ProjectTexts.{combine_line, combine_text, comma, depth_lines, entries_text, entry_start, flag_text, item_text, page_text, pages_text, project_text, quoted, script_text, scripts_text, setting, size_text, under_depths, unusual, word_text, words_text};
+ghost use Rattle.lab_tasks.specs.ProjectTexts.{combine_line, combine_text, comma, depth_lines, entries_text, entry_start, flag_text, item_text, page_lines, page_text, pages_text, project_text, quoted, script_lines, script_text, scripts_text, setting, size_text, under_depths, unusual, word_lines, word_text, words_text};
 
 use crate::end::{End, Reason};
 use omega_net::ScriptEntry;
@@ -71,8 +71,9 @@ fn add_unusual(text: &mut String, key: &str, usual: u32, number: u32) -> Result<
 fn add_size(text: &mut String, project: &Project) -> Result<(), AllocError>
     ensures { OnOk result (string_bytes text.new ≡ string_bytes text.old ++ size_text project.now) }
 {
-    let (k, horizon) = (project.k(), project.horizon());
-    write!(text, "format = 2\nk = {k}\nhorizon = {horizon}\n")
+    text.push_str("format = 2\n")?;
+    add_setting(text, "k", project.k())?;
+    add_setting(text, "horizon", project.horizon())
 }
 
 /// Whether the switches of any stage combine.
@@ -132,22 +133,24 @@ fn add_combine(text: &mut String, project: &Project) -> Result<(), AllocError>
     }
 }
 
+/// Adds the depth of some queues where it isn't usual.
+fn add_depth(text: &mut String, project: &Project, queue: Depths, key: &str, usual: u32) -> Result<(), AllocError>
+    ensures { OnOk result (string_bytes text.new ≡ string_bytes text.old ++ unusual key.now usual (depth_of project.now queue)) }
+{
+    add_unusual(text, key, usual, project.depth(queue))
+}
+
 /// Adds the depths that aren't usual.
 #[tactic(auto, unfolding(crate::specs::ProjectTexts::depth_lines))]
 fn add_depth_lines(text: &mut String, project: &Project) -> Result<(), AllocError>
     ensures { OnOk result (string_bytes text.new ≡ string_bytes text.old ++ depth_lines project.now) }
 {
     let usual = QueueDepths::USUAL;
-    let low_forward = project.depth(Depths::LowForward);
-    add_unusual(text, "low_forward", usual.low_forward, low_forward)?;
-    let low_reverse = project.depth(Depths::LowReverse);
-    add_unusual(text, "low_reverse", usual.low_reverse, low_reverse)?;
-    let comb_forward = project.depth(Depths::CombForward);
-    add_unusual(text, "comb_forward", usual.comb_forward, comb_forward)?;
-    let comb_reverse = project.depth(Depths::CombReverse);
-    add_unusual(text, "comb_reverse", usual.comb_reverse, comb_reverse)?;
-    let module = project.depth(Depths::ModuleQueue);
-    add_unusual(text, "module", usual.module_queue, module)?;
+    add_depth(text, project, Depths::LowForward, "low_forward", usual.low_forward)?;
+    add_depth(text, project, Depths::LowReverse, "low_reverse", usual.low_reverse)?;
+    add_depth(text, project, Depths::CombForward, "comb_forward", usual.comb_forward)?;
+    add_depth(text, project, Depths::CombReverse, "comb_reverse", usual.comb_reverse)?;
+    add_depth(text, project, Depths::ModuleQueue, "module", usual.module_queue)?;
     add_unusual(text, "wait", USUAL_WAIT, project.wait())
 }
 
@@ -162,6 +165,24 @@ fn add_depths(alloc: Global, text: &mut String, project: &Project) -> Result<(),
     write!(text, "\n[depths]\n{lines}")
 }
 
+/// Adds a page.
+#[tactic(auto, unfolding(crate::specs::ProjectTexts::page_lines))]
+fn add_page_lines(text: &mut String, page: u32, amount: u32, base: u32) -> Result<(), AllocError>
+    ensures { OnOk result (string_bytes text.new ≡ string_bytes text.old ++ page_lines page amount base) }
+{
+    text.push_str("\n[[page]]\n")?;
+    add_setting(text, "number", page)?;
+    add_setting(text, "amount", amount)?;
+    add_setting(text, "base", base)
+}
+
+/// Whether a page is spread over all modules.
+fn is_whole(project: &Project, amount: u32, base: u32) -> bool
+    ensures { result ≡ ((amount == project.now.k) && (base == 0)) }
+{
+    amount == project.k() && base == 0
+}
+
 /// Adds a page that isn't spread over all modules.
 #[tactic(auto, unfolding(crate::specs::ProjectTexts::page_text))]
 fn add_page(text: &mut String, project: &Project, page: u32) -> Result<(), AllocError>
@@ -171,13 +192,10 @@ fn add_page(text: &mut String, project: &Project, page: u32) -> Result<(), Alloc
     let Some((amount, base)) = project.pages().page(page) else {
         return Ok(());
     };
-    if amount == project.k() && base == 0 {
+    if is_whole(project, amount, base) {
         return Ok(());
     }
-    text.push_str("\n[[page]]\n")?;
-    add_setting(text, "number", page)?;
-    add_setting(text, "amount", amount)?;
-    add_setting(text, "base", base)
+    add_page_lines(text, page, amount, base)
 }
 
 #[tactic(auto, using(crate::proofs::Listing::flat_next), unfolding(crate::specs::ProjectTexts::pages_text))]
@@ -191,6 +209,16 @@ fn add_pages(text: &mut String, project: &Project, count: u32) -> Result<(), All
     Ok(())
 }
 
+/// Adds a first word.
+#[tactic(auto, unfolding(crate::specs::ProjectTexts::word_lines))]
+fn add_word_lines(text: &mut String, address: u32, word: u32) -> Result<(), AllocError>
+    ensures { OnOk result (string_bytes text.new ≡ string_bytes text.old ++ word_lines address word) }
+{
+    text.push_str("\n[[word]]\n")?;
+    add_setting(text, "address", address)?;
+    add_setting(text, "value", word)
+}
+
 /// Adds a first word that isn't 0.
 #[tactic(auto, unfolding(crate::specs::ProjectTexts::word_text))]
 fn add_word(text: &mut String, project: &Project, address: u32) -> Result<(), AllocError>
@@ -200,9 +228,7 @@ fn add_word(text: &mut String, project: &Project, address: u32) -> Result<(), Al
     if word == 0 {
         return Ok(());
     }
-    text.push_str("\n[[word]]\n")?;
-    add_setting(text, "address", address)?;
-    add_setting(text, "value", word)
+    add_word_lines(text, address, word)
 }
 
 #[tactic(auto, using(crate::proofs::Listing::flat_next), unfolding(crate::specs::ProjectTexts::words_text))]
@@ -258,6 +284,18 @@ fn add_entries(text: &mut String, project: &Project, proc: u32) -> Result<(), Al
     Ok(())
 }
 
+/// Adds a script.
+#[tactic(auto, unfolding(crate::specs::ProjectTexts::script_lines))]
+fn add_script_lines(text: &mut String, project: &Project, proc: u32) -> Result<(), AllocError>
+    ensures { OnOk result (string_bytes text.new ≡ string_bytes text.old ++ script_lines project.now proc) }
+{
+    text.push_str("\n[[script]]\n")?;
+    add_setting(text, "processor", proc)?;
+    text.push_str("entries = [")?;
+    add_entries(text, project, proc)?;
+    text.push_str("]\n")
+}
+
 /// Adds a script that has entries.
 #[tactic(auto, unfolding(crate::specs::ProjectTexts::script_text))]
 fn add_script(text: &mut String, project: &Project, proc: u32) -> Result<(), AllocError>
@@ -266,11 +304,7 @@ fn add_script(text: &mut String, project: &Project, proc: u32) -> Result<(), All
     if project.length(proc) == 0 {
         return Ok(());
     }
-    text.push_str("\n[[script]]\n")?;
-    add_setting(text, "processor", proc)?;
-    text.push_str("entries = [")?;
-    add_entries(text, project, proc)?;
-    text.push_str("]\n")
+    add_script_lines(text, project, proc)
 }
 
 #[tactic(auto, using(crate::proofs::Listing::flat_next), unfolding(crate::specs::ProjectTexts::scripts_text))]
