@@ -391,6 +391,32 @@ fn title_of(of: Measure) -> &'static str
     }
 }
 
+/// The two panels with these ticks, and the lines below.
+fn panels_drawn(
+    alloc: Global,
+    plan: &CurvePlan,
+    points: &[RatePoint],
+    ticks: &[Tick],
+    notes: &[Label],
+) -> Result<String, AllocError>
+    requires few { length plan.now.hot.items ≤ 7 }
+    requires small { plan.now.k ≤ max_k }
+    requires ticks { ticks.now ≡ doublings plan.now.k }
+    ensures { IfOk result (λ text. IsRatePicture plan.now points.now (string_bytes text)) }
+{
+    let mut panels = Vec::new(alloc);
+    let off = rate_panel(alloc, plan, points, false, ticks)?;
+    panels.push(off)?;
+    let on = rate_panel(alloc, plan, points, true, ticks)?;
+    panels.push(on)?;
+    let drawn = Curves {
+        title: title_of(plan.of),
+        panels: panels.as_slice(),
+        legend_columns: 4,
+    };
+    draw_curves(alloc, &drawn, notes)
+}
+
 /// The picture of the points.
 pub(crate) fn rate_picture(
     alloc: Global,
@@ -403,13 +429,5 @@ pub(crate) fn rate_picture(
 {
     let ticks = doublings(alloc, plan.k)?;
     let notes = notes_of(alloc, plan, points)?;
-    let mut panels = Vec::new(alloc);
-    panels.push(rate_panel(alloc, plan, points, false, ticks.as_slice())?)?;
-    panels.push(rate_panel(alloc, plan, points, true, ticks.as_slice())?)?;
-    let drawn = Curves {
-        title: title_of(plan.of),
-        panels: panels.as_slice(),
-        legend_columns: 4,
-    };
-    draw_curves(alloc, &drawn, notes.as_slice())
+    panels_drawn(alloc, plan, points, ticks.as_slice(), notes.as_slice())
 }

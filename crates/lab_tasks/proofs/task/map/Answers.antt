@@ -11,6 +11,6 @@ returns-clause-done c = (
   c.in_ok-project.ensures.filed,
   c.in_ok-plan.ensures.told,
   c.in_ok-text.ensures.drawn,
-  given_beside (text_of c.args.words.now.out) (string_bytes c.in_ok-text.text) c.in_ok-outcome.outcome c.elsewhere.result (rw (c.into_bytes.ensures.value) at c.in_ok-outcome.ensures),
-  c.elsewhere.ensures,
+  given_beside (text_of c.args.words.now.out) (string_bytes c.in_ok-text.text) c.in_ok-outcome.outcome c.elsewhere-outcome.result (rw (c.into_bytes.ensures.value) at c.in_ok-outcome.ensures),
+  c.elsewhere-outcome.ensures,
 )
