@@ -85,11 +85,17 @@ pub fn made<R: Files + AllocGlobal + Threads + Sync>(rt: &R, session: &Session) 
         return Verdict::NotRead;
     };
     match perform(rt, rt.alloc(), &asked, bytes.as_slice(), &mut Silent) {
-        Ok(outcome) if outcome.printed.as_slice() == session.printed.as_slice() => {
-            files_made(rt, &outcome)
-        }
-        Ok(_) => Verdict::Differs,
+        Ok(outcome) => printed(rt, &outcome, session.printed.as_slice()),
         Err(_) => Verdict::NotRun,
+    }
+}
+
+/// What is said of a command that has to print this.
+fn printed<R: Files + AllocGlobal>(rt: &R, outcome: &Outcome, wanted: &[u8]) -> Verdict {
+    if outcome.printed.as_slice() == wanted {
+        files_made(rt, outcome)
+    } else {
+        Verdict::Differs
     }
 }
 
