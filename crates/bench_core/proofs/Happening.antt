@@ -13,7 +13,7 @@ use Rattle.cell_table.specs.Gives.{GivesAs}
 use Rattle.cell_table.specs.Events.{Event as TableEvent, Claims, Stores, Start}
 use Rattle.cell_table.specs.Seen.{Seen}
 use Rattle.cell_table.specs.Stands.{Stands as TableStands}
-use Rattle.cell_table.specs.Cost.{IsInOrder, Settles as SettlesTable, SettlesFirst as SettlesTableFirst}
+use Rattle.cell_table.specs.Cost.{IsInOrder, Settles as SettlesTable, SettlesTo as SettlesTableTo, SettlesFirst as SettlesTableFirst, SettlesFirstTo as SettlesTableFirstTo}
 use Rattle.machine_cells.specs.declared.state.MachineState.{MachineState}
 use Rattle.machine_cells.specs.GridRules.{rp3_rules}
 use Rattle.project_book.specs.Project.{Project}
@@ -21,7 +21,7 @@ use Rattle.project_book.specs.declared.slot.Slot.{Slot}
 use Rattle.bench_core.specs.Shown.{Shown}
 use Rattle.bench_core.specs.Events.{Event, Edited, Claimed, Opening, journal_after, on_table, table_start}
 use Rattle.bench_core.specs.Stands.{Stands, AreAccepted, HasHistory}
-use Rattle.bench_core.specs.Answers.{Made, after_give, clock_given, after_stores, Settles, SettlesFirst}
+use Rattle.bench_core.specs.Answers.{Made, after_give, clock_given, after_stores, Settles, SettlesTo, SettlesFirst, SettlesFirstTo}
 
 -- there is one event of the table for each of the bench
 as_many : (o : Opening) (h : List Event) → length (on_table o h) ≡ length h
@@ -102,3 +102,33 @@ pub history_settled : (old new : Shown) (r : Result Settled SettleFault)
     → HasHistory old → HasHistory new
 history_settled old new (Ok s) all some h = (h.0, after_stores all.0 h.1, (all.1 h.0 h.1 h.2).stands)
 history_settled old new (Err f) all some h = (h.0, after_stores some.0 h.1, (some.1 h.0 h.1 h.2).stands)
+
+-- a settling up to a cycle, as it comes from a call
+pub settle_all_to : (last : ℕ) (old new : Shown) → new.journal ≡ old.journal → {E : Type 0} (r : Result Settled E)
+    → IfOk r (λ s. (done : List (TableEvent MachineState Project Slot)) × ((o : Start Project) (h : List (TableEvent MachineState Project Slot)) → TableStands rp3_rules o old.table h → SettlesTableTo rp3_rules o last h new.table done s.computed))
+    → IfOk r (λ s. (done : List (TableEvent MachineState Project Slot)) × ((o : Opening) (h : List Event) → Stands o old h → SettlesTo last o h new done s.computed))
+settle_all_to last old new same (Err fault) p = tt
+settle_all_to last old new same (Ok s) p = (
+  p.0,
+  λ o h stands.
+      let all = p.1 (table_start o) (on_table o h) stands.table in
+      record { stands = settled_stands old new o h p.0 s.computed same stands all.firsts.firsts; table = all },
+)
+
+pub settle_some_to : (last : ℕ) (old new : Shown) → new.journal ≡ old.journal → {T : Type 0} (r : Result T SettleFault)
+    → IfErr r (λ f. (done : List (TableEvent MachineState Project Slot)) × ((o : Start Project) (h : List (TableEvent MachineState Project Slot)) → TableStands rp3_rules o old.table h → SettlesTableFirstTo rp3_rules o last h new.table done (computed_of f)))
+    → IfErr r (λ f. (done : List (TableEvent MachineState Project Slot)) × ((o : Opening) (h : List Event) → Stands o old h → SettlesFirstTo last o h new done (computed_of f)))
+settle_some_to last old new same (Ok s) p = tt
+settle_some_to last old new same (Err f) p = (
+  p.0,
+  λ o h stands.
+      let first = p.1 (table_start o) (on_table o h) stands.table in
+      record { stands = settled_stands old new o h p.0 (computed_of f) same stands first.firsts; table = first },
+)
+
+pub history_settled_to : (last : ℕ) (old new : Shown) (r : Result Settled SettleFault)
+    → IfOk r (λ s. (done : List (TableEvent MachineState Project Slot)) × ((o : Opening) (h : List Event) → Stands o old h → SettlesTo last o h new done s.computed))
+    → IfErr r (λ f. (done : List (TableEvent MachineState Project Slot)) × ((o : Opening) (h : List Event) → Stands o old h → SettlesFirstTo last o h new done (computed_of f)))
+    → HasHistory old → HasHistory new
+history_settled_to last old new (Ok s) all some h = (h.0, after_stores all.0 h.1, (all.1 h.0 h.1 h.2).stands)
+history_settled_to last old new (Err f) all some h = (h.0, after_stores some.0 h.1, (some.1 h.0 h.1 h.2).stands)

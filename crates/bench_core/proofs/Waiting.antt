@@ -1,22 +1,23 @@
 -- The due cells that a query waits for, by the events; where no cell is due, there are none.
-use Rattle.std.proofs.Common.{◌≡◌, ℕ, zero, suc, ◌<◌, ◌≤◌, ◌∙◌, inl, inr, sym, ap, subst, refl, arith, Bool, false, List, Result, Ok, Err}
+use Rattle.std.proofs.Common.{◌≡◌, ℕ, zero, suc, ◌<◌, ◌≤◌, ◌∙◌, inl, inr, sym, ap, subst, refl, arith, Bool, true, false, ◌&&◌, ◌⊎◌, nat_le, List, Result, Ok, Err}
 use Rattle.std.specs.Prelude.{OnOk, min}
 use Rattle.std.proofs.Math.Nat.{min-eq_left}
 use Rattle.std.proofs.lemmas.Bool.{cases_lt}
+use Rattle.std.proofs.lemmas.Bool.Decides.{nat_tests}
 use Rattle.omega_net.specs.Numbers.{components}
 use Rattle.cell_table.specs.Cones.{count_below, count_to, count_cone}
 use Rattle.cell_table.specs.Seen.{due_at}
 use Rattle.cell_table.specs.Due.{due}
-use Rattle.cell_table.specs.Settling.{IsSettled}
+use Rattle.cell_table.specs.Settling.{IsSettled, IsSettledTo}
 use Rattle.cell_table.proofs.ConeRuns.{none_counted}
-use Rattle.cell_table.proofs.Counted.{count_to_same, count_cone_same, count_to_none, count_cone_none, marks_stand}
+use Rattle.cell_table.proofs.Counted.{count_to_same, count_cone_same, count_to_none, count_cone_none, count_to_last, count_cone_last, marks_stand}
 use Rattle.machine_cells.specs.GridRules.{rp3_rules}
 use Rattle.project_book.specs.Project.{Project}
 use Rattle.run_queries.specs.declared.query.Query.{Query}
-use Rattle.run_queries.specs.declared.query.Query.TheVariants.{State, Memory as MemoryAt, Counter, Level, Bound, Place}
+use Rattle.run_queries.specs.declared.query.Query.TheVariants.{Reply, State, Memory as MemoryAt, Counter, Profile, Tree, Level, Bound, Place}
 use Rattle.bench_core.specs.declared.asked.Asked.{Asked}
 use Rattle.bench_core.specs.Shown.{Shown, IsBench, project_of}
-use Rattle.bench_core.specs.Asks.{module_of, waits, pending, asked, asked_at, IsOrWants, AsksAs}
+use Rattle.bench_core.specs.Asks.{module_of, waits, last_cycle, IsUpTo, pending, asked, asked_at, IsOrWants, AsksAs}
 use Rattle.bench_core.specs.Events.{Event, Opening, version_after, project_after, on_table, table_start}
 use Rattle.bench_core.specs.Stands.{Stands}
 use Rattle.bench_core.specs.Answers.{pending_after, AsksRun}
@@ -43,6 +44,36 @@ module _ (P : Project) (f : ℕ → ℕ → Bool) (none : (t c : ℕ) → t ≤ 
   waits_none (Place a) = refl
   waits_none _ = count_to_none rp3_rules P P.horizon f none P.horizon
 
+-- what is due behind a query's last cycle counts for nothing
+pub waits_to : (P : Project) (q : Query) (f g : ℕ → ℕ → Bool) (last : ℕ) → IsUpTo (last_cycle P q) last → ((t c : ℕ) → t ≤ last → f t c ≡ g t c) → waits P f q ≡ waits P g q
+waits_to P (State c t) f g last up_to same = count_cone_last rp3_rules P P.horizon last f g same t c up_to
+waits_to P (MemoryAt a t) f g last up_to same = count_cone_last rp3_rules P P.horizon last f g same t (module_of P a) up_to
+waits_to P (Counter counter who from to) f g last up_to same = count_to_last rp3_rules P P.horizon last f g same to up_to
+waits_to P (Level net m t) f g last up_to same = count_to_last rp3_rules P P.horizon last f g same t up_to
+waits_to P (Bound x y p) f g last up_to same = refl
+waits_to P (Place a) f g last up_to same = refl
+waits_to P (Reply p n) f g last up_to same = count_to_last rp3_rules P P.horizon last f g same P.horizon up_to
+waits_to P (Profile net s) f g last up_to same = count_to_last rp3_rules P P.horizon last f g same P.horizon up_to
+waits_to P (Tree net m) f g last up_to same = count_to_last rp3_rules P P.horizon last f g same P.horizon up_to
+
+-- the marks up to a cycle
+abbrev due_within : ℕ → (ℕ → ℕ → Bool) → ℕ → ℕ → Bool
+due_within last f t c = nat_le t last && f t c
+
+same_within : (last : ℕ) (f : ℕ → ℕ → Bool) (t c : ℕ) → t ≤ last → f t c ≡ due_within last f t c
+same_within last f t c h = grind (arith, nat_tests)
+
+none_within : (last : ℕ) (f : ℕ → ℕ → Bool) (t c : ℕ) → (t ≤ last → f t c ≡ false) → due_within last f t c ≡ false
+none_within last f t c none = by_cycle (cases_lt last t)
+  where
+    by_cycle : (last < t) ⊎ (t ≤ last) → due_within last f t c ≡ false
+    by_cycle (inl h) = grind (arith, nat_tests)
+    by_cycle (inr h) = ap (λ b. nat_le t last && b) (none h) ∙ and_never (nat_le t last)
+      where
+        and_never : (b : Bool) → (b && false) ≡ false
+        and_never true = refl
+        and_never false = refl
+
 -- where no cell of the run is counted as due, none is
 none_below : (P : Project) (f : ℕ → ℕ → Bool) (t : ℕ) → count_below rp3_rules P f t ≡ 0 → (u c : ℕ) → u ≤ t → c < components P.k → f u c ≡ false
 none_below P f zero none u c le lt =
@@ -65,6 +96,16 @@ none_in_cone b n t c counted none =
 pub ready : {T E : Type 0} (r : Result T E) (b : Shown) → IsBench b.table b.journal → OnOk r (IsSettled rp3_rules b.table) → OnOk r ((q : Query) → pending b q ≡ 0)
 ready (Ok x) b bench settled = waits_none (project_of b) (due_at b.table.rows) (λ t c le lt. settled.none_due t c (record { cycle = omega (arith, bench.horizon); component = lt }))
 ready (Err e) b bench settled = tt
+
+-- after one up to a cycle, none waits that looks at nothing behind it
+pub ready_to : {T E : Type 0} (r : Result T E) (last : ℕ) (b : Shown) → IsBench b.table b.journal → OnOk r (IsSettledTo rp3_rules last b.table) → OnOk r ((q : Query) → IsUpTo (last_cycle (project_of b) q) last → pending b q ≡ 0)
+ready_to (Ok x) last b bench settled =
+    λ q up_to.
+    let P = project_of b in
+    let marks = due_at b.table.rows in
+    waits_to P q marks (due_within last marks) last up_to (same_within last marks)
+    ∙ waits_none P (due_within last marks) (λ t c le lt. none_within last marks t c (λ h. settled.none_due t c (record { cycle = omega (arith, bench.horizon); component = lt }) h)) q
+ready_to (Err e) last b bench settled = tt
 
 module _ (o : Opening) (b : Shown) (h : List Event) (stands : Stands o b h) where
   pending_is : (q : Query) → pending b q ≡ pending_after o h q

@@ -7,7 +7,7 @@ use Rattle.cell_table.specs.Events.{Event as TableEvent, Edits, Claims, Stores}
 use Rattle.cell_table.specs.Due.{due}
 use Rattle.cell_table.specs.Made.{Made as MadeOnTable}
 use Rattle.cell_table.specs.Answers.{AnswersMade as AnswersOnTable}
-use Rattle.cell_table.specs.Cost.{Costs as CostsOnTable, Settles as SettlesTable, SettlesFirst as SettlesTableFirst}
+use Rattle.cell_table.specs.Cost.{Costs as CostsOnTable, Settles as SettlesTable, SettlesTo as SettlesTableTo, SettlesFirst as SettlesTableFirst, SettlesFirstTo as SettlesTableFirstTo}
 use Rattle.machine_cells.specs.declared.state.MachineState.{MachineState}
 use Rattle.machine_cells.specs.GridRules.{rp3_rules}
 use Rattle.project_book.specs.Project.{Project}
@@ -55,6 +55,15 @@ pub record SettlesFirst (o : Opening) (h : List Event) (b : Shown) (done : List 
 pub record Settles (o : Opening) (h : List Event) (b : Shown) (done : List (TableEvent MachineState Project Slot)) (n : ℕ) : Type 0 where
   pub stands : Stands o b (after_stores done h)
   pub table : SettlesTable rp3_rules (table_start o) (on_table o h) b.table done n
+
+-- the same up to a cycle
+pub record SettlesFirstTo (last : ℕ) (o : Opening) (h : List Event) (b : Shown) (done : List (TableEvent MachineState Project Slot)) (n : ℕ) : Type 0 where
+  pub stands : Stands o b (after_stores done h)
+  pub table : SettlesTableFirstTo rp3_rules (table_start o) last (on_table o h) b.table done n
+
+pub record SettlesTo (last : ℕ) (o : Opening) (h : List Event) (b : Shown) (done : List (TableEvent MachineState Project Slot)) (n : ℕ) : Type 0 where
+  pub stands : Stands o b (after_stores done h)
+  pub table : SettlesTableTo rp3_rules (table_start o) last (on_table o h) b.table done n
 
 -- a cell costs a computation: it is due, or has a near cell one cycle earlier whose value isn't that of the run
 abbrev pub Costs : Opening → List Event → ℕ → ℕ → Type 0

@@ -35,6 +35,23 @@ waits P test (Level net m t) = count_to rp3_rules P P.horizon test t
 waits P test (Bound x y p) = 0
 waits P test (Place a) = 0
 
+-- the last cycle of the cells that the answer waits for; none where it waits for no cell
+abbrev pub last_cycle : Project → Query → Option ℕ
+last_cycle P (Reply p n) = Some P.horizon
+last_cycle P (State c t) = Some t
+last_cycle P (MemoryAt a t) = Some t
+last_cycle P (Counter counter who from to) = Some to
+last_cycle P (Profile net s) = Some P.horizon
+last_cycle P (Tree net m) = Some P.horizon
+last_cycle P (Level net m t) = Some t
+last_cycle P (Bound x y p) = None
+last_cycle P (Place a) = None
+
+-- there is no such cycle, or it is at most that one
+abbrev pub IsUpTo : Option ℕ → ℕ → Type 0
+IsUpTo None last = Unit {0}
+IsUpTo (Some t) last = t ≤ last
+
 -- how many due cells it waits for
 abbrev pub pending : Shown → Query → ℕ
 pending b q = waits (project_of b) (due_at b.table.rows) q

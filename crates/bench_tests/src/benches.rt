@@ -2,6 +2,7 @@
 
 use crate::base::{adds, entry, fresh, word};
 use bench_core::{Asked, Bench, Noted};
+use cell_table::Settled;
 use expect::equal;
 use monitor_sums::Counter;
 use omega_net::Net;
@@ -141,6 +142,59 @@ fn questions_asked_again(rt: HostRuntime) -> Result<(), Fail> {
     assert!(rt; equal(&rt, text(&rt, alloc, &mut bench, SERVED)?.as_str(), "2 due"));
     settle(&mut bench)?;
     assert!(rt; equal(&rt, text(&rt, alloc, &mut bench, SERVED)?.as_str(), "2 1"));
+    Ok(())
+}
+
+/// How many requests were served up to a cycle.
+fn served_to(to: u32) -> Query {
+    Query::Counter {
+        counter: Counter::Served,
+        who: None,
+        from: 0,
+        to,
+    }
+}
+
+/// Six cells a cycle: of the cycles 0 to 3, of 4 to 7, and of the last three. A question waits for those up to its last cycle
+/// alone.
+#[test]
+fn settled_as_far_as_asked(rt: HostRuntime) -> Result<(), Fail> {
+    let alloc = rt.alloc();
+    let mut bench = fresh(alloc)?;
+    assert!(rt; equal(&rt, bench.last_cycle(served_to(3)), Some(3)));
+    assert!(rt; equal(&rt, bench.settle_to(3), Ok(Settled { computed: 24 })));
+    assert!(rt;
+        equal(
+            &rt,
+            text(&rt, alloc, &mut bench, served_to(3))?.as_str(),
+            "0 0"
+        )
+    );
+    assert!(rt;
+        equal(
+            &rt,
+            text(&rt, alloc, &mut bench, served_to(4))?.as_str(),
+            "6 due"
+        )
+    );
+    assert!(rt; equal(&rt, bench.settle_to(7), Ok(Settled { computed: 24 })));
+    assert!(rt; equal(&rt, bench.settle(), Ok(Settled { computed: 18 })));
+    Ok(())
+}
+
+/// The last cycle of what each question waits for.
+#[test]
+fn questions_have_a_last_cycle(rt: HostRuntime) -> Result<(), Fail> {
+    let bench = fresh(rt.alloc())?;
+    let reply = Query::Reply { proc: 0, issue: 0 };
+    let state = Query::State {
+        component: 2,
+        cycle: 4,
+    };
+    let place = Query::Place { address: 0 };
+    assert!(rt; equal(&rt, bench.last_cycle(reply), Some(10)));
+    assert!(rt; equal(&rt, bench.last_cycle(state), Some(4)));
+    assert!(rt; equal(&rt, bench.last_cycle(place), None));
     Ok(())
 }
 

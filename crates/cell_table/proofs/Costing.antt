@@ -263,6 +263,11 @@ module _ {State Slots Slot : Type 0} (R : Rules State Slots Slot) (laws : Laws R
     stored_there t c there runs settled costs =
         costs_stored R o h done q.pass t c (sym (q.now.cells t c there).is_due ∙ settled) (near_runs t c there runs) costs
 
+    -- those that cost before that place were stored
+    pub settles_before : NoneDueBefore R new t0 c0 → HoldsRunBefore R new t0 c0 → (t c : ℕ) → IsThere R new t c → Before t c t0 c0 → Costs R o h t c → is_stored done t c ≡ true
+    settles_before none runs t c there b costs =
+        stored_there t c there (λ t1 c1 k l. runs t1 c1 k (omega (arith, b.0), λ f. absurd (omega (arith, b.0)))) (none t c there b) costs
+
     -- the cells settled are the first of those that cost
     pub settles_first : NoneDueBefore R new t0 c0 → HoldsRunBefore R new t0 c0 → SettlesFirst R o h new done (length done)
     settles_first none runs = record {
@@ -274,7 +279,7 @@ module _ {State Slots Slot : Type 0} (R : Rules State Slots Slot) (laws : Laws R
     }
       where
         by_place : (t c : ℕ) → IsThere R new t c → Costs R o h t c → Before t c t0 c0 ⊎ AtOrAfter t0 c0 t c → (is_stored done t c ≡ true) ⊎ ((t1 c1 : ℕ) → is_stored done t1 c1 ≡ true → Before t1 c1 t c)
-        by_place t c there costs (inl b) = inl (stored_there t c there (λ t1 c1 k l. runs t1 c1 k (omega (arith, b.0), λ f. absurd (omega (arith, b.0)))) (none t c there b) costs)
+        by_place t c there costs (inl b) = inl (settles_before none runs t c there b costs)
         by_place t c there costs (inr a) = inr (λ t1 c1 e. before_along t1 c1 t0 c0 t c (q.before t1 c1 e) a)
 
     -- where the table is settled, they are all of them
@@ -283,3 +288,7 @@ module _ {State Slots Slot : Type 0} (R : Rules State Slots Slot) (laws : Laws R
       firsts = settles_first none runs;
       all = λ t c there costs. stored_there t c there (λ t1 c1 k l. settled.runs t1 c1 k) (settled.none_due t c there) costs;
     }
+
+    -- and none behind it
+    pub stored_before : (t c : ℕ) → is_stored done t c ≡ true → Before t c t0 c0
+    stored_before t c e = q.before t c e

@@ -2,7 +2,7 @@
 use Rattle.std.proofs.Common.{◌≡◌, ℕ, zero, suc, ◌+◌, ◌<◌, ◌≤◌, ◌∙◌, sym, ap, subst, refl, arith, Bool, true, false, cond, ◌&&◌, ◌==◌, ◌⊎◌, inl, inr, List, [], length, take, count_by, Some, Result, Ok, Err, IfOk}
 use Rattle.std.specs.Prelude.{min, nat_le, nat_lt}
 use Rattle.std.specs.List.{range_with_len}
-use Rattle.std.proofs.Math.Nat.{min-le_right, le-min, min-eq_left, min-eq_right}
+use Rattle.std.proofs.Math.Nat.{min-le_left, min-le_right, le-min, min-eq_left, min-eq_right}
 use Rattle.std.proofs.lemmas.Bool.{cases_lt}
 use Rattle.std.proofs.lemmas.Bool.Decides.{nat_tests}
 use Rattle.std.proofs.lemmas.List.{take_all}
@@ -86,6 +86,18 @@ module _ {State Slots Slot : Type 0} (R : Rules State Slots Slot) (s : Slots) (h
       by_test false y e = refl
       by_test true false e = refl
       by_test true true e = in_same (λ m. m == c) t (grind (arith, nat_tests))
+
+-- tests that are the same up to a cycle count the same of the cells up to it
+module _ {State Slots Slot : Type 0} (R : Rules State Slots Slot) (s : Slots) (horizon last : ℕ) (f g : ℕ → ℕ → Bool) (same : (t c : ℕ) → t ≤ last → f t c ≡ g t c) where
+  pub count_to_last : (t : ℕ) → t ≤ last → count_to R s horizon f t ≡ count_to R s horizon g t
+  count_to_last t h =
+      let few : min t horizon ≤ t = min-le_left t horizon in
+      below_same R s (min t horizon) f g (λ u c k l. same u c (omega (arith, k, few, h))) (min t horizon) (omega arith)
+
+  pub count_cone_last : (t c : ℕ) → t ≤ last → count_cone R s horizon f t c ≡ count_cone R s horizon g t c
+  count_cone_last t c h =
+      let here : count_in R s f (λ m. m == c) t ≡ count_in R s g (λ m. m == c) t = in_same R s t f g (λ u d k l. same u d (omega (arith, k, h))) (λ m. m == c) t (omega arith) in
+      ap (λ n. cond (nat_le t horizon && nat_lt c (R.components s)) n 0) here
 
 -- where no cell passes, none is counted
 abbrev never : ℕ → ℕ → Bool

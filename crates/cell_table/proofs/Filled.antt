@@ -7,14 +7,10 @@ use Rattle.cell_table.specs.Seen.{Held, Seen, fresh, marked, stored, held_at}
 use Rattle.cell_table.specs.Cells.{IsThere, Before}
 use Rattle.cell_table.specs.Readers.{has}
 use Rattle.cell_table.specs.Consistent.{IsTable, IsWhole}
-use Rattle.cell_table.specs.Events.{Event, Start}
-use Rattle.cell_table.specs.Stands.{Stands}
-use Rattle.cell_table.specs.Cost.{Settles, SettlesFirst}
-use Rattle.cell_table.specs.Settling.{NoneDueBefore, IsSettled, IsAt}
+use Rattle.cell_table.specs.Settling.{NoneDueBefore, IsAt}
 use Rattle.cell_table.specs.Filling.{version_after, AllNew}
 use Rattle.cell_table.specs.Passing.{differing, woken, clock_behind, reached, costing, cost_of, IsPassed, HoldsOutside}
 use Rattle.cell_table.proofs.Runs.{holds_run_at}
-use Rattle.cell_table.proofs.Passes.{first_settled, all_settled}
 use Rattle.cell_table.proofs.Passing.{passed_at_end, passed_table}
 
 one_more : (n w : ℕ) → suc n * w ≡ w + n * w
@@ -33,6 +29,15 @@ room_for clock m n w h room = omega (arith, mul_le m n w h, room)
 pub room_before : (clock m w : ℕ) → 0 < m → clock + m * w < 2 ^ 64 → clock + (m - 1) * w + w < 2 ^ 64
 room_before clock zero w h room = absurd (omega (arith, h))
 room_before clock (suc m) w h room = let e : suc m - 1 ≡ m = omega arith in omega (arith, room, one_more m w, ap (λ n. n * w) e)
+
+mul_le_right : (m k w : ℕ) → k ≤ w → m * k ≤ m * w
+mul_le_right zero k w h = omega arith
+mul_le_right (suc m) k w h = omega (arith, one_more m k, one_more m w, mul_le_right m k w h, h)
+
+-- and one more, where fewer change
+pub room_changed : (clock m w k : ℕ) → 0 < m → k ≤ w → clock + m * w < 2 ^ 64 → clock + (m - 1) * k + w < 2 ^ 64
+room_changed clock zero w k some few room = absurd (omega (arith, some))
+room_changed clock (suc m) w k some few room = let e : suc m - 1 ≡ m = omega arith in omega (arith, room, one_more m w, mul_le_right m k w few, ap (λ n. n * k) e)
 
 pub version_more : (near : List ℕ) (clock was n : ℕ) → version_after near clock was (n + 1) ≡ cond (has near n) (clock + (n + 1)) (version_after near clock was n)
 version_more near clock was n = let e : n + 1 ≡ suc n = omega arith in ap (version_after near clock was) e
@@ -199,26 +204,10 @@ module _ {State Slots Slot : Type 0} (R : Rules State Slots Slot) (laws : Laws R
             reached_none zero d i j = news from d (record { cycle = omega (arith, i); component = j }) (omega arith)
             reached_none (suc n) d i j = ap (λ (r : Held State). r.state) (woken_new (clock_behind R old all_differ from n) (from + n) C d (omega (arith, i)) j (omega arith))
 
-    pub at_end : IsAt R old new to 0 (m * C)
+    pub at_end : IsAt R old new (from + m) 0 (m * C)
     at_end =
-        let here : from + m ≡ to = omega (arith, after) in
         let number : 0 + cost_of R old all_differ from m ≡ m * C = omega (arith, cost_all m (omega (arith, after, end))) in
-        subst (λ n. IsAt R old new to 0 n) number (subst (λ t. IsAt R old new t 0 (0 + cost_of R old all_differ from m)) here (passed_at_end R laws old old_table few old from 0 (base small) (old.horizon + 1) all_differ tells (λ t c there. versionless t c) m new (omega (arith, after, end)) is_passed whole room))
+        subst (λ n. IsAt R old new (from + m) 0 n) number (passed_at_end R laws old old_table few old from 0 (base small) (old.horizon + 1) all_differ tells (λ t c there. versionless t c) m new (omega (arith, after, end)) is_passed whole room)
 
     pub filled_table : IsTable R old.slots old.horizon rows2
     filled_table = passed_table R laws old old_table few old from 0 (base small) (old.horizon + 1) all_differ tells (λ t c there. versionless t c) m new (omega (arith, after, end)) is_passed whole room
-
-    abbrev pub filled_events : List (Event State Slots Slot)
-    filled_events = at_end.done
-
-    pub filled_firsts : (o : Start Slots) (h : List (Event State Slots Slot)) → Stands R o old h → SettlesFirst R o h new filled_events (m * C)
-    filled_firsts = first_settled R laws old new to 0 (m * C) at_end
-
-    pub filled_settled : old.horizon < from + m → IsSettled R new
-    filled_settled all = record {
-      none_due = λ t c there. at_end.none_before t c there (omega (arith, all, after, there.cycle), λ e. absurd (omega (arith, all, after, there.cycle, e)));
-      runs = λ t c there. at_end.runs_before t c there (omega (arith, all, after, there.cycle), λ e. absurd (omega (arith, all, after, there.cycle, e)));
-    }
-
-    pub filled_all : old.horizon < from + m → (o : Start Slots) (h : List (Event State Slots Slot)) → Stands R o old h → Settles R o h new filled_events (m * C)
-    filled_all all = all_settled R laws old new to 0 (m * C) at_end (filled_settled all)

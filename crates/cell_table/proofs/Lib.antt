@@ -26,6 +26,7 @@ pub mod Settling
 pub mod Costing
 pub mod EditCosting
 pub mod Passes
+pub mod Cuts
 pub mod Cones
 pub mod ConeRuns
 pub mod Counted

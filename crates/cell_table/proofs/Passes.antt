@@ -10,7 +10,7 @@ use Rattle.cell_table.specs.Stands.{Stands}
 use Rattle.grid_law.specs.Run.{run}
 use Rattle.cell_table.specs.Consistent.{IsTable}
 use Rattle.cell_table.proofs.Runs.{holds_run_at}
-use Rattle.cell_table.specs.Settling.{NoneDueBefore, IsNextDue, HoldsRunBefore, IsSettled, IsSpent, Settling, SettlesNext, IsAt, IsFurther}
+use Rattle.cell_table.specs.Settling.{NoneDueBefore, IsNextDue, HoldsRunBefore, IsSettled, IsSpent, IsSpentBefore, Settling, SettlesNext, IsAt, IsFurther}
 use Rattle.cell_table.specs.Cost.{Settles, SettlesFirst}
 use Rattle.cell_table.proofs.Ordering.{before_or_after, before_along, before_next}
 use Rattle.cell_table.proofs.Costing.{settles_first, settles_all}
@@ -100,6 +100,10 @@ module _ {State Slots Slot : Type 0} (R : Rules State Slots Slot) where
       by_place t c there b (inl before) = none t c there before
       by_place t c there b (inr after) = spent.next.none_between t c there after b
 
+  pub spent_before : (v : Seen State Slots) (t0 c0 end : ℕ) → NoneDueBefore R v t0 c0 → IsSpentBefore R end v t0 c0 → IsSpentBefore R end v 0 0
+  unfolding spent_first
+  spent_before v t0 c0 end none spent = (spent_first v t0 c0 none spent.0, spent.1)
+
 module _ {State Slots Slot : Type 0} (R : Rules State Slots Slot) (laws : Laws R) (old now : Seen State Slots) (t0 c0 computed : ℕ) (is_at : IsAt R old now t0 c0 computed) where
   -- where it stops, the cells settled are the first that cost
   pub first_settled : (o : Start Slots) (h : List (Event State Slots Slot)) → Stands R o old h → SettlesFirst R o h now is_at.done computed
@@ -113,7 +117,7 @@ module _ {State Slots Slot : Type 0} (R : Rules State Slots Slot) (laws : Laws R
 
 -- a pass can begin at a cycle before which nothing is due, and go on at a later one before which nothing is
 module _ {State Slots Slot : Type 0} (R : Rules State Slots Slot) (laws : Laws R) (v : Seen State Slots) (table : IsTable R v.slots v.horizon v.rows) (t0 : ℕ) (none : NoneDueBefore R v t0 0) where
-  runs_here : HoldsRunBefore R v t0 0
+  pub runs_here : HoldsRunBefore R v t0 0
   runs_here t c there b =
       holds_run_at R laws v table t c there (λ t1 c1 k l. none t1 c1 k (omega (arith, b.0, l), λ e. absurd (omega (arith, b.0, l, e)))) (none t c there b)
 

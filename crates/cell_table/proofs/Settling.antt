@@ -12,7 +12,7 @@ use Rattle.cell_table.specs.Readers.{has}
 use Rattle.cell_table.specs.Gives.{IsAfterStore, GivesAs}
 use Rattle.grid_law.specs.Run.{run}
 use Rattle.cell_table.specs.Claims.{Computed, NoneDue, result_for}
-use Rattle.cell_table.specs.Settling.{NoneDueBefore, NoneDueFrom, HoldsRunBefore, IsSettled, IsNextDue, SettlesNext, IsSpent}
+use Rattle.cell_table.specs.Settling.{NoneDueBefore, NoneDueFrom, HoldsRunBefore, IsSettled, IsNextDue, SettlesNext, IsSpent, IsSpentBefore}
 use Rattle.cell_table.proofs.Ordering.{before_or_after}
 use Rattle.cell_table.proofs.Tables.{is_ready}
 use Rattle.cell_table.proofs.Stores.{current_of_inputs, current_from_present}
@@ -122,3 +122,7 @@ module _ {State Slots Slot : Type 0} (R : Rules State Slots Slot) (laws : Laws R
     next = next;
     differs = λ e. differs (e ∙ ap Some (sym runs));
   }
+
+  pub is_spent_before : (end : ℕ) → cell.cycle < end → old.clock ≡ 2 ^ 64 - 1 → (held_at old.rows cell.cycle cell.component).state ≢ Some (current_of R old.slots old.rows cell.cycle cell.component) → IsSpentBefore R end old t0 c0
+  unfolding is_spent
+  is_spent_before end h clock differs = (is_spent clock differs, h)

@@ -1,5 +1,5 @@
 -- Which cells must be computed to settle a table, and what settling stores.
-use Rattle.std.specs.Prelude.{◌≡◌, ◌≢◌, ◌⊎◌, ℕ, ◌+◌, ◌<◌, Bool, true, Some, List, [], ◌∷◌, ◌++◌, length}
+use Rattle.std.specs.Prelude.{◌≡◌, ◌≢◌, ◌⊎◌, ℕ, ◌+◌, ◌<◌, ◌≤◌, Bool, true, Some, List, [], ◌∷◌, ◌++◌, length}
 use Rattle.std.specs.List.{list_any}
 use Rattle.grid_law.specs.Rules.{Rules}
 use Rattle.cell_table.specs.Seen.{Seen}
@@ -51,6 +51,16 @@ module _ {State Slots Slot : Type 0} (R : Rules State Slots Slot) (o : Start Slo
   pub record Settles (h : List (Event State Slots Slot)) (v : Seen State Slots) (done : List (Event State Slots Slot)) (n : ℕ) : Type 0 where
     pub firsts : SettlesFirst h v done n
     pub all : (t c : ℕ) → IsThere R v t c → Costs h t c → is_stored done t c ≡ true
+
+  -- the first of the cells that cost, and none of them stands behind a cycle
+  pub record SettlesFirstTo (last : ℕ) (h : List (Event State Slots Slot)) (v : Seen State Slots) (done : List (Event State Slots Slot)) (n : ℕ) : Type 0 where
+    pub firsts : SettlesFirst h v done n
+    pub up_to : (t c : ℕ) → is_stored done t c ≡ true → t ≤ last
+
+  -- and these are all of them up to that cycle
+  pub record SettlesTo (last : ℕ) (h : List (Event State Slots Slot)) (v : Seen State Slots) (done : List (Event State Slots Slot)) (n : ℕ) : Type 0 where
+    pub firsts : SettlesFirstTo last h v done n
+    pub all : (t c : ℕ) → IsThere R v t c → t ≤ last → Costs h t c → is_stored done t c ≡ true
 
 module _ {State Slots Slot : Type 0} (R : Rules State Slots Slot) where
   -- a near cell one cycle earlier that differs between the two runs

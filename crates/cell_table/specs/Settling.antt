@@ -37,6 +37,11 @@ module _ {State Slots Slot : Type 0} (R : Rules State Slots Slot) where
     pub none_due : NoneDue R v
     pub runs : (t c : ℕ) → IsThere R v t c → (held_at v.rows t c).state ≡ Some (run R v.slots t c)
 
+  -- the same of the cells up to a cycle
+  pub record IsSettledTo (last : ℕ) (v : Seen State Slots) : Type 0 where
+    pub none_due : (t c : ℕ) → IsThere R v t c → t ≤ last → (held_at v.rows t c).is_due ≡ false
+    pub runs : (t c : ℕ) → IsThere R v t c → t ≤ last → (held_at v.rows t c).state ≡ Some (run R v.slots t c)
+
   -- no cell at or after that one is due
   abbrev pub NoneDueFrom : Seen State Slots → ℕ → ℕ → Type 0
   NoneDueFrom v t0 c0 = (t c : ℕ) → IsThere R v t c → AtOrAfter t0 c0 t c → (held_at v.rows t c).is_due ≡ false
@@ -72,6 +77,10 @@ module _ {State Slots Slot : Type 0} (R : Rules State Slots Slot) where
     pub next : IsNextDue v t0 c0 cell
     pub differs : (held_at v.rows cell.cycle cell.component).state ≢ Some (run R v.slots cell.cycle cell.component)
 
+  -- and that cell stands before a cycle
+  abbrev pub IsSpentBefore : ℕ → Seen State Slots → ℕ → ℕ → Type 0
+  IsSpentBefore end v t0 c0 = (spent : IsSpent v t0 c0) × (spent.cell.cycle < end)
+
   -- the second table is the first after these cells were settled, the newest first, all before that one
   abbrev pub Settling : Seen State Slots → List (Event State Slots Slot) → Seen State Slots → ℕ → ℕ → Type 0
   Settling old [] new t0 c0 = new ≡ old
@@ -93,6 +102,13 @@ module _ {State Slots Slot : Type 0} (R : Rules State Slots Slot) where
     pub horizon : now.horizon ≡ old.horizon
     pub rises : old.clock ≤ now.clock
     pub clock : old.clock ≡ 2 ^ 64 - 1 → now.clock ≡ 2 ^ 64 - 1
+
+  -- a pass stopped at some cell, or before all, and has settled none of a cycle or behind it
+  pub record StopsBefore (end : ℕ) (old now : Seen State Slots) (computed : ℕ) : Type 0 where
+    pub cycle : ℕ
+    pub component : ℕ
+    pub at : IsAt old now cycle component computed
+    pub before : AtOrAfter cycle component end 0
 
 -- the second cell stands behind the first, at the latest one cycle past the horizon
 abbrev pub IsFurther : ℕ → ℕ → ℕ → ℕ → ℕ → Type 0

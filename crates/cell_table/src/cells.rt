@@ -366,17 +366,19 @@ fn clear_rows(due: &mut Marks, from: u32, to: u32)
     }
 }
 
-/// Fills the cells, which hold the run to before a cycle and nothing from there on, with the run: to before which cycle.
-/// What is filled isn't due. Where memory is wanting, it ends earlier.
+/// Fills the cells, which hold the run to before a cycle and nothing from there on, with the run, to before `end`: to
+/// before which cycle. What is filled isn't due. Where memory is wanting, it ends earlier.
 pub(crate) fn fill_cells<G: Grid>(
     cells: &mut Cells<G::State>,
     slots: &G::Slots,
     neighbours: &Neighbours,
     readers: &Readers,
     from: u32,
+    end: u32,
 ) -> u32
     requires near { AreNear G.rules slots.now neighbours.now }
-    requires from { from < length cells.old }
+    requires from { from < end }
+    requires within { end ≤ length cells.old }
     requires whole { (t : ℕ) → t < length cells.old → length (row_at cells.old t) ≡ G.rules.components slots.now }
     requires index { IsIndex G.rules slots.now readers.now }
     requires known { (t c : ℕ) → c < G.rules.components slots.now → t < from → (held_at cells.old t c).state ≡ Some (run G.rules slots.now t c) }
@@ -384,13 +386,12 @@ pub(crate) fn fill_cells<G: Grid>(
     ensures len { length cells.new ≡ length cells.old }
     ensures lens { (t : ℕ) → t < length cells.old → length (row_at cells.new t) ≡ G.rules.components slots.now }
     ensures from { from ≤ result }
-    ensures end { result ≤ length cells.old }
+    ensures end { result ≤ end }
     ensures earlier { (t c : ℕ) → c < G.rules.components slots.now → t < from → held_at cells.new t c ≡ held_at cells.old t c }
     ensures passed { (t c : ℕ) → c < G.rules.components slots.now → from ≤ t → t < result → held_at cells.new t c ≡ stored (run G.rules slots.now t c) }
     ensures rest { (t c : ℕ) → c < G.rules.components slots.now → result ≤ t → t < length cells.old → held_at cells.new t c ≡ held_at cells.old t c }
     ensures versions { (t c : ℕ) → (held_at cells.old t c).is_due ≡ false → (held_at cells.old t c).version ≡ 0 }
 {
-    let end = cells.due.len();
     let to = fill_lines::<G>(&mut cells.lines, slots, neighbours, readers, from, end);
     clear_rows(&mut cells.due, from, to);
     to

@@ -361,14 +361,14 @@ fn fill_cycles<G: Grid>(
     requires index { IsIndex G.rules slots.now readers.now }
     requires none { (c : ℕ) → option_map arc_value (slice_index_or news.old.items c None) ≡ None }
     requires from { from ≤ end }
-    requires lens { (c : ℕ) → c < length lines.old.items → length (line_at lines.old.items c).states ≡ end }
-    requires trails { (c : ℕ) → c < length lines.old.items → Trails G.rules slots.now end from c (line_at lines.old.items c) }
+    requires within { (c : ℕ) → c < length lines.old.items → end ≤ length (line_at lines.old.items c).states }
+    requires trails { (c : ℕ) → c < length lines.old.items → Trails G.rules slots.now (length (line_at lines.old.items c).states) from c (line_at lines.old.items c) }
     requires others { OthersStay G.rules slots.now from marks.old }
     ensures len { length lines.new.items ≡ length lines.old.items }
     ensures lens { (c : ℕ) → length (line_at lines.new.items c).states ≡ length (line_at lines.old.items c).states }
     ensures from { from ≤ result }
     ensures end { result ≤ end }
-    ensures trails { (c : ℕ) → c < length lines.old.items → Trails G.rules slots.now end result c (line_at lines.new.items c) }
+    ensures trails { (c : ℕ) → c < length lines.old.items → Trails G.rules slots.now (length (line_at lines.old.items c).states) result c (line_at lines.new.items c) }
 {
     let mut cycle = from;
     while cycle < end {
@@ -412,7 +412,7 @@ fn try_fill<G: Grid>(
     requires count { length lines.old.items ≡ G.rules.components slots.now }
     requires index { IsIndex G.rules slots.now readers.now }
     requires from { from ≤ end }
-    requires lens { (c : ℕ) → c < length lines.old.items → length (line_at lines.old.items c).states ≡ end }
+    requires within { (c : ℕ) → c < length lines.old.items → end ≤ length (line_at lines.old.items c).states }
     requires known { (t c : ℕ) → c < length lines.old.items → t < from → state_at lines.old.items t c ≡ Some (run G.rules slots.now t c) }
     requires rest { (t c : ℕ) → c < length lines.old.items → from ≤ t → state_at lines.old.items t c ≡ None }
     ensures len { length lines.new.items ≡ length lines.old.items }
@@ -420,7 +420,7 @@ fn try_fill<G: Grid>(
     ensures from { IfOk result (λ to. from ≤ to) }
     ensures end { IfOk result (λ to. to ≤ end) }
     ensures place { IfOk result (λ to. (c : ℕ) → c < length lines.old.items → (line_at lines.new.items c).place ≡ to) }
-    ensures trails { IfOk result (λ to. (c : ℕ) → c < length lines.old.items → Trails G.rules slots.now end to c (line_at lines.new.items c)) }
+    ensures trails { IfOk result (λ to. (c : ℕ) → c < length lines.old.items → Trails G.rules slots.now (length (line_at lines.old.items c).states) to c (line_at lines.new.items c)) }
     ensures err { OnErr result (IsSameStates lines.old.items lines.new.items) }
 {
     let alloc = *lines.allocator();
@@ -451,7 +451,7 @@ pub(crate) fn fill_lines<G: Grid>(
     requires count { length lines.old.items ≡ G.rules.components slots.now }
     requires index { IsIndex G.rules slots.now readers.now }
     requires from { from ≤ end }
-    requires lens { (c : ℕ) → c < length lines.old.items → length (line_at lines.old.items c).states ≡ end }
+    requires within { (c : ℕ) → c < length lines.old.items → end ≤ length (line_at lines.old.items c).states }
     requires known { (t c : ℕ) → c < length lines.old.items → t < from → state_at lines.old.items t c ≡ Some (run G.rules slots.now t c) }
     requires rest { (t c : ℕ) → c < length lines.old.items → from ≤ t → state_at lines.old.items t c ≡ None }
     ensures len { length lines.new.items ≡ length lines.old.items }

@@ -6,7 +6,8 @@
 //! that read it. So a cell is computed only if it is new or something that it read has changed.
 //!
 //! Due cells are computed in one of two ways. `settle` computes them all, by cycle and then
-//! component, and `settle_watched` tells a `Watcher` of each. Or they are claimed, computed elsewhere, and given back:
+//! component, `settle_to` those up to a cycle, and `settle_watched` tells a `Watcher` of each. Or they are claimed, computed
+//! elsewhere, and given back:
 //!
 //! ```text
 //! while let Some(claim) = table.claim(from)? {
@@ -39,7 +40,8 @@
 //!   event changed its cell, stored it or removed it. It comes back where its state is another one
 //!   and the clock is at its last value (`ClockSpent`) or a growth was refused (`Memory`). A result
 //!   of another table is stored only where its cell is due and what it read is present.
-//! - `settle` stores exactly the cells that cost (`specs/Cost.antt`), each once and in order.
+//! - `settle` stores exactly the cells that cost (`specs/Cost.antt`), each once and in order; `settle_to` those of them up to a
+//!   cycle, and then these cells hold the run.
 //!
 //! # How it is kept
 //!

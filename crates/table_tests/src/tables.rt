@@ -28,6 +28,8 @@ enum Step {
     /// An edit of the horizon.
     Horizon(u32),
     Settle,
+    /// Settles up to a cycle.
+    SettleTo(u32),
     /// Claims, computes and gives until nothing is due.
     StoreAll,
     /// Claims from this cell on, and lets the claim go.
@@ -117,7 +119,8 @@ impl Stage {
         match step {
             Step::Set(slot, value) => set(alloc, &mut self.table, slot, value),
             Step::Horizon(horizon) => set_horizon(alloc, &mut self.table, horizon),
-            Step::Settle => Ok(settled(&mut self.table)),
+            Step::Settle => Ok(came_of_settling(self.table.settle())),
+            Step::SettleTo(last) => Ok(came_of_settling(self.table.settle_to(last))),
             Step::StoreAll => Ok(Came::Number(store_all(&mut self.table)?)),
             Step::Claim(component, cycle) => claimed(&self.table, Cell { cycle, component }),
             Step::Compute(component, cycle) => self.compute(Cell { cycle, component }),
@@ -189,8 +192,8 @@ fn set_horizon(alloc: Global, table: &mut Table<Line>, horizon: u32) -> Result<C
     Ok(came_of_edit(table.touch(next, changed)))
 }
 
-fn settled(table: &mut Table<Line>) -> Came {
-    match table.settle() {
+fn came_of_settling(settled: Result<Settled, SettleFault>) -> Came {
+    match settled {
         Ok(Settled { computed }) => Came::Number(computed),
         Err(fault) => Came::Fault(fault),
     }
@@ -324,6 +327,60 @@ fn settles_cycles_that_repeat(rt: HostRuntime) -> Result<(), Fail> {
             (Step::Settle, Came::Number(27)),
             (Step::DueTo(9), Came::Number(0)),
             (Step::Row(2), Came::States([Some(3), Some(9), Some(15)])),
+            (Step::Row(9), Came::States([Some(3), Some(9), Some(15)])),
+        ],
+    )?;
+    assert!(rt; equal(&rt, came, None));
+    Ok(())
+}
+
+// Three cells a cycle, and nothing behind the last one. Then place 2 starts with 6, as above: the cell of it that is due is of
+// cycle 0, its readers at cycle 1 are places 1 and 2, and cycle 2 is still new. Behind the horizon there is nothing.
+#[test]
+fn settles_up_to_a_cycle(rt: HostRuntime) -> Result<(), Fail> {
+    let came = surprise(
+        rt.alloc(),
+        &[
+            (Step::SettleTo(0), Came::Number(3)),
+            (Step::Row(1), Came::States([None, None, None])),
+            (Step::DueTo(2), Came::Number(6)),
+            (Step::SettleTo(1), Came::Number(3)),
+            (Step::Row(1), Came::States([Some(3), Some(7), Some(6)])),
+            (Step::Row(2), Came::States([None, None, None])),
+            (Step::Set(LineSlot::Seed(2), 6), Came::Done),
+            (Step::SettleTo(0), Came::Number(1)),
+            (Step::DueTo(1), Came::Number(2)),
+            (Step::SettleTo(0), Came::Number(0)),
+            (Step::SettleTo(1), Came::Number(2)),
+            (Step::Row(1), Came::States([Some(3), Some(9), Some(8)])),
+            (Step::Clock, Came::Number(10)),
+            (Step::Settle, Came::Number(3)),
+            (Step::Row(2), Came::States([Some(5), Some(9), Some(17)])),
+            (Step::SettleTo(9), Came::Number(0)),
+        ],
+    )?;
+    assert!(rt; equal(&rt, came, None));
+    Ok(())
+}
+
+// The cells of `settles_cycles_that_repeat`, cut off at cycle 6: one of cycle 0, two of cycle 1 and 15 of the others. The three
+// of cycle 7 are due then, and still hold what they held.
+#[test]
+fn settles_some_cycles_that_repeat(rt: HostRuntime) -> Result<(), Fail> {
+    let came = surprise(
+        rt.alloc(),
+        &[
+            (Step::Set(LineSlot::Add(0), 0), Came::Done),
+            (Step::Horizon(9), Came::Done),
+            (Step::SettleTo(6), Came::Number(21)),
+            (Step::Settle, Came::Number(9)),
+            (Step::Set(LineSlot::Seed(0), 3), Came::Done),
+            (Step::SettleTo(6), Came::Number(18)),
+            (Step::Row(6), Came::States([Some(3), Some(9), Some(15)])),
+            (Step::Row(7), Came::States([Some(1), Some(7), Some(13)])),
+            (Step::DueTo(6), Came::Number(0)),
+            (Step::DueTo(9), Came::Number(3)),
+            (Step::Settle, Came::Number(9)),
             (Step::Row(9), Came::States([Some(3), Some(9), Some(15)])),
         ],
     )?;

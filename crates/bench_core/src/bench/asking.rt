@@ -1,5 +1,5 @@
 //! Answering queries.
-ghost use Rattle.std.specs.Prelude.{◌≡◌, ◌^◌, ◌<◌, ◌≤◌, None, Some, IfOk, OnErr, List};
+ghost use Rattle.std.specs.Prelude.{◌≡◌, ℕ, ◌^◌, ◌<◌, ◌≤◌, Bool, None, Some, IfOk, OnErr, List};
 ghost use Rattle.cell_table.specs.Cones.{count_to, count_cone};
 ghost use Rattle.cell_table.specs.Seen.{due_at};
 ghost use Rattle.grid_law.specs.Run.{run};
@@ -11,7 +11,7 @@ ghost use Rattle.run_queries.specs.Bad.{bad_query};
 ghost use Rattle.bench_core.specs.Shown.{project_of, version_of, held};
 ghost use Rattle.bench_core.specs.Events.{Event, Opening};
 ghost use Rattle.bench_core.specs.Stands.{Stands};
-ghost use Rattle.bench_core.specs.Asks.{module_of, pending, AsksAs, TellsRun, LooksAtCell, HoldsRunTo, IsUpToDate};
+ghost use Rattle.bench_core.specs.Asks.{module_of, waits, last_cycle, IsUpTo, pending, AsksAs, TellsRun, LooksAtCell, HoldsRunTo, IsUpToDate};
 ghost use Rattle.bench_core.specs.Answers.{AnswersRun, AsksRun};
 ghost use Rattle.bench_core.specs.Told.{TellsAt, told_at_fault};
 ghost use Rattle.cell_table.specs.Settling.{IsClockSpent};
@@ -136,6 +136,25 @@ impl Bench {
             Query::Counter { to, .. } => Ok(self.pending_to(to)),
             Query::Level { cycle, .. } => Ok(self.pending_to(cycle)),
             Query::Bound { .. } | Query::Place { .. } => Ok(0),
+        }
+    }
+
+    /// The last cycle of the cells that the answer to a query waits for, or none where it waits for no cell: what is due
+    /// behind it counts for nothing.
+    #[tactic(auto, using(crate::proofs::Waiting::waits_to))]
+    pub fn last_cycle(&self, query: Query) -> Option<u32>
+        ensures is { result ≡ last_cycle (project_of self.now) query }
+        ensures enough { (f g : ℕ → ℕ → Bool) (last : ℕ) → IsUpTo (last_cycle (project_of self.now) query) last → ((t c : ℕ) → t ≤ last → f t c ≡ g t c)
+            → waits (project_of self.now) f query ≡ waits (project_of self.now) g query }
+    {
+        match query {
+            Query::Reply { .. } | Query::Profile { .. } | Query::Tree { .. } => {
+                Some(self.project().horizon())
+            }
+            Query::State { cycle, .. } | Query::Memory { cycle, .. } | Query::Level { cycle, .. } =>
+                Some(cycle),
+            Query::Counter { to, .. } => Some(to),
+            Query::Bound { .. } | Query::Place { .. } => None,
         }
     }
 

@@ -2,7 +2,7 @@
 ghost use Rattle.std.specs.Prelude.{◌≡◌, ℕ, ◌-◌, ◌^◌, ◌≤◌, IfOk, IfErr, IfNone, IfSome, OnOk, List, ◌∷◌, length};
 ghost use Rattle.cell_table.specs.Claims.{NoneDue, IsNextRound, IsClaim};
 ghost use Rattle.cell_table.specs.Gives.{GivesAs};
-ghost use Rattle.cell_table.specs.Settling.{IsSettled, IsSpent, computed_of, IsClockSpent};
+ghost use Rattle.cell_table.specs.Settling.{IsSettled, IsSettledTo, IsSpent, computed_of, IsClockSpent};
 ghost use Rattle.cell_table.specs.Events.{Event as TableEvent, Start};
 ghost use Rattle.cell_table.specs.Stands.{Stands as TableStands};
 ghost use Rattle.cell_table.specs.Cost.{Settles as SettlesTable, SettlesFirst as SettlesTableFirst};
@@ -12,10 +12,10 @@ ghost use Rattle.project_book.specs.Project.{Project as ProjectValue};
 ghost use Rattle.project_book.specs.declared.slot.Slot.{Slot as ReadSlot};
 ghost use Rattle.run_queries.specs.declared.query.Query.{Query as AnyQuery};
 ghost use Rattle.bench_core.specs.Shown.{project_of};
-ghost use Rattle.bench_core.specs.Asks.{pending};
+ghost use Rattle.bench_core.specs.Asks.{pending, last_cycle, IsUpTo};
 ghost use Rattle.bench_core.specs.Events.{Event, Claimed, Opening};
 ghost use Rattle.bench_core.specs.Stands.{Stands};
-ghost use Rattle.bench_core.specs.Answers.{Made, AnswersMade, after_give, clock_given, Settles, SettlesFirst};
+ghost use Rattle.bench_core.specs.Answers.{Made, AnswersMade, after_give, clock_given, Settles, SettlesTo, SettlesFirst, SettlesFirstTo};
 
 use super::Bench;
 use cell_table::{Cell, Claim, Done, Given, SettleFault, Settled, Watcher};
@@ -88,5 +88,30 @@ impl Bench {
         ensures clock { self.old.table.clock ≡ 2 ^ 64 - 1 → self.new.table.clock ≡ 2 ^ 64 - 1 }
     {
         self.table.settle_watched(&mut self.counters)
+    }
+
+    /// Settles the cells up to a cycle as `settle` settles all. The cells stored are exactly those of that cycle or an
+    /// earlier one that `settle` would store, each once, and `computed` is their number. Afterwards every cell up to that
+    /// cycle holds the run, and no query whose last cycle isn't behind it is answered Pending. What is due behind it stays
+    /// due.
+    ///
+    /// # Errors
+    ///
+    /// As `settle`.
+    pub fn settle_to(&mut self, last: u32) -> Result<Settled, SettleFault>
+        ensures headline_settles { IfOk result (λ s. (done : List (TableEvent CellState ProjectValue ReadSlot)) × ((o : Opening) (h : List Event) → Stands o self.old h
+            → SettlesTo last o h self.new done s.computed)) }
+        ensures after_fault { IfErr result (λ f. (done : List (TableEvent CellState ProjectValue ReadSlot)) × ((o : Opening) (h : List Event) → Stands o self.old h
+            → SettlesFirstTo last o h self.new done (computed_of f))) }
+        ensures settled { OnOk result (IsSettledTo rp3_rules last self.new.table) }
+        ensures ready { OnOk result ((query : AnyQuery) → IsUpTo (last_cycle (project_of self.new) query) last → pending self.new query ≡ 0) }
+        ensures project { project_of self.new ≡ project_of self.old }
+        ensures journal { self.new.journal ≡ self.old.journal }
+        ensures spent { IfErr result (λ f. IsClockSpent f → self.new.table.clock ≡ 2 ^ 64 - 1) }
+        ensures differs { IfErr result (λ f. IsClockSpent f → (spent : IsSpent rp3_rules self.new.table 0 0) × (spent.cell.cycle ≤ last)) }
+        ensures rises { self.old.table.clock ≤ self.new.table.clock }
+        ensures clock { self.old.table.clock ≡ 2 ^ 64 - 1 → self.new.table.clock ≡ 2 ^ 64 - 1 }
+    {
+        self.table.settle_watched_to(last, &mut self.counters)
     }
 }

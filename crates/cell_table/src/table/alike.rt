@@ -1,7 +1,7 @@
 //! Settling at once the cycles in which the same happens as in the one before them.
 ghost use Rattle.std.specs.Prelude.{◌≡◌, ℕ, ◌+◌, ◌-◌, ◌*◌, ◌^◌, ◌<◌, ◌≤◌, ◌||◌, IfNone, IfSome, IfOk, true, false, length, MatchOption};
 ghost use Rattle.cell_table.specs.Seen.{Seen, held_at};
-ghost use Rattle.cell_table.specs.Cells.{IsThere};
+ghost use Rattle.cell_table.specs.Cells.{IsThere, AtOrAfter};
 ghost use Rattle.cell_table.specs.Readers.{has};
 ghost use Rattle.cell_table.specs.Filling.{is_awake};
 ghost use Rattle.cell_table.specs.Settling.{NoneDueBefore, IsAt, IsFurther};
@@ -148,21 +148,22 @@ impl<G: Grid> Table<G> {
     }
 
     /// The same of all due cells of a cycle.
-    fn alike_end(&self, cycle: u32, changes: &Row) -> u32
+    fn alike_end(&self, cycle: u32, changes: &Row, end: u32) -> u32
         requires there { cycle ≤ self.now.horizon }
         requires later { 2 ≤ cycle }
         requires width { length changes.now ≡ G.rules.components self.now.slots }
-        ensures within { result ≤ self.now.horizon + 1 }
+        requires within { end ≤ self.now.horizon + 1 }
+        ensures before { result ≤ end }
         ensures stays { StaysAlike G.rules self.now cycle changes.now result }
     {
         let _count = changes.len();
-        let mut end = self.cells.cycles();
+        let mut to = end;
         let mut from = 0;
         while let Some(component) = self.cells.next_due(cycle, from) {
-            end = self.alike_to(Cell { cycle, component }, changes, end);
+            to = self.alike_to(Cell { cycle, component }, changes, to);
             from = component + 1;
         }
-        end
+        to
     }
 
     /// Marks the components that read one that changes.
@@ -200,10 +201,12 @@ impl<G: Grid> Table<G> {
         end
     }
 
-    /// Settles at once the cycles from one on in which the same happens as in the one before, where there are two of them at
-    /// least: how many, and how many of their cells were computed. Only cells of the ranges may hold other states then.
-    pub(super) fn settle_alike(&mut self, cycle: u32, spare: &mut Spare) -> Option<Alike>
-        requires there { cycle ≤ self.old.horizon }
+    /// Settles at once the cycles from one on, before `end`, in which the same happens as in the one before, where there are
+    /// two of them at least: how many, and how many of their cells were computed. Only cells of the ranges may hold other
+    /// states then.
+    pub(super) fn settle_alike(&mut self, cycle: u32, end: u32, spare: &mut Spare) -> Option<Alike>
+        requires there { cycle < end }
+        requires within { end ≤ self.old.horizon + 1 }
         requires none { NoneDueBefore G.rules self.old cycle 0 }
         requires changes { length spare.old.changes ≡ G.rules.components self.old.slots }
         requires reached { length spare.old.reached ≡ G.rules.components self.old.slots }
@@ -211,7 +214,7 @@ impl<G: Grid> Table<G> {
         ensures reached { length spare.new.reached ≡ length spare.old.reached }
         ensures none { IfNone result (self.new ≡ self.old) }
         ensures on { IfSome result (λ a. (first : Seen G.State G.Slots) (n : ℕ) → IsAt G.rules first self.old cycle 0 n → IsAt G.rules first self.new (cycle + a.cycles) 0 (n + a.computed)) }
-        ensures within { IfSome result (λ a. cycle + a.cycles ≤ self.old.horizon + 1) }
+        ensures before { IfSome result (λ a. cycle + a.cycles ≤ end) }
         ensures but { IfSome result (λ a. HoldsBut G.rules self.old self.new spare.new.ranges.items) }
     {
         let count = G::components(&self.slots);
@@ -220,14 +223,14 @@ impl<G: Grid> Table<G> {
         if !self.begins_alike(cycle, &mut spare.changes) {
             return None;
         }
-        let end = self.alike_end(cycle, &spare.changes);
+        let end = self.alike_end(cycle, &spare.changes, end);
         if end.saturating_sub(cycle) < 2 {
             return None;
         }
         self.reach(&spare.changes, &mut spare.reached);
         let end = self.due_alike_to(cycle, end, &spare.reached);
         let cycles = end - cycle;
-        if cycles < 2 || !has_room(self.clock, cycles - 1, count) {
+        if cycles < 2 || !has_room(self.clock, cycles, count) {
             return None;
         }
         match ranges_of(&spare.changes, cycle, end, &mut spare.ranges) {
@@ -262,9 +265,11 @@ impl<G: Grid> Table<G> {
     pub(super) fn settle_on<W: Watcher<G>>(
         &mut self,
         from: Cell,
+        end: u32,
         spare: &mut Spare,
         watcher: &mut W,
     ) -> Option<Passed>
+        requires within { end ≤ self.old.horizon + 1 }
         requires none { NoneDueBefore G.rules self.old from.cycle from.component }
         requires changes { length spare.old.changes ≡ G.rules.components self.old.slots }
         requires reached { length spare.old.reached ≡ G.rules.components self.old.slots }
@@ -275,21 +280,21 @@ impl<G: Grid> Table<G> {
         ensures none { IfNone result (self.new ≡ self.old) }
         ensures on { IfSome result (λ p. (first : Seen G.State G.Slots) (n : ℕ) → IsAt G.rules first self.old from.cycle from.component n → IsAt G.rules first self.new p.to.cycle p.to.component (n + p.computed)) }
         ensures further { IfSome result (λ p. IsFurther self.old.horizon from.cycle from.component p.to.cycle p.to.component) }
+        ensures before { IfSome result (λ p. AtOrAfter p.to.cycle p.to.component end 0) }
     {
-        // The cycles are as many as this number, so that of the one behind the last fits.
-        let _cycles = self.cells.cycles();
-        if from.cycle > self.horizon || self.is_row_due(from.cycle) {
+        let _ = &self.slots;
+        if from.cycle >= end || self.is_row_due(from.cycle) {
             return None;
         }
         if spare.wait > 0 {
             spare.wait -= 1;
             return None;
         }
-        let cycle = match self.next_due(from) {
+        let cycle = match self.next_due_before(from, end) {
             Some(cell) => cell.cycle,
             None => return None,
         };
-        let alike = match self.settle_alike(cycle, spare) {
+        let alike = match self.settle_alike(cycle, end, spare) {
             Some(alike) => alike,
             None => {
                 // Where something happens at each cycle, few of them are tried.

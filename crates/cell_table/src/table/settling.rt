@@ -2,14 +2,14 @@
 ghost use Rattle.std.specs.Prelude.{◌≡◌, ◌≢◌, ℕ, ◌+◌, ◌-◌, ◌^◌, ◌<◌, ◌≤◌, ◌↔◌, IsTrue, IfOk, IfErr, OnOk, OnErr, IfNone, IfSome, MatchOption, is_some, true, false, Some, List, length};
 ghost use Rattle.std.specs.Arc.{arc_value};
 ghost use Rattle.cell_table.specs.Seen.{Seen, held_at, row_at};
-ghost use Rattle.cell_table.specs.Cells.{IsThere};
+ghost use Rattle.cell_table.specs.Cells.{IsThere, AtOrAfter};
 ghost use Rattle.cell_table.specs.Inputs.{inputs_of};
 ghost use Rattle.cell_table.specs.Consistent.{current_of};
 ghost use Rattle.cell_table.specs.Gives.{IsAfterStore, IsStored, HoldsSame};
 ghost use Rattle.cell_table.specs.Events.{Event, Start};
 ghost use Rattle.cell_table.specs.Stands.{Stands};
-ghost use Rattle.cell_table.specs.Settling.{IsAsBefore, IsNextDueInRow, NoneDueBefore, NoneDueFrom, IsNextDue, IsSettled, SettlesNext, IsSpent, IsAt, IsFurther, computed_of, IsClockSpent};
-ghost use Rattle.cell_table.specs.Cost.{Settles, SettlesFirst};
+ghost use Rattle.cell_table.specs.Settling.{IsAsBefore, IsNextDueInRow, NoneDueBefore, NoneDueFrom, HoldsRunBefore, IsNextDue, IsSettled, IsSettledTo, SettlesNext, IsSpent, IsSpentBefore, IsAt, StopsBefore, IsFurther, computed_of, IsClockSpent};
+ghost use Rattle.cell_table.specs.Cost.{Settles, SettlesTo, SettlesFirst, SettlesFirstTo};
 
 use super::Table;
 use super::alike::{Passed, Spare};
@@ -40,18 +40,17 @@ impl<G: Grid> Table<G> {
         self.cells.next_due(cycle, component)
     }
 
-    /// The first due cell at or after `from`, by cycle and then component. It takes no memory, a
-    /// cycle with nothing due is passed in one step, and where no cell is due one number tells it.
-    pub fn next_due(&self, from: Cell) -> Option<Cell>
+    /// The first due cell at or after `from`, of those before a cycle.
+    pub(super) fn next_due_before(&self, from: Cell, end: u32) -> Option<Cell>
+        requires { end ≤ self.now.horizon + 1 }
         ensures { MatchOption result
-            (NoneDueFrom G.rules self.now from.cycle from.component)
-            (IsNextDue G.rules self.now from.cycle from.component) }
+            ((t c : ℕ) → IsThere G.rules self.now t c → AtOrAfter from.cycle from.component t c → t < end → (held_at self.now.rows t c).is_due ≡ false)
+            (λ cell. IsNextDue G.rules self.now from.cycle from.component cell × (cell.cycle < end)) }
     {
         if self.cells.due_total() == 0 {
             return None;
         }
-        for cycle in u64::from(from.cycle)..u64::from(self.horizon) + 1 {
-            let cycle = cycle as u32;
+        for cycle in from.cycle..end {
             let start = if cycle == from.cycle {
                 from.component
             } else {
@@ -62,6 +61,16 @@ impl<G: Grid> Table<G> {
             }
         }
         None
+    }
+
+    /// The first due cell at or after `from`, by cycle and then component. It takes no memory, a
+    /// cycle with nothing due is passed in one step, and where no cell is due one number tells it.
+    pub fn next_due(&self, from: Cell) -> Option<Cell>
+        ensures { MatchOption result
+            (NoneDueFrom G.rules self.now from.cycle from.component)
+            (IsNextDue G.rules self.now from.cycle from.component) }
+    {
+        self.next_due_before(from, self.cells.cycles())
     }
 
     /// Whether the cell's state is that of the cell before it, known without a look at any state:
@@ -148,7 +157,11 @@ impl<G: Grid> Table<G> {
 
     /// Stores what was computed, as `settle_cell` does.
     #[tactic(auto, using(crate::proofs::Stores::current_of_inputs))]
-    pub(super) fn settle_to(&mut self, cell: Cell, state: Arc<G::State>) -> Result<bool, StoreFault>
+    pub(super) fn settle_state(
+        &mut self,
+        cell: Cell,
+        state: Arc<G::State>,
+    ) -> Result<bool, StoreFault>
         requires there { IsThere G.rules self.old cell.cycle cell.component }
         requires ready { is_some (inputs_of G.rules self.old.slots self.old.rows cell.cycle cell.component) ≡ true }
         requires computed { arc_value state ≡ current_of G.rules self.old.slots self.old.rows cell.cycle cell.component }
@@ -217,27 +230,28 @@ impl<G: Grid> Table<G> {
     {
         self.bring_near(cell);
         match self.computed(cell) {
-            Ok(Some(state)) => self.settle_to(cell, state),
+            Ok(Some(state)) => self.settle_state(cell, state),
             Ok(None) => self.settle_again(cell),
             Err(_) => Err(StoreFault::Memory),
         }
     }
 
-    /// Computes the first due cell at or after `from` and stores its state, which is that of the
-    /// run; the cell is told, or none where no cell is due. After a fault nothing is changed.
+    /// Computes the first cell at or after `from` that is due before a cycle and stores its state, which is that of
+    /// the run; the cell is told, or none where no cell is due before that cycle. After a fault nothing is changed.
     #[tactic(auto, using(crate::proofs::Stores::holds_same))]
-    fn settle_next(&mut self, from: Cell) -> Result<Option<SettledCell>, StoreFault>
-        requires { NoneDueBefore G.rules self.old from.cycle from.component }
-        ensures none { IfOk result (λ o. IfNone o (IsSettled G.rules self.old × (self.new ≡ self.old))) }
+    fn settle_next(&mut self, from: Cell, end: u32) -> Result<Option<SettledCell>, StoreFault>
+        requires within { end ≤ self.old.horizon + 1 }
+        requires before { NoneDueBefore G.rules self.old from.cycle from.component }
+        ensures none { IfOk result (λ o. IfNone o (NoneDueBefore G.rules self.old end 0 × HoldsRunBefore G.rules self.old end 0 × (self.new ≡ self.old))) }
         ensures some { IfOk result (λ o. IfSome o (λ s. SettlesNext G.rules self.old self.new from.cycle from.component s.cell)) }
         ensures kept { IfOk result (λ o. IfSome o (λ s. s.changed ≡ false → HoldsSame G.rules self.old self.new)) }
-        ensures fits { IfOk result (λ o. IfSome o (λ s. (s.cell.cycle < 2 ^ 32) × (s.cell.component + 1 < 2 ^ 32))) }
+        ensures fits { IfOk result (λ o. IfSome o (λ s. (s.cell.cycle < end) × (s.cell.component + 1 < 2 ^ 32))) }
         ensures err { OnErr result (self.new ≡ self.old) }
-        ensures spent { result ≡ Err StoreFault.ClockSpent → IsSpent G.rules self.old from.cycle from.component }
+        ensures spent { result ≡ Err StoreFault.ClockSpent → IsSpentBefore G.rules end self.old from.cycle from.component }
     {
         // The number of a component is below this one, so that of the next fits.
         let _count = G::components(&self.slots);
-        match self.next_due(from) {
+        match self.next_due_before(from, end) {
             Some(cell) => match self.settle_cell(cell) {
                 Ok(changed) => Ok(Some(SettledCell { cell, changed })),
                 Err(fault) => Err(fault),
@@ -258,15 +272,17 @@ impl<G: Grid> Table<G> {
         }
     }
 
-    /// Computes the first due cell at or after `from`, or at once the cells of all cycles from there on in which the same
-    /// happens as in the one before, and tells a watcher: where to go on, or none where no cell is due. After a fault nothing is
-    /// changed.
+    /// Computes the first cell at or after `from` that is due before a cycle, or at once the cells of all cycles from there
+    /// on in which the same happens as in the one before, and tells a watcher: where to go on, or none where no cell is due
+    /// before that cycle. After a fault nothing is changed.
     fn settle_more<W: Watcher<G>>(
         &mut self,
         from: Cell,
+        end: u32,
         spare: &mut Spare,
         watcher: &mut W,
     ) -> Result<Option<Passed>, StoreFault>
+        requires within { end ≤ self.old.horizon + 1 }
         requires none { NoneDueBefore G.rules self.old from.cycle from.component }
         requires changes { length spare.old.changes ≡ G.rules.components self.old.slots }
         requires reached { length spare.old.reached ≡ G.rules.components self.old.slots }
@@ -274,18 +290,18 @@ impl<G: Grid> Table<G> {
         ensures changes { length spare.new.changes ≡ length spare.old.changes }
         ensures reached { length spare.new.reached ≡ length spare.old.reached }
         ensures watched { W.keeps watcher.new self.new }
-        ensures none { IfOk result (λ o. IfNone o (IsSettled G.rules self.old × (self.new ≡ self.old))) }
+        ensures none { IfOk result (λ o. IfNone o (NoneDueBefore G.rules self.old end 0 × HoldsRunBefore G.rules self.old end 0 × (self.new ≡ self.old))) }
         ensures on { IfOk result (λ o. IfSome o (λ p. (first : Seen G.State G.Slots) (n : ℕ) → IsAt G.rules first self.old from.cycle from.component n → IsAt G.rules first self.new p.to.cycle p.to.component (n + p.computed))) }
         ensures further { IfOk result (λ o. IfSome o (λ p. IsFurther self.old.horizon from.cycle from.component p.to.cycle p.to.component)) }
-        ensures fits { IfOk result (λ o. IfSome o (λ p. p.to.cycle < 2 ^ 32)) }
+        ensures before { IfOk result (λ o. IfSome o (λ p. AtOrAfter p.to.cycle p.to.component end 0)) }
         ensures err { OnErr result (self.new ≡ self.old) }
-        ensures spent { result ≡ Err StoreFault.ClockSpent → IsSpent G.rules self.old from.cycle from.component }
+        ensures spent { result ≡ Err StoreFault.ClockSpent → IsSpentBefore G.rules end self.old from.cycle from.component }
     {
-        match self.settle_on(from, spare, watcher) {
+        match self.settle_on(from, end, spare, watcher) {
             Some(passed) => return Ok(Some(passed)),
             None => {}
         }
-        match self.settle_next(from) {
+        match self.settle_next(from, end) {
             Ok(Some(settled)) => {
                 self.tell(watcher, settled);
                 let to = Cell {
@@ -299,28 +315,25 @@ impl<G: Grid> Table<G> {
         }
     }
 
-    /// As `settle_watched`, one cell after another, and cycles at once where the same happens as in the one before.
-    fn settle_each<W: Watcher<G>>(&mut self, watcher: &mut W) -> Result<Settled, SettleFault>
-        requires { W.keeps watcher.old self.old }
+    /// As `settle_before`, one cell after another, and cycles at once where the same happens as in the one before.
+    fn settle_each<W: Watcher<G>>(
+        &mut self,
+        end: u32,
+        watcher: &mut W,
+    ) -> Result<Settled, SettleFault>
+        requires within { end ≤ self.old.horizon + 1 }
+        requires watched { W.keeps watcher.old self.old }
         ensures watched { W.keeps watcher.new self.new }
-        ensures headline_settles { IfOk result (λ s. (done : List (Event G.State G.Slots G.Slot)) × ((o : Start G.Slots) (h : List (Event G.State G.Slots G.Slot)) → Stands G.rules o self.old h
-            → Settles G.rules o h self.new done s.computed)) }
-        ensures after_fault { IfErr result (λ f. (done : List (Event G.State G.Slots G.Slot)) × ((o : Start G.Slots) (h : List (Event G.State G.Slots G.Slot)) → Stands G.rules o self.old h
-            → SettlesFirst G.rules o h self.new done (computed_of f))) }
-        ensures settled { OnOk result (IsSettled G.rules self.new) }
-        ensures slots { self.new.slots ≡ self.old.slots }
-        ensures horizon { self.new.horizon ≡ self.old.horizon }
-        ensures rises { self.old.clock ≤ self.new.clock }
-        ensures clock { self.old.clock ≡ 2 ^ 64 - 1 → self.new.clock ≡ 2 ^ 64 - 1 }
-        ensures spent { IfErr result (λ f. IsClockSpent f → self.new.clock ≡ 2 ^ 64 - 1) }
-        ensures differs { IfErr result (λ f. IsClockSpent f → IsSpent G.rules self.new 0 0) }
+        ensures all { IfOk result (λ s. IsAt G.rules self.old self.new end 0 s.computed) }
+        ensures stops { IfErr result (λ f. StopsBefore G.rules end self.old self.new (computed_of f)) }
+        ensures spent { IfErr result (λ f. IsClockSpent f → IsSpentBefore G.rules end self.new 0 0) }
     {
         let mut computed: u64 = 0;
         let mut from = Cell {
             cycle: 0,
             component: 0,
         };
-        match self.next_due(from) {
+        match self.next_due_before(from, end) {
             Some(_) => {}
             None => return Ok(Settled { computed }),
         }
@@ -330,7 +343,7 @@ impl<G: Grid> Table<G> {
             Err(_) => return Err(SettleFault::Memory { computed }),
         };
         loop {
-            match self.settle_more(from, &mut spare, watcher) {
+            match self.settle_more(from, end, &mut spare, watcher) {
                 Ok(Some(passed)) => {
                     computed += passed.computed;
                     from = passed.to;
@@ -340,6 +353,66 @@ impl<G: Grid> Table<G> {
                 Err(StoreFault::Memory) => return Err(SettleFault::Memory { computed }),
             }
         }
+    }
+
+    /// The cycle behind one, at most that behind the horizon.
+    fn end_of(&self, last: u32) -> u32
+        ensures within { result ≤ self.now.horizon + 1 }
+        ensures up_to { result ≤ last + 1 }
+        ensures covers { (t : ℕ) → t ≤ last → t ≤ self.now.horizon → t < result }
+    {
+        if last < self.horizon {
+            last + 1
+        } else {
+            self.cells.cycles()
+        }
+    }
+
+    /// Settles the cells before a cycle, and tells a watcher.
+    fn settle_before<W: Watcher<G>>(
+        &mut self,
+        end: u32,
+        watcher: &mut W,
+    ) -> Result<Settled, SettleFault>
+        requires within { end ≤ self.old.horizon + 1 }
+        requires watched { W.keeps watcher.old self.old }
+        ensures watched { W.keeps watcher.new self.new }
+        ensures all { IfOk result (λ s. IsAt G.rules self.old self.new end 0 s.computed) }
+        ensures stops { IfErr result (λ f. StopsBefore G.rules end self.old self.new (computed_of f)) }
+        ensures spent { IfErr result (λ f. IsClockSpent f → IsSpentBefore G.rules end self.new 0 0) }
+    {
+        match self.first_new(end) {
+            Some(from) => self.settle_new(from, end, watcher),
+            None => self.settle_each(end, watcher),
+        }
+    }
+
+    /// `settle_to`, where `watcher` is told of what is stored as soon as it is.
+    ///
+    /// # Errors
+    ///
+    /// As `settle`. The watcher was told of just those cells that stay stored.
+    pub fn settle_watched_to<W: Watcher<G>>(
+        &mut self,
+        last: u32,
+        watcher: &mut W,
+    ) -> Result<Settled, SettleFault>
+        requires { W.keeps watcher.old self.old }
+        ensures watched { W.keeps watcher.new self.new }
+        ensures headline_settles { IfOk result (λ s. (done : List (Event G.State G.Slots G.Slot)) × ((o : Start G.Slots) (h : List (Event G.State G.Slots G.Slot)) → Stands G.rules o self.old h
+            → SettlesTo G.rules o last h self.new done s.computed)) }
+        ensures after_fault { IfErr result (λ f. (done : List (Event G.State G.Slots G.Slot)) × ((o : Start G.Slots) (h : List (Event G.State G.Slots G.Slot)) → Stands G.rules o self.old h
+            → SettlesFirstTo G.rules o last h self.new done (computed_of f))) }
+        ensures settled { OnOk result (IsSettledTo G.rules last self.new) }
+        ensures slots { self.new.slots ≡ self.old.slots }
+        ensures horizon { self.new.horizon ≡ self.old.horizon }
+        ensures rises { self.old.clock ≤ self.new.clock }
+        ensures clock { self.old.clock ≡ 2 ^ 64 - 1 → self.new.clock ≡ 2 ^ 64 - 1 }
+        ensures spent { IfErr result (λ f. IsClockSpent f → self.new.clock ≡ 2 ^ 64 - 1) }
+        ensures differs { IfErr result (λ f. IsClockSpent f → (spent : IsSpent G.rules self.new 0 0) × (spent.cell.cycle ≤ last)) }
+    {
+        let end = self.end_of(last);
+        self.settle_before(end, watcher)
     }
 
     /// `settle`, where `watcher` is told of what is stored as soon as it is.
@@ -362,10 +435,31 @@ impl<G: Grid> Table<G> {
         ensures spent { IfErr result (λ f. IsClockSpent f → self.new.clock ≡ 2 ^ 64 - 1) }
         ensures differs { IfErr result (λ f. IsClockSpent f → IsSpent G.rules self.new 0 0) }
     {
-        match self.first_new() {
-            Some(from) => self.settle_new(from, watcher),
-            None => self.settle_each(watcher),
-        }
+        let last = self.horizon();
+        self.settle_watched_to(last, watcher)
+    }
+
+    /// Settles the cells up to a cycle as `settle` settles all. The cells stored are exactly those of that cycle or an
+    /// earlier one that `settle` would store, each once, by cycle and then component, and `computed` is their number.
+    /// Afterwards every cell up to that cycle holds the run. What is due behind it stays due, and a further call goes on.
+    ///
+    /// # Errors
+    ///
+    /// As `settle`.
+    pub fn settle_to(&mut self, last: u32) -> Result<Settled, SettleFault>
+        ensures headline_settles { IfOk result (λ s. (done : List (Event G.State G.Slots G.Slot)) × ((o : Start G.Slots) (h : List (Event G.State G.Slots G.Slot)) → Stands G.rules o self.old h
+            → SettlesTo G.rules o last h self.new done s.computed)) }
+        ensures after_fault { IfErr result (λ f. (done : List (Event G.State G.Slots G.Slot)) × ((o : Start G.Slots) (h : List (Event G.State G.Slots G.Slot)) → Stands G.rules o self.old h
+            → SettlesFirstTo G.rules o last h self.new done (computed_of f))) }
+        ensures settled { OnOk result (IsSettledTo G.rules last self.new) }
+        ensures slots { self.new.slots ≡ self.old.slots }
+        ensures horizon { self.new.horizon ≡ self.old.horizon }
+        ensures rises { self.old.clock ≤ self.new.clock }
+        ensures clock { self.old.clock ≡ 2 ^ 64 - 1 → self.new.clock ≡ 2 ^ 64 - 1 }
+        ensures spent { IfErr result (λ f. IsClockSpent f → self.new.clock ≡ 2 ^ 64 - 1) }
+        ensures differs { IfErr result (λ f. IsClockSpent f → (spent : IsSpent G.rules self.new 0 0) × (spent.cell.cycle ≤ last)) }
+    {
+        self.settle_watched_to(last, &mut Nobody)
     }
 
     /// Computes and stores the first due cell until none is due. The cells stored are exactly those

@@ -56,7 +56,7 @@ impl<G: Grid> Table<G> {
     {
         let _ = &self.slots;
         match found {
-            Some(Ok(Some(state))) => self.settle_to(cell, state),
+            Some(Ok(Some(state))) => self.settle_state(cell, state),
             Some(Ok(None)) => self.settle_again(cell),
             Some(Err(_)) => Err(StoreFault::Memory),
             None => self.settle_cell(cell),

@@ -1,19 +1,35 @@
 use Rattle.std.proofs.Common.{◌<◌, ◌∙◌, sym, arith, length}
 use Rattle.cell_table.proofs.Keeping.{seen_cycles, seen_cycle, seen_length, seen_state, seen_due, seen_no_version, length_row}
-use Rattle.cell_table.proofs.FilledRows.{marks_filled, none_on, same_cell, passed_cell}
+use Rattle.cell_table.proofs.FilledRows.{marks_filled, layout_filled, none_on, same_cell, passed_cell}
 use Rattle.cell_table.proofs.cells.fill_cells.Goals as goal
 
 pub fill_lines-to-requires-clause-count : goal.fill_lines-to-requires-clause-count
 fill_lines-to-requires-clause-count g c =
     let i = c.cells.inside in
-    let some : 0 < length c.args.cells.now = omega (arith, c.requires.from) in
+    let some : 0 < length c.args.cells.now = omega (arith, c.requires.from, c.requires.within) in
     let wide = seen_length i.lines.items i.due i.versions.items c.args.cells.now c.cells.view_is 0 (seen_cycle i.lines.items i.due i.versions.items c.args.cells.now c.cells.view_is 0 some) in
     c.cells.invariant.components ∙ sym wide ∙ c.requires.whole 0 some
 
 pub fill_lines-to-requires-clause-from : goal.fill_lines-to-requires-clause-from
-fill_lines-to-requires-clause-from g c =
+fill_lines-to-requires-clause-from g c = omega (arith, c.requires.from)
+
+pub fill_lines-to-requires-clause-within : goal.fill_lines-to-requires-clause-within
+fill_lines-to-requires-clause-within g c = λ d h.
     let i = c.cells.inside in
-    omega (arith, c.len-end.ensures, c.requires.from, seen_cycles i.lines.items i.due i.versions.items c.args.cells.now c.cells.view_is)
+    omega (arith, c.cells.invariant.cycles d (omega (arith, h, c.cells.invariant.components)), seen_cycles i.lines.items i.due i.versions.items c.args.cells.now c.cells.view_is, c.requires.within)
+
+pub clear_rows-requires-clause-end : goal.clear_rows-requires-clause-end
+clear_rows-requires-clause-end g c =
+    let i = c.cells.inside in
+    omega (arith, c.fill_lines-to.ensures.end, c.requires.within, seen_cycles i.lines.items i.due i.versions.items c.args.cells.now c.cells.view_is)
+
+pub invariant_of-cells : goal.invariant_of-cells
+invariant_of-cells g c =
+    let i = c.cells.inside in
+    let f = c.fill_lines-to.ensures in
+    let r = c.clear_rows.ensures in
+    let marks = marks_filled i.due c.clear_rows.new.due c.args.from c.fill_lines-to.result c.cells.invariant.marks r.cleared r.earlier r.later in
+    layout_filled i.lines.items c.fill_lines-to.new.lines.items i.due c.clear_rows.new.due i.versions.items c.args.cells.now c.cells.invariant c.cells.view_is f.len f.lens r.width r.len marks
 
 pub fill_lines-to-requires-clause-known : goal.fill_lines-to-requires-clause-known
 fill_lines-to-requires-clause-known g c = λ t d h k.
@@ -32,7 +48,7 @@ fill_lines-to-requires-clause-rest g c = λ t d h k.
 pub returns-clause-lens : goal.returns-clause-lens
 returns-clause-lens g c = λ t h.
     let i = c.cells.inside in
-    let some : 0 < length c.args.cells.now = omega (arith, c.requires.from) in
+    let some : 0 < length c.args.cells.now = omega (arith, c.requires.from, c.requires.within) in
     let wide = seen_length i.lines.items i.due i.versions.items c.args.cells.now c.cells.view_is 0 (seen_cycle i.lines.items i.due i.versions.items c.args.cells.now c.cells.view_is 0 some) in
     let count = c.cells.invariant.components ∙ sym wide ∙ c.requires.whole 0 some in
     let cycles = seen_cycles i.lines.items i.due i.versions.items c.args.cells.now c.cells.view_is in
@@ -40,17 +56,12 @@ returns-clause-lens g c = λ t h.
     ∙ c.clear_rows.ensures.width ∙ sym c.cells.invariant.components ∙ count
 
 pub returns-clause-end : goal.returns-clause-end
-returns-clause-end g c =
-    let i = c.cells.inside in
-    let some : 0 < length c.args.cells.now = omega (arith, c.requires.from) in
-    let wide = seen_length i.lines.items i.due i.versions.items c.args.cells.now c.cells.view_is 0 (seen_cycle i.lines.items i.due i.versions.items c.args.cells.now c.cells.view_is 0 some) in
-    let count = c.cells.invariant.components ∙ sym wide ∙ c.requires.whole 0 some in
-    omega (arith, c.fill_lines-to.ensures.end, c.len-end.ensures, seen_cycles i.lines.items i.due i.versions.items c.args.cells.now c.cells.view_is)
+returns-clause-end g c = c.fill_lines-to.ensures.end
 
 pub returns-clause-earlier : goal.returns-clause-earlier
 returns-clause-earlier g c = λ t d h k.
     let i = c.cells.inside in
-    let some : 0 < length c.args.cells.now = omega (arith, c.requires.from) in
+    let some : 0 < length c.args.cells.now = omega (arith, c.requires.from, c.requires.within) in
     let wide = seen_length i.lines.items i.due i.versions.items c.args.cells.now c.cells.view_is 0 (seen_cycle i.lines.items i.due i.versions.items c.args.cells.now c.cells.view_is 0 some) in
     let count = c.cells.invariant.components ∙ sym wide ∙ c.requires.whole 0 some in
     let f = c.fill_lines-to.ensures in
@@ -63,7 +74,7 @@ returns-clause-earlier g c = λ t d h k.
 pub returns-clause-passed : goal.returns-clause-passed
 returns-clause-passed g c = λ t d h k l.
     let i = c.cells.inside in
-    let some : 0 < length c.args.cells.now = omega (arith, c.requires.from) in
+    let some : 0 < length c.args.cells.now = omega (arith, c.requires.from, c.requires.within) in
     let wide = seen_length i.lines.items i.due i.versions.items c.args.cells.now c.cells.view_is 0 (seen_cycle i.lines.items i.due i.versions.items c.args.cells.now c.cells.view_is 0 some) in
     let count = c.cells.invariant.components ∙ sym wide ∙ c.requires.whole 0 some in
     let f = c.fill_lines-to.ensures in
@@ -80,7 +91,7 @@ returns-clause-versions g c = λ t d e.
 pub returns-clause-rest : goal.returns-clause-rest
 returns-clause-rest g c = λ t d h k l.
     let i = c.cells.inside in
-    let some : 0 < length c.args.cells.now = omega (arith, c.requires.from) in
+    let some : 0 < length c.args.cells.now = omega (arith, c.requires.from, c.requires.within) in
     let wide = seen_length i.lines.items i.due i.versions.items c.args.cells.now c.cells.view_is 0 (seen_cycle i.lines.items i.due i.versions.items c.args.cells.now c.cells.view_is 0 some) in
     let count = c.cells.invariant.components ∙ sym wide ∙ c.requires.whole 0 some in
     let f = c.fill_lines-to.ensures in

@@ -10,7 +10,7 @@ invariant-loop-cycle g l = record {
   end : l.cycle ≤ l.end;
   len : length l.lines.items ≡ length l.initial.lines.items;
   lens : (c : ℕ) → length (line_at l.lines.items c).states ≡ length (line_at l.initial.lines.items c).states;
-  trails : (c : ℕ) → c < length l.initial.lines.items → Trails g.G.Grid.rules l.slots l.end l.cycle c (line_at l.lines.items c);
+  trails : (c : ℕ) → c < length l.initial.lines.items → Trails g.G.Grid.rules l.slots (length (line_at l.initial.lines.items c).states) l.cycle c (line_at l.lines.items c);
   others : OthersStay g.G.Grid.rules l.slots l.cycle l.marks;
   len_marks : length l.marks ≡ g.G.Grid.rules.components l.slots;
   len_later : length l.later ≡ g.G.Grid.rules.components l.slots;

@@ -3,7 +3,7 @@ use Rattle.cell_table.specs.Seen.{Held, Seen, fresh, held_at}
 use Rattle.cell_table.specs.Consistent.{IsWhole}
 use Rattle.cell_table.specs.Settling.{NoneDueBefore}
 use Rattle.cell_table.specs.Filling.{AllNew, version_after}
-use Rattle.cell_table.proofs.Filled.{known_before, new_behind, holds_outside, filled_table, filled_events, filled_all, filled_firsts, filled_settled, room_for}
+use Rattle.cell_table.proofs.Filled.{known_before, new_behind, holds_outside, filled_table, at_end, room_for}
 use Rattle.cell_table.proofs.table.Table.fill.Goals as goal
 
 pub fill_cells-to-requires-clause-known : goal.fill_cells-to-requires-clause-known
@@ -11,7 +11,8 @@ fill_cells-to-requires-clause-known g c =
     let R = g.G.Grid.rules in
     let i = c.self.inside in
     let v : Seen g.row.G-State.Denot g.row.G-Slots.Denot = record { slots = i.slots; horizon = i.horizon; clock = i.clock; rows = i.cells } in
-    known_before R g.G.Grid.laws v c.self.invariant.table c.args.from (rw (← c.self.view_is) at c.requires.there) (rw (← c.self.view_is) at c.requires.none) (rw (← c.self.view_is) at c.requires.news)
+    let within : c.args.end ≤ i.horizon + 1 = rw (← c.self.view_is) at c.requires.within in
+    known_before R g.G.Grid.laws v c.self.invariant.table c.args.from (omega (arith, c.requires.there, within)) (rw (← c.self.view_is) at c.requires.none) (rw (← c.self.view_is) at c.requires.news)
 
 pub mark_filled-requires-clause-room : goal.mark_filled-requires-clause-room
 mark_filled-requires-clause-room g c =
@@ -19,10 +20,11 @@ mark_filled-requires-clause-room g c =
     let from = c.args.from in
     let to = c.fill_cells-to.result in
     let n = g.G.Grid.rules.components i.slots in
-    let there : from ≤ i.horizon = rw (← c.self.view_is) at c.requires.there in
-    let room : i.clock + (i.horizon - from + 1) * n < 2 ^ 64 = rw (← c.self.view_is) at c.requires.room in
-    let few : to - from ≤ i.horizon - from + 1 = omega (arith, there, c.fill_cells-to.ensures.end, c.self.invariant.table.whole.cycles) in
-    subst (λ k. i.clock + (to - from) * k < 2 ^ 64) (sym c.components-count.ensures) (room_for i.clock (to - from) (i.horizon - from + 1) n few room)
+    let within : c.args.end ≤ i.horizon + 1 = rw (← c.self.view_is) at c.requires.within in
+    let there : from ≤ i.horizon = omega (arith, c.requires.there, within) in
+    let room : i.clock + (c.args.end - from) * n < 2 ^ 64 = rw (← c.self.view_is) at c.requires.room in
+    let few : to - from ≤ c.args.end - from = omega (arith, c.fill_cells-to.ensures.end) in
+    subst (λ k. i.clock + (to - from) * k < 2 ^ 64) (sym c.components-count.ensures) (room_for i.clock (to - from) (c.args.end - from) n few room)
 
 pub mark_filled-requires-clause-news : goal.mark_filled-requires-clause-news
 mark_filled-requires-clause-news g c = λ d h l.
@@ -32,9 +34,10 @@ mark_filled-requires-clause-news g c = λ d h l.
     let to = c.fill_cells-to.result in
     let k : d < g.G.Grid.rules.components i.slots = omega (arith, h, c.components-count.ensures) in
     let within : to < length i.cells = omega (arith, l, f.len) in
+    let end_there : c.args.end ≤ i.horizon + 1 = rw (← c.self.view_is) at c.requires.within in
     let same = f.rest to d k (omega arith) within in
     same
-    ∙ new_behind g.G.Grid.rules g.G.Grid.laws v c.self.invariant.table c.args.from (rw (← c.self.view_is) at c.requires.there) (rw (← c.self.view_is) at c.requires.none) (rw (← c.self.view_is) at c.requires.news) to d k f.from within
+    ∙ new_behind g.G.Grid.rules g.G.Grid.laws v c.self.invariant.table c.args.from (omega (arith, c.requires.there, end_there)) (rw (← c.self.view_is) at c.requires.none) (rw (← c.self.view_is) at c.requires.news) to d k f.from within
     ∙ ap (λ (r : Held g.row.G-State.Denot). fresh r.version) (sym same)
 
 pub invariant_of-self : goal.invariant_of-self
@@ -47,7 +50,8 @@ invariant_of-self g c =
     let to = c.fill_cells-to.result in
     let n = R.components i.slots in
     let f = c.fill_cells-to.ensures in
-    let there : from ≤ i.horizon = rw (← c.self.view_is) at c.requires.there in
+    let within : c.args.end ≤ i.horizon + 1 = rw (← c.self.view_is) at c.requires.within in
+    let there : from ≤ i.horizon = omega (arith, c.requires.there, within) in
     let none : NoneDueBefore R v from 0 = rw (← c.self.view_is) at c.requires.none in
     let news : AllNew R v from = rw (← c.self.view_is) at c.requires.news in
     let few : n < 4294967296 = omega (arith, c.components-count.ensures) in
@@ -56,9 +60,9 @@ invariant_of-self g c =
     let rows1 = c.fill_cells-to.new.cells in
     let rows2 = c.mark_filled.new.cells in
     let clock = c.clock_filled-clock.result in
-    let room : i.clock + (i.horizon - from + 1) * n < 2 ^ 64 = rw (← c.self.view_is) at c.requires.room in
-    let end : to ≤ i.horizon + 1 = omega (arith, f.end, table.whole.cycles) in
-    let enough = room_for i.clock (to - from) (i.horizon - from + 1) n (omega (arith, there, end)) room in
+    let room : i.clock + (c.args.end - from) * n < 2 ^ 64 = rw (← c.self.view_is) at c.requires.room in
+    let end : to ≤ i.horizon + 1 = omega (arith, f.end, within) in
+    let enough = room_for i.clock (to - from) (c.args.end - from) n (omega (arith, f.end)) room in
     let is_clock = c.clock_filled-clock.ensures ∙ ap (λ m. i.clock + (to - from) * m) c.components-count.ensures in
     let whole : IsWhole R i.slots i.horizon rows2 = record {
       cycles = k.len ∙ f.len ∙ table.whole.cycles;
@@ -82,10 +86,11 @@ clock_filled-clock-requires g c =
     let from = c.args.from in
     let to = c.fill_cells-to.result in
     let n = g.G.Grid.rules.components i.slots in
-    let there : from ≤ i.horizon = rw (← c.self.view_is) at c.requires.there in
-    let room : i.clock + (i.horizon - from + 1) * n < 2 ^ 64 = rw (← c.self.view_is) at c.requires.room in
-    let few : to - from ≤ i.horizon - from + 1 = omega (arith, there, c.fill_cells-to.ensures.end, c.self.invariant.table.whole.cycles) in
-    subst (λ k. i.clock + (to - from) * k < 2 ^ 64) (sym c.components-count.ensures) (room_for i.clock (to - from) (i.horizon - from + 1) n few room)
+    let within : c.args.end ≤ i.horizon + 1 = rw (← c.self.view_is) at c.requires.within in
+    let there : from ≤ i.horizon = omega (arith, c.requires.there, within) in
+    let room : i.clock + (c.args.end - from) * n < 2 ^ 64 = rw (← c.self.view_is) at c.requires.room in
+    let few : to - from ≤ c.args.end - from = omega (arith, c.fill_cells-to.ensures.end) in
+    subst (λ k. i.clock + (to - from) * k < 2 ^ 64) (sym c.components-count.ensures) (room_for i.clock (to - from) (c.args.end - from) n few room)
 
 pub returns-clause-outside : goal.returns-clause-outside
 returns-clause-outside g c =
@@ -97,7 +102,8 @@ returns-clause-outside g c =
     let to = c.fill_cells-to.result in
     let n = R.components i.slots in
     let f = c.fill_cells-to.ensures in
-    let there : from ≤ i.horizon = rw (← c.self.view_is) at c.requires.there in
+    let within : c.args.end ≤ i.horizon + 1 = rw (← c.self.view_is) at c.requires.within in
+    let there : from ≤ i.horizon = omega (arith, c.requires.there, within) in
     let none : NoneDueBefore R v from 0 = rw (← c.self.view_is) at c.requires.none in
     let news : AllNew R v from = rw (← c.self.view_is) at c.requires.news in
     let few : n < 4294967296 = omega (arith, c.components-count.ensures) in
@@ -106,9 +112,9 @@ returns-clause-outside g c =
     let rows1 = c.fill_cells-to.new.cells in
     let rows2 = c.mark_filled.new.cells in
     let clock = c.clock_filled-clock.result in
-    let room : i.clock + (i.horizon - from + 1) * n < 2 ^ 64 = rw (← c.self.view_is) at c.requires.room in
-    let end : to ≤ i.horizon + 1 = omega (arith, f.end, table.whole.cycles) in
-    let enough = room_for i.clock (to - from) (i.horizon - from + 1) n (omega (arith, there, end)) room in
+    let room : i.clock + (c.args.end - from) * n < 2 ^ 64 = rw (← c.self.view_is) at c.requires.room in
+    let end : to ≤ i.horizon + 1 = omega (arith, f.end, within) in
+    let enough = room_for i.clock (to - from) (c.args.end - from) n (omega (arith, f.end)) room in
     let is_clock = c.clock_filled-clock.ensures ∙ ap (λ m. i.clock + (to - from) * m) c.components-count.ensures in
     let whole : IsWhole R i.slots i.horizon rows2 = record {
       cycles = k.len ∙ f.len ∙ table.whole.cycles;
@@ -122,8 +128,8 @@ returns-clause-outside g c =
     ∙ ap (λ m. fresh (version_after (R.near i.slots d) (i.clock + (to - from - 1) * m) (held_at rows1 to d).version m)) c.components-count.ensures
     ∙ ap (λ (r : Held g.row.G-State.Denot). fresh (version_after (R.near i.slots d) (i.clock + (to - from - 1) * n) r.version n)) (f.rest to d a (omega arith) (omega (arith, b, table.whole.cycles)))))
 
-pub returns-clause-settles : goal.returns-clause-settles
-returns-clause-settles g c =
+pub returns-clause-at : goal.returns-clause-at
+returns-clause-at g c =
     let R = g.G.Grid.rules in
     let i = c.self.inside in
     let v : Seen g.row.G-State.Denot g.row.G-Slots.Denot = record { slots = i.slots; horizon = i.horizon; clock = i.clock; rows = i.cells } in
@@ -132,7 +138,8 @@ returns-clause-settles g c =
     let to = c.fill_cells-to.result in
     let n = R.components i.slots in
     let f = c.fill_cells-to.ensures in
-    let there : from ≤ i.horizon = rw (← c.self.view_is) at c.requires.there in
+    let within : c.args.end ≤ i.horizon + 1 = rw (← c.self.view_is) at c.requires.within in
+    let there : from ≤ i.horizon = omega (arith, c.requires.there, within) in
     let none : NoneDueBefore R v from 0 = rw (← c.self.view_is) at c.requires.none in
     let news : AllNew R v from = rw (← c.self.view_is) at c.requires.news in
     let few : n < 4294967296 = omega (arith, c.components-count.ensures) in
@@ -141,106 +148,18 @@ returns-clause-settles g c =
     let rows1 = c.fill_cells-to.new.cells in
     let rows2 = c.mark_filled.new.cells in
     let clock = c.clock_filled-clock.result in
-    let room : i.clock + (i.horizon - from + 1) * n < 2 ^ 64 = rw (← c.self.view_is) at c.requires.room in
-    let end : to ≤ i.horizon + 1 = omega (arith, f.end, table.whole.cycles) in
-    let enough = room_for i.clock (to - from) (i.horizon - from + 1) n (omega (arith, there, end)) room in
+    let room : i.clock + (c.args.end - from) * n < 2 ^ 64 = rw (← c.self.view_is) at c.requires.room in
+    let end : to ≤ i.horizon + 1 = omega (arith, f.end, within) in
+    let enough = room_for i.clock (to - from) (c.args.end - from) n (omega (arith, f.end)) room in
     let is_clock = c.clock_filled-clock.ensures ∙ ap (λ m. i.clock + (to - from) * m) c.components-count.ensures in
     let whole : IsWhole R i.slots i.horizon rows2 = record {
       cycles = k.len ∙ f.len ∙ table.whole.cycles;
       components = λ t h. k.lens t ∙ f.lens t (omega (arith, h, table.whole.cycles));
     } in
-    rw (← c.self.view_is) (λ all. (
-      filled_events R g.G.Grid.laws v table from there none news few small f.versions to clock rows1 rows2 f.from end is_clock enough whole f.earlier f.passed
-          (λ t d a b e. f.rest t d a b (omega (arith, e, table.whole.cycles)))
-          (λ t d a b m. k.others t d (omega (arith, a, f.len, table.whole.cycles)) m)
-          (λ e d a b. k.still e d)
-          (λ l d a b. k.marked l d (omega (arith, a, c.components-count.ensures)) (omega (arith, b, f.len, table.whole.cycles))
-          ∙ ap (λ m. fresh (version_after (R.near i.slots d) (i.clock + (to - from - 1) * m) (held_at rows1 to d).version m)) c.components-count.ensures
-          ∙ ap (λ (r : Held g.row.G-State.Denot). fresh (version_after (R.near i.slots d) (i.clock + (to - from - 1) * n) r.version n)) (f.rest to d a (omega arith) (omega (arith, b, table.whole.cycles)))),
-      filled_all R g.G.Grid.laws v table from there none news few small f.versions to clock rows1 rows2 f.from end is_clock enough whole f.earlier f.passed
-          (λ t d a b e. f.rest t d a b (omega (arith, e, table.whole.cycles)))
-          (λ t d a b m. k.others t d (omega (arith, a, f.len, table.whole.cycles)) m)
-          (λ e d a b. k.still e d)
-          (λ l d a b. k.marked l d (omega (arith, a, c.components-count.ensures)) (omega (arith, b, f.len, table.whole.cycles))
-          ∙ ap (λ m. fresh (version_after (R.near i.slots d) (i.clock + (to - from - 1) * m) (held_at rows1 to d).version m)) c.components-count.ensures
-          ∙ ap (λ (r : Held g.row.G-State.Denot). fresh (version_after (R.near i.slots d) (i.clock + (to - from - 1) * n) r.version n)) (f.rest to d a (omega arith) (omega (arith, b, table.whole.cycles)))) (omega (arith, all, there, end)),
-    ))
-
-pub returns-clause-firsts : goal.returns-clause-firsts
-returns-clause-firsts g c =
-    let R = g.G.Grid.rules in
-    let i = c.self.inside in
-    let v : Seen g.row.G-State.Denot g.row.G-Slots.Denot = record { slots = i.slots; horizon = i.horizon; clock = i.clock; rows = i.cells } in
-    let table = c.self.invariant.table in
-    let from = c.args.from in
-    let to = c.fill_cells-to.result in
-    let n = R.components i.slots in
-    let f = c.fill_cells-to.ensures in
-    let there : from ≤ i.horizon = rw (← c.self.view_is) at c.requires.there in
-    let none : NoneDueBefore R v from 0 = rw (← c.self.view_is) at c.requires.none in
-    let news : AllNew R v from = rw (← c.self.view_is) at c.requires.news in
-    let few : n < 4294967296 = omega (arith, c.components-count.ensures) in
-    let small : from < 4294967296 = omega arith in
-    let k = c.mark_filled.ensures in
-    let rows1 = c.fill_cells-to.new.cells in
-    let rows2 = c.mark_filled.new.cells in
-    let clock = c.clock_filled-clock.result in
-    let room : i.clock + (i.horizon - from + 1) * n < 2 ^ 64 = rw (← c.self.view_is) at c.requires.room in
-    let end : to ≤ i.horizon + 1 = omega (arith, f.end, table.whole.cycles) in
-    let enough = room_for i.clock (to - from) (i.horizon - from + 1) n (omega (arith, there, end)) room in
-    let is_clock = c.clock_filled-clock.ensures ∙ ap (λ m. i.clock + (to - from) * m) c.components-count.ensures in
-    let whole : IsWhole R i.slots i.horizon rows2 = record {
-      cycles = k.len ∙ f.len ∙ table.whole.cycles;
-      components = λ t h. k.lens t ∙ f.lens t (omega (arith, h, table.whole.cycles));
-    } in
-    rw (← c.self.view_is) (
-      filled_events R g.G.Grid.laws v table from there none news few small f.versions to clock rows1 rows2 f.from end is_clock enough whole f.earlier f.passed
-          (λ t d a b e. f.rest t d a b (omega (arith, e, table.whole.cycles)))
-          (λ t d a b m. k.others t d (omega (arith, a, f.len, table.whole.cycles)) m)
-          (λ e d a b. k.still e d)
-          (λ l d a b. k.marked l d (omega (arith, a, c.components-count.ensures)) (omega (arith, b, f.len, table.whole.cycles))
-          ∙ ap (λ m. fresh (version_after (R.near i.slots d) (i.clock + (to - from - 1) * m) (held_at rows1 to d).version m)) c.components-count.ensures
-          ∙ ap (λ (r : Held g.row.G-State.Denot). fresh (version_after (R.near i.slots d) (i.clock + (to - from - 1) * n) r.version n)) (f.rest to d a (omega arith) (omega (arith, b, table.whole.cycles)))),
-      filled_firsts R g.G.Grid.laws v table from there none news few small f.versions to clock rows1 rows2 f.from end is_clock enough whole f.earlier f.passed
-          (λ t d a b e. f.rest t d a b (omega (arith, e, table.whole.cycles)))
-          (λ t d a b m. k.others t d (omega (arith, a, f.len, table.whole.cycles)) m)
-          (λ e d a b. k.still e d)
-          (λ l d a b. k.marked l d (omega (arith, a, c.components-count.ensures)) (omega (arith, b, f.len, table.whole.cycles))
-          ∙ ap (λ m. fresh (version_after (R.near i.slots d) (i.clock + (to - from - 1) * m) (held_at rows1 to d).version m)) c.components-count.ensures
-          ∙ ap (λ (r : Held g.row.G-State.Denot). fresh (version_after (R.near i.slots d) (i.clock + (to - from - 1) * n) r.version n)) (f.rest to d a (omega arith) (omega (arith, b, table.whole.cycles)))),
-    )
-
-pub returns-clause-settled : goal.returns-clause-settled
-returns-clause-settled g c =
-    let R = g.G.Grid.rules in
-    let i = c.self.inside in
-    let v : Seen g.row.G-State.Denot g.row.G-Slots.Denot = record { slots = i.slots; horizon = i.horizon; clock = i.clock; rows = i.cells } in
-    let table = c.self.invariant.table in
-    let from = c.args.from in
-    let to = c.fill_cells-to.result in
-    let n = R.components i.slots in
-    let f = c.fill_cells-to.ensures in
-    let there : from ≤ i.horizon = rw (← c.self.view_is) at c.requires.there in
-    let none : NoneDueBefore R v from 0 = rw (← c.self.view_is) at c.requires.none in
-    let news : AllNew R v from = rw (← c.self.view_is) at c.requires.news in
-    let few : n < 4294967296 = omega (arith, c.components-count.ensures) in
-    let small : from < 4294967296 = omega arith in
-    let k = c.mark_filled.ensures in
-    let rows1 = c.fill_cells-to.new.cells in
-    let rows2 = c.mark_filled.new.cells in
-    let clock = c.clock_filled-clock.result in
-    let room : i.clock + (i.horizon - from + 1) * n < 2 ^ 64 = rw (← c.self.view_is) at c.requires.room in
-    let end : to ≤ i.horizon + 1 = omega (arith, f.end, table.whole.cycles) in
-    let enough = room_for i.clock (to - from) (i.horizon - from + 1) n (omega (arith, there, end)) room in
-    let is_clock = c.clock_filled-clock.ensures ∙ ap (λ m. i.clock + (to - from) * m) c.components-count.ensures in
-    let whole : IsWhole R i.slots i.horizon rows2 = record {
-      cycles = k.len ∙ f.len ∙ table.whole.cycles;
-      components = λ t h. k.lens t ∙ f.lens t (omega (arith, h, table.whole.cycles));
-    } in
-    rw (← c.self.view_is) (λ all. filled_settled R g.G.Grid.laws v table from there none news few small f.versions to clock rows1 rows2 f.from end is_clock enough whole f.earlier f.passed
+    rw (← c.self.view_is) (at_end R g.G.Grid.laws v table from there none news few small f.versions to clock rows1 rows2 f.from end is_clock enough whole f.earlier f.passed
     (λ t d a b e. f.rest t d a b (omega (arith, e, table.whole.cycles)))
     (λ t d a b m. k.others t d (omega (arith, a, f.len, table.whole.cycles)) m)
     (λ e d a b. k.still e d)
     (λ l d a b. k.marked l d (omega (arith, a, c.components-count.ensures)) (omega (arith, b, f.len, table.whole.cycles))
     ∙ ap (λ m. fresh (version_after (R.near i.slots d) (i.clock + (to - from - 1) * m) (held_at rows1 to d).version m)) c.components-count.ensures
-    ∙ ap (λ (r : Held g.row.G-State.Denot). fresh (version_after (R.near i.slots d) (i.clock + (to - from - 1) * n) r.version n)) (f.rest to d a (omega arith) (omega (arith, b, table.whole.cycles)))) (omega (arith, all, there, end)))
+    ∙ ap (λ (r : Held g.row.G-State.Denot). fresh (version_after (R.near i.slots d) (i.clock + (to - from - 1) * n) r.version n)) (f.rest to d a (omega arith) (omega (arith, b, table.whole.cycles)))))

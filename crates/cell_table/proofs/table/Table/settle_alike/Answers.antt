@@ -1,5 +1,6 @@
 use Rattle.std.proofs.Common.{◌≡◌, ℕ, ◌+◌, ◌-◌, ◌*◌, ◌^◌, ◌<◌, ◌≤◌, ◌||◌, ◌∙◌, sym, ap, subst, arith, length, false}
 use Rattle.std.proofs.lemmas.List.{length-replicate}
+use Rattle.std.proofs.lemmas.List.Sums.{count_by-le-length}
 use Rattle.cell_marks.specs.Marked.{count_in}
 use Rattle.cell_table.specs.Seen.{Seen, held_at, row_at, due_in_row}
 use Rattle.cell_table.specs.Consistent.{IsWhole}
@@ -7,9 +8,26 @@ use Rattle.cell_table.specs.Filling.{is_awake}
 use Rattle.cell_table.specs.Passing.{woken}
 use Rattle.cell_table.specs.Settling.{NoneDueBefore, IsAt}
 use Rattle.cell_table.specs.Repeating.{any_changes, BeginsAlike, StaysAlike, AreDueAlike}
+use Rattle.cell_table.proofs.Filled.{room_changed}
 use Rattle.cell_table.proofs.Passes.{begins_at}
 use Rattle.cell_table.proofs.Repeated.{stays_less, goes_on_to, stays_table, holds_but, ranges_within}
 use Rattle.cell_table.proofs.table.Table.settle_alike.Goals as goal
+
+pub mark_changed-requires-clause-room : goal.mark_changed-requires-clause-room
+mark_changed-requires-clause-room g c =
+    let R = g.G.Grid.rules in
+    let i = c.self.inside in
+    let n = c.components-count.result in
+    let e = c.due_alike_to-end.result in
+    let m = e - c.args.cycle in
+    let changes = c.begins_alike.new.changes in
+    let wide : length c.args.spare.now.changes ≡ R.components i.slots = rw (← c.self.view_is) at c.requires.changes in
+    let width : length changes ≡ n = c.begins_alike.ensures.len ∙ ap length c.clear_all.ensures ∙ length-replicate (length c.args.spare.now.changes) false ∙ wide ∙ sym c.components-count.ensures in
+    let few : count_in changes ≤ n = omega (arith, count_by-le-length (λ b. b) changes, width) in
+    let room : i.clock + m * n < 2 ^ 64 = c.has_room.ensures c.if-not-has_room.false in
+    let some : 0 < m = omega (arith, c.due_alike_to-end.ensures.after) in
+    let is_before : c.clock_filled-before.result ≡ i.clock + (m - 1) * count_in changes = c.clock_filled-before.ensures ∙ ap (λ k. i.clock + (m - 1) * k) c.count-changed.ensures in
+    omega (arith, is_before, width, room_changed i.clock m n (count_in changes) some few room)
 
 pub invariant_of-self-2 : goal.invariant_of-self-2
 invariant_of-self-2 g c =
@@ -25,12 +43,13 @@ invariant_of-self-2 g c =
     let rows2 = c.mark_changed.new.cells in
     let clock = c.clock_filled-clock.result in
     let before = c.clock_filled-before.result in
-    let there : s ≤ i.horizon = rw (← c.self.view_is) at c.requires.there in
+    let within : c.args.end ≤ i.horizon + 1 = rw (← c.self.view_is) at c.requires.within in
+    let there : s ≤ i.horizon = omega (arith, c.requires.there, within) in
     let none : NoneDueBefore R v s 0 = rw (← c.self.view_is) at c.requires.none in
     let wide : length c.args.spare.now.changes ≡ n = rw (← c.self.view_is) at c.requires.changes in
     let width : length changes ≡ n = c.begins_alike.ensures.len ∙ ap length c.clear_all.ensures ∙ length-replicate (length c.args.spare.now.changes) false ∙ wide in
     let begins : BeginsAlike R v s changes = rw (← c.self.view_is) at (c.begins_alike.ensures.alike c.if-not-begins_alike.false) in
-    let last : c.alike_end-end.result ≤ i.horizon + 1 = rw (← c.self.view_is) at c.alike_end-end.ensures.within in
+    let last : c.alike_end-end.result ≤ i.horizon + 1 = omega (arith, c.alike_end-end.ensures.before, within) in
     let so_far : StaysAlike R v s changes c.alike_end-end.result = rw (← c.self.view_is) at c.alike_end-end.ensures.stays in
     let stays = stays_less R v s changes c.alike_end-end.result e c.due_alike_to-end.ensures.before so_far in
     let reached : (d : ℕ) → d < n → is_awake c.reach.new.reached d ≡ any_changes changes (R.near i.slots d) n = rw (← c.self.view_is) at c.reach.ensures.reached in
@@ -41,8 +60,7 @@ invariant_of-self-2 g c =
     let few : n < 4294967296 = omega (arith, c.components-count.ensures) in
     let is_clock : clock ≡ i.clock + (e - s) * count_in changes = c.clock_filled-clock.ensures ∙ ap (λ k. i.clock + (e - s) * k) c.count-changed.ensures in
     let is_before : before ≡ i.clock + (e - s - 1) * count_in changes = c.clock_filled-before.ensures ∙ ap (λ k. i.clock + (e - s - 1) * k) c.count-changed.ensures in
-    let one : e - s - 1 + 1 ≡ e - s = omega (arith, after) in
-    let room : i.clock + (e - s) * n < 2 ^ 64 = subst (λ k. i.clock + k * n < 2 ^ 64) one (subst (λ k. i.clock + (e - s - 1 + 1) * k < 2 ^ 64) c.components-count.ensures (c.has_room.ensures c.if-not-has_room.false)) in
+    let room : i.clock + (e - s) * n < 2 ^ 64 = subst (λ k. i.clock + (e - s) * k < 2 ^ 64) c.components-count.ensures (c.has_room.ensures c.if-not-has_room.false) in
     let whole : IsWhole R i.slots i.horizon rows2 = record {
       cycles = c.mark_changed.ensures.len ∙ c.repeat_cells.ensures.len ∙ table.whole.cycles;
       components = λ t h. c.mark_changed.ensures.lens t ∙ c.repeat_cells.ensures.lens t (omega (arith, h, table.whole.cycles)) ∙ width;
@@ -74,12 +92,13 @@ returns-clause-on g c =
     let rows2 = c.mark_changed.new.cells in
     let clock = c.clock_filled-clock.result in
     let before = c.clock_filled-before.result in
-    let there : s ≤ i.horizon = rw (← c.self.view_is) at c.requires.there in
+    let within : c.args.end ≤ i.horizon + 1 = rw (← c.self.view_is) at c.requires.within in
+    let there : s ≤ i.horizon = omega (arith, c.requires.there, within) in
     let none : NoneDueBefore R v s 0 = rw (← c.self.view_is) at c.requires.none in
     let wide : length c.args.spare.now.changes ≡ n = rw (← c.self.view_is) at c.requires.changes in
     let width : length changes ≡ n = c.begins_alike.ensures.len ∙ ap length c.clear_all.ensures ∙ length-replicate (length c.args.spare.now.changes) false ∙ wide in
     let begins : BeginsAlike R v s changes = rw (← c.self.view_is) at (c.begins_alike.ensures.alike c.if-not-begins_alike.false) in
-    let last : c.alike_end-end.result ≤ i.horizon + 1 = rw (← c.self.view_is) at c.alike_end-end.ensures.within in
+    let last : c.alike_end-end.result ≤ i.horizon + 1 = omega (arith, c.alike_end-end.ensures.before, within) in
     let so_far : StaysAlike R v s changes c.alike_end-end.result = rw (← c.self.view_is) at c.alike_end-end.ensures.stays in
     let stays = stays_less R v s changes c.alike_end-end.result e c.due_alike_to-end.ensures.before so_far in
     let reached : (d : ℕ) → d < n → is_awake c.reach.new.reached d ≡ any_changes changes (R.near i.slots d) n = rw (← c.self.view_is) at c.reach.ensures.reached in
@@ -90,8 +109,7 @@ returns-clause-on g c =
     let few : n < 4294967296 = omega (arith, c.components-count.ensures) in
     let is_clock : clock ≡ i.clock + (e - s) * count_in changes = c.clock_filled-clock.ensures ∙ ap (λ k. i.clock + (e - s) * k) c.count-changed.ensures in
     let is_before : before ≡ i.clock + (e - s - 1) * count_in changes = c.clock_filled-before.ensures ∙ ap (λ k. i.clock + (e - s - 1) * k) c.count-changed.ensures in
-    let one : e - s - 1 + 1 ≡ e - s = omega (arith, after) in
-    let room : i.clock + (e - s) * n < 2 ^ 64 = subst (λ k. i.clock + k * n < 2 ^ 64) one (subst (λ k. i.clock + (e - s - 1 + 1) * k < 2 ^ 64) c.components-count.ensures (c.has_room.ensures c.if-not-has_room.false)) in
+    let room : i.clock + (e - s) * n < 2 ^ 64 = subst (λ k. i.clock + (e - s) * k < 2 ^ 64) c.components-count.ensures (c.has_room.ensures c.if-not-has_room.false) in
     let whole : IsWhole R i.slots i.horizon rows2 = record {
       cycles = c.mark_changed.ensures.len ∙ c.repeat_cells.ensures.len ∙ table.whole.cycles;
       components = λ t h. c.mark_changed.ensures.lens t ∙ c.repeat_cells.ensures.lens t (omega (arith, h, table.whole.cycles)) ∙ width;
@@ -120,12 +138,13 @@ returns-clause-but g c =
     let rows2 = c.mark_changed.new.cells in
     let clock = c.clock_filled-clock.result in
     let before = c.clock_filled-before.result in
-    let there : s ≤ i.horizon = rw (← c.self.view_is) at c.requires.there in
+    let within : c.args.end ≤ i.horizon + 1 = rw (← c.self.view_is) at c.requires.within in
+    let there : s ≤ i.horizon = omega (arith, c.requires.there, within) in
     let none : NoneDueBefore R v s 0 = rw (← c.self.view_is) at c.requires.none in
     let wide : length c.args.spare.now.changes ≡ n = rw (← c.self.view_is) at c.requires.changes in
     let width : length changes ≡ n = c.begins_alike.ensures.len ∙ ap length c.clear_all.ensures ∙ length-replicate (length c.args.spare.now.changes) false ∙ wide in
     let begins : BeginsAlike R v s changes = rw (← c.self.view_is) at (c.begins_alike.ensures.alike c.if-not-begins_alike.false) in
-    let last : c.alike_end-end.result ≤ i.horizon + 1 = rw (← c.self.view_is) at c.alike_end-end.ensures.within in
+    let last : c.alike_end-end.result ≤ i.horizon + 1 = omega (arith, c.alike_end-end.ensures.before, within) in
     let so_far : StaysAlike R v s changes c.alike_end-end.result = rw (← c.self.view_is) at c.alike_end-end.ensures.stays in
     let stays = stays_less R v s changes c.alike_end-end.result e c.due_alike_to-end.ensures.before so_far in
     let reached : (d : ℕ) → d < n → is_awake c.reach.new.reached d ≡ any_changes changes (R.near i.slots d) n = rw (← c.self.view_is) at c.reach.ensures.reached in
@@ -136,8 +155,7 @@ returns-clause-but g c =
     let few : n < 4294967296 = omega (arith, c.components-count.ensures) in
     let is_clock : clock ≡ i.clock + (e - s) * count_in changes = c.clock_filled-clock.ensures ∙ ap (λ k. i.clock + (e - s) * k) c.count-changed.ensures in
     let is_before : before ≡ i.clock + (e - s - 1) * count_in changes = c.clock_filled-before.ensures ∙ ap (λ k. i.clock + (e - s - 1) * k) c.count-changed.ensures in
-    let one : e - s - 1 + 1 ≡ e - s = omega (arith, after) in
-    let room : i.clock + (e - s) * n < 2 ^ 64 = subst (λ k. i.clock + k * n < 2 ^ 64) one (subst (λ k. i.clock + (e - s - 1 + 1) * k < 2 ^ 64) c.components-count.ensures (c.has_room.ensures c.if-not-has_room.false)) in
+    let room : i.clock + (e - s) * n < 2 ^ 64 = subst (λ k. i.clock + (e - s) * k < 2 ^ 64) c.components-count.ensures (c.has_room.ensures c.if-not-has_room.false) in
     let whole : IsWhole R i.slots i.horizon rows2 = record {
       cycles = c.mark_changed.ensures.len ∙ c.repeat_cells.ensures.len ∙ table.whole.cycles;
       components = λ t h. c.mark_changed.ensures.lens t ∙ c.repeat_cells.ensures.lens t (omega (arith, h, table.whole.cycles)) ∙ width;

@@ -1,10 +1,13 @@
-use Rattle.std.proofs.Common.{◌≡◌, ◌+◌, ◌-◌, ◌*◌, length}
+use Rattle.std.proofs.Common.{◌≡◌, ◌+◌, ◌-◌, ◌*◌, ◌≤◌, length}
+use Rattle.cell_table.specs.Cells.{AtOrAfter}
 use Rattle.cell_table.specs.Settling.{IsAt}
 use Rattle.cell_table.proofs.table.Table.settle_each.Given as goal
 
 abbrev pub invariant-loop-passed : goal.invariant-loop-passed
 invariant-loop-passed g l = record {
   at : IsAt g.G.Grid.rules l.initial.self l.self l.from.cycle l.from.component l.computed;
+  before : AtOrAfter l.from.cycle l.from.component l.fn.end 0;
+  within : l.fn.end ≤ l.self.horizon + 1;
   changes : length l.spare.changes ≡ g.G.Grid.rules.components l.self.slots;
   reached : length l.spare.reached ≡ g.G.Grid.rules.components l.self.slots;
   watched : g.W.Watcher.keeps l.watcher l.self;

@@ -1,6 +1,7 @@
-use Rattle.std.proofs.Common.{◌≡◌, ◌+◌, ◌<◌, ◌^◌, false, sym, subst}
+use Rattle.std.proofs.Common.{◌≡◌, ◌+◌, ◌<◌, ◌^◌, false, Err, ap, sym, subst}
+use Rattle.cell_table.specs.declared.given.StoreFault.TheVariants.{ClockSpent}
 use Rattle.cell_table.specs.Gives.{HoldsSame}
-use Rattle.cell_table.specs.Settling.{SettlesNext, IsAt}
+use Rattle.cell_table.specs.Settling.{SettlesNext, IsSpentBefore, IsAt}
 use Rattle.cell_table.proofs.Passes.{of_some, goes_on}
 use Rattle.cell_table.proofs.table.Table.settle_more.Goals as goal
 
@@ -17,6 +18,11 @@ returns-in-Ok-Some-clause-on g c = λ first n at.
     let R = g.G.Grid.rules in
     let settled = c.in-Ok-Some.settled in
     let next = of_some (λ s. SettlesNext R c.settle_on.new.self c.settle_next.new.self c.args.from.cycle c.args.from.component s.cell) c.in-Ok-Some.field-0 settled c.in-Ok-Some.field-0-is c.in-Ok-Some.ensures.some in
-    let fits = of_some (λ s. (s.cell.cycle < 2 ^ 32) × (s.cell.component + 1 < 2 ^ 32)) c.in-Ok-Some.field-0 settled c.in-Ok-Some.field-0-is c.in-Ok-Some.ensures.fits in
+    let fits = of_some (λ s. (s.cell.cycle < c.args.end) × (s.cell.component + 1 < 2 ^ 32)) c.in-Ok-Some.field-0 settled c.in-Ok-Some.field-0-is c.in-Ok-Some.ensures.fits in
     let here = subst (λ v. IsAt R first v c.args.from.cycle c.args.from.component n) (sym c.in-None.ensures.none) at in
     goes_on R first c.settle_on.new.self c.settle_next.new.self c.args.from.cycle c.args.from.component n settled.cell here next fits.1
+
+pub returns-in-Err-clause-spent : goal.returns-in-Err-clause-spent
+returns-in-Err-clause-spent g c =
+    λ e. let same : c.in-Err.fault ≡ ClockSpent = cc in
+    subst (λ v. IsSpentBefore g.G.Grid.rules c.args.end v c.args.from.cycle c.args.from.component) c.in-None.ensures.none (c.in-Err.ensures.spent (ap Err same))

@@ -15,9 +15,7 @@ refilled-requires g c = (
 
 pub overflow_add-result : goal.overflow_add-result
 overflow_add-result g c =
-    let i = c.self.inside in
-    let within : c.in-Some.cell.cycle + c.in-Some-settle_alike.alike.cycles ≤ i.horizon + 1 = rw (← c.self.view_is) at c.in-Some-settle_alike.ensures.within in
-    omega (arith, within, c.cycles-cycles.ensures, c.self.invariant.table.whole.cycles)
+    omega (arith, c.in-Some-settle_alike.ensures.before)
 
 pub returns-clause-on : goal.returns-clause-on
 returns-clause-on g c =
@@ -27,7 +25,7 @@ returns-clause-on g c =
     let from = c.args.from in
     let cell = c.in-Some.cell in
     let none : NoneDueBefore R v from.cycle from.component = rw (← c.self.view_is) at c.requires.none in
-    let next : IsNextDue R v from.cycle from.component cell = rw (← c.self.view_is) at c.in-Some.ensures in
+    let next : IsNextDue R v from.cycle from.component cell = rw (← c.self.view_is) at c.in-Some.ensures.0 in
     let row : (k : ℕ) → (held_at i.cells from.cycle k).is_due ≡ false = rw (← c.self.view_is) at (c.is_row_due.ensures c.if-is_row_due.false) in
     let later = further v from.cycle cell.cycle cell.component next.after.0 next.due row (cases_lt from.cycle cell.cycle) in
     let on : (first : Seen g.row.G-State.Denot g.row.G-Slots.Denot) (n : ℕ) → IsAt R first v cell.cycle 0 n → IsAt R first c.settle_alike.new.self (cell.cycle + c.in-Some-settle_alike.alike.cycles) 0 (n + c.in-Some-settle_alike.alike.computed) = rw (← c.self.view_is) at c.in-Some-settle_alike.ensures.on in
