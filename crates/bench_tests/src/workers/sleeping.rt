@@ -16,7 +16,7 @@ use std::time::{Clock, Duration};
 use wave_workers::{Gate, attend};
 
 /// How many milliseconds something is waited for at most.
-const LONGEST: u32 = 5_000;
+const LONGEST: u32 = 15_000;
 
 /// What the workers are told, and tell.
 #[derive(Drop)]

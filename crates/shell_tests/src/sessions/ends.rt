@@ -14,12 +14,12 @@ use wave_workers::Gate;
 use worker_sessions::{Hall, Left};
 
 /// How many milliseconds the end is waited for at most.
-const LONGEST: u32 = 5_000;
+const LONGEST: u32 = 30_000;
 
 /// How often a gate looks for the last read at most, and how often it yields behind that.
 const MOST_LOOKS: u32 = 10_000_000;
 
-const MORE_LOOKS: u32 = 20_000;
+const MORE_LOOKS: u32 = 2_000;
 
 /// What a reader, the gates and the test tell each other.
 #[derive(Drop)]
