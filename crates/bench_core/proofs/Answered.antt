@@ -1,20 +1,15 @@
 -- What an answer of a bench says of the run of its project.
 use Rattle.std.proofs.Common.{◌≡◌, ◌≢◌, ℕ, zero, suc, refl, Option, None, Some, Ok}
 use Rattle.std.specs.Prelude.{Result, Err}
-use Rattle.cell_table.specs.Settling.{IsClockSpent}
-use Rattle.cell_table.specs.declared.given.SettleFault.{SettleFault}
-use Rattle.cell_table.specs.declared.given.SettleFault.TheVariants as settle
-use Rattle.project_book.specs.Project.{Project}
 use Rattle.run_queries.specs.declared.query.Query.{Query}
 use Rattle.run_queries.specs.declared.body.Body.{Body}
 use Rattle.run_queries.specs.Bad.{bad_query}
 use Rattle.run_queries.specs.Answers.{answer, unless}
 use Rattle.bench_core.specs.declared.asked.Asked.{Asked}
 use Rattle.bench_core.specs.declared.asked.Asked.TheVariants as asked
-use Rattle.bench_core.specs.declared.told.Told.TheVariants as says
 use Rattle.bench_core.specs.Shown.{Shown, project_of, version_of}
 use Rattle.bench_core.specs.Asks.{asked as asked_of, asked_unless, told_unless, told, pending, MayWant, AsksAs}
-use Rattle.bench_core.specs.Told.{AnswersAt, TellsAt, told_at_fault}
+use Rattle.bench_core.specs.Told.{AnswersAt}
 
 answer_of : (bad : Option ℕ) (n version v : ℕ) (says : Result Body ℕ) (body : Body) → asked.Answer v body ≡ asked_unless bad (told_unless n (told version says)) → (says ≡ Ok body) × (v ≡ version)
 answer_of None zero version v (Ok b) body h = (cc, cc)
@@ -65,17 +60,3 @@ answers_at b q (asked.Answer v body) h = let a = answer_told b q v body h in (a.
 answers_at b q (asked.BadQuery k) h = bad_told b q k h
 answers_at b q (asked.Pending due) h = pending_good b q due h
 answers_at b q asked.Memory h = wanting_good b q h
-
--- what is told in place of a settling's fault
-told_fault_by : (P : Project) (v : ℕ) (q : Query) (fault : SettleFault) (bad : Option ℕ) → bad_query P q ≡ bad → TellsAt P v q (told_at_fault bad fault)
-told_fault_by P v q fault (Some n) is = rw is refl
-told_fault_by P v q (settle.ClockSpent n) None is = is
-told_fault_by P v q (settle.Memory n) None is = is
-
-pub told_fault : (P : Project) (v : ℕ) (q : Query) (fault : SettleFault) → TellsAt P v q (told_at_fault (bad_query P q) fault)
-told_fault P v q fault = told_fault_by P v q fault (bad_query P q) refl
-
-pub spent_fault : (bad : Option ℕ) (fault : SettleFault) → told_at_fault bad fault ≡ says.ClockSpent → IsClockSpent fault
-spent_fault (Some n) fault h = absurd cc
-spent_fault None (settle.ClockSpent n) h = tt
-spent_fault None (settle.Memory n) h = absurd cc

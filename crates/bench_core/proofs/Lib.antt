@@ -10,3 +10,6 @@ pub mod Standing
 pub mod Waiting
 pub mod Happening
 pub mod Keeping
+pub mod Settled
+pub mod Seeking
+pub mod Answering

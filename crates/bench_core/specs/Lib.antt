@@ -6,5 +6,8 @@ pub mod Edits
 pub mod Asks
 pub mod Answers
 pub mod Told
+pub mod Settled
+pub mod Seeking
+pub mod Answering
 pub mod Recent
 pub mod Filling

@@ -1,5 +1,5 @@
 -- What is said of the run of a project at a version.
-use Rattle.std.specs.Prelude.{◌≡◌, ◌≢◌, ℕ, Option, None, Some, Ok, Err}
+use Rattle.std.specs.Prelude.{◌≡◌, ◌≢◌, ℕ, None, Ok, Err}
 use Rattle.cell_table.specs.declared.given.SettleFault.{SettleFault}
 use Rattle.cell_table.specs.declared.given.SettleFault.TheVariants as settle
 use Rattle.project_book.specs.Project.{Project}
@@ -10,11 +10,13 @@ use Rattle.project_book.specs.declared.fault.EditFault.TheVariants.{ClockSpent, 
 use Rattle.run_queries.specs.Bad.{bad_query}
 use Rattle.run_queries.specs.Answers.{answer}
 use Rattle.run_queries.specs.declared.query.Query.{Query}
+use Rattle.run_queries.specs.declared.query.Query.TheVariants.{Reply}
+use Rattle.run_queries.specs.declared.body.Body.{Body}
 use Rattle.bench_core.specs.declared.told.Told.{Told}
 use Rattle.bench_core.specs.declared.told.Told.TheVariants as told
 use Rattle.bench_core.specs.declared.asked.Asked.{Asked}
 use Rattle.bench_core.specs.declared.asked.Asked.TheVariants as asked
-use Rattle.bench_core.specs.Shown.{Shown}
+use Rattle.bench_core.specs.Shown.{Shown, project_of, version_of}
 use Rattle.bench_core.specs.Asks.{AsksAs}
 
 -- what is told of a query at version v: an answer is that of the run of P, simulated from cycle 0, and a refusal is by P
@@ -38,15 +40,21 @@ RefusesAt P v e ClockSpent = accepts P v e ≡ Ok tt
 RefusesAt P v e Memory = accepts P v e ≡ Ok tt
 RefusesAt P v e fault = accepts P v e ≡ Err fault
 
--- what is told where settling met this fault: the reason that the query's own numbers give against it, else the fault
-abbrev pub told_at_fault : Option ℕ → SettleFault → Told
-told_at_fault (Some n) fault = told.BadQuery n
-told_at_fault None (settle.ClockSpent n) = told.ClockSpent
-told_at_fault None (settle.Memory n) = told.Memory
+-- what is told where settling met this fault
+abbrev pub told_at_fault : SettleFault → Told
+told_at_fault (settle.ClockSpent n) = told.ClockSpent
+told_at_fault (settle.Memory n) = told.Memory
 
--- what is told where settling met none: what is asked then
+-- an answer of a bench that was settled for the query: what the one that is left is asked; but a reply may be told while cells
+-- are due that it doesn't look at, and is that of the run
+abbrev pub AnswersAsked : Shown → Query → ℕ → Body → Type 0
+AnswersAsked b (Reply p n) version body = (version ≡ version_of b) × (answer (project_of b) (Reply p n) ≡ Ok body)
+AnswersAsked b q version body = AsksAs b q (asked.Answer version body)
+
+-- what is told by a bench that was settled for the query, by the one that is left; a spent clock and want of memory only where
+-- the query's own numbers give no reason against it
 abbrev pub TellsAsked : Shown → Query → Told → Type 0
-TellsAsked b q (told.Answer version body) = AsksAs b q (asked.Answer version body)
+TellsAsked b q (told.Answer version body) = AnswersAsked b q version body
 TellsAsked b q (told.BadQuery n) = AsksAs b q (asked.BadQuery n)
-TellsAsked b q told.ClockSpent = ⊥
-TellsAsked b q told.Memory = AsksAs b q asked.Memory
+TellsAsked b q told.ClockSpent = bad_query (project_of b) q ≡ None
+TellsAsked b q told.Memory = bad_query (project_of b) q ≡ None

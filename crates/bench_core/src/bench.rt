@@ -6,12 +6,14 @@ ghost use Rattle.machine_cells.specs.GridRules.{rp3_rules};
 ghost use Rattle.bench_core.specs.Shown.{project_of, version_of, IsBench};
 ghost use Rattle.bench_core.specs.Stands.{Stands, HasHistory};
 
+mod answering;
 mod asking;
 mod editing;
 mod looking;
 mod one_order;
 mod ordering;
 mod reporting;
+mod seeking;
 mod settling;
 mod wave;
 

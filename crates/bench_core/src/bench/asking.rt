@@ -13,13 +13,11 @@ ghost use Rattle.bench_core.specs.Events.{Event, Opening};
 ghost use Rattle.bench_core.specs.Stands.{Stands};
 ghost use Rattle.bench_core.specs.Asks.{module_of, waits, last_cycle, IsUpTo, pending, AsksAs, TellsRun, LooksAtCell, HoldsRunTo, IsUpToDate};
 ghost use Rattle.bench_core.specs.Answers.{AnswersRun, AsksRun};
-ghost use Rattle.bench_core.specs.Told.{TellsAt, told_at_fault};
-ghost use Rattle.cell_table.specs.Settling.{IsClockSpent};
 
 use super::Bench;
+use crate::Asked;
 use crate::recent::Asking;
-use crate::{Asked, Told};
-use cell_table::{Cell, SettleFault};
+use cell_table::Cell;
 use grid_law::NoMemory;
 use omega_net::Shape;
 use page_map::Place;
@@ -160,7 +158,7 @@ impl Bench {
 
     /// What the run says to a query: what was told of it at this version, where that is still kept, else what is found,
     /// which is kept from then on.
-    fn told<R: Threads + Sync>(&mut self, rt: &R, query: Query) -> Asked
+    pub(super) fn told<R: Threads + Sync>(&mut self, rt: &R, query: Query) -> Asked
         requires good { bad_query (project_of self.old) query ≡ None }
         requires there { IsUpToDate self.old query }
         ensures tells { TellsRun self.old query result }
@@ -212,22 +210,5 @@ impl Bench {
         ensures headline_asks { (o : Opening) (h : List Event) → Stands o self.old h → AsksRun o h query result }
     {
         self.ask_plain(rt, query)
-    }
-
-    /// What a query is told where settling met a fault: the reason that its own numbers give against it (BadQuery 1, 2, 3, 5
-    /// or 6), else the fault.
-    #[tactic(auto, using(crate::proofs::Answered::told_fault, crate::proofs::Answered::spent_fault))]
-    pub fn told_at_fault(&self, fault: SettleFault, query: Query) -> Told
-        ensures is { result ≡ told_at_fault (bad_query (project_of self.now) query) fault }
-        ensures told { TellsAt (project_of self.now) (version_of self.now) query result }
-        ensures spent { result ≡ Told.ClockSpent → IsClockSpent fault }
-    {
-        if let Some(number) = query.bad(self.project()) {
-            return Told::BadQuery(number);
-        }
-        match fault {
-            SettleFault::ClockSpent { .. } => Told::ClockSpent,
-            SettleFault::Memory { .. } => Told::Memory,
-        }
     }
 }

@@ -1,5 +1,5 @@
 //! Looking up replies, states and words.
-ghost use Rattle.std.specs.Prelude.{◌≡◌, ◌<◌, ◌*◌, suc, is_some, true, nat_lt, if◌then◌else◌};
+ghost use Rattle.std.specs.Prelude.{◌≡◌, ◌<◌, ◌≤◌, ◌*◌, suc, is_some, true, nat_lt, if◌then◌else◌};
 ghost use Rattle.std.specs.Option.{option_copied};
 ghost use Rattle.omega_net.specs.Numbers.{components};
 ghost use Rattle.page_map.specs.Limits.{address_count};
@@ -7,6 +7,7 @@ ghost use Rattle.run_queries.specs.Answers.{has_sent, issued, first_reply, found
 ghost use Rattle.run_queries.specs.declared.query.Query.TheVariants.{Reply as ReplyTo, State as StateOf, Memory as MemoryAt};
 ghost use Rattle.bench_core.specs.Shown.{project_of, version_of, held};
 ghost use Rattle.bench_core.specs.Asks.{TellsAs};
+ghost use Rattle.bench_core.specs.Seeking.{replied_in};
 
 use super::Bench;
 use crate::Asked;
@@ -23,47 +24,61 @@ fn sent_in(state: Option<&MachineState>, cycles: u32) -> u32
 }
 
 impl Bench {
-    /// Whether a processor issued so many references and one more by the horizon. The stretches of its
-    /// equal states are looked at from cycle 0 on, each once, until it is known.
-    fn has_issued(&self, proc: u32, issue: u32) -> bool
-        requires { proc < components (project_of self.now).k }
-        ensures { result ≡ nat_lt issue (issued (λ t. held self.now.table t proc) (suc (project_of self.now).horizon)) }
+    /// Whether a processor issued so many references and one more by a cycle. The stretches of its equal
+    /// states are looked at from cycle 0 on, each once, until it is known.
+    fn has_issued(&self, proc: u32, issue: u32, last: u32) -> bool
+        requires proc { proc < components (project_of self.now).k }
+        requires within { last ≤ (project_of self.now).horizon }
+        ensures { result ≡ nat_lt issue (issued (λ t. held self.now.table t proc) (suc last)) }
     {
         self.is_bench();
-        let horizon = self.project().horizon();
         let component = proc;
         let mut count = 0;
         let mut cycle = 0;
         let mut hint = 0;
-        while cycle <= horizon && count <= issue {
+        while cycle <= last && count <= issue {
             let part = self.table.standing(Cell { cycle, component }, hint);
-            count += sent_in(part.state, part.end - cycle);
-            cycle = part.end;
+            let end = part.end.min(last + 1);
+            count += sent_in(part.state, end - cycle);
+            cycle = end;
             hint = part.stretch.saturating_add(1);
         }
         count > issue
     }
 
-    /// The first reply that a processor received for an issue number, by the horizon. The stretches of
-    /// its equal states are looked at from cycle 0 on, each once, up to that one.
-    fn first_reply(&self, proc: u32, issue: u32) -> Option<Received>
-        requires { proc < components (project_of self.now).k }
-        ensures { result ≡ first_reply (λ t. held self.now.table t proc) issue (suc (project_of self.now).horizon) }
+    /// The first reply that a processor received for an issue number, by a cycle. The stretches of its equal
+    /// states are looked at from cycle 0 on, each once, up to that one.
+    fn first_reply(&self, proc: u32, issue: u32, last: u32) -> Option<Received>
+        requires proc { proc < components (project_of self.now).k }
+        requires within { last ≤ (project_of self.now).horizon }
+        ensures { result ≡ first_reply (λ t. held self.now.table t proc) issue (suc last) }
     {
         self.is_bench();
-        let horizon = self.project().horizon();
         let component = proc;
         let mut cycle = 0;
         let mut hint = 0;
-        while cycle <= horizon {
+        while cycle <= last {
             let part = self.table.standing(Cell { cycle, component }, hint);
             match word_got(part.state, issue) {
                 Some(word) => return Some(Received { cycle, word }),
-                None => cycle = part.end,
+                None => cycle = part.end.min(last + 1),
             }
             hint = part.stretch.saturating_add(1);
         }
         None
+    }
+
+    /// What the states held up to a cycle tell of a reference: its reply, once it was issued and answered.
+    pub(super) fn replied_by(&self, proc: u32, issue: u32, last: u32) -> Option<Received>
+        requires proc { proc < components (project_of self.now).k }
+        requires within { last ≤ (project_of self.now).horizon }
+        ensures { result ≡ replied_in (λ t. held self.now.table t proc) issue (suc last) }
+    {
+        if self.has_issued(proc, issue, last) {
+            self.first_reply(proc, issue, last)
+        } else {
+            None
+        }
     }
 
     /// What the states held say to a query of a reply.
@@ -71,10 +86,11 @@ impl Bench {
         requires { proc < components (project_of self.now).k }
         ensures { TellsAs (version_of self.now) (found_in (held self.now.table) (project_of self.now) (ReplyTo proc issue)) result }
     {
-        if !self.has_issued(proc, issue) {
+        let horizon = self.project().horizon();
+        if !self.has_issued(proc, issue, horizon) {
             return Asked::BadQuery(4);
         }
-        self.answered(Body::Reply(self.first_reply(proc, issue)))
+        self.answered(Body::Reply(self.first_reply(proc, issue, horizon)))
     }
 
     /// What the state held says to a query of a state, which is there.

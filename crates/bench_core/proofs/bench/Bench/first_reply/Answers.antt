@@ -2,7 +2,7 @@ use Rattle.std.proofs.Common.{◌≡◌, ℕ, suc, ◌+◌, ◌<◌, ◌≤◌, 
 use Rattle.std.specs.Option.{option_copied}
 use Rattle.machine_cells.specs.declared.state.MachineState.{MachineState}
 use Rattle.run_queries.specs.Answers.{word_got, first_reply}
-use Rattle.bench_core.specs.Shown.{project_of, held}
+use Rattle.bench_core.specs.Shown.{held}
 use Rattle.run_queries.proofs.Stretches.{reply_stays, no_reply_until}
 use Rattle.bench_core.proofs.bench.Bench.first_reply.Goals as goal
 
@@ -12,29 +12,30 @@ returns-in-Some c =
     let at : ℕ → Option MachineState = λ t. held b.table t c.args.proc in
     let state : option_copied c.standing-part.result.state ≡ at c.loop-cycle.cycle = rw (← c.self.view_is) c.standing-part.ensures.state in
     let got : word_got c.args.issue (at c.loop-cycle.cycle) ≡ Some c.in-Some.word = ap (word_got c.args.issue) (sym state) ∙ (sym c.word_got.ensures ∙ c.in-Some.is) in
-    let end : c.horizon-horizon.result ≡ (project_of b).horizon = rw c.project.ensures at c.horizon-horizon.ensures.horizon in
-    let before : c.loop-cycle.cycle < suc (project_of b).horizon = omega (arith, end, c.loop-cycle-test.true) in
-    sym (reply_stays at c.args.issue c.loop-cycle.cycle (suc (project_of b).horizon) c.in-Some.word c.loop-cycle.invariant.none got before)
+    let before : c.loop-cycle.cycle < suc c.args.last = omega (arith, c.loop-cycle-test.true) in
+    sym (reply_stays at c.args.issue c.loop-cycle.cycle (suc c.args.last) c.in-Some.word c.loop-cycle.invariant.none got before)
 
 pub loop-cycle-preserved : goal.loop-cycle-preserved
 loop-cycle-preserved c =
     let b = c.args.self.now in
     let at : ℕ → Option MachineState = λ t. held b.table t c.args.proc in
     let from = c.loop-cycle.cycle in
-    let to = c.standing-part.result.end in
+    let to = c.min-cycle.result in
+    let at_most : to ≤ c.standing-part.result.end = omega (arith, c.min-cycle.ensures) in
+    let within : to ≤ c.args.last + 1 = omega (arith, c.min-cycle.ensures) in
+    let on : from ≤ to = omega (arith, c.min-cycle.ensures, c.standing-part.ensures.after, c.loop-cycle.invariant.within) in
     let state : option_copied c.standing-part.result.state ≡ at from = rw (← c.self.view_is) c.standing-part.ensures.state in
-    let same : (t : ℕ) → from ≤ t → t < to → at t ≡ at from = rw (← c.self.view_is) c.standing-part.ensures.same in
-    let within : to ≤ b.table.horizon + 1 = rw (← c.self.view_is) c.standing-part.ensures.within in
+    let stretch : (t : ℕ) → from ≤ t → t < c.standing-part.result.end → at t ≡ at from = rw (← c.self.view_is) c.standing-part.ensures.same in
+    let same : (t : ℕ) → from ≤ t → t < to → at t ≡ at from = λ t l k. stretch t l (omega (arith, k, at_most)) in
     let none : word_got c.args.issue (at from) ≡ None = ap (word_got c.args.issue) (sym state) ∙ (sym c.word_got.ensures ∙ c.in-None.is) in
     record {
-      none = no_reply_until at c.args.issue from to c.loop-cycle.invariant.none none (omega (arith, c.standing-part.ensures.after)) same;
-      within = omega (arith, within, c.is_bench.ensures.bench.horizon);
+      none = no_reply_until at c.args.issue from to c.loop-cycle.invariant.none none on same;
+      within = within;
     }
 
 pub returns : goal.returns
 returns c =
     let b = c.args.self.now in
     let at : ℕ → Option MachineState = λ t. held b.table t c.args.proc in
-    let end : c.horizon-horizon.result ≡ (project_of b).horizon = rw c.project.ensures at c.horizon-horizon.ensures.horizon in
-    let all : c.loop-cycle.cycle ≡ suc (project_of b).horizon = omega (arith, end, c.loop-cycle.invariant.within, c.loop-cycle-test.false) in
+    let all : c.loop-cycle.cycle ≡ suc c.args.last = omega (arith, c.loop-cycle.invariant.within, c.loop-cycle-test.false) in
     sym (subst (λ n. first_reply at c.args.issue n ≡ None) all c.loop-cycle.invariant.none)

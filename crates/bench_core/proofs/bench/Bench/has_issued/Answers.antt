@@ -2,7 +2,7 @@ use Rattle.std.proofs.Common.{◌≡◌, ℕ, suc, ◌+◌, ◌-◌, ◌<◌, �
 use Rattle.std.specs.Option.{option_copied}
 use Rattle.machine_cells.specs.declared.state.MachineState.{MachineState}
 use Rattle.run_queries.specs.Answers.{has_sent, issued}
-use Rattle.bench_core.specs.Shown.{project_of, held}
+use Rattle.bench_core.specs.Shown.{held}
 use Rattle.run_queries.proofs.Stretches.{issued_until, count_tells}
 use Rattle.bench_core.proofs.bench.Bench.has_issued.Goals.{then-loop-cycle-test+else-count-issue, else-loop-cycle-test}
 use Rattle.bench_core.proofs.bench.Bench.has_issued.Goals as goal
@@ -13,18 +13,21 @@ loop-cycle-preserved c =
     let at : ℕ → Option MachineState = λ t. held b.table t c.args.proc in
     let inv = c.loop-cycle.invariant in
     let from = c.loop-cycle.cycle in
-    let to = c.standing-part.result.end in
+    let to = c.min-end.result in
     let sent = c.sent_in-count.result in
+    let at_most : to ≤ c.standing-part.result.end = omega (arith, c.min-end.ensures) in
+    let within : to ≤ c.args.last + 1 = omega (arith, c.min-end.ensures) in
+    let on : from ≤ to = omega (arith, c.min-end.ensures, c.standing-part.ensures.after, inv.within) in
     let state : option_copied c.standing-part.result.state ≡ at from = rw (← c.self.view_is) c.standing-part.ensures.state in
-    let same : (t : ℕ) → from ≤ t → t < to → at t ≡ at from = rw (← c.self.view_is) c.standing-part.ensures.same in
-    let within : to ≤ b.table.horizon + 1 = rw (← c.self.view_is) c.standing-part.ensures.within in
-    let more : issued at to ≡ issued at from + cond (has_sent (at from)) (to - from) 0 = issued_until at from to (omega (arith, c.standing-part.ensures.after)) same in
+    let stretch : (t : ℕ) → from ≤ t → t < c.standing-part.result.end → at t ≡ at from = rw (← c.self.view_is) c.standing-part.ensures.same in
+    let same : (t : ℕ) → from ≤ t → t < to → at t ≡ at from = λ t l k. stretch t l (omega (arith, k, at_most)) in
+    let more : issued at to ≡ issued at from + cond (has_sent (at from)) (to - from) 0 = issued_until at from to on same in
     let here : sent ≡ cond (has_sent (at from)) (to - from) 0 = rw state at c.sent_in-count.ensures in
     let less : sent ≤ to - from = grind (arith, here) in
     record {
       is = omega (arith, inv.is, here, more);
-      few = omega (arith, inv.few, less, c.standing-part.ensures.after);
-      within = omega (arith, within, c.is_bench.ensures.bench.horizon);
+      few = omega (arith, inv.few, less, on);
+      within = within;
     }
 
 pub returns : goal.returns
@@ -32,9 +35,8 @@ returns c =
     let b = c.args.self.now in
     let at : ℕ → Option MachineState = λ t. held b.table t c.args.proc in
     let inv = c.loop-cycle.invariant in
-    let end : c.horizon-horizon.result ≡ (project_of b).horizon = rw c.project.ensures at c.horizon-horizon.ensures.horizon in
-    let known : (c.args.issue < c.loop-cycle.count) ⊎ (c.loop-cycle.cycle ≡ suc (project_of b).horizon) = elim c.loop-cycle-test.branch [
+    let known : (c.args.issue < c.loop-cycle.count) ⊎ (c.loop-cycle.cycle ≡ suc c.args.last) = elim c.loop-cycle-test.branch [
       | then-loop-cycle-test+else-count-issue w ↦ inl w.if-count-issue.false
-      | else-loop-cycle-test w ↦ inr (omega (arith, end, inv.within, w.loop-cycle-test.false))
+      | else-loop-cycle-test w ↦ inr (omega (arith, inv.within, w.loop-cycle-test.false))
     ] in
-    count_tells at c.args.issue c.loop-cycle.count c.loop-cycle.cycle (suc (project_of b).horizon) inv.is (omega (arith, inv.within)) known
+    count_tells at c.args.issue c.loop-cycle.count c.loop-cycle.cycle (suc c.args.last) inv.is (omega (arith, inv.within)) known
