@@ -8,7 +8,6 @@ use Rattle.project_book.specs.declared.fault.EditFault.TheVariants.{Memory}
 use Rattle.bench_core.specs.Shown.{Shown, project_of, version_of}
 use Rattle.bench_core.specs.Edits.{admits, Refuses}
 use Rattle.bench_core.proofs.Admitting.{admitted, made_refuses, refuses_at, refused_wants}
-pub use Rattle.bench_core.proofs.Answered.{bad_told, never_pending, wanting_good}
 use Rattle.bench_shell.specs.Store.{Store, version_in, store_of, edited_store, EditGives}
 
 -- the store after a noted edit

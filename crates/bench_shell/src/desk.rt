@@ -48,8 +48,9 @@ pub trait Desk {
         ensures spent { result ≡ Err EditFault.ClockSpent → clock_is_spent self.new }
         ensures wants { result ≡ Err EditFault.Memory → ¬ clock_is_spent self.new };
 
-    /// Brings the run up to date, and answers a question about it. Threads may take part. Project and journal stay as they
-    /// are, and the cells that were stored stay stored, whatever it answers.
+    /// Brings the run up to date as far as the answer looks, and answers a question about it. Threads may take part. Project
+    /// and journal stay as they are, and the cells that were stored stay stored, whatever it answers. A desk may leave cells
+    /// due behind the last cycle that was asked for.
     fn ask<T: Threads + Sync>(&mut self, rt: &T, query: Query) -> Told
         // Calls of a trait have such bounds by a clause alone.
         requires { IsSync T.row }

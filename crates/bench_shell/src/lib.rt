@@ -21,7 +21,6 @@ mod held;
 mod session;
 
 pub use answer::Answer;
-pub use bench::answered;
 pub use desk::Desk;
 pub use ends::{Reading, Sink, Source, Writing};
 pub use fault::RunFault;

@@ -1,7 +1,7 @@
 //! What a bench notes, and what it answers where it has answered before, or where cells are due.
 
 use crate::base::{adds, entry, fresh, word};
-use bench_core::{Asked, Bench, Noted};
+use bench_core::{Asked, Bench, Noted, Told};
 use cell_table::Settled;
 use expect::equal;
 use monitor_sums::Counter;
@@ -179,6 +179,112 @@ fn settled_as_far_as_asked(rt: HostRuntime) -> Result<(), Fail> {
     );
     assert!(rt; equal(&rt, bench.settle_to(7), Ok(Settled { computed: 24 })));
     assert!(rt; equal(&rt, bench.settle(), Ok(Settled { computed: 18 })));
+    Ok(())
+}
+
+/// What is told, behind its version, or the reason against the question.
+fn told<R: Threads + Sync>(
+    rt: &R,
+    alloc: Global,
+    bench: &mut Bench,
+    query: Query,
+) -> Result<String, Fail> {
+    match bench.answer(rt, query) {
+        Told::Answer { version, body } => Ok(format!(in alloc; "{version} {body}")?),
+        Told::BadQuery(number) => Ok(format!(in alloc; "bad {number}")?),
+        _ => Err(Fail::from("nothing told")),
+    }
+}
+
+/// The word of address 300, which stands in module 1, before cycle 1.
+const EARLY_WORD: Query = Query::Memory {
+    address: 300,
+    cycle: 0,
+};
+
+/// An edit of a word of module 1 makes a cell due at cycle 0. Its new state, once asked for, makes three due at cycle 1, the
+/// module's own and those of the two switches beside it, and these stay due until a question looks at them.
+#[test]
+fn answered_as_far_as_it_looks(rt: HostRuntime) -> Result<(), Fail> {
+    let alloc = rt.alloc();
+    let mut bench = settled(alloc)?;
+    bench.edit(0, word(300, 5))?;
+    assert!(rt;
+        equal(
+            &rt,
+            told(&rt, alloc, &mut bench, EARLY_WORD)?.as_str(),
+            "1 5"
+        )
+    );
+    assert!(rt; equal(&rt, text(&rt, alloc, &mut bench, SERVED)?.as_str(), "3 due"));
+    assert!(rt; equal(&rt, told(&rt, alloc, &mut bench, SERVED)?.as_str(), "1 0"));
+    assert!(rt; equal(&rt, text(&rt, alloc, &mut bench, SERVED)?.as_str(), "1 0"));
+    Ok(())
+}
+
+/// Neither a question that looks at no cell nor one that its numbers refuse computes any of the 66.
+#[test]
+fn answered_without_a_cell(rt: HostRuntime) -> Result<(), Fail> {
+    let alloc = rt.alloc();
+    let mut bench = fresh(alloc)?;
+    let place = Query::Place { address: 300 };
+    let bound = Query::Bound { a: 2, b: 1, p: 4 };
+    let beyond = Query::State {
+        component: 0,
+        cycle: 11,
+    };
+    assert!(rt;
+        equal(
+            &rt,
+            told(&rt, alloc, &mut bench, place)?.as_str(),
+            "0 1:300"
+        )
+    );
+    assert!(rt; equal(&rt, told(&rt, alloc, &mut bench, bound)?.as_str(), "bad 6"));
+    assert!(rt; equal(&rt, told(&rt, alloc, &mut bench, beyond)?.as_str(), "bad 2"));
+    assert!(rt;
+        equal(
+            &rt,
+            text(&rt, alloc, &mut bench, SERVED)?.as_str(),
+            "66 due"
+        )
+    );
+    Ok(())
+}
+
+/// A reply that comes early computes no cell behind cycle 15 of 100: the addition goes out at cycle 1
+/// and is answered at cycle 6, and the next cycle's six cells stay due. One that was never issued computes all.
+#[test]
+fn a_reply_is_sought_no_further(rt: HostRuntime) -> Result<(), Fail> {
+    let alloc = rt.alloc();
+    let mut bench = fresh(alloc)?;
+    bench.edit(0, Edit::Horizon(100))?;
+    bench.edit(0, add(0, 5))?;
+    let reply = Query::Reply { proc: 0, issue: 0 };
+    assert!(rt; equal(&rt, told(&rt, alloc, &mut bench, reply)?.as_str(), "2 at 6 word 10"));
+    assert!(rt;
+        equal(
+            &rt,
+            text(&rt, alloc, &mut bench, served_to(15))?.as_str(),
+            "2 1"
+        )
+    );
+    assert!(rt;
+        equal(
+            &rt,
+            text(&rt, alloc, &mut bench, served_to(16))?.as_str(),
+            "6 due"
+        )
+    );
+    let beyond = Query::Reply { proc: 0, issue: 1 };
+    assert!(rt; equal(&rt, told(&rt, alloc, &mut bench, beyond)?.as_str(), "bad 4"));
+    assert!(rt;
+        equal(
+            &rt,
+            text(&rt, alloc, &mut bench, served_to(100))?.as_str(),
+            "2 1"
+        )
+    );
     Ok(())
 }
 

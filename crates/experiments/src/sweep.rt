@@ -6,14 +6,13 @@ ghost use Rattle.bench_core.specs.Shown.{project_of};
 ghost use Rattle.experiments.specs.Told.{IsReason, IsWant, IsEditReason};
 
 use crate::Fault;
-use bench_core::{Asked, Bench};
-use cell_table::SettleFault;
+use bench_core::{Bench, Told};
 use project_book::Edit;
 use run_queries::{Body, Query};
 use std::alloc::Global;
 use std::thread::Threads;
 
-/// What the run of the bench's project says to a query; the cells that are due are computed first.
+/// What the run of the bench's project says to a query; the due cells that the answer looks at are computed first.
 ///
 /// # Errors
 ///
@@ -24,18 +23,11 @@ pub fn told<T: Threads + Sync>(rt: &T, bench: &mut Bench, query: Query) -> Resul
     ensures bad { IfErr result (IsReason bench.new.table.clock (project_of bench.old) query) }
     ensures project { project_of bench.new ≡ project_of bench.old }
 {
-    if let Some(number) = query.bad(bench.project()) {
-        return Err(Fault::Query(number));
-    }
-    match bench.settle() {
-        Ok(_) => {}
-        Err(SettleFault::ClockSpent { .. }) => return Err(Fault::Clock),
-        Err(SettleFault::Memory { .. }) => return Err(Fault::Memory),
-    }
-    match bench.ask(rt, query) {
-        Asked::Answer { body, .. } => Ok(body),
-        Asked::BadQuery(number) => Err(Fault::Query(number)),
-        Asked::Pending(_) | Asked::Memory => Err(Fault::Memory),
+    match bench.answer(rt, query) {
+        Told::Answer { body, .. } => Ok(body),
+        Told::BadQuery(number) => Err(Fault::Query(number)),
+        Told::ClockSpent => Err(Fault::Clock),
+        Told::Memory => Err(Fault::Memory),
     }
 }
 

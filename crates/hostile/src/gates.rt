@@ -3,6 +3,7 @@ use crate::benches::{tells_simulated, word};
 use crate::sessions::{base, pass_to};
 use crate::stories::{Host, word_told};
 use crate::turns::Board;
+use bench_core::Told;
 use cell_table::Cell;
 use omega_net::ScriptEntry;
 use project_book::Edit;
@@ -100,6 +101,17 @@ fn asked<R: Host>(rt: &R, pass: &mut Pass) -> Option<(u32, u32)> {
     word_told(pass.ask(rt, query))
 }
 
+/// The state of processor 0 at the last cycle of the base project.
+const LAST_STATE: Query = Query::State {
+    component: 0,
+    cycle: 10,
+};
+
+/// Settles the whole run, by a question about its end.
+fn settles<R: Host>(rt: &R, pass: &mut Pass) -> bool {
+    matches!(pass.ask(rt, LAST_STATE), Told::Answer { .. })
+}
+
 /// Does what is to be done once the worker has claimed, and lets it go on.
 fn goes_beside<R: Host>(rt: &R, pass: &mut Pass, beside: Beside, board: &Board) -> bool {
     let was_claimed = board.sees(CLAIMED);
@@ -110,7 +122,7 @@ fn goes_beside<R: Host>(rt: &R, pass: &mut Pass, beside: Beside, board: &Board) 
             done = pass.edit(rt, one).is_ok() && done;
             done = pass.edit(rt, other).is_ok() && done;
         }
-        Beside::Settles => done = asked(rt, pass).is_some() && done,
+        Beside::Settles => done = settles(rt, pass) && done,
     }
     board.tell(EDITED);
     done
@@ -120,7 +132,7 @@ fn goes_beside<R: Host>(rt: &R, pass: &mut Pass, beside: Beside, board: &Board) 
 fn opened<R: Host>(rt: &R, alloc: Global, first: Edit) -> Option<(Pass, Pass)> {
     let project = base(alloc)?;
     let mut pass = pass_to(alloc, project, 0, 3)?;
-    if asked(rt, &mut pass).is_none() || pass.edit(rt, first).is_err() {
+    if !settles(rt, &mut pass) || pass.edit(rt, first).is_err() {
         return None;
     }
     match pass.split() {

@@ -26,7 +26,7 @@ pub(crate) enum Step {
     },
     /// Gives the result that was held last.
     Give(Came),
-    /// Settles the bench, and asks for the word of an address at a cycle: the version and the word.
+    /// Asks for the word of an address at a cycle, up to which the bench is settled: the version and the word.
     Ask {
         address: u32,
         cycle: u32,

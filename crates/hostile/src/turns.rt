@@ -117,11 +117,11 @@ fn give(who: Who, came: Came) -> (Who, Step) {
     (who, Step::Give(came))
 }
 
-/// Asks for the word of address 300 before cycle 1.
+/// Asks for the word of address 300 at cycle 9, so that no cell up to it is due.
 fn asks(who: Who, version: u32, word: u32) -> (Who, Step) {
     let step = Step::Ask {
         address: 300,
-        cycle: 0,
+        cycle: 9,
         told: (version, word),
     };
     (who, step)

@@ -1,31 +1,19 @@
 -- What the calls of a pass answer. What the headline says stands first.
-use Rattle.std.specs.Prelude.{◌≡◌, ℕ, ◌+◌, List, [], ◌∷◌, length, drop, Option, None, Result, Ok, Err, IfOk, IfNone, IfSome}
+use Rattle.std.specs.Prelude.{◌≡◌, ℕ, ◌+◌, List, [], ◌∷◌, length, drop, Option, Result, Ok, Err, IfOk, IfNone, IfSome}
 use Rattle.grid_law.specs.declared.no_memory.NoMemory.{NoMemory}
 use Rattle.cell_table.specs.declared.cell.Cell.{Cell}
 use Rattle.cell_table.specs.declared.given.Given.{Given}
 use Rattle.cell_table.specs.declared.given.Given.TheVariants.{ClockSpent as GivenSpent}
 use Rattle.cell_table.specs.Claims.{Claimed, Computed, NoneDue, IsNextRound, IsClaim}
-use Rattle.cell_table.specs.Events.{Event as TableEvent}
-use Rattle.cell_table.specs.Settling.{IsSpent}
 use Rattle.machine_cells.specs.declared.state.MachineState.{MachineState}
 use Rattle.machine_cells.specs.GridRules.{rp3_rules}
 use Rattle.project_book.specs.Project.{Project}
 use Rattle.project_book.specs.Edits.{edited}
-use Rattle.project_book.specs.declared.slot.Slot.{Slot}
 use Rattle.project_book.specs.declared.edit.Edit.{Edit}
 use Rattle.project_book.specs.declared.fault.EditFault.{EditFault}
-use Rattle.run_queries.specs.Bad.{bad_query}
-use Rattle.run_queries.specs.declared.query.Query.{Query}
 use Rattle.bench_core.specs.Shown.{Shown, project_of, version_of}
-use Rattle.bench_core.specs.Asks.{AsksAs}
 use Rattle.bench_core.specs.Edits.{admits, Refuses, IsAfterEdit}
-use Rattle.bench_core.specs.Events.{Event, Opening}
-use Rattle.bench_core.specs.Stands.{Stands, HasHistory}
-use Rattle.bench_core.specs.Answers.{Settles, SettlesFirst}
-use Rattle.bench_core.specs.declared.told.Told.{Told}
-use Rattle.bench_core.specs.declared.told.Told.TheVariants as told
-use Rattle.bench_core.specs.declared.asked.Asked.{Asked}
-use Rattle.bench_core.specs.declared.asked.Asked.TheVariants as asked
+use Rattle.bench_core.specs.Stands.{HasHistory}
 use Rattle.bench_core.specs.declared.noted.Noted.{Noted}
 use Rattle.shared_bench.specs.Legal.{StartsWith}
 use Rattle.shared_bench.specs.Known.{Known}
@@ -61,31 +49,6 @@ abbrev pub EditsAs : Shown → ℕ → Edit → Result ℕ EditFault → Shown �
 EditsAs d author e (Ok v) next = (admits d e ≡ Ok tt) × IsAfterEdit d next author e × (v ≡ version_of d + 1)
 EditsAs d author e (Err fault) next = Refuses d e fault × (next ≡ d)
 
--- this bench comes of settling that one: whatever events are behind that, it stands for them and the stores of all that
--- cost, after them
-abbrev pub IsSettledFrom : Shown → Shown → Type 0
-IsSettledFrom d next = (done : List (TableEvent MachineState Project Slot)) × (n : ℕ) × ((o : Opening) (h : List Event) → Stands o d h → Settles o h next done n)
-
--- the same of the stores of the first that cost
-abbrev pub IsPartlySettledFrom : Shown → Shown → Type 0
-IsPartlySettledFrom d next = (done : List (TableEvent MachineState Project Slot)) × (n : ℕ) × ((o : Opening) (h : List Event) → Stands o d h → SettlesFirst o h next done n)
-
--- what becomes of a bench that is settled and asked, by what was told: an answer comes of a settled one; a spent clock is
--- told where the next store would need a later one
-abbrev pub SettlesAs : Told → Shown → Shown → Type 0
-SettlesAs (told.Answer version body) d next = IsSettledFrom d next
-SettlesAs (told.BadQuery n) d next = IsPartlySettledFrom d next
-SettlesAs told.ClockSpent d next = IsPartlySettledFrom d next × IsSpent rp3_rules next.table 0 0
-SettlesAs told.Memory d next = IsPartlySettledFrom d next
-
--- what this bench is asked, once it was settled as far as that went; where that met a fault, the query's own numbers give
--- no reason against it
-abbrev pub TellsAs : Shown → Query → Told → Type 0
-TellsAs d q (told.Answer version body) = AsksAs d q (asked.Answer version body)
-TellsAs d q (told.BadQuery n) = AsksAs d q (asked.BadQuery n)
-TellsAs d q told.ClockSpent = bad_query (project_of d) q ≡ None
-TellsAs d q told.Memory = bad_query (project_of d) q ≡ None
-
 -- what a claim of this bench from a cell on is answered
 pub record ClaimsAs (d : Shown) (from : Cell) (result : Result (Option (Claimed MachineState Project)) NoMemory) : Type 0 where
   pub none : IfOk result (λ r. IfNone r (NoneDue rp3_rules d.table))
@@ -96,15 +59,3 @@ pub record ClaimsAs (d : Shown) (from : Cell) (result : Result (Option (Claimed 
 abbrev pub IsGivenSpent : Given (Computed MachineState Project) → Type 0
 IsGivenSpent (GivenSpent back) = Unit {0}
 IsGivenSpent _ = ⊥
-
--- the query waited for nothing
-abbrev pub NotPending : Asked → Type 0
-NotPending (asked.Pending n) = ⊥
-NotPending _ = Unit {0}
-
--- what is told in its place
-abbrev pub told_for : Asked → Told
-told_for (asked.Answer version body) = told.Answer version body
-told_for (asked.BadQuery n) = told.BadQuery n
-told_for (asked.Pending n) = told.Memory
-told_for asked.Memory = told.Memory

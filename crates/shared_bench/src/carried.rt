@@ -8,8 +8,9 @@ ghost use Rattle.bench_core.specs.Asks.{AsksAs};
 ghost use Rattle.bench_core.specs.Stands.{HasHistory};
 ghost use Rattle.shared_bench.specs.Rule.{spent_of};
 ghost use Rattle.shared_bench.specs.Legal.{noted};
-ghost use Rattle.bench_core.specs.Told.{TellsAt};
-ghost use Rattle.shared_bench.specs.Answers.{TellsAs, NotPending, told_for, ClaimsAs, EditsAs, SettlesAs, IsGivenSpent};
+ghost use Rattle.bench_core.specs.Told.{TellsAt, TellsAsked};
+ghost use Rattle.bench_core.specs.Answering.{SettlesAs};
+ghost use Rattle.shared_bench.specs.Answers.{ClaimsAs, EditsAs, IsGivenSpent};
 
 use bench_core::{Asked, Bench, Told};
 use cell_table::{Cell, Claim, Done, Given};
@@ -34,19 +35,6 @@ impl Model for Carried {
     ghost view = { λ c. c.bench.value };
 }
 
-/// What is told where the query waited for nothing.
-fn told_of(asked: Asked) -> Told
-    requires { NotPending asked }
-    ensures { result ≡ told_for asked }
-{
-    match asked {
-        Asked::Answer { version, body } => Told::Answer { version, body },
-        Asked::BadQuery(number) => Told::BadQuery(number),
-        Asked::Pending(_) => unreachable!(),
-        Asked::Memory => Told::Memory,
-    }
-}
-
 impl Carried {
     /// Some list of events is behind the bench. No work is done.
     pub fn history(&self)
@@ -55,23 +43,18 @@ impl Carried {
         self.bench.is_bench();
     }
 
-    /// Settles the bench, and asks it.
-    #[tactic(auto, using(crate::proofs::Benches::not_pending, crate::proofs::Benches::told_at, crate::proofs::Benches::spent_is, crate::proofs::Benches::is_spent))]
+    /// Settles the bench as far as the answer looks, and answers it.
+    #[tactic(auto, using(crate::proofs::Benches::spent_is, crate::proofs::Benches::is_spent))]
     pub fn ask<R: Threads + Sync>(&mut self, rt: &R, query: Query) -> Told
         ensures journal { self.new.journal ≡ self.old.journal }
         ensures project { project_of self.new ≡ project_of self.old }
         ensures kept { spent_of self.old ≡ true → spent_of self.new ≡ true }
         ensures told { TellsAt (project_of self.new) (version_of self.new) query result }
         ensures spent { result ≡ Told.ClockSpent → spent_of self.new ≡ true }
-        ensures settles { SettlesAs result self.old self.new }
-        ensures asks { TellsAs self.new query result }
+        ensures settles { SettlesAs query result self.old self.new }
+        ensures asks { TellsAsked self.new query result }
     {
-        match self.bench.settle() {
-            Ok(_) => {}
-            Err(fault) => return self.bench.told_at_fault(fault, query),
-        }
-        let asked = self.bench.ask(rt, query);
-        told_of(asked)
+        self.bench.answer(rt, query)
     }
 
     /// Asks the bench as it is.

@@ -22,5 +22,5 @@ mod worker;
 
 pub use gate::{Gate, Ungated};
 pub use threads::{attend, work};
-pub use wave::{settle_wave, settle_where_it_pays};
+pub use wave::{settle_wave, settle_where_it_pays, waves_pay};
 pub use worked::{WorkFault, Worked};

@@ -241,8 +241,13 @@ fn components(bench: &Bench) -> u32 {
     }
 }
 
-/// Settles a bench as `Bench::settle` does, with the same contract: by waves of four gates where the machine's cycles have as
-/// many cells as make a wave pay, which none has today, and else by `Bench::settle` itself.
+/// Whether the machine's cycles have as many cells as make a wave pay, which none has today.
+pub fn waves_pay(bench: &Bench) -> bool {
+    components(bench) >= LEAST_DUE
+}
+
+/// Settles a bench as `Bench::settle` does, with the same contract: by waves of four gates where
+/// they pay, by [`waves_pay`], and else by `Bench::settle` itself.
 ///
 /// # Errors
 ///
@@ -265,7 +270,7 @@ pub fn settle_where_it_pays<R: Threads + Sync>(
     ensures rises { bench.old.table.clock ≤ bench.new.table.clock }
     ensures clock { bench.old.table.clock ≡ 2 ^ 64 - 1 → bench.new.table.clock ≡ 2 ^ 64 - 1 }
 {
-    if components(bench) < LEAST_DUE {
+    if !waves_pay(bench) {
         return bench.settle();
     }
     let mut gates = [Ungated, Ungated, Ungated, Ungated];

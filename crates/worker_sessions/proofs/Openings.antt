@@ -30,13 +30,12 @@ module _ (b : Bytes) (cant_read cant_write : Type 0) (ended : Result (Unit {0}) 
       (subst (λ x. Runs (seated_store x) (seated_store r) b cant_read cant_write (r.seen ≡ own_journal r) (r.spent ≡ true) ended) first h)
 
   -- a run of a bench at its opening
-  pub leaves_bench : (n : ℕ) (d last left : Shown) (P : Project) → n ≡ 0 → project_of d ≡ P → d.journal ≡ [] → left ≡ last
-      → Runs (store_of d) (store_of last) b cant_read cant_write (Unit {0}) (last.table.clock ≡ 2 ^ 64 - 1) ended
+  pub leaves_bench : (n : ℕ) (d left : Shown) (P : Project) → n ≡ 0 → project_of d ≡ P → d.journal ≡ []
+      → Runs (store_of d) (store_of left) b cant_read cant_write (Unit {0}) (left.table.clock ≡ 2 ^ 64 - 1) ended
       → Leaves n (first_store P) cant_read cant_write b ended (Bench left)
-  leaves_bench n d last left P none is empty same h = (
+  leaves_bench n d left P none is empty h = (
     none,
-    subst (λ x. Runs (first_store P) (store_of x) b cant_read cant_write (Unit {0}) (x.table.clock ≡ 2 ^ 64 - 1) ended) (sym same)
-        (subst (λ s. Runs s (store_of last) b cant_read cant_write (Unit {0}) (last.table.clock ≡ 2 ^ 64 - 1) ended) (first_bench d P is empty) h),
+    subst (λ s. Runs s (store_of left) b cant_read cant_write (Unit {0}) (left.table.clock ≡ 2 ^ 64 - 1) ended) (first_bench d P is empty) h,
   )
 
   -- a run beside workers

@@ -1,9 +1,9 @@
 //! Sessions of the workbench: a run of the shell on a project, alone or with workers beside it.
 //!
-//! [`serve`] runs a session on a project. With no worker that is a run of `bench_shell` on a bench of its own, which is
-//! settled by waves where they pay ([`Waves`]). With workers the bench is opened to passes: one is the shell's desk
-//! ([`Seated`]), and one goes to a thread that attends to the workers, each in a thread of its own. [`run_beside`] does so
-//! beside a pass that somebody holds.
+//! [`serve`] runs a session on a project. With no worker that is a run of `bench_shell` on a bench of its own. With workers
+//! the bench is opened to passes: one is the shell's desk ([`Seated`]), and one goes to a thread that attends to the
+//! workers, each in a thread of its own. [`run_beside`] does so beside a pass that somebody holds. [`Waves`] is a bench as a
+//! desk that several threads settle, on machines that are large enough for that to pay.
 //!
 //! Promise: without workers, what a session that ends well has written is the `output` of all that it read, and after a
 //! fault a beginning of it. Beside workers all its lines through the last `ok ..` are those of the output, and none behind

@@ -11,7 +11,6 @@ ghost use Rattle.worker_sessions.specs.Serving.{Runs, ServesAs, HasEnded};
 
 use crate::attendance::{Session, with_session};
 use crate::seated::Seated;
-use crate::waves::Waves;
 use bench_core::Bench;
 use bench_shell::{RunFault, Sink, Source, run_watched};
 use project_book::Project;
@@ -196,17 +195,16 @@ pub fn serve<H: Hall, R: Source, W: Sink, G: Gate + Send + Drop + 'static>(
     ensures same_reader { R.lender reader.new ≡ R.lender reader.old }
     ensures same_writer { W.lender writer.new ≡ W.lender writer.old }
 {
-    let bench = match fresh(alloc, project) {
+    let mut bench = match fresh(alloc, project) {
         Some(bench) => bench,
         None => return Err(NoStart),
     };
     let workers = gates.len();
     if workers == 0 {
-        let mut desk = Waves::new(alloc, bench);
-        let ended = run_watched(rt, alloc, reader, writer, &mut desk);
+        let ended = run_watched(rt, alloc, reader, writer, &mut bench);
         return Ok(Served {
             ended,
-            left: Left::Bench(desk.into_bench()),
+            left: Left::Bench(bench),
         });
     }
     let pass = match open(alloc, bench, workers as u32 + 2) {

@@ -2,7 +2,7 @@
 ghost use Rattle.std.specs.Prelude.{◌≡◌};
 
 use bench_core::{Bench, Told};
-use bench_shell::{Desk, answered};
+use bench_shell::Desk;
 use grid_law::NoMemory;
 use project_book::{Edit, EditFault};
 use run_queries::Query;
@@ -10,7 +10,7 @@ use serial_order::Ordered;
 use std::alloc::Global;
 use std::marker::Model;
 use std::thread::Threads;
-use wave_workers::settle_where_it_pays;
+use wave_workers::{settle_where_it_pays, waves_pay};
 
 /// A bench that several threads settle where that pays, and one where it doesn't. It is told the same, and edited and asked
 /// for orders as the bench itself: which of the two settled it shows in nothing but time. Contracts see the bench.
@@ -66,10 +66,13 @@ impl Desk for Waves {
         Desk::edit(&mut self.bench, edit)
     }
 
-    /// Settles the bench by waves where they pay, and asks it.
+    /// Settles the whole run by waves where they pay, and then as the bench itself, which settles what is left of the cells
+    /// that the answer looks at.
     fn ask<T: Threads + Sync>(&mut self, rt: &T, query: Query) -> Told {
-        let settled = settle_where_it_pays(rt, self.alloc, &mut self.bench);
-        answered(rt, &mut self.bench, settled, query)
+        if waves_pay(&self.bench) {
+            let _ = settle_where_it_pays(rt, self.alloc, &mut self.bench);
+        }
+        self.bench.answer(rt, query)
     }
 
     /// As of a bench, by one thread.

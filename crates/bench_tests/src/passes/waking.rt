@@ -1,11 +1,12 @@
 //! Passes that sleep until their turn comes, and threads that are parked until an edit is made. Where one of them sleeps
 //! on, a watcher gives up.
 use super::doing::Host;
-use super::{FIRST_STATE, opened, split};
+use super::{opened, split};
 use crate::base::{base, bench_of, fresh, word};
 use bench_core::{Bench, Told};
 use expect::equal;
 use project_book::Edit;
+use run_queries::Query;
 use shared_bench::{Pass, SplitFault};
 use std::alloc::Global;
 use std::process::Abort;
@@ -16,7 +17,7 @@ use std::thread;
 use std::time::{Clock, Duration};
 
 /// How often a watcher looks before it gives up, a millisecond apart.
-const MOST_LOOKS: u32 = 10_000;
+const MOST_LOOKS: u32 = 30_000;
 
 /// How many threads have come so far.
 #[derive(Drop)]
@@ -65,9 +66,15 @@ fn long(alloc: Global) -> Result<Box<Bench>, Fail> {
     }
 }
 
+/// The state of processor 0 at the last cycle of that bench.
+const LAST_STATE: Query = Query::State {
+    component: 0,
+    cycle: 1_000,
+};
+
 /// Asks once, and comes where it is answered.
 fn asks<R: Host>(rt: &R, mut pass: Pass, board: &Board) {
-    if let Told::Answer { version: 1, .. } = pass.ask(rt, FIRST_STATE) {
+    if let Told::Answer { version: 1, .. } = pass.ask(rt, LAST_STATE) {
         board.comes();
     }
 }

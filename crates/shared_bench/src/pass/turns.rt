@@ -1,14 +1,15 @@
-//! What a pass does in its turn. Each call waits for the turn, makes one call of the bench (`ask` settles it before), and
-//! passes the turn on: one turn more, with the bench that it met and the bench that it left. While another pass has the turn, the thread sleeps. Where a call returns is all that is said: that
-//! another pass ever passes its turn on isn't.
+//! What a pass does in its turn. Each call waits for the turn, makes one call of the bench, and passes the turn on: one turn
+//! more, with the bench that it met and the bench that it left. While another pass has the turn, the thread sleeps. Where a
+//! call returns is all that is said: that another pass ever passes its turn on isn't.
 ghost use Rattle.std.specs.Prelude.{◌≡◌, true, [], ◌∷◌, ◌++◌, length, IfOk, IfErr, IfSome, Err};
 ghost use Rattle.cell_table.specs.Gives.{GivesAs};
 ghost use Rattle.machine_cells.specs.GridRules.{rp3_rules};
 ghost use Rattle.bench_core.specs.Shown.{Shown as AnyBench};
 ghost use Rattle.bench_core.specs.Asks.{AsksAs};
 ghost use Rattle.shared_bench.specs.Known.{IsLater, TookTurn};
-ghost use Rattle.bench_core.specs.Told.{TellsAt, AnswersAt, RefusesAt};
-ghost use Rattle.shared_bench.specs.Answers.{project_seen, IsMet, IsInTurn, EditsAs, ClaimsAs, SettlesAs, TellsAs, IsGivenSpent};
+ghost use Rattle.bench_core.specs.Told.{TellsAt, TellsAsked, AnswersAt, RefusesAt};
+ghost use Rattle.bench_core.specs.Answering.{SettlesAs};
+ghost use Rattle.shared_bench.specs.Answers.{project_seen, IsMet, IsInTurn, EditsAs, ClaimsAs, IsGivenSpent};
 
 use super::Pass;
 use crate::steps::{leave, leave_edited, wait_turn};
@@ -22,14 +23,15 @@ use std::sync::Wait;
 use std::thread::Threads;
 
 impl Pass {
-    /// Settles the bench and asks it, in one turn. At an answer, `version` is the length of the journal that the pass has
-    /// then seen, and `body` is the answer of the run, simulated from cycle 0, of the opening's project with the edits of
-    /// that journal applied. It is never kept waiting for due cells; after any answer the cells stored stay stored.
+    /// Settles the bench as far as the answer looks and answers it, as `Bench::answer`, in one turn. At an answer, `version`
+    /// is the length of the journal that the pass has then seen, and `body` is the answer of the run, simulated from cycle
+    /// 0, of the opening's project with the edits of that journal applied. It is never kept waiting for due cells; after any
+    /// answer the cells stored stay stored, and what is due behind the cycles that the answer looks at stays due.
     pub fn ask<R: Threads + Wait + Sync>(&mut self, rt: &R, query: Query) -> Told
         ensures threads_ask { TellsAt (project_seen self.new) (length self.new.seen) query result }
         ensures later { IsLater self.old self.new }
         ensures own { (self.new.numbers ≡ self.old.numbers) × (self.new.receipts ≡ self.old.receipts) }
-        ensures in_turn { (d : AnyBench) × (next : AnyBench) × IsInTurn self.new d × IsInTurn self.new next × SettlesAs result d next × TellsAs next query result × TookTurn self.old self.new d next }
+        ensures in_turn { (d : AnyBench) × (next : AnyBench) × IsInTurn self.new d × IsInTurn self.new next × SettlesAs query result d next × TellsAsked next query result × TookTurn self.old self.new d next }
         ensures spent { result ≡ Told.ClockSpent → self.new.spent ≡ true }
     {
         self.ask_with(rt, rt, query)
@@ -40,7 +42,7 @@ impl Pass {
         ensures threads_ask { TellsAt (project_seen self.new) (length self.new.seen) query result }
         ensures later { IsLater self.old self.new }
         ensures own { (self.new.numbers ≡ self.old.numbers) × (self.new.receipts ≡ self.old.receipts) }
-        ensures in_turn { (d : AnyBench) × (next : AnyBench) × IsInTurn self.new d × IsInTurn self.new next × SettlesAs result d next × TellsAs next query result × TookTurn self.old self.new d next }
+        ensures in_turn { (d : AnyBench) × (next : AnyBench) × IsInTurn self.new d × IsInTurn self.new next × SettlesAs query result d next × TellsAsked next query result × TookTurn self.old self.new d next }
         ensures spent { result ≡ Told.ClockSpent → self.new.spent ≡ true }
     {
         let mut bench = wait_turn(host, &self.table.shared, &mut self.seat, self.ticket);

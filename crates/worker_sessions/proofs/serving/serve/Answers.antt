@@ -1,6 +1,5 @@
-use Rattle.std.proofs.Common.{rules, ◌≡◌, ◌+◌, ◌<◌, vec_len, [], sym, ap, append-nil, ◌∙◌}
+use Rattle.std.proofs.Common.{rules, ◌≡◌, ◌+◌, ◌<◌, vec_len, [], sym, append-nil, ◌∙◌}
 use Rattle.std.proofs.KnownBytes.{Keeps-refl}
-use Rattle.bench_core.specs.Shown.{Shown, project_of}
 use Rattle.shared_bench.specs.Legal.{StartsWith}
 use Rattle.worker_sessions.proofs.Openings.{leaves_bench, leaves_passes}
 use Rattle.worker_sessions.proofs.serving.serve.Goals as goal
@@ -9,7 +8,7 @@ pub returns-then-workers-eq0-clause-serves : goal.returns-then-workers-eq0-claus
 returns-then-workers-eq0-clause-serves g c =
     let none : vec_len c.args.gates ≡ 0 = search rules in
     let run = c.run_watched-ended.ensures in
-    leaves_bench _ _ _ _ (vec_len c.args.gates) c.new-desk.result c.run_watched-ended.new.desk c.into_bench.result c.args.project none (ap project_of c.new-desk.ensures ∙ c.in-Some.ensures.project) (ap (λ (b : Shown). b.journal) c.new-desk.ensures ∙ c.in-Some.ensures.journal) c.into_bench.ensures
+    leaves_bench _ _ _ _ (vec_len c.args.gates) c.in-Some.bench c.run_watched-ended.new.desk c.args.project none c.in-Some.ensures.project c.in-Some.ensures.journal
     (record { edits = run.edits; own = run.own; all = run.all; part = run.fault; cause = run.cause })
 
 pub returns-in-Err-clause-serves : goal.returns-in-Err-clause-serves
