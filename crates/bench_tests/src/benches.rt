@@ -261,7 +261,13 @@ fn a_reply_is_sought_no_further(rt: HostRuntime) -> Result<(), Fail> {
     bench.edit(0, Edit::Horizon(100))?;
     bench.edit(0, add(0, 5))?;
     let reply = Query::Reply { proc: 0, issue: 0 };
-    assert!(rt; equal(&rt, told(&rt, alloc, &mut bench, reply)?.as_str(), "2 at 6 word 10"));
+    assert!(rt;
+        equal(
+            &rt,
+            told(&rt, alloc, &mut bench, reply)?.as_str(),
+            "2 at 6 word 10"
+        )
+    );
     assert!(rt;
         equal(
             &rt,
