@@ -82,9 +82,11 @@ abbrev pub map_title : MapPlan → List ℕ
 map_title plan = codes "Tree saturation: the queues towards module " ++ (decimal plan.module ++ (codes ", " ++ (net_words plan.net ++ codes " network")))
 
 -- the lines below: the file's name and the cycles; the places of queues; which stages combine; what a level is; what a column is of
-abbrev pub caption : List ℕ → Window → List ℕ
-caption name w =
-    name ++ (codes ", cycles " ++ (decimal w.from ++ (codes " to " ++ (decimal w.to ++ codes ". A row is a switch's queue, a cell how many requests it holds."))))
+abbrev pub cell_words : ℕ → List ℕ
+cell_words k = if k == 0 then codes "" else codes " A row is a switch's queue, a cell how many requests it holds."
+
+abbrev pub caption : List ℕ → ℕ → Window → List ℕ
+caption name k w = name ++ (codes ", cycles " ++ (decimal w.from ++ (codes " to " ++ (decimal w.to ++ (codes "." ++ cell_words k)))))
 
 abbrev pub net_places : Project → Net → List ℕ
 net_places P Low = low_places P
@@ -112,7 +114,7 @@ column_notes each = if nat_le each 1 then [] else column_note each ∷ []
 
 abbrev pub notes_of : Project → MapPlan → List ℕ → List (List ℕ)
 notes_of P plan name =
-    caption name plan.window ∷ places_note P plan.net ∷ combining_notes P plan.net ++ level_note P.k ∷ column_notes (cycles_a_column plan.window)
+    caption name P.k plan.window ∷ places_note P plan.net ∷ combining_notes P plan.net ++ level_note P.k ∷ column_notes (cycles_a_column plan.window)
 
 -- WHAT A MAP SHOWS, number by number; by which name its file goes there is left open
 pub record IsShown (P : Project) (plan : MapPlan) (m : CellMap) : Type 0 where

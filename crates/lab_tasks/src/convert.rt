@@ -134,7 +134,13 @@ fn add_combine(text: &mut String, project: &Project) -> Result<(), AllocError>
 }
 
 /// Adds the depth of some queues where it isn't usual.
-fn add_depth(text: &mut String, project: &Project, queue: Depths, key: &str, usual: u32) -> Result<(), AllocError>
+fn add_depth(
+    text: &mut String,
+    project: &Project,
+    queue: Depths,
+    key: &str,
+    usual: u32,
+) -> Result<(), AllocError>
     ensures { OnOk result (string_bytes text.new ≡ string_bytes text.old ++ unusual key.now usual (depth_of project.now queue)) }
 {
     add_unusual(text, key, usual, project.depth(queue))
@@ -146,11 +152,41 @@ fn add_depth_lines(text: &mut String, project: &Project) -> Result<(), AllocErro
     ensures { OnOk result (string_bytes text.new ≡ string_bytes text.old ++ depth_lines project.now) }
 {
     let usual = QueueDepths::USUAL;
-    add_depth(text, project, Depths::LowForward, "low_forward", usual.low_forward)?;
-    add_depth(text, project, Depths::LowReverse, "low_reverse", usual.low_reverse)?;
-    add_depth(text, project, Depths::CombForward, "comb_forward", usual.comb_forward)?;
-    add_depth(text, project, Depths::CombReverse, "comb_reverse", usual.comb_reverse)?;
-    add_depth(text, project, Depths::ModuleQueue, "module", usual.module_queue)?;
+    add_depth(
+        text,
+        project,
+        Depths::LowForward,
+        "low_forward",
+        usual.low_forward,
+    )?;
+    add_depth(
+        text,
+        project,
+        Depths::LowReverse,
+        "low_reverse",
+        usual.low_reverse,
+    )?;
+    add_depth(
+        text,
+        project,
+        Depths::CombForward,
+        "comb_forward",
+        usual.comb_forward,
+    )?;
+    add_depth(
+        text,
+        project,
+        Depths::CombReverse,
+        "comb_reverse",
+        usual.comb_reverse,
+    )?;
+    add_depth(
+        text,
+        project,
+        Depths::ModuleQueue,
+        "module",
+        usual.module_queue,
+    )?;
     add_unusual(text, "wait", USUAL_WAIT, project.wait())
 }
 

@@ -2,7 +2,7 @@
 ghost use Rattle.std.specs.Prelude.{◌≡◌, ◌<◌, ◌≤◌, ◌+◌, ◌-◌, ◌*◌, ◌++◌, IfOk, IsOkUnless, OnOk, map, string_bytes};
 ghost use Rattle.omega_net.specs.Numbers.{lines};
 ghost use Rattle.svg_plots.specs.Lists.{each_from};
-ghost use Rattle.lab_tasks.specs.MapPictures.{caption, column_note, column_notes, combining_notes, crossing_of, first_column, first_label, group_of, key_of, keys_of, level_note, map_title, net_letter, net_words, notes_of, place_words, places_note, row_of, switch_label, tick_at, ticks_of, IsMapDrawn, IsShown};
+ghost use Rattle.lab_tasks.specs.MapPictures.{caption, cell_words, column_note, column_notes, combining_notes, crossing_of, first_column, first_label, group_of, key_of, keys_of, level_note, map_title, net_letter, net_words, notes_of, place_words, places_note, row_of, switch_label, tick_at, ticks_of, IsMapDrawn, IsShown};
 
 use crate::check::{CombPlaces, LowPlaces, OtherPlaces, add_switches};
 use crate::columns::{any_columns, cycles_a_column, greatest_columns};
@@ -276,13 +276,23 @@ fn short_name(alloc: Global, path: &str) -> Result<String, AllocError> {
     Ok(short)
 }
 
-fn caption(alloc: Global, name: &str, window: Window) -> Result<Label, AllocError>
-    ensures { IfOk result (λ label. label ≡ caption name.now window) }
+/// What the cells are, where there are any.
+fn cell_words(k: u32) -> &'static str
+    ensures { result.now ≡ cell_words k }
+{
+    if k == 0 {
+        ""
+    } else {
+        " A row is a switch's queue, a cell how many requests it holds."
+    }
+}
+
+fn caption(alloc: Global, name: &str, k: u32, window: Window) -> Result<Label, AllocError>
+    ensures { IfOk result (λ label. label ≡ caption name.now k window) }
 {
     let (from, to) = (window.from, window.to);
-    let text = format!(in alloc;
-        "{name}, cycles {from} to {to}. A row is a switch's queue, a cell how many requests it holds."
-    )?;
+    let cells = cell_words(k);
+    let text = format!(in alloc; "{name}, cycles {from} to {to}.{cells}")?;
     Ok(Label::from_string(text))
 }
 
@@ -369,7 +379,7 @@ fn notes_of(
     ensures { IfOk result (λ v. v.items ≡ notes_of project.now plan name.now) }
 {
     let mut notes = Vec::new(alloc);
-    notes.push(caption(alloc, name, plan.window)?)?;
+    notes.push(caption(alloc, name, project.k(), plan.window)?)?;
     notes.push(places_note(alloc, project, plan.net)?)?;
     add_combining_note(alloc, &mut notes, project, plan.net)?;
     notes.push(Label::new(alloc, level_note(project.k()))?)?;

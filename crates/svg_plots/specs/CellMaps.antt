@@ -158,7 +158,7 @@ strokes_drawn m l = each (stroke_drawn l) m.strokes.items ++ Words (spot 920 (l.
 unfoldable pub columns_drawn : CellMap → Layout → List Element
 columns_drawn m l =
     Line (spot 1000 (l.below + 280)) (spot 6700 (l.below + 280)) frame_stroke
-    ∷ flat_map (tick_drawn l) m.ticks.items ++ Words (spot 6760 (l.below + 320)) (plain Start) m.across.now ∷ []
+    ∷ flat_map (tick_drawn l) m.ticks.items ++ Words (spot 820 (l.below + 460)) (plain End) m.across.now ∷ []
 
 -- where the lines of text begin: under all of that
 abbrev pub notes_at : CellMap → Layout → ℕ

@@ -105,7 +105,7 @@ key_elements name k =
 abbrev pub ground_elements : ℕ → List ℕ → List Element
 ground_elements lanes across =
     Line (spot 200 (lane_y lanes)) (spot 7700 (lane_y lanes)) (stroke Ink 10)
-    ∷ Words (spot 820 (lane_y lanes + 180)) (writing End 11 false) across ∷ []
+    ∷ Words (spot 740 (lane_y lanes + 180)) (writing End 11 false) across ∷ []
 
 -- the title above, and two lines of text below
 abbrev pub title_words : List ℕ → Element

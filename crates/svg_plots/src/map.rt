@@ -677,7 +677,7 @@ fn draw_ticks(
     Ok(())
 }
 
-/// The numbers of the columns, under a line.
+/// The numbers of the columns, under a line, and before them what they are.
 #[tactic(auto, unfolding(crate::specs::CellMaps::columns_drawn))]
 fn draw_columns(
     alloc: Global,
@@ -691,14 +691,7 @@ fn draw_columns(
     let y = layout.below + 280;
     picture.line(Spot { x: 1_000, y }, Spot { x: 6_700, y }, FRAME)?;
     draw_ticks(alloc, picture, layout, map.ticks.as_slice())?;
-    picture.words(
-        Spot {
-            x: 6_760,
-            y: y + 40,
-        },
-        plain(Anchor::Start),
-        map.across,
-    )
+    picture.words(Spot { x: 820, y: y + 180 }, plain(Anchor::End), map.across)
 }
 
 /// A framed square of a number's shade, with its label.

@@ -295,7 +295,7 @@ fn draw_ground(picture: &mut Picture, lanes: u16, across: &str) -> Result<(), Al
 {
     let y = lane_y(lanes);
     picture.line(spot(200, y), spot(7_700, y), stroke(Colour::Ink, 10))?;
-    picture.words(spot(820, y + 180), writing(Anchor::End, 11, false), across)
+    picture.words(spot(740, y + 180), writing(Anchor::End, 11, false), across)
 }
 
 fn draw_key(alloc: Global, picture: &mut Picture, name: &str, key: Key) -> Result<(), AllocError>

@@ -18,7 +18,7 @@ returns c =
       c.args.notes.now,
       c.title_of.ensures,
       c.as_slice.ensures.value ∙ c.in_ok-push-2.ensures.items
-      ∙ ap (λ (panels : List Panel). panels ++ on ∷ []) (c.in_ok-push.ensures.items ∙ ap (λ (panels : List Panel). panels ++ off ∷ []) c.new-panels.ensures.items),
+          ∙ ap (λ (panels : List Panel). panels ++ on ∷ []) (c.in_ok-push.ensures.items ∙ ap (λ (panels : List Panel). panels ++ off ∷ []) c.new-panels.ensures.items),
       refl,
       c.in_ok-off.ensures,
       c.in_ok-on.ensures,
