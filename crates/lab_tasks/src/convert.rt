@@ -1,5 +1,5 @@
 //! A project as a file of format 2, written as people write it.
-ghost use Rattle.std.specs.Prelude.{◌≡◌, ◌<◌, ◌≤◌, ◌++◌, ◌==◌, ◌&&◌, false, IfErr, IfOk, IsOkUnless, OnOk, codes, string_bytes};
+ghost use Rattle.std.specs.Prelude.{◌≡◌, ◌<◌, ◌≤◌, ◌++◌, ◌==◌, ◌&&◌, false, IfErr, IfOk, IsOkUnless, OnOk, string_bytes};
 ghost use Rattle.std.specs.List.{flat_map, list_any};
 ghost use Rattle.omega_net.specs.Wires.{below};
 ghost use Rattle.page_map.specs.Limits.{page_count};

@@ -2,7 +2,7 @@
 ghost use Rattle.std.specs.Prelude.{◌≡◌, ◌<◌, ◌≤◌, ◌+◌, ◌-◌, ◌*◌, ◌++◌, IfOk, IsOkUnless, OnOk, map, string_bytes};
 ghost use Rattle.omega_net.specs.Numbers.{lines};
 ghost use Rattle.svg_plots.specs.Lists.{each_from};
-ghost use Rattle.lab_tasks.specs.MapPictures.{caption, cell_words, column_note, column_notes, combining_notes, crossing_of, first_column, first_label, group_of, key_of, keys_of, level_note, map_title, net_letter, net_words, notes_of, place_words, places_note, row_of, switch_label, tick_at, ticks_of, IsMapDrawn, IsShown};
+ghost use Rattle.lab_tasks.specs.MapPictures.{caption, cell_words, column_note, column_notes, combining_notes, crossing_of, first_column, group_of, key_of, keys_of, level_note, map_title, net_letter, net_words, notes_of, place_words, places_note, row_of, switch_label, tick_at, ticks_of, IsMapDrawn, IsShown};
 
 use crate::check::{CombPlaces, LowPlaces, OtherPlaces, add_switches};
 use crate::columns::{any_columns, cycles_a_column, greatest_columns};
