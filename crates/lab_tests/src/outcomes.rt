@@ -274,6 +274,24 @@ fn a_map_is_drawn(rt: HostRuntime) -> Result<(), Fail> {
     Ok(())
 }
 
+// One processor has no switches, so no row is told of.
+#[test]
+fn a_map_without_rows_tells_of_none(rt: HostRuntime) -> Result<(), Fail> {
+    let outcome = made(
+        &rt,
+        &["map", "one.toml"],
+        b"format = 2\nk = 0\nhorizon = 8\n",
+    )?;
+    let text = std::str::from_utf8(outcome.printed.as_slice())?;
+    for part in [
+        ">one.toml, cycles 0 to 8.</text>",
+        ">With one processor there are no switches: no queue to draw, and no level.</text>",
+    ] {
+        assert!(rt; text.contains(part));
+    }
+    Ok(())
+}
+
 /// Two processors that add 1 to word 0, which one switch combines.
 const COMBINED: &[u8] = b"format = 2
 k = 1

@@ -243,6 +243,7 @@ fn maps_are_drawn(rt: HostRuntime) -> Result<(), Fail> {
         "<line x1=\"385\" y1=\"42\" x2=\"385\" y2=\"135\" stroke=\"#d55e00\"",
         "<polyline points=\"100,71 385,71 385,62 670,62 \"",
         "<text x=\"385\" y=\"153\" font-size=\"12\" text-anchor=\"middle\">8</text>",
+        "<text x=\"82\" y=\"153\" font-size=\"12\" text-anchor=\"end\">cycle</text>",
         ">l0.0</text>",
         ">level 1: cycle 8</text>",
         "<rect x=\"685\" y=\"87\" width=\"24\" height=\"11\" fill=\"#2171b5\"/>",
