@@ -360,7 +360,7 @@ fn rate_note(alloc: Global, plan: &CurvePlan, points: &[RatePoint]) -> Result<St
     let (seeds, seed, cycles) = (plan.seeds, plan.seed, plan.cycles);
     let (least, most) = spans(points);
     format!(in alloc;
-        "{what} per cycle, the mean of {seeds} runs, from seed {seed} on. The start is left out, until the rate is steady: {least} to {most} of {cycles} cycles count."
+        "{what} per cycle, the mean of {seeds} runs, from seed {seed} on. Counted once the rate is steady: {least} to {most} of {cycles} cycles."
     )
 }
 

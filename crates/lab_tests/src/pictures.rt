@@ -187,7 +187,7 @@ fn curves_are_drawn(rt: HostRuntime) -> Result<(), Fail> {
     Ok(())
 }
 
-// Two columns are 285 pixels wide each, one row is 20 high, and its cells begin at 87 under one crossing's label.
+// Two columns are 285 pixels wide each, one row is 20 high, and its cells begin at 96 under one crossing's label.
 #[test]
 fn maps_are_drawn(rt: HostRuntime) -> Result<(), Fail> {
     let rows = vec![in rt.alloc();
@@ -237,17 +237,17 @@ fn maps_are_drawn(rt: HostRuntime) -> Result<(), Fail> {
     };
     let text = draw_map(rt.alloc(), &map)?;
     for part in [
-        "<rect x=\"100\" y=\"87\" width=\"285\" height=\"19.6\" fill=\"#6baed6\"/>",
-        "<rect x=\"385\" y=\"87\" width=\"285\" height=\"19.6\" fill=\"#2171b5\"/>",
-        "<line x1=\"385\" y1=\"96.8\" x2=\"670\" y2=\"96.8\" stroke=\"#ffd75e\"",
-        "<line x1=\"385\" y1=\"42\" x2=\"385\" y2=\"135\" stroke=\"#d55e00\"",
-        "<polyline points=\"100,71 385,71 385,62 670,62 \"",
-        "<text x=\"385\" y=\"153\" font-size=\"12\" text-anchor=\"middle\">8</text>",
-        "<text x=\"82\" y=\"153\" font-size=\"12\" text-anchor=\"end\">cycle</text>",
+        "<rect x=\"100\" y=\"96\" width=\"285\" height=\"19.6\" fill=\"#6baed6\"/>",
+        "<rect x=\"385\" y=\"96\" width=\"285\" height=\"19.6\" fill=\"#2171b5\"/>",
+        "<line x1=\"385\" y1=\"105.8\" x2=\"670\" y2=\"105.8\" stroke=\"#ffd75e\"",
+        "<line x1=\"385\" y1=\"42\" x2=\"385\" y2=\"144\" stroke=\"#d55e00\"",
+        "<polyline points=\"100,80 385,80 385,62 670,62 \"",
+        "<text x=\"385\" y=\"162\" font-size=\"12\" text-anchor=\"middle\">8</text>",
+        "<text x=\"82\" y=\"162\" font-size=\"12\" text-anchor=\"end\">cycle</text>",
         ">l0.0</text>",
         ">level 1: cycle 8</text>",
-        "<rect x=\"685\" y=\"87\" width=\"24\" height=\"11\" fill=\"#2171b5\"/>",
-        "<text x=\"715\" y=\"96.5\" font-size=\"12\" text-anchor=\"start\">3 full</text>",
+        "<rect x=\"685\" y=\"96\" width=\"24\" height=\"11\" fill=\"#2171b5\"/>",
+        "<text x=\"715\" y=\"105.5\" font-size=\"12\" text-anchor=\"start\">3 full</text>",
     ] {
         assert!(rt; text.as_str().contains(part));
     }

@@ -29,12 +29,12 @@ rows_in groups = sum_by (λ group. length group.rows) groups
 abbrev pub row_height : ℕ → ℕ
 row_height rows = max 90 (min 200 (2600 / max rows 1))
 
--- from top to bottom: a line for each crossing's label, 9 pixels for each level, the rows
+-- from top to bottom: a line for each crossing's label, 9 pixels for each level and at least 18, the rows
 abbrev pub levels_at : CellMap → ℕ
 levels_at m = 480 + 140 * few_of (length m.crossings.items)
 
 abbrev pub cells_at : CellMap → ℕ
-cells_at m = levels_at m + 90 * max m.highest 1 + 160
+cells_at m = levels_at m + 90 * max m.highest 2 + 160
 
 abbrev pub layout_of : CellMap → Layout
 layout_of m = record {

@@ -178,12 +178,12 @@ fn row_height(rows: u32) -> u32
     (2_600 / rows.max(1)).min(200).max(90)
 }
 
-/// The height of so many levels.
+/// The height of so many levels, with room for the numbers of the lowest and the highest one.
 fn levels_height(highest: u8) -> u32
-    ensures height { result ≡ 90 * max highest 1 }
+    ensures height { result ≡ 90 * max highest 2 }
     ensures most { result ≤ 22950 }
 {
-    90 * u32::from(highest).max(1)
+    90 * u32::from(highest).max(2)
 }
 
 fn layout_of(map: &CellMap) -> Layout
