@@ -18,11 +18,16 @@ use wave_workers::{Gate, attend};
 /// How many milliseconds something is waited for at most.
 const LONGEST: u32 = 15_000;
 
+/// How often two workers that sleep between their 66 cells and those of an edit ask their gates at most, woken for no reason now
+/// and then; two that don't sleep ask as often in some ten milliseconds.
+const MOST_TURNS: u64 = 10_000;
+
 /// What the workers are told, and tell.
 #[derive(Drop)]
 struct Board {
     ended: AtomicU64,
     left: AtomicU64,
+    asked: AtomicU64,
 }
 
 fn is_told(word: &AtomicU64) -> bool {
@@ -49,6 +54,7 @@ impl Until {
 
 impl Gate for Until {
     fn go_on(&mut self, _turn: u64) -> bool {
+        self.board.asked.fetch_add(1, Ordering::SeqCst);
         !is_told(&self.board.ended)
     }
 
@@ -85,7 +91,7 @@ fn ends<R: Clock>(rt: &R, pass: &Pass, board: &Board) -> bool {
     false
 }
 
-/// Two workers compute all cells and sleep, compute those of an edit and sleep again, and end. The opening has as many seats
+/// Two workers compute all cells and sleep, compute those of an edit and sleep again, and end, without many turns. The opening has as many seats
 /// as there are passes: this one, that of the thread, and one for each worker.
 #[test]
 fn sleeping_workers_wake(rt: HostRuntime) -> Result<(), Fail> {
@@ -95,6 +101,7 @@ fn sleeping_workers_wake(rt: HostRuntime) -> Result<(), Fail> {
         Board {
             ended: AtomicU64::new(0),
             left: AtomicU64::new(0),
+            asked: AtomicU64::new(0),
         },
     )?;
     let gates = Until::both(alloc, &board)?;
@@ -115,5 +122,6 @@ fn sleeping_workers_wake(rt: HostRuntime) -> Result<(), Fail> {
     pause(&rt, 20);
     assert!(rt; ends(&rt, &pass, &board));
     assert!(rt; equal(&rt, thread.join(&rt), (2, None)));
+    assert!(rt; board.asked.load(Ordering::SeqCst) < MOST_TURNS);
     Ok(())
 }
