@@ -82,6 +82,18 @@ fn sessions_in_any_pieces(rt: HostRuntime) -> std::result::Result<(), Fail> {
     Ok(())
 }
 
+// Two components: the cells of cycle 0 are computed, and those of the eight later cycles stay due.
+#[test]
+fn what_is_behind_a_question_stays_due(rt: HostRuntime) -> std::result::Result<(), Fail> {
+    let mut desk = bench(rt.alloc(), 0)?;
+    let mut reader = b"memory 0 0\n".as_slice();
+    let mut writer = Vec::new(rt.alloc());
+    assert!(rt; run(&rt, rt.alloc(), &mut reader, &mut writer, &mut desk).is_ok());
+    assert!(rt; equal(&rt, writer.as_slice(), b"ok 0 0\n".as_slice()));
+    assert!(rt; equal(&rt, desk.cells().due_to(8), 16));
+    Ok(())
+}
+
 // Ten bytes and the end of the input are eleven reads of one byte.
 #[test]
 fn reads_are_counted(rt: HostRuntime) -> std::result::Result<(), Fail> {
