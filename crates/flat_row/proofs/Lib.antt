@@ -1,0 +1,5 @@
+pub mod Labelling
+pub mod Masking
+pub mod Deciding
+pub mod Marking
+pub mod Showing
