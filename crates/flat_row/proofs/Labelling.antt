@@ -1,11 +1,10 @@
 -- Lines and labels name each other, and a stage joins the same two labels before and behind it.
-use Rattle.std.proofs.Common.{◌≡◌, ℕ, suc, ◌+◌, ◌-◌, ◌*◌, ◌/◌, ◌%◌, ◌^◌, ◌<◌, ◌≤◌, refl, ap, sym, ◌∙◌, arith, subst}
+use Rattle.std.proofs.Common.{◌≡◌, ℕ, suc, ◌+◌, ◌-◌, ◌*◌, ◌/◌, ◌%◌, ◌^◌, ◌<◌, ◌≤◌, ap, sym, ◌∙◌, arith, subst}
 use Rattle.std.proofs.lemmas.Nat.{pow_pos, pow-add, div-mul-add, mod-mul-add, mul-add-lt, shr_below, shr_split, shr-shr, mod_below}
 use Rattle.std.proofs.Math.Nat.{pow-suc, div-eq_of_lt, mod-eq_of_lt}
-use Rattle.omega_net.specs.declared.component.Net.{Net}
 use Rattle.omega_net.specs.Numbers.{half}
-use Rattle.omega_net.specs.Wires.{bit, wire_into, wire_out}
-use Rattle.flat_row.specs.Labels.{rotated_right, line_of, label, switch_label, LabelsName, EachIsNamed}
+use Rattle.omega_net.specs.Wires.{bit}
+use Rattle.flat_row.specs.Labels.{rotated_right, line_of, switch_label, EachIsNamed}
 
 -- a rotation, with its two parts written out
 parts : (k a r n : ℕ) → k ≡ a + r → rotated_right k r n ≡ n % 2 ^ r * 2 ^ a + n / 2 ^ r

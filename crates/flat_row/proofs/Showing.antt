@@ -1,6 +1,6 @@
 -- What a stage decides from marks is what moves over its wires.
-use Rattle.std.proofs.Common.{◌≡◌, ℕ, zero, suc, ◌+◌, ◌-◌, ◌*◌, ◌/◌, ◌%◌, ◌^◌, ◌<◌, ◌≤◌, Bool, true, false, cond, List, refl, ap, sym, ◌∙◌, subst, Option, None, Some, arith}
-use Rattle.std.specs.Prelude.{◌==◌, ◌&&◌, ◌||◌, nat_le, min, is_some, slice_get, slice_index}
+use Rattle.std.proofs.Common.{◌≡◌, ℕ, zero, suc, ◌+◌, ◌-◌, ◌*◌, ◌/◌, ◌%◌, ◌^◌, ◌<◌, ◌≤◌, Bool, true, false, cond, List, refl, ap, sym, ◌∙◌, Option, None, Some, arith}
+use Rattle.std.specs.Prelude.{◌==◌, ◌&&◌, ◌||◌, nat_le, min, is_some, slice_get}
 use Rattle.std.proofs.lemmas.Bool.{eqb-true, eq-eqb, le-leb}
 use Rattle.std.proofs.lemmas.Bool.Decides.{nat_tests}
 use Rattle.std.proofs.lemmas.Nat.{div-mul-add}
@@ -9,12 +9,10 @@ use Rattle.std.proofs.Math.Nat.{mod-lt, mod-add-div'}
 use Rattle.std.proofs.Math.Pow.{pow_mono}
 use Rattle.omega_net.specs.declared.component.Net.{Net}
 use Rattle.omega_net.specs.declared.component.Net.TheVariants.{Low as LowNet, Comb as CombNet}
-use Rattle.omega_net.specs.declared.component.Component.{Component}
 use Rattle.omega_net.specs.declared.component.Component.TheVariants.{Proc as ProcAt, Module as ModuleAt, Switch}
 use Rattle.omega_net.specs.declared.message.Request.{Request}
 use Rattle.omega_net.specs.declared.message.Reply.{Reply}
-use Rattle.omega_net.specs.declared.wire.Wire.{Wire}
-use Rattle.omega_net.specs.Numbers.{lines, half, number_of}
+use Rattle.omega_net.specs.Numbers.{half, number_of}
 use Rattle.omega_net.specs.Wires.{bit, lower_end, net_number}
 use Rattle.omega_net.specs.Queues.{free, head}
 use Rattle.omega_net.specs.Ports.{queue_at}
@@ -26,16 +24,16 @@ use Rattle.mem_module.specs.declared.state.ModuleState.{ModuleState}
 use Rattle.mem_module.specs.MemModule.{chosen, can_serve, served_net}
 use Rattle.machine_cells.specs.declared.state.MachineState.{MachineState}
 use Rattle.machine_cells.specs.declared.state.MachineState.TheVariants.{Proc, Module, Low, Comb}
-use Rattle.project_book.specs.Project.{Project, IsProject, forward, reverse, depth_of}
+use Rattle.project_book.specs.Project.{Project, reverse, depth_of}
 use Rattle.project_book.specs.declared.edit.Depths.TheVariants.{ModuleQueue}
-use Rattle.machine_cells.specs.Moves.{moves, moved_request, moved_reply, request_over, reply_over, request_between, reply_between, at_ends, if_taken, takes_request, takes_request_at, takes_reply, takes_reply_at, request_on, reply_on, upper_state, lower_state}
+use Rattle.machine_cells.specs.Moves.{moves, moved_request, moved_reply, request_between, reply_between, at_ends, if_taken, takes_request, takes_request_at, takes_reply, takes_reply_at, request_on, reply_on, upper_state, lower_state}
 use Rattle.machine_cells.proofs.Parts.{request_moved, reply_moved}
 use Rattle.flat_row.specs.declared.marks.Marks.{Marks}
 use Rattle.flat_row.specs.declared.decide.Room.{Room}
-use Rattle.flat_row.specs.Labels.{rotated_right, label, switch_label, port, LabelsName}
+use Rattle.flat_row.specs.Labels.{rotated_right, switch_label, port, LabelsName}
 use Rattle.flat_row.specs.Masks.{has, IsSetOf}
 use Rattle.flat_row.specs.Decisions.{takes_from, leaves, takes_both, leaves_both, served_at}
-use Rattle.flat_row.specs.Shows.{on_line, IsHead, IsRoom, IsQueues, IsLowBack, IsCombBack, ShowsRequests, ShowsLowReplies, ShowsCombReplies, ShowsModule, heads_of, room_of, StagesDecide, EndsDecide}
+use Rattle.flat_row.specs.Shows.{on_line, IsHead, IsRoom, IsQueues, IsLowBack, IsCombBack, ShowsModule, heads_of, room_of, StagesDecide, EndsDecide}
 use Rattle.flat_row.proofs.Labelling.{each_is_named}
 
 -- a head leaves exactly where it is taken

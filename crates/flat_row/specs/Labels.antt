@@ -3,7 +3,7 @@ use Rattle.std.specs.Prelude.{◌≡◌, ℕ, ◌+◌, ◌-◌, ◌*◌, ◌/◌
 use Rattle.omega_net.specs.declared.component.Net.{Net}
 use Rattle.omega_net.specs.declared.wire.Wire.{Wire}
 use Rattle.omega_net.specs.Numbers.{lines, half}
-use Rattle.omega_net.specs.Wires.{bit, input_of, output_of, wire_into, wire_out}
+use Rattle.omega_net.specs.Wires.{bit, wire_into, wire_out}
 
 -- the k bits of a number rotated right by r
 abbrev pub rotated_right : ℕ → ℕ → ℕ → ℕ

@@ -1,5 +1,5 @@
 -- The queues of a level, and what each shows of itself: marks that are functions of how many messages wait and of the first.
-use Rattle.std.specs.Prelude.{◌≡◌, ℕ, ◌<◌, ◌≤◌, ◌==◌, nat_le, ◌-◌, Bool, false, if◌then◌else◌, List, [], ◌∷◌, length, is_some, slice_get, slice_set, refl}
+use Rattle.std.specs.Prelude.{◌≡◌, ℕ, ◌<◌, ◌≤◌, ◌==◌, nat_le, ◌-◌, Bool, false, List, [], ◌∷◌, length, is_some, slice_get, slice_set, refl}
 use Rattle.std.specs.Coded.{Coded, code_by, coded×, coded_ℕ, coded_list}
 use Rattle.arrayvec.specs.ArrayVec.{ArrayVec, array_vec_code}
 use Rattle.omega_net.specs.Wires.{bit}

@@ -1,6 +1,5 @@
 -- When the marks of two levels, and the turns between them, are those of a whole state at a stage.
-use Rattle.std.specs.Prelude.{◌≡◌, ℕ, suc, ◌+◌, ◌-◌, ◌*◌, ◌^◌, ◌<◌, nat_le, ◌&&◌, Bool, true, false, List, Option, None, Some, is_some, slice_get, slice_index}
-use Rattle.arrayvec.specs.ArrayVec.{ArrayVec}
+use Rattle.std.specs.Prelude.{◌≡◌, ℕ, suc, ◌+◌, ◌-◌, ◌*◌, ◌^◌, ◌<◌, nat_le, ◌&&◌, true, false, List, Option, None, Some, is_some, slice_get, slice_index}
 use Rattle.omega_net.specs.declared.component.Net.{Net}
 use Rattle.omega_net.specs.declared.component.Net.TheVariants.{Low as LowNet, Comb as CombNet}
 use Rattle.omega_net.specs.declared.component.Component.TheVariants.{Switch, Proc as ProcAt, Module as ModuleAt}

@@ -1,8 +1,20 @@
-//! The whole machine a cycle at a time: its present row in flat arrays.
+//! The whole machine a cycle at a time: what a flat row of it stands on.
 //!
 //! A line of a network is named by its label, which is the line before a stage rotated right by the stage among k bits
 //! (Lawrie 1975 describes the shuffle that this undoes). A stage then joins the same two labels before and behind it, which
-//! differ in the bit by which it decides.
+//! differ in the bit by which it decides. So what a whole stage decides is a few words of 64 bits, a bit for each label. The crate
+//! stands on the definitions of `machine_cells` and on those of the four components.
+//!
+//! It promises, so far:
+//! - Lines and labels name each other ([`labels_name`], `specs/Labels.antt`).
+//! - A [`Level`] has a queue for each label, and its [`Marks`] are those of what each queue shows ([`Level::marks`],
+//!   `specs/Queues.antt`); [`Level::take`], [`Level::give`] and [`Level::set`] change one queue alone. None takes memory.
+//! - [`decided_apart`], [`decided_together`] and [`served_by_turns`] decide label by label as the machine's rules say
+//!   (`specs/Decisions.antt`).
+//! - On every project and every whole state: where marks and turns are those of the state, the labels that leave are those of the
+//!   wires over which a message moves ([`stages_decide`], [`ends_decide`], `specs/Shows.antt`).
+//!
+//! The row itself, with its step, isn't here yet.
 #![tactic(auto)]
 
 mod decide;
