@@ -3,3 +3,6 @@ pub mod Masking
 pub mod Deciding
 pub mod Marking
 pub mod Showing
+pub mod Holding
+pub mod Rowing
+pub mod Turning

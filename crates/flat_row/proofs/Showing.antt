@@ -121,7 +121,7 @@ pub record StandsAt (k s j i x : ℕ) : Type 0 where
   pub own : bit (k - 1 - s) x ≡ i
   pub ports : (o : ℕ) → port (k - 1 - s) o x ≡ switch_label k s j + o * 2 ^ (k - 1 - s)
 
-stands_at : (k s j i x : ℕ) → k ≤ 6 → s < k → j < half k → i < 2 → x ≡ switch_label k s j + i * 2 ^ (k - 1 - s) → x < 2 ^ k → StandsAt k s j i x
+pub stands_at : (k s j i x : ℕ) → k ≤ 6 → s < k → j < half k → i < 2 → x ≡ switch_label k s j + i * 2 ^ (k - 1 - s) → x < 2 ^ k → StandsAt k s j i x
 stands_at k s j i x few lt jl il e within = record {
   small = let most : 2 ^ k ≤ 64 = pow_mono few in omega arith;
   own = own;

@@ -12,7 +12,8 @@
 //! - [`decided_apart`], [`decided_together`] and [`served_by_turns`] decide label by label as the machine's rules say
 //!   (`specs/Decisions.antt`).
 //! - On every project and every whole state: where marks and turns are those of the state, the labels that leave are those of the
-//!   wires over which a message moves ([`stages_decide`], [`ends_decide`], `specs/Shows.antt`).
+//!   wires over which a message moves ([`stages_decide`], [`ends_decide`], `specs/Shows.antt`); so, of every row that is such a state
+//!   by levels and labels, the heads at those labels are what moves ([`rows_decide`], [`rows_turn`], `specs/Rows.antt`).
 //!
 //! The row itself, with its step, isn't here yet.
 #![tactic(auto)]
@@ -27,7 +28,7 @@ mod queue;
 
 pub use decide::{Decided, Heads, Room, Served, decided_apart, decided_together, served_by_turns};
 pub use labels::{label_of, labels_name, line_of};
-pub use laws::{ends_decide, stages_decide};
+pub use laws::{ends_decide, rows_decide, rows_turn, stages_decide};
 pub use level::Level;
 pub use marks::{Marks, Routed, Rule, Shown, shown_by, with_shown};
 pub use queue::Places;
