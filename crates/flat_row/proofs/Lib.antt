@@ -1,0 +1,3 @@
+pub mod Labelling
+pub mod Masking
+pub mod Deciding

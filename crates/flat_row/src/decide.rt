@@ -1,0 +1,82 @@
+//! What a stage decides in a cycle: which heads leave the queues on one side of it for those on the other.
+ghost use Rattle.std.specs.Prelude.{◌≡◌, ◌<◌, ◌==◌, ◌&&◌, ◌||◌, cond};
+ghost use Rattle.omega_net.specs.Wires.{bit};
+ghost use Rattle.flat_row.specs.Labels.{port};
+ghost use Rattle.flat_row.specs.Masks.{has, IsSetOf};
+ghost use Rattle.flat_row.specs.Decisions.{comes, leaves, TurnsAfter};
+
+use crate::pairs::{at_first, at_second, to_first, to_second};
+
+/// What the queues before a stage show, by label: where a message waits, and where the first one asks for port 1.
+#[derive(Clone, Copy, PartialEq, Eq, Debug)]
+pub struct Heads {
+    pub any: u64,
+    pub ones: u64,
+}
+
+/// What the queues behind a stage have room for, by label: two messages or more, and one or more.
+#[derive(Clone, Copy, PartialEq, Eq, Debug)]
+pub struct Room {
+    pub two: u64,
+    pub one: u64,
+}
+
+/// What a stage decides: the labels whose heads leave, and the turns one cycle later.
+#[derive(Clone, Copy, PartialEq, Eq, Debug)]
+pub struct Decided {
+    pub leave: u64,
+    pub turn: u64,
+}
+
+/// What a stage decides where each queue takes messages by itself: with room for two from both ports, with room for one
+/// from the port whose turn it is.
+pub fn decided_apart(by: u32, heads: Heads, room: Room, turn: u64) -> Decided
+    requires { by < 6 }
+    ensures leave { IsSetOf (leaves by heads room turn) result.leave }
+    ensures turn { TurnsAfter turn (comes by heads room turn 0) (comes by heads room turn 1) result.turn }
+{
+    let from_first = from_first(by, heads, room, turn);
+    let from_second = from_second(by, heads, room, turn);
+    Decided {
+        leave: senders(by, from_first, from_second),
+        turn: turns(turn, from_first, from_second),
+    }
+}
+
+/// The queues to which the head of port 0 comes.
+fn from_first(by: u32, heads: Heads, room: Room, turn: u64) -> u64
+    requires { by < 6 }
+    ensures { IsSetOf (comes by heads room turn 0) result }
+{
+    let zeros = heads.any & !heads.ones;
+    let ones = heads.any & heads.ones;
+    (at_first(by, zeros) | to_second(by, ones)) & (room.two | (room.one & !turn))
+}
+
+/// The queues to which the head of port 1 comes.
+fn from_second(by: u32, heads: Heads, room: Room, turn: u64) -> u64
+    requires { by < 6 }
+    ensures { IsSetOf (comes by heads room turn 1) result }
+{
+    let zeros = heads.any & !heads.ones;
+    let ones = heads.any & heads.ones;
+    (to_first(by, zeros) | at_second(by, ones)) & (room.two | (room.one & turn))
+}
+
+/// The labels whose heads come to a queue of their switch.
+fn senders(by: u32, from_first: u64, from_second: u64) -> u64
+    requires { by < 6 }
+    ensures { IsSetOf (λ x. cond (bit by x == 0) (has from_first (port by 0 x) || has from_first (port by 1 x)) (has from_second (port by 0 x) || has from_second (port by 1 x))) result }
+{
+    at_first(by, from_first)
+        | to_first(by, from_first)
+        | to_second(by, from_second)
+        | at_second(by, from_second)
+}
+
+/// The turns one cycle later: that of the port which nothing came from, where exactly one message came.
+fn turns(turn: u64, from_first: u64, from_second: u64) -> u64
+    ensures { TurnsAfter turn (has from_first) (has from_second) result }
+{
+    (turn | (from_first & !from_second)) & !(from_second & !from_first)
+}
