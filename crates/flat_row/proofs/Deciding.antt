@@ -10,7 +10,10 @@ use Rattle.flat_row.specs.declared.decide.Heads.{Heads}
 use Rattle.flat_row.specs.declared.decide.Room.{Room}
 use Rattle.flat_row.specs.Labels.{port}
 use Rattle.flat_row.specs.Masks.{has, IsSetOf}
-use Rattle.flat_row.specs.Decisions.{asks, takes_from, comes, leaves, TurnsAfter}
+use Rattle.omega_net.specs.declared.component.Net.TheVariants.{Low, Comb}
+use Rattle.mem_module.specs.MemModule.{chosen, is_net, turn_from}
+use Rattle.ref_proc.specs.RefProc.{net_for}
+use Rattle.flat_row.specs.Decisions.{asks, takes_from, comes, leaves, TurnsAfter, takes_both, comes_both, leaves_both, served_at, NetsAfter}
 use Rattle.flat_row.proofs.Masking.{is_zero, first_port, has_and, has_or, has_not, ArePorts, ports_of, same_first, same_second}
 
 or_false : (a : Bool) → (a || false) ≡ a
@@ -159,11 +162,11 @@ turns turn first second small_first small_second y within =
     ∙ turn_bits (bit_at turn y) (bit_at first y) (bit_at second y) (bit_at-lt turn y) (bit_at-lt first y) (bit_at-lt second y)
 
 -- of two queues, a head comes to the one that it asks for
-chosen : (a : Bool) (o : ℕ) (takes : ℕ → Bool) → o < 2 → (((a && (o == 0)) && takes 0) || ((a && (o == 1)) && takes 1)) ≡ (a && takes o)
-chosen false o takes lt = refl
-chosen true zero takes lt = or_false (takes 0)
-chosen true (suc zero) takes lt = refl
-chosen true (suc (suc o)) takes lt = absurd (omega arith)
+asked_one : (a : Bool) (o : ℕ) (takes : ℕ → Bool) → o < 2 → (((a && (o == 0)) && takes 0) || ((a && (o == 1)) && takes 1)) ≡ (a && takes o)
+asked_one false o takes lt = refl
+asked_one true zero takes lt = or_false (takes 0)
+asked_one true (suc zero) takes lt = refl
+asked_one true (suc (suc o)) takes lt = absurd (omega arith)
 
 -- what comes to a queue of a switch from one of its labels
 comes_at : (b : ℕ) (heads : Heads) (room : Room) (turn i j x : ℕ) → port b i (port b j x) ≡ x → bit b (port b j x) ≡ j
@@ -187,7 +190,7 @@ leaving b heads room turn first second leave h f s l x within = l x within ∙ b
         ∙ ap (λ t. t || has first (port b 1 x)) (f (port b 0 x) (omega arith) ∙ comes_at b heads room turn 0 0 x (switch.again_00 ∙ here) switch.bit_0)
         ∙ ap (λ t. ((has heads.any x && (asks heads x == 0)) && takes_from room turn 0 (port b 0 x)) || t)
         (f (port b 1 x) switch.below ∙ comes_at b heads room turn 0 1 x (switch.again_01 ∙ here) switch.bit_1)
-        ∙ chosen (has heads.any x) (asks heads x) (λ o. takes_from room turn 0 (port b o x)) (bit_at-lt heads.ones x)
+        ∙ asked_one (has heads.any x) (asks heads x) (λ o. takes_from room turn 0 (port b o x)) (bit_at-lt heads.ones x)
         ∙ ap (λ i. has heads.any x && takes_from room turn i (port b (asks heads x) x)) (sym z)
     by_bit (suc zero) z lt =
         let here : port b 1 x ≡ x = same_second b x z in
@@ -196,7 +199,7 @@ leaving b heads room turn first second leave h f s l x within = l x within ∙ b
         ∙ ap (λ t. t || has second (port b 1 x)) (s (port b 0 x) under ∙ comes_at b heads room turn 1 0 x (switch.again_10 ∙ here) switch.bit_0)
         ∙ ap (λ t. ((has heads.any x && (asks heads x == 0)) && takes_from room turn 1 (port b 0 x)) || t)
         (s (port b 1 x) switch.below ∙ comes_at b heads room turn 1 1 x (switch.again_11 ∙ here) switch.bit_1)
-        ∙ chosen (has heads.any x) (asks heads x) (λ o. takes_from room turn 1 (port b o x)) (bit_at-lt heads.ones x)
+        ∙ asked_one (has heads.any x) (asks heads x) (λ o. takes_from room turn 1 (port b o x)) (bit_at-lt heads.ones x)
         ∙ ap (λ i. has heads.any x && takes_from room turn i (port b (asks heads x) x)) (sym z)
     by_bit (suc (suc t)) z lt = absurd (omega arith)
 
@@ -204,3 +207,164 @@ pub turning : (turn first second next : ℕ) (from_0 from_1 : ℕ → Bool) → 
     → TurnsAfter turn (has first) (has second) next → TurnsAfter turn from_0 from_1 next
 turning turn first second next from_0 from_1 f s t y within =
     t y within ∙ ap (λ b. turn_after (bit y turn) b (has second y)) (f y within) ∙ ap (λ b. turn_after (bit y turn) (from_0 y) b) (s y within)
+
+-- switches with both labels in a set
+pub both : (by set a b : ℕ) → IsSetOf (λ x. (bit by x == 0) && has set x) a → IsSetOf (λ x. (bit by x == 0) && has set (port by 1 x)) b
+    → IsSetOf (λ x. (bit by x == 0) && (has set (port by 0 x) && has set (port by 1 x))) (bit_and a b)
+both by set a b p q x within =
+    has_and a b x
+    ∙ ap (λ t. t && has b x) (p x within)
+    ∙ ap (λ t. ((bit by x == 0) && has set x) && t) (q x within)
+    ∙ by_bit (bit by x) refl (bit_at-lt x by)
+  where
+    by_bit : (t : ℕ) → bit by x ≡ t → t < 2
+        → (((bit by x == 0) && has set x) && ((bit by x == 0) && has set (port by 1 x))) ≡ ((bit by x == 0) && (has set (port by 0 x) && has set (port by 1 x)))
+    by_bit zero z lt =
+        ap (λ n. ((n == 0) && has set x) && ((n == 0) && has set (port by 1 x))) z
+        ∙ ap (λ u. has set u && has set (port by 1 x)) (sym (same_first by x z))
+        ∙ sym (ap (λ n. (n == 0) && (has set (port by 0 x) && has set (port by 1 x))) z)
+    by_bit (suc zero) z lt =
+        ap (λ n. ((n == 0) && has set x) && ((n == 0) && has set (port by 1 x))) z
+        ∙ sym (ap (λ n. (n == 0) && (has set (port by 0 x) && has set (port by 1 x))) z)
+    by_bit (suc (suc t)) z lt = absurd (omega arith)
+
+abbrev in_both : ℕ → ℕ → ℕ → Bool
+in_both by set x = (bit by x == 0) && (has set (port by 0 x) && has set (port by 1 x))
+
+-- the heads of side 0 that come, and those of side 1
+pub both_first : (by any : ℕ) (room : Room) (turn a two one : ℕ) → turn < 2 ^ 64
+    → IsSetOf (λ x. (bit by x == 0) && has any x) a → IsSetOf (in_both by room.two) two → IsSetOf (in_both by room.one) one
+    → IsSetOf (comes_both by any room turn 0) (bit_and a (bit_or two (bit_and one (bit_not w64 turn))))
+both_first by any room turn a two one small p q r x within =
+    has_and a (bit_or two (bit_and one (bit_not w64 turn))) x
+    ∙ ap (λ t. has a x && t) (has_or two (bit_and one (bit_not w64 turn)) x ∙ ap (λ t. has two x || t) (has_and one (bit_not w64 turn) x
+    ∙ ap (λ t. has one x && t) (has_not turn x small within ∙ sym (is_zero (bit x turn) (bit_at-lt turn x)))))
+    ∙ ap (λ t. t && (has two x || (has one x && (bit x turn == 0)))) (p x within)
+    ∙ ap (λ t. ((bit by x == 0) && has any x) && (t || (has one x && (bit x turn == 0)))) (q x within)
+    ∙ ap (λ t. ((bit by x == 0) && has any x) && (in_both by room.two x || (t && (bit x turn == 0)))) (r x within)
+    ∙ by_bit (bit by x) refl (bit_at-lt x by)
+  where
+    by_bit : (t : ℕ) → bit by x ≡ t → t < 2
+        → (((bit by x == 0) && has any x) && (in_both by room.two x || (in_both by room.one x && (bit x turn == 0)))) ≡ comes_both by any room turn 0 x
+    by_bit zero z lt =
+        let here : port by 0 x ≡ x = same_first by x z in
+        ap (λ n. ((n == 0) && has any x) && (((n == 0) && (has room.two (port by 0 x) && has room.two (port by 1 x))) || (((n == 0) && (has room.one (port by 0 x) && has room.one (port by 1 x))) && (bit x turn == 0)))) z
+        ∙ ap (λ u. has any u && ((has room.two (port by 0 x) && has room.two (port by 1 x)) || ((has room.one (port by 0 x) && has room.one (port by 1 x)) && (bit u turn == 0)))) (sym here)
+        ∙ sym (ap (λ n. (n == 0) && (has any (port by 0 x) && takes_both by room turn 0 x)) z)
+    by_bit (suc zero) z lt =
+        ap (λ n. ((n == 0) && has any x) && (in_both by room.two x || (in_both by room.one x && (bit x turn == 0)))) z
+        ∙ sym (ap (λ n. (n == 0) && (has any (port by 0 x) && takes_both by room turn 0 x)) z)
+    by_bit (suc (suc t)) z lt = absurd (omega arith)
+
+pub both_second : (by any : ℕ) (room : Room) (turn b two one : ℕ)
+    → IsSetOf (λ x. (bit by x == 0) && has any (port by 1 x)) b → IsSetOf (in_both by room.two) two → IsSetOf (in_both by room.one) one
+    → IsSetOf (comes_both by any room turn 1) (bit_and b (bit_or two (bit_and one turn)))
+both_second by any room turn b two one p q r x within =
+    has_and b (bit_or two (bit_and one turn)) x
+    ∙ ap (λ t. has b x && t) (has_or two (bit_and one turn) x ∙ ap (λ t. has two x || t) (has_and one turn x))
+    ∙ ap (λ t. t && (has two x || (has one x && (bit x turn == 1)))) (p x within)
+    ∙ ap (λ t. ((bit by x == 0) && has any (port by 1 x)) && (t || (has one x && (bit x turn == 1)))) (q x within)
+    ∙ ap (λ t. ((bit by x == 0) && has any (port by 1 x)) && (in_both by room.two x || (t && (bit x turn == 1)))) (r x within)
+    ∙ by_bit (bit by x) refl (bit_at-lt x by)
+  where
+    by_bit : (t : ℕ) → bit by x ≡ t → t < 2
+        → (((bit by x == 0) && has any (port by 1 x)) && (in_both by room.two x || (in_both by room.one x && (bit x turn == 1)))) ≡ comes_both by any room turn 1 x
+    by_bit zero z lt =
+        let here : port by 0 x ≡ x = same_first by x z in
+        ap (λ n. ((n == 0) && has any (port by 1 x)) && (((n == 0) && (has room.two (port by 0 x) && has room.two (port by 1 x))) || (((n == 0) && (has room.one (port by 0 x) && has room.one (port by 1 x))) && (bit x turn == 1)))) z
+        ∙ ap (λ u. has any (port by 1 x) && ((has room.two (port by 0 x) && has room.two (port by 1 x)) || ((has room.one (port by 0 x) && has room.one (port by 1 x)) && (bit u turn == 1)))) (sym here)
+        ∙ sym (ap (λ n. (n == 0) && (has any (port by 1 x) && takes_both by room turn 1 x)) z)
+    by_bit (suc zero) z lt =
+        ap (λ n. ((n == 0) && has any (port by 1 x)) && (in_both by room.two x || (in_both by room.one x && (bit x turn == 1)))) z
+        ∙ sym (ap (λ n. (n == 0) && (has any (port by 1 x) && takes_both by room turn 1 x)) z)
+    by_bit (suc (suc t)) z lt = absurd (omega arith)
+
+-- a switch takes the same at each of its labels
+takes_at : (by : ℕ) (room : Room) (turn i x y : ℕ) → port by 0 y ≡ port by 0 x → port by 1 y ≡ port by 1 x → takes_both by room turn i y ≡ takes_both by room turn i x
+takes_at by room turn i x y e f =
+    ap (λ u. (has room.two u && has room.two (port by 1 y)) || ((has room.one u && has room.one (port by 1 y)) && (bit u turn == i))) e
+    ∙ ap (λ u. (has room.two (port by 0 x) && has room.two u) || ((has room.one (port by 0 x) && has room.one u) && (bit (port by 0 x) turn == i))) f
+
+pub both_leave : (by any : ℕ) (room : Room) (turn first second moved : ℕ) → by < 6
+    → IsSetOf (comes_both by any room turn 0) first → IsSetOf (comes_both by any room turn 1) second
+    → IsSetOf (λ x. (bit by x == 1) && has second (port by 0 x)) moved
+    → IsSetOf (leaves_both by any room turn) (bit_or first moved)
+both_leave by any room turn first second moved h p q r x within =
+    has_or first moved x ∙ ap (λ t. has first x || t) (r x within) ∙ ap (λ t. t || ((bit by x == 1) && has second (port by 0 x))) (p x within)
+    ∙ by_bit (bit by x) refl (bit_at-lt x by)
+  where
+    by_bit : (t : ℕ) → bit by x ≡ t → t < 2 → (comes_both by any room turn 0 x || ((bit by x == 1) && has second (port by 0 x))) ≡ leaves_both by any room turn x
+    by_bit zero z lt =
+        let here : port by 0 x ≡ x = same_first by x z in
+        ap (λ n. ((n == 0) && (has any (port by 0 x) && takes_both by room turn 0 x)) || ((n == 1) && has second (port by 0 x))) z
+        ∙ or_false (has any (port by 0 x) && takes_both by room turn 0 x)
+        ∙ ap (λ u. has any u && takes_both by room turn 0 x) here
+        ∙ ap (λ i. has any x && takes_both by room turn i x) (sym z)
+    by_bit (suc zero) z lt =
+        let here : port by 1 x ≡ x = same_second by x z in
+        let switch : ArePorts by x = ports_of by x h within in
+        let under : port by 0 x < 64 = omega (arith, first_port by x z) in
+        ap (λ n. ((n == 0) && (has any (port by 0 x) && takes_both by room turn 0 x)) || ((n == 1) && has second (port by 0 x))) z
+        ∙ q (port by 0 x) under
+        ∙ ap (λ n. (n == 0) && (has any (port by 1 (port by 0 x)) && takes_both by room turn 1 (port by 0 x))) switch.bit_0
+        ∙ ap (λ u. has any u && takes_both by room turn 1 (port by 0 x)) (switch.again_10 ∙ here)
+        ∙ ap (λ t. has any x && t) (takes_at by room turn 1 x (port by 0 x) switch.again_00 switch.again_10)
+        ∙ ap (λ i. has any x && takes_both by room turn i x) (sym z)
+    by_bit (suc (suc t)) z lt = absurd (omega arith)
+
+-- what modules serve
+serve_low : (l c t : Bool) → (l && not (c && t)) ≡ is_net Low (chosen l c (net_for t))
+serve_low true true true = refl
+serve_low true true false = refl
+serve_low true false true = refl
+serve_low true false false = refl
+serve_low false true true = refl
+serve_low false true false = refl
+serve_low false false true = refl
+serve_low false false false = refl
+
+serve_comb : (l c t : Bool) → (c && not (l && not t)) ≡ is_net Comb (chosen l c (net_for t))
+serve_comb true true true = refl
+serve_comb true true false = refl
+serve_comb true false true = refl
+serve_comb true false false = refl
+serve_comb false true true = refl
+serve_comb false true false = refl
+serve_comb false false true = refl
+serve_comb false false false = refl
+
+serve_turn : (l c t : Bool) → net_for ((t || is_net Low (chosen l c (net_for t))) && not (is_net Comb (chosen l c (net_for t)))) ≡ turn_from (net_for t) (chosen l c (net_for t))
+serve_turn true true true = refl
+serve_turn true true false = refl
+serve_turn true false true = refl
+serve_turn true false false = refl
+serve_turn false true true = refl
+serve_turn false true false = refl
+serve_turn false false true = refl
+serve_turn false false false = refl
+
+pub served_low : (low comb turn : ℕ) → comb < 2 ^ 64 → IsSetOf (λ x. is_net Low (served_at low comb turn x)) (bit_and low (bit_not w64 (bit_and comb turn)))
+served_low low comb turn small x within =
+    let fits : bit_and comb turn < 2 ^ 64 = omega (arith, and_le_l comb turn) in
+    has_and low (bit_not w64 (bit_and comb turn)) x
+    ∙ ap (λ t. has low x && t) (has_not (bit_and comb turn) x fits within ∙ ap not (has_and comb turn x))
+    ∙ serve_low (has low x) (has comb x) (has turn x)
+
+pub served_comb : (low comb turn : ℕ) → low < 2 ^ 64 → turn < 2 ^ 64
+    → IsSetOf (λ x. is_net Comb (served_at low comb turn x)) (bit_and comb (bit_not w64 (bit_and low (bit_not w64 turn))))
+served_comb low comb turn small small_turn x within =
+    let fits : bit_and low (bit_not w64 turn) < 2 ^ 64 = omega (arith, and_le_l low (bit_not w64 turn)) in
+    has_and comb (bit_not w64 (bit_and low (bit_not w64 turn))) x
+    ∙ ap (λ t. has comb x && t)
+    (has_not (bit_and low (bit_not w64 turn)) x fits within ∙ ap not (has_and low (bit_not w64 turn) x ∙ ap (λ t. has low x && t) (has_not turn x small_turn within)))
+    ∙ serve_comb (has low x) (has comb x) (has turn x)
+
+pub served_turn : (low comb turn a b : ℕ) → b < 2 ^ 64
+    → IsSetOf (λ x. is_net Low (served_at low comb turn x)) a → IsSetOf (λ x. is_net Comb (served_at low comb turn x)) b
+    → NetsAfter low comb turn (bit_and (bit_or turn a) (bit_not w64 b))
+served_turn low comb turn a b small p q x within =
+    ap net_for
+    (has_and (bit_or turn a) (bit_not w64 b) x
+    ∙ ap (λ t. t && has (bit_not w64 b) x) (has_or turn a x ∙ ap (λ t. has turn x || t) (p x within))
+    ∙ ap (λ t. (has turn x || is_net Low (served_at low comb turn x)) && t) (has_not b x small within ∙ ap not (q x within)))
+    ∙ serve_turn (has low x) (has comb x) (has turn x)

@@ -1,3 +1,4 @@
 pub mod Labelling
 pub mod Masking
 pub mod Deciding
+pub mod Marking

@@ -1,3 +1,4 @@
 pub mod Labels
 pub mod Masks
 pub mod Decisions
+pub mod Queues

@@ -3,7 +3,9 @@ ghost use Rattle.std.specs.Prelude.{◌≡◌, ◌<◌, ◌==◌, ◌&&◌, ◌|
 ghost use Rattle.omega_net.specs.Wires.{bit};
 ghost use Rattle.flat_row.specs.Labels.{port};
 ghost use Rattle.flat_row.specs.Masks.{has, IsSetOf};
-ghost use Rattle.flat_row.specs.Decisions.{comes, leaves, TurnsAfter};
+ghost use Rattle.mem_module.specs.MemModule.{is_net};
+ghost use Rattle.omega_net.specs.declared.component.Net.TheVariants.{Low, Comb};
+ghost use Rattle.flat_row.specs.Decisions.{comes, leaves, TurnsAfter, takes_both, comes_both, leaves_both, served_at, NetsAfter};
 
 use crate::pairs::{at_first, at_second, to_first, to_second};
 
@@ -43,6 +45,31 @@ pub fn decided_apart(by: u32, heads: Heads, room: Room, turn: u64) -> Decided
     }
 }
 
+/// What a stage decides where what comes to a switch may go to both of its queues: with room for two in each from both sides, with
+/// room for one in each from the side whose turn it is. The turns stand at the labels of port 0.
+pub fn decided_together(by: u32, any: u64, room: Room, turn: u64) -> Decided
+    requires { by < 6 }
+    ensures leave { IsSetOf (leaves_both by any room turn) result.leave }
+    ensures turn { TurnsAfter turn (comes_both by any room turn 0) (comes_both by any room turn 1) result.turn }
+{
+    let two = both(by, room.two);
+    let one = both(by, room.one);
+    let from_first = at_first(by, any) & (two | (one & !turn));
+    let from_second = to_first(by, any) & (two | (one & turn));
+    Decided {
+        leave: from_first | to_second(by, from_second),
+        turn: turns(turn, from_first, from_second),
+    }
+}
+
+/// The labels of port 0 of the switches that have both labels in a set.
+fn both(by: u32, set: u64) -> u64
+    requires { by < 6 }
+    ensures { IsSetOf (λ x. (bit by x == 0) && (has set (port by 0 x) && has set (port by 1 x))) result }
+{
+    at_first(by, set) & to_first(by, set)
+}
+
 /// The queues to which the head of port 0 comes.
 fn from_first(by: u32, heads: Heads, room: Room, turn: u64) -> u64
     requires { by < 6 }
@@ -79,4 +106,28 @@ fn turns(turn: u64, from_first: u64, from_second: u64) -> u64
     ensures { TurnsAfter turn (has from_first) (has from_second) result }
 {
     (turn | (from_first & !from_second)) & !(from_second & !from_first)
+}
+
+/// Which modules serve which network in a cycle, and the turns one cycle later: the labels whose turn is that of the
+/// combining one.
+#[derive(Clone, Copy, PartialEq, Eq, Debug)]
+pub struct Served {
+    pub low: u64,
+    pub comb: u64,
+    pub turn: u64,
+}
+
+/// What modules serve where they can serve these: the network whose turn it is where they can serve both.
+pub fn served_by_turns(low: u64, comb: u64, turn: u64) -> Served
+    ensures low { IsSetOf (λ x. is_net Low (served_at low comb turn x)) result.low }
+    ensures comb { IsSetOf (λ x. is_net Comb (served_at low comb turn x)) result.comb }
+    ensures turn { NetsAfter low comb turn result.turn }
+{
+    let serve_low = low & !(comb & turn);
+    let serve_comb = comb & !(low & !turn);
+    Served {
+        low: serve_low,
+        comb: serve_comb,
+        turn: (turn | serve_low) & !serve_comb,
+    }
 }

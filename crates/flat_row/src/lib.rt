@@ -7,7 +7,13 @@
 
 mod decide;
 mod labels;
+mod level;
+mod marks;
 mod pairs;
+mod queue;
 
 pub use decide::{Decided, Heads, Room, decided_apart};
 pub use labels::{label_of, labels_name, line_of};
+pub use level::Level;
+pub use marks::{Marks, Routed, Rule, Shown, shown_by, with_shown};
+pub use queue::Places;
