@@ -88,10 +88,10 @@ module _ {T : Type 0} where
   found_long queues x i q e h long = subst (λ r. i < length r.items) (sym (found queues x q e h)) long
 
   -- the marks are kept where a queue and what it shows are changed
-  pub marks_kept : (route : T → ℕ) (rule : Rule) (queues : List (ArrayVec T)) (marks next : Marks) (x : ℕ) (new : ArrayVec T) (shown : Shown)
-      → AreMarked route rule queues marks → x < length queues → shown ≡ shown_of route rule new.items
+  pub marks_kept : (route : T → ℕ) (rule : Rule) (queues : List (ArrayVec T)) (marks next : Marks) (x : ℕ) (new : ArrayVec T) (seen : List T) (shown : Shown)
+      → AreMarked route rule queues marks → x < length queues → seen ≡ new.items → shown ≡ shown_of route rule seen
       → ((y : ℕ) → y < 64 → shown_at next y ≡ cond (y == x) shown (shown_at marks y)) → AreMarked route rule (set queues x new) next
-  marks_kept route rule queues marks next x new shown before there is changed = record {
+  marks_kept route rule queues marks next x new seen shown before there same_items is changed = record {
     few = subst (λ n. n ≤ 64) (sym (length-set queues x new)) before.few;
     marked = λ y within. changed y within ∙ by_test y within (y == x) refl;
   }
@@ -99,7 +99,7 @@ module _ {T : Type 0} where
       by_test : (y : ℕ) → y < 64 → (t : Bool) → (y == x) ≡ t → cond t shown (shown_at marks y) ≡ shown_of route rule (queue_at (set queues x new) y).items
       by_test y within true e =
           let same : y ≡ x = eqb-true y x e in
-          is ∙ ap (λ q. shown_of route rule q.items) (sym (ap (queue_at (set queues x new)) same ∙ get_or-set_same queues x new empty there))
+          is ∙ ap (shown_of route rule) same_items ∙ ap (λ q. shown_of route rule q.items) (sym (ap (queue_at (set queues x new)) same ∙ get_or-set_same queues x new empty there))
       by_test y within false e =
           before.marked y within
           ∙ ap (λ q. shown_of route rule q.items) (sym (get_or-set_other queues x y new empty (λ same. false_true (sym e ∙ eq-eqb y x same))))

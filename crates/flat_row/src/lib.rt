@@ -7,13 +7,15 @@
 
 mod decide;
 mod labels;
+mod laws;
 mod level;
 mod marks;
 mod pairs;
 mod queue;
 
-pub use decide::{Decided, Heads, Room, decided_apart};
+pub use decide::{Decided, Heads, Room, Served, decided_apart, decided_together, served_by_turns};
 pub use labels::{label_of, labels_name, line_of};
+pub use laws::{ends_decide, stages_decide};
 pub use level::Level;
 pub use marks::{Marks, Routed, Rule, Shown, shown_by, with_shown};
 pub use queue::Places;

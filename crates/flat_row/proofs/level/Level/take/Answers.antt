@@ -1,5 +1,4 @@
-use Rattle.flat_row.specs.Queues.{shown_of}
-use Rattle.std.proofs.Common.{◌<◌, ◌∙◌, ap, length, IsSome}
+use Rattle.std.proofs.Common.{◌<◌, length, IsSome}
 use Rattle.omega_net.specs.Ports.{queue_at}
 use Rattle.omega_net.specs.Queues.{head}
 use Rattle.flat_row.proofs.Marking.{found_some, marks_kept}
@@ -16,5 +15,5 @@ pub invariant_of-self : goal.invariant_of-self
 invariant_of-self g c =
     let i = c.self.inside in
     let there : c.args.x < length i.queues.items = rw (← c.self.view_is) at c.requires.there in
-    marks_kept g.T.Routed.route i.rule i.queues.items i.marks _ c.args.x c.take_head-message.new.self c.shown_by-shown.result c.self.invariant there
-    (c.shown_by-shown.ensures ∙ ap (shown_of g.T.Routed.route i.rule) c.as_slice.ensures.value) c.with_shown-self-inside.ensures
+    marks_kept g.T.Routed.route i.rule i.queues.items i.marks _ c.args.x c.take_head-message.new.self c.as_slice.result.now c.shown_by-shown.result c.self.invariant there
+    c.as_slice.ensures.value c.shown_by-shown.ensures c.with_shown-self-inside.ensures
