@@ -29,7 +29,8 @@ struct Board {
     ended: AtomicU64,
 }
 
-/// Gives its line, and then says that it has no further one.
+/// Gives its line, and says that it has no further one once both gates were asked: a worker that starts only after the end
+/// asks no gate.
 #[derive(Drop)]
 struct Ending {
     line: &'static [u8],
@@ -40,6 +41,12 @@ impl Read for Ending {
     fn read(&mut self, buf: &mut [u8]) -> Result<usize> {
         let count = self.line.read(buf)?;
         if count == 0 {
+            for _ in 0..MOST_LOOKS {
+                if self.board.asked.load(Ordering::SeqCst) >= 2 {
+                    break;
+                }
+                thread::yield_now();
+            }
             self.board.last.store(1, Ordering::SeqCst);
         }
         Ok(count)
