@@ -111,6 +111,38 @@ later_none c component (suc t) m x =
     none true false = refl
     none false l = refl
 
+-- a range of later cycles at each of which the slot is read
+pub always_more : (m k : Bool) (t to : ℕ) (x : Bool) → (1 ≤ t → t < to → x ≡ true) → (m || ((k && (leb 1 t && ltb t to)) && true)) ≡ (m || (k && ((leb 1 t && ltb t to) && x)))
+always_more m k t to x reads = ap (λ b. m || b) (by_place (cases_lt t 1) (cases_lt t to))
+  where
+    inner : (k : Bool) → leb 1 t ≡ true → t < to → 1 ≤ t → ((k && (leb 1 t && ltb t to)) && true) ≡ (k && ((leb 1 t && ltb t to) && x))
+    inner true e h l = rw (e, lt-ltb t to h) (sym (reads l h))
+    inner false e h l = refl
+
+    outside : (k v : Bool) → (leb 1 t && ltb t to) ≡ false → ((k && (leb 1 t && ltb t to)) && true) ≡ (k && ((leb 1 t && ltb t to) && x))
+    outside true v e = rw e refl
+    outside false v e = refl
+
+    by_place : (t < 1) ⊎ (1 ≤ t) → (t < to) ⊎ (to ≤ t) → ((k && (leb 1 t && ltb t to)) && true) ≡ (k && ((leb 1 t && ltb t to) && x))
+    by_place (inl h) i = let none : leb 1 t ≡ false = grind (arith, common_steps) in outside k true (ap (λ b. b && ltb t to) none)
+    by_place (inr h) (inl i) = let some : leb 1 t ≡ true = grind (arith, common_steps) in inner k some i h
+    by_place (inr h) (inr i) = let some : leb 1 t ≡ true = grind (arith, common_steps) in outside k true (ap (λ b. b && ltb t to) some ∙ le-ltb t to i)
+
+-- what was added once is there however often
+pub once : (i m y : Bool) → i ≡ (m || y) → i ≡ (i || y)
+once i true y e = rw e refl
+once i false true e = rw e refl
+once i false false e = rw e refl
+
+-- the cycles up to one, and those up to a later one
+pub up_to_more : (m k l a b x : Bool) → (a ≡ true → b ≡ true) → ((m || (k && ((l && a) && x))) || (k && ((l && b) && x))) ≡ (m || (k && ((l && b) && x)))
+up_to_more true k l a b x h = refl
+up_to_more false false l a b x h = refl
+up_to_more false true false a b x h = refl
+up_to_more false true true false b x h = refl
+up_to_more false true true true b true h = rw (h refl) refl
+up_to_more false true true true b false h = refl
+
 -- cycle 0 is that of a first reader
 pub first_range : (component c t : ℕ) (x y : Bool) → (t ≡ 0 → x ≡ y) → (((eqb c component) && (leb 0 t && ltb t 1)) && x) ≡ (is_reader (reader_at component true) t c && y)
 first_range component c t x y h = by_cycle (cases_eq t 0) (cases_eq c component)
@@ -179,6 +211,28 @@ module _ {State Slots Slot : Type 0} (R : Rules State Slots Slot) where
       by_cycle (inl e) = ap is_some (inputs_first R v.slots v.rows t c e)
       by_cycle (inr n) =
           ap is_some (inputs_later R v.slots v.rows t c n) ∙ all_there (row_at v.rows (t - 1)) (R.near v.slots c) (recursion_from_All _ (R.near v.slots c) (All-weaker (λ m. m < R.components v.slots) (λ m. is_some (held_at v.rows (t - 1) m).state ≡ true) (λ m k. ap is_some (held (t - 1) m (record { cycle = omega (arith, there.cycle); component = k }))) (R.near v.slots c) (laws.near_within v.slots c there.component)))
+
+  -- where all cells before a cycle hold a state, each cell up to it has its near states
+  pub ready_before : Laws R → (v : Seen State Slots) (n : ℕ) → ((t c : ℕ) → t < n → c < R.components v.slots → is_some (held_at v.rows t c).state ≡ true) → (t c : ℕ) → t ≤ n → IsThere R v t c → is_some (inputs_of R v.slots v.rows t c) ≡ true
+  ready_before laws v n held t c h there = by_cycle (cases_eq t 0)
+    where
+      by_cycle : (t ≡ 0) ⊎ (t ≡ 0 → ⊥) → is_some (inputs_of R v.slots v.rows t c) ≡ true
+      by_cycle (inl e) = ap is_some (inputs_first R v.slots v.rows t c e)
+      by_cycle (inr e) =
+          ap is_some (inputs_later R v.slots v.rows t c e) ∙ all_there (row_at v.rows (t - 1)) (R.near v.slots c) (recursion_from_All _ (R.near v.slots c) (All-weaker (λ m. m < R.components v.slots) (λ m. is_some (held_at v.rows (t - 1) m).state ≡ true) (λ m k. held (t - 1) m (omega (arith, h, e)) k) (R.near v.slots c) (laws.near_within v.slots c there.component)))
+
+  -- what a component is sure to read, it reads at each later cycle at which its near states are there
+  pub sure_reads : Laws R → (s : Slots) (rows : List (List (Held State))) (c t : ℕ) (slot : Slot) → R.always_reads s c slot ≡ true → 0 < t → is_some (inputs_of R s rows t c) ≡ true → cell_reads_one R s rows slot t c ≡ true
+  sure_reads laws s rows c t slot sure later there =
+      let near = laws.near_first s c in
+      let row = row_at rows (t - 1) in
+      let inputs : inputs_of R s rows t c ≡ with_state (held_in row c).state (states_of row near.0) = inputs_later R s rows t c (λ e. absurd (omega (arith, e))) ∙ ap (states_of row) near.1 in
+      ap (reads_one R s c slot) inputs ∙ by_states (held_in row c).state (states_of row near.0) (sym (ap is_some inputs) ∙ there)
+    where
+      by_states : (o : Option State) (others : Option (List State)) → is_some (with_state o others) ≡ true → reads_one R s c slot (with_state o others) ≡ true
+      by_states None others h = absurd (false≢true h)
+      by_states (Some x) None h = absurd (false≢true h)
+      by_states (Some x) (Some xs) h = laws.always_reads s x xs c slot sure
 
   -- a reader stands for its component
   pub of_reader : (r : Reader) (t c : ℕ) → is_reader r t c ≡ true → r.component ≡ c

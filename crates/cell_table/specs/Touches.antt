@@ -1,5 +1,5 @@
 -- What an edit does to a table.
-use Rattle.std.specs.Prelude.{◌≡◌, ℕ, ◌+◌, ◌==◌, ◌&&◌, if◌then◌else◌, ◌<◌, ◌≤◌, nat_le, nat_lt, Bool, List, length}
+use Rattle.std.specs.Prelude.{◌≡◌, ℕ, ◌+◌, ◌==◌, ◌&&◌, if◌then◌else◌, ◌<◌, ◌≤◌, nat_le, nat_lt, Bool, true, is_some, List, length}
 use Rattle.std.specs.List.{list_any}
 use Rattle.grid_law.specs.Rules.{Rules}
 use Rattle.cell_table.specs.Seen.{Held, Seen, fresh, marked, held_at}
@@ -33,6 +33,10 @@ module _ {State Slots Slot : Type 0} (R : Rules State Slots Slot) where
   -- whether the cell reads the slot
   abbrev pub cell_reads_one : Slots → List (List (Held State)) → Slot → ℕ → ℕ → Bool
   cell_reads_one s rows slot t c = reads_one R s c slot (inputs_of R s rows t c)
+
+  -- the near states of each cell before a cycle are there
+  abbrev pub AreReady : Seen State Slots → ℕ → Type 0
+  AreReady v n = (t c : ℕ) → t < n → IsThere R v t c → is_some (inputs_of R v.slots v.rows t c) ≡ true
 
   -- what is held for a cell after an edit that changed these slots
   abbrev pub held_touched : Seen State Slots → List Slot → ℕ → ℕ → Held State

@@ -1,11 +1,12 @@
 //! Following an edit.
-ghost use Rattle.std.specs.Prelude.{◌≡◌, ℕ, is_some, ◌+◌, ◌<◌, ◌≤◌, ◌-◌, ◌^◌, ◌↔◌, IfOk, OnOk, OnErr, unwrap_or, true, false, ◌||◌, ◌&&◌, All, List, ◌∷◌};
+ghost use Rattle.std.specs.Prelude.{◌≡◌, ℕ, is_some, ◌+◌, ◌<◌, ◌≤◌, ◌-◌, ◌^◌, ◌↔◌, IfOk, OnOk, OnErr, unwrap_or, true, false, ◌||◌, ◌&&◌, ◌==◌, nat_le, nat_lt, All, List, ◌∷◌};
 ghost use Rattle.std.specs.Option.{option_copied};
 ghost use Rattle.grid_law.specs.Rules.{Differ, reader_at};
+ghost use Rattle.cell_table.specs.Seen.{held_at};
 ghost use Rattle.cell_table.specs.Cells.{IsThere};
 ghost use Rattle.cell_table.specs.Inputs.{inputs_of};
 ghost use Rattle.cell_table.specs.Reads.{reads_by, is_reader};
-ghost use Rattle.cell_table.specs.Touches.{covers, is_marked, IsWithin, cell_reads, cell_reads_one, IsAfterTouch};
+ghost use Rattle.cell_table.specs.Touches.{covers, is_marked, IsWithin, AreReady, cell_reads, cell_reads_one, IsAfterTouch};
 ghost use Rattle.cell_table.specs.Events.{Event, Start, Edits};
 ghost use Rattle.cell_table.specs.Stands.{Stands};
 ghost use Rattle.cell_table.specs.Settling.{IsSettled};
@@ -17,6 +18,20 @@ use crate::{Cell, CellRange, TouchFault};
 use grid_law::{Changed, Grid, NoMemory, Reader};
 use std::alloc::Global;
 use std::sync::Arc;
+
+/// From how many readers on it pays to look at all states once, for where near states are wanting.
+const MANY_READERS: u32 = 8;
+
+/// How many of these readers are those of later cycles.
+fn later_in(readers: &[Reader]) -> u32 {
+    let mut count = 0u32;
+    for reader in readers {
+        if !reader.first {
+            count = count.saturating_add(1);
+        }
+    }
+    count
+}
 
 impl<G: Grid> Table<G> {
     /// Whether a component reads the slot at cycle 0.
@@ -40,12 +55,54 @@ impl<G: Grid> Table<G> {
         }
     }
 
-    /// Whether the near states of all cells are there, as one number tells: they are where no cell is
-    /// due.
-    fn all_ready(&self) -> bool
-        ensures { result ≡ true → (t c : ℕ) → IsThere G.rules self.now t c → is_some (inputs_of G.rules self.now.slots self.now.rows t c) ≡ true }
+    /// Before which cycle a component holds a state at each one, looked at up to `end`: one look at each stretch of
+    /// equal states.
+    fn held_to(&self, component: u32, end: u32) -> u32
+        requires component { component < G.rules.components self.now.slots }
+        requires end { end ≤ self.now.horizon + 1 }
+        ensures within { result ≤ end }
+        ensures held { (t : ℕ) → t < result → is_some (held_at self.now.rows t component).state ≡ true }
     {
-        self.due_to(self.horizon) == 0
+        let mut cycle = 0;
+        let mut hint = 0;
+        while cycle < end {
+            let own = self.standing(Cell { cycle, component }, hint);
+            if own.state.is_none() {
+                return cycle;
+            }
+            cycle = own.end.min(end);
+            hint = own.stretch.saturating_add(1);
+        }
+        cycle
+    }
+
+    /// Before which cycle each component holds a state at each one, looked at up to `end`.
+    fn all_held_to(&self, end: u32) -> u32
+        requires { end ≤ self.now.horizon + 1 }
+        ensures within { result ≤ end }
+        ensures held { (t c : ℕ) → t < result → c < G.rules.components self.now.slots → is_some (held_at self.now.rows t c).state ≡ true }
+    {
+        let mut held = end;
+        for component in 0..G::components(&self.slots) {
+            held = self.held_to(component, held);
+        }
+        held
+    }
+
+    /// Before which cycle each cell's near states are known to be there, as far as `end`. One number tells it where no cell
+    /// is due. Else each component's states are looked at, where many readers will ask for them; few ask for themselves.
+    fn ready_for(&self, readers: &[Reader], end: u32) -> u32
+        requires { end ≤ self.now.horizon + 1 }
+        ensures { AreReady G.rules self.now result }
+    {
+        if self.due_to(self.horizon) == 0 {
+            return end;
+        }
+        if later_in(readers) < MANY_READERS {
+            return 0;
+        }
+        let held = self.all_held_to(end);
+        if held < end { held + 1 } else { end }
     }
 
     /// Adds those cells of a range whose near states are there, where the range reads a slot.
@@ -53,14 +110,16 @@ impl<G: Grid> Table<G> {
         &self,
         range: CellRange,
         reads: bool,
+        ready: u32,
         ranges: &mut Vec<CellRange>,
     ) -> Result<(), NoMemory>
         requires range { IsWithin (self.now.horizon + 1) (G.rules.components self.now.slots) range }
+        requires ready { AreReady G.rules self.now ready }
         ensures at { OnOk result ((t c : ℕ) → is_marked ranges.new.items t c
             ≡ (is_marked ranges.old.items t c || (covers range t c && (is_some (inputs_of G.rules self.now.slots self.now.rows t range.component) && reads)))) }
         ensures within { (n count : ℕ) → All (IsWithin n count) ranges.old.items → IsWithin n count range → OnOk result (All (IsWithin n count) ranges.new.items) }
     {
-        if !reads || self.all_ready() {
+        if !reads || range.to <= ready {
             return add_where(ranges, range, reads);
         }
         let component = range.component;
@@ -76,18 +135,55 @@ impl<G: Grid> Table<G> {
         Ok(())
     }
 
-    /// Adds the cells of later cycles, up to the last, at which a component reads the slot. It is
-    /// asked once for each stretch of its own states.
+    /// Adds the cells of later cycles, up to the last, at which a component is sure to read the slot whatever its states
+    /// are, and whose near states are known to be there: to before which cycle.
+    fn add_always(
+        &self,
+        component: u32,
+        slot: &G::Slot,
+        last: u32,
+        ready: u32,
+        ranges: &mut Vec<CellRange>,
+    ) -> Result<u32, NoMemory>
+        requires there { last ≤ self.now.horizon }
+        requires component { component < G.rules.components self.now.slots }
+        requires ready { AreReady G.rules self.now ready }
+        requires within { All (IsWithin (last + 1) (G.rules.components self.now.slots)) ranges.old.items }
+        ensures within { OnOk result (All (IsWithin (last + 1) (G.rules.components self.now.slots)) ranges.new.items) }
+        ensures some { IfOk result (λ to. 1 ≤ to) }
+        ensures to { IfOk result (λ to. to ≤ last + 1) }
+        ensures at { IfOk result (λ to. (t c : ℕ) → t ≤ last → is_marked ranges.new.items t c
+            ≡ (is_marked ranges.old.items t c || ((c == component) && ((nat_le 1 t && nat_lt t to) && cell_reads_one G.rules self.now.slots self.now.rows slot.now t component)))) }
+    {
+        // The cycles are at most this many, so the next cycle's number fits.
+        let _cycles = self.cells.cycles();
+        let to = ready.min(last + 1);
+        if to == 0 || !G::always_reads(&self.slots, component, slot) {
+            return Ok(1);
+        }
+        let range = CellRange {
+            component,
+            from: 1,
+            to,
+        };
+        add_where(ranges, range, true)?;
+        Ok(to)
+    }
+
+    /// Adds the cells of later cycles, up to the last, at which a component reads the slot. One that is sure to read it isn't
+    /// asked; another one is, once for each stretch of its own states.
     #[inline(never)]
     fn add_later(
         &self,
         component: u32,
         slot: &G::Slot,
         last: u32,
+        ready: u32,
         ranges: &mut Vec<CellRange>,
     ) -> Result<(), NoMemory>
         requires there { last ≤ self.now.horizon }
         requires component { component < G.rules.components self.now.slots }
+        requires ready { AreReady G.rules self.now ready }
         requires within { All (IsWithin (last + 1) (G.rules.components self.now.slots)) ranges.old.items }
         ensures within { OnOk result (All (IsWithin (last + 1) (G.rules.components self.now.slots)) ranges.new.items) }
         ensures at { OnOk result ((t c : ℕ) → t ≤ last → is_marked ranges.new.items t c
@@ -95,7 +191,7 @@ impl<G: Grid> Table<G> {
     {
         // The cycles are at most this many, so the next cycle's number fits.
         let _cycles = self.cells.cycles();
-        let mut from = 1;
+        let mut from = self.add_always(component, slot, last, ready, ranges)?;
         let mut hint = 0;
         while from <= last {
             let cycle = from - 1;
@@ -107,7 +203,7 @@ impl<G: Grid> Table<G> {
                 from,
                 to,
             };
-            self.add_ready(range, reads, ranges)?;
+            self.add_ready(range, reads, ready, ranges)?;
             from = to;
             hint = own.stretch.saturating_add(1);
         }
@@ -120,17 +216,19 @@ impl<G: Grid> Table<G> {
         reader: Reader,
         slot: &G::Slot,
         last: u32,
+        ready: u32,
         ranges: &mut Vec<CellRange>,
     ) -> Result<(), NoMemory>
         requires there { last ≤ self.now.horizon }
         requires component { reader.component < G.rules.components self.now.slots }
+        requires ready { AreReady G.rules self.now ready }
         requires within { All (IsWithin (last + 1) (G.rules.components self.now.slots)) ranges.old.items }
         ensures within { OnOk result (All (IsWithin (last + 1) (G.rules.components self.now.slots)) ranges.new.items) }
         ensures at { OnOk result ((t c : ℕ) → t ≤ last → is_marked ranges.new.items t c
             ≡ (is_marked ranges.old.items t c || (is_reader reader t c && cell_reads_one G.rules self.now.slots self.now.rows slot.now t reader.component))) }
     {
         if !reader.first {
-            return self.add_later(reader.component, slot, last, ranges);
+            return self.add_later(reader.component, slot, last, ready, ranges);
         }
         let reads = self.reads_first(reader.component, slot);
         let range = CellRange {
@@ -156,9 +254,12 @@ impl<G: Grid> Table<G> {
         ensures at { OnOk result ((t c : ℕ) → t ≤ last → c < G.rules.components self.now.slots → is_marked ranges.new.items t c
             ≡ (is_marked ranges.old.items t c || cell_reads_one G.rules self.now.slots self.now.rows slot.now t c)) }
     {
+        // The cycles are at most this many, so the next cycle's number fits.
+        let _cycles = self.cells.cycles();
         let readers = G::readers(alloc, &self.slots, slot)?;
+        let ready = self.ready_for(readers.as_slice(), last + 1);
         for reader in readers.as_slice() {
-            self.add_reader(*reader, slot, last, ranges)?;
+            self.add_reader(*reader, slot, last, ready, ranges)?;
         }
         Ok(())
     }
@@ -245,8 +346,9 @@ impl<G: Grid> Table<G> {
     /// at that clock; where the table was settled, what settling it again costs are these cells and
     /// those with a near cell one cycle earlier that differs between the two runs. After a fault
     /// nothing is changed. Of each slot listed its readers are asked, and no other component: at
-    /// cycle 0, or later once for each stretch of cycles in which its own state is the same. Where no
-    /// cell is due, nothing else is looked at; else the near states of the cells that read the slot.
+    /// cycle 0; or later once for all cycles, where it is sure to read the slot, and else for each stretch of cycles in
+    /// which its own state is the same. Where no cell is due, nothing else is looked at; else each stretch of states, for
+    /// where states are wanting, and behind that the near states of the cells that read the slot.
     ///
     /// # Errors
     ///

@@ -1,18 +1,20 @@
 use Rattle.std.proofs.Common.{ℕ, ◌≡◌, ◌<◌, ◌≤◌, ◌+◌, ◌-◌, ◌∙◌, ◌&&◌, ◌||◌, sym, ap, arith, eqb, leb, ltb, is_some}
 use Rattle.std.specs.Option.{option_copied}
+use Rattle.std.proofs.lemmas.Bool.{lt-ltb, ltb-true}
 use Rattle.cell_table.specs.Inputs.{inputs_of}
 use Rattle.cell_table.specs.Touches.{is_marked, cell_reads_one}
-use Rattle.cell_table.proofs.Asking.{later_more, later_none, later_all, by_own}
+use Rattle.cell_table.proofs.Asking.{later_more, once, up_to_more, later_all, by_own}
 use Rattle.cell_table.proofs.table.Table.add_later.Goals as goal
 
 pub loop-from-init : goal.loop-from-init
 loop-from-init g c =
     let one = λ (t : ℕ). cell_reads_one g.G.Grid.rules c.args.self.now.slots c.args.self.now.rows c.args.slot.now t c.args.component in
+    let begun = c.in_ok-from.ensures in
     record {
-      first = omega arith;
-      to = omega arith;
-      within = c.requires.within;
-      at = λ t d h. later_none d c.args.component t (is_marked c.args.ranges.now.items t d) (one t);
+      first = begun.some;
+      to = begun.to;
+      within = begun.within;
+      at = λ t d h. once _ (is_marked c.args.ranges.now.items t d) ((eqb d c.args.component) && ((leb 1 t && ltb t c.in_ok-from.from) && one t)) (begun.at t d h);
     }
 
 pub loop-from-preserved : goal.loop-from-preserved
@@ -41,7 +43,7 @@ loop-from-preserved g c =
       at = λ t d h.
           c.in_ok-add_ready.ensures.at t d
           ∙ ap (λ b. b || (((eqb d component) && (leb from t && ltb t to)) && (ready t && reads))) (inv.at t d h)
-          ∙ later_more (is_marked c.args.ranges.now.items t d) (eqb d component) t from to (one t) (ready t && reads) inv.first (omega (arith, after)) (same t);
+          ∙ later_more (is_marked c.add_always.new.ranges.items t d) (eqb d component) t from to (one t) (ready t && reads) inv.first (omega (arith, after)) (same t);
     }
 
 pub returns-clause-at : goal.returns-clause-at
@@ -49,6 +51,10 @@ returns-clause-at g c = λ t d h.
     let inv = c.loop-from.invariant in
     let one = λ (t : ℕ). cell_reads_one g.G.Grid.rules c.args.self.now.slots c.args.self.now.rows c.args.slot.now t c.args.component in
     let end : c.loop-from.from ≡ c.args.last + 1 = omega (arith, inv.to, c.loop-from-test.false) in
+    let k = eqb d c.args.component in
+    let begun = c.in_ok-from.ensures in
     inv.at t d h
+    ∙ ap (λ b. b || (k && ((leb 1 t && ltb t c.loop-from.from) && one t))) (begun.at t d h)
+    ∙ up_to_more (is_marked c.args.ranges.now.items t d) k (leb 1 t) (ltb t c.in_ok-from.from) (ltb t c.loop-from.from) (one t) (λ e. lt-ltb t c.loop-from.from (omega (arith, ltb-true t c.in_ok-from.from e, begun.to, end)))
     ∙ ap (λ n. is_marked c.args.ranges.now.items t d || ((eqb d c.args.component) && ((leb 1 t && ltb t n) && one t))) end
     ∙ ap (λ b. is_marked c.args.ranges.now.items t d || b) (later_all c.args.component d t c.args.last (one t) h)
