@@ -13,6 +13,7 @@ pub mod Filled
 pub mod FilledRows
 pub mod Woken
 pub mod MarkedCycle
+pub mod MarkedRow
 pub mod Touched
 pub mod Asking
 pub mod Shortcut

@@ -1,5 +1,5 @@
 -- What an edit does to a table.
-use Rattle.std.specs.Prelude.{◌≡◌, ℕ, ◌+◌, ◌==◌, ◌&&◌, if◌then◌else◌, ◌<◌, ◌≤◌, nat_le, nat_lt, Bool, true, is_some, List, length}
+use Rattle.std.specs.Prelude.{◌≡◌, ℕ, ◌+◌, ◌==◌, ◌&&◌, if◌then◌else◌, ◌<◌, ◌≤◌, nat_le, nat_lt, Bool, true, not, is_some, List, length}
 use Rattle.std.specs.List.{list_any}
 use Rattle.grid_law.specs.Rules.{Rules}
 use Rattle.cell_table.specs.Seen.{Held, Seen, fresh, marked, held_at}
@@ -19,6 +19,18 @@ is_marked ranges t c = list_any (λ range. covers range t c) ranges
 -- the range has cells of the first n cycles, of a component below that number
 abbrev pub IsWithin : ℕ → ℕ → CellRange → Type 0
 IsWithin n count range = (range.from ≤ range.to) × (range.to ≤ n) × (range.component < count)
+
+-- the range has all cycles from 1 on to before one
+abbrev pub is_later : ℕ → CellRange → Bool
+is_later to range = (range.from == 1) && (range.to == to)
+
+-- the component of such a range
+abbrev pub has_later : List CellRange → ℕ → ℕ → Bool
+has_later ranges to c = list_any (λ range. is_later to range && (c == range.component)) ranges
+
+-- whether a cell is one of some other range
+abbrev pub is_marked_else : List CellRange → ℕ → ℕ → ℕ → Bool
+is_marked_else ranges to t c = list_any (λ range. not (is_later to range) && covers range t c) ranges
 
 -- what is held for a cell after an edit with these marks
 abbrev pub held_marked : {State : Type 0} → List (List (Held State)) → List CellRange → ℕ → ℕ → ℕ → Held State

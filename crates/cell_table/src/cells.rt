@@ -1,10 +1,10 @@
 //! What is held for the cells.
-ghost use Rattle.std.specs.Prelude.{◌≡◌, ℕ, ◌+◌, ◌-◌, ◌<◌, ◌≤◌, ◌++◌, ◌^◌, ◌↔◌, ◌||◌, IsTrue, All, IfOk, OnOk, OnErr, IfErr, length, replicate, map, take, option_map, is_some, true, false, MatchOption, Some, None, if◌then◌else◌, nat_lt, slice_index_or, []};
+ghost use Rattle.std.specs.Prelude.{◌≡◌, ℕ, ◌+◌, ◌-◌, ◌<◌, ◌≤◌, ◌++◌, ◌^◌, ◌↔◌, ◌||◌, IsTrue, All, IfOk, OnOk, OnErr, IfErr, length, replicate, map, take, option_map, is_some, true, false, ◌==◌, ◌&&◌, MatchOption, Some, None, if◌then◌else◌, nat_lt, slice_index_or, []};
 ghost use Rattle.std.specs.Option.{option_copied};
 ghost use Rattle.std.specs.Arc.{arc_value};
 ghost use Rattle.cell_table.specs.Seen.{fresh, stored, marked, held_at, row_at, due_in_row, due_up_to};
 ghost use Rattle.cell_table.specs.Inputs.{states_of};
-ghost use Rattle.cell_table.specs.Readers.{IsIndex, AreNear};
+ghost use Rattle.cell_table.specs.Readers.{has, IsIndex, AreNear};
 ghost use Rattle.grid_law.specs.Run.{run};
 ghost use Rattle.cell_table.specs.Settling.{IsNextDueInRow};
 ghost use Rattle.cell_table.specs.Layout.{cleared, IsOtherCell};
@@ -20,7 +20,7 @@ use crate::lines::{
 };
 use crate::neighbours::Neighbours;
 use crate::readers::Readers;
-use crate::versions::{Versions, grow_rows, rows_of, set_version, version_in};
+use crate::versions::{Versions, grow_rows, rows_of, set_version, set_versions, version_in};
 use cell_marks::{Marks, Row};
 use grid_law::{Grid, NoMemory};
 use state_line::Line;
@@ -235,6 +235,21 @@ impl<S: Drop> Cells<S> {
     {
         self.due.set(cell.cycle, cell.component);
         set_version(&mut self.versions, cell.cycle, cell.component, version);
+    }
+
+    /// Makes cells of a cycle due, with that version: those of the components that are marked, which are listed too.
+    pub(crate) fn mark_row(&mut self, cycle: u32, marked: &Row, listed: &[u32], version: u64)
+        requires cycle { cycle < length self.old }
+        requires width { length marked.now ≡ length (row_at self.old cycle) }
+        requires listed { (c : ℕ) → is_awake marked.now c ≡ has listed.now c }
+        requires there { All (λ c. c < length (row_at self.old cycle)) listed.now }
+        ensures len { length self.new ≡ length self.old }
+        ensures lens { (t : ℕ) → length (row_at self.new t) ≡ length (row_at self.old t) }
+        ensures at { (t c : ℕ) → held_at self.new t c
+            ≡ (if (t == cycle) && has listed.now c then marked (held_at self.old t c) version else held_at self.old t c) }
+    {
+        self.due.set_all(cycle, marked);
+        set_versions(&mut self.versions, cycle, listed, version);
     }
 
     /// Removes the cycles from n on.

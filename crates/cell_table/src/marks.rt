@@ -1,10 +1,13 @@
 //! Following an edit: the cells that it marks, and the cycles up to its horizon.
-ghost use Rattle.std.specs.Prelude.{◌≡◌, ℕ, ◌+◌, ◌++◌, ◌<◌, ◌≤◌, IfOk, OnOk, OnErr, length, map, replicate, All, Some, if◌then◌else◌, nat_lt, ◌^◌, ◌&&◌, ◌||◌};
+ghost use Rattle.std.specs.Prelude.{◌≡◌, ℕ, ◌+◌, ◌++◌, ◌<◌, ◌≤◌, IfOk, OnOk, OnErr, length, map, replicate, All, Some, if◌then◌else◌, nat_lt, ◌^◌, ◌&&◌, ◌||◌, ◌==◌, nat_le};
 ghost use Rattle.cell_table.specs.Seen.{held_at, row_at, marked, fresh};
-ghost use Rattle.cell_table.specs.Touches.{covers, is_marked, IsWithin, held_marked};
+ghost use Rattle.cell_table.specs.Readers.{has};
+ghost use Rattle.cell_table.specs.Filling.{is_awake};
+ghost use Rattle.cell_table.specs.Touches.{covers, is_later, has_later, is_marked, is_marked_else, IsWithin, held_marked};
 
 use crate::cells::Cells;
 use crate::{Cell, CellRange};
+use cell_marks::Row;
 use grid_law::NoMemory;
 
 /// Adds a range, where its cells read a slot.
@@ -38,17 +41,91 @@ fn mark_range<S: Drop>(cells: &mut Cells<S>, range: CellRange, count: u32, versi
     }
 }
 
-/// Marks the cells of these ranges.
-fn mark_ranges<S: Drop>(cells: &mut Cells<S>, ranges: &[CellRange], count: u32, version: u64)
+/// Whether a range has all cycles from 1 on to before one.
+fn is_later(range: CellRange, to: u32) -> bool
+    ensures { result ≡ is_later to range }
+{
+    range.from == 1 && range.to == to
+}
+
+/// Marks and lists a range's component, where the range has all cycles from 1 on to before one.
+fn gather_one(
+    range: CellRange,
+    to: u32,
+    marked: &mut Row,
+    listed: &mut Vec<u32>,
+) -> Result<(), NoMemory>
+    requires { range.component < length marked.old }
+    ensures len { length marked.new ≡ length marked.old }
+    ensures marked { OnOk result ((c : ℕ) → is_awake marked.new c ≡ (is_awake marked.old c || (is_later to range && (c == range.component)))) }
+    ensures listed { OnOk result ((c : ℕ) → has listed.new.items c ≡ (has listed.old.items c || (is_later to range && (c == range.component)))) }
+    ensures there { (n : ℕ) → range.component < n → All (λ c. c < n) listed.old.items → OnOk result (All (λ c. c < n) listed.new.items) }
+{
+    if is_later(range, to) {
+        listed.push(range.component)?;
+        marked.set(range.component);
+    }
+    Ok(())
+}
+
+/// Marks and lists the components of the ranges with all cycles from 1 on to before one.
+fn gather(
+    ranges: &[CellRange],
+    to: u32,
+    marked: &mut Row,
+    listed: &mut Vec<u32>,
+) -> Result<(), NoMemory>
+    requires { All (λ range. range.component < length marked.old) ranges.now }
+    ensures len { length marked.new ≡ length marked.old }
+    ensures marked { OnOk result ((c : ℕ) → is_awake marked.new c ≡ (is_awake marked.old c || has_later ranges.now to c)) }
+    ensures listed { OnOk result ((c : ℕ) → has listed.new.items c ≡ (has listed.old.items c || has_later ranges.now to c)) }
+    ensures there { All (λ c. c < length marked.old) listed.old.items → OnOk result (All (λ c. c < length marked.old) listed.new.items) }
+{
+    for range in ranges {
+        gather_one(*range, to, marked, listed)?;
+    }
+    Ok(())
+}
+
+/// Marks the cells of these components at the cycles from 1 on to before one. What lies side by side is marked together:
+/// a cycle at a time.
+fn mark_later<S: Drop>(cells: &mut Cells<S>, marked: &Row, listed: &[u32], to: u32, version: u64)
+    requires to { to ≤ length cells.old }
+    requires whole { (t : ℕ) → t < length cells.old → length (row_at cells.old t) ≡ length marked.now }
+    requires listed { (c : ℕ) → is_awake marked.now c ≡ has listed.now c }
+    requires there { All (λ c. c < length marked.now) listed.now }
+    ensures len { length cells.new ≡ length cells.old }
+    ensures lens { (t : ℕ) → length (row_at cells.new t) ≡ length (row_at cells.old t) }
+    ensures at { (t c : ℕ) → held_at cells.new t c
+        ≡ (if has listed.now c && (nat_le 1 t && nat_lt t to) then marked (held_at cells.old t c) version else held_at cells.old t c) }
+{
+    if listed.is_empty() {
+        return;
+    }
+    for cycle in 1..to {
+        cells.mark_row(cycle, marked, listed, version);
+    }
+}
+
+/// Marks the cells of the ranges that haven't all cycles from 1 on to before one.
+fn mark_others<S: Drop>(
+    cells: &mut Cells<S>,
+    ranges: &[CellRange],
+    to: u32,
+    count: u32,
+    version: u64,
+)
     requires within { All (IsWithin (length cells.old) count) ranges.now }
     requires whole { (t : ℕ) → t < length cells.old → length (row_at cells.old t) ≡ count }
     ensures len { length cells.new ≡ length cells.old }
     ensures lens { (t : ℕ) → length (row_at cells.new t) ≡ length (row_at cells.old t) }
     ensures at { (t c : ℕ) → held_at cells.new t c
-        ≡ (if is_marked ranges.now t c then marked (held_at cells.old t c) version else held_at cells.old t c) }
+        ≡ (if is_marked_else ranges.now to t c then marked (held_at cells.old t c) version else held_at cells.old t c) }
 {
     for range in ranges {
-        mark_range(cells, *range, count, version);
+        if !is_later(*range, to) {
+            mark_range(cells, *range, count, version);
+        }
     }
 }
 
@@ -97,9 +174,17 @@ pub(crate) fn retouch<S: Drop>(
         ≡ held_marked cells.old ranges.now version t c) }
     ensures err { OnErr result (cells.new ≡ cells.old) }
 {
+    let alloc = cells.allocator();
+    // The cycles are at most this many, so the next cycle's number fits.
+    let _cycles = cells.cycles();
+    let to = last + 1;
+    let mut marked = Row::new(alloc, count, false)?;
+    let mut listed = Vec::new(alloc);
+    gather(ranges, to, &mut marked, &mut listed)?;
     match resize(cells, horizon, version) {
         Ok(()) => {
-            mark_ranges(cells, ranges, count, version);
+            mark_later(cells, &marked, listed.as_slice(), to, version);
+            mark_others(cells, ranges, to, count, version);
             Ok(())
         }
         Err(_) => Err(NoMemory),

@@ -1,6 +1,7 @@
 //! The versions of the cells.
-ghost use Rattle.std.specs.Prelude.{◌≡◌, ℕ, ◌<◌, ◌≤◌, ◌++◌, IfOk, OnOk, OnErr, replicate, slice_index_or, slice_set, length, []};
+ghost use Rattle.std.specs.Prelude.{◌≡◌, ℕ, ◌<◌, ◌≤◌, ◌++◌, IfOk, OnOk, OnErr, replicate, slice_index_or, slice_set, length, [], All, ◌==◌, ◌&&◌, if◌then◌else◌};
 ghost use Rattle.cell_table.specs.Layout.{version_at};
+ghost use Rattle.cell_table.specs.Readers.{has};
 
 use grid_law::NoMemory;
 use smallvec::SmallVec;
@@ -72,6 +73,30 @@ impl Versions {
         }
         self.each[c as usize] = version;
     }
+
+    /// Sets those of some components.
+    fn set_all(&mut self, components: &[u32], version: u64)
+        requires { All (λ c. c < length self.old) components.now }
+        ensures len { length self.new ≡ length self.old }
+        ensures at { (c : ℕ) → slice_index_or self.new c 0 ≡ (if has components.now c then version else slice_index_or self.old c 0) }
+    {
+        for c in components {
+            self.set(*c, version);
+        }
+    }
+}
+
+/// Sets the versions of some cells of a cycle.
+pub(crate) fn set_versions(rows: &mut Vec<Versions>, t: u32, components: &[u32], version: u64)
+    requires cycle { t < length rows.old.items }
+    requires components { All (λ c. c < length (slice_index_or rows.old.items t [])) components.now }
+    ensures len { length rows.new.items ≡ length rows.old.items }
+    ensures lens { (u : ℕ) → length (slice_index_or rows.new.items u []) ≡ length (slice_index_or rows.old.items u []) }
+    ensures at { (u c : ℕ) → version_at rows.new.items u c
+        ≡ (if (u == t) && has components.now c then version else version_at rows.old.items u c) }
+{
+    let row = &mut rows[t as usize];
+    row.set_all(components, version);
 }
 
 /// Rows of that version.

@@ -1,0 +1,128 @@
+-- Cells of a row that are marked together.
+use Rattle.std.proofs.Common.{◌≡◌, ℕ, ◌<◌, ◌≤◌, ◌∙◌, sym, ap, refl, arith, Bool, true, false, cond, eqb, leb, ltb, not, eq-eqb, ◌&&◌, ◌||◌, ◌⊎◌, inl, inr, List, [], ◌∷◌, length, get_or, map}
+use Rattle.std.specs.List.{range_with_len}
+use Rattle.std.proofs.Math.ListN.{set, length-set}
+use Rattle.std.proofs.lemmas.Bool.{cases_lt, cases_eq, ne_eqb, eqb-true, and_parts}
+use Rattle.std.proofs.lemmas.List.{get_or-set_same, get_or-set_other, get_or_past}
+use Rattle.std.proofs.lemmas.List.FromFn.{length-map-range_with_len, get_or-map-range_with_len}
+use Rattle.state_line.specs.Lined.{Lined}
+use Rattle.cell_marks.specs.Marked.{Marked, is_set, union, row_at as marks_at, has as has_mark}
+use Rattle.cell_table.specs.Seen.{Held, row_at, held_at, marked}
+use Rattle.cell_table.specs.Layout.{version_at, line_at, state_at, kept, kept_at, rows_of, IsLayout}
+use Rattle.cell_table.specs.declared.cell.CellRange.{CellRange}
+use Rattle.cell_table.specs.Touches.{covers, is_later, has_later, is_marked, is_marked_else}
+use Rattle.cell_table.proofs.Keeping.{seen, seen_cycles, seen_length, held_kept, length_rows, length_row, lens_past}
+
+-- a mark of a union
+is_set_union : (a b : List Bool) (c : ℕ) → length b ≡ length a → is_set (union a b) c ≡ (is_set a c || is_set b c)
+is_set_union a b c l = by_place (cases_lt c (length a))
+  where
+    by_place : (c < length a) ⊎ (length a ≤ c) → is_set (union a b) c ≡ (is_set a c || is_set b c)
+    by_place (inl h) = get_or-map-range_with_len (λ c. is_set a c || is_set b c) 0 (length a) c c false h (omega arith)
+    by_place (inr h) =
+        get_or_past (union a b) c false (omega (arith, length-map-range_with_len (λ c. is_set a c || is_set b c) 0 (length a)))
+        ∙ sym (ap (λ v. v || is_set b c) (get_or_past a c false h) ∙ get_or_past b c false (omega (arith, l, h)))
+
+length_union : (a b : List Bool) → length (union a b) ≡ length a
+length_union a b = length-map-range_with_len (λ c. is_set a c || is_set b c) 0 (length a)
+
+module _ (rows : List (List Bool)) (t : ℕ) (row : List Bool) (there : t < length rows) (wide : length row ≡ length (marks_at rows t)) where
+  abbrev joined : List (List Bool)
+  joined = set rows t (union (marks_at rows t) row)
+
+  has_joined : (u d : ℕ) → has_mark joined u d ≡ (has_mark rows u d || ((eqb u t) && is_set row d))
+  has_joined u d = by_row (cases_eq u t)
+    where
+      or_false : (b : Bool) → b ≡ (b || false)
+      or_false true = refl
+      or_false false = refl
+
+      by_row : (u ≡ t) ⊎ (u ≡ t → ⊥) → has_mark joined u d ≡ (has_mark rows u d || ((eqb u t) && is_set row d))
+      by_row (inl p) =
+          rw (eq-eqb u t p) (ap (λ i. get_or (get_or joined i []) d false) p ∙ ap (λ r. get_or r d false) (get_or-set_same rows t _ [] there) ∙ is_set_union (marks_at rows t) row d wide ∙ ap (λ i. has_mark rows i d || is_set row d) (sym p))
+      by_row (inr p) = rw (ne_eqb u t p) (ap (λ r. get_or r d false) (get_or-set_other rows t u _ [] p) ∙ or_false (has_mark rows u d))
+
+  length_joined : (u : ℕ) → length (marks_at joined u) ≡ length (marks_at rows u)
+  length_joined u = by_row (cases_eq u t)
+    where
+      by_row : (u ≡ t) ⊎ (u ≡ t → ⊥) → length (marks_at joined u) ≡ length (marks_at rows u)
+      by_row (inl p) =
+          ap (λ i. length (get_or joined i [])) p ∙ ap length (get_or-set_same rows t _ [] there) ∙ length_union (marks_at rows t) row ∙ ap (λ i. length (marks_at rows i)) (sym p)
+      by_row (inr p) = ap length (get_or-set_other rows t u _ [] p)
+
+module _ {State : Type 0} where
+  held_more : (a b : Bool) (s : Option State) (m m1 : Bool) (v v1 version : ℕ) → m1 ≡ (m || (a && b)) → v1 ≡ cond (a && b) version v → ◌≡◌ {A = Held State} (kept s m1 v1) (cond (a && b) (marked (kept s m v) version) (kept s m v))
+  held_more true true s true m1 v v1 version e f = rw (e, f) refl
+  held_more true true s false m1 v v1 version e f = rw (e, f) refl
+  held_more true false s true m1 v v1 version e f = rw (e, f) refl
+  held_more true false s false m1 v v1 version e f = rw (e, f) refl
+  held_more false b s true m1 v v1 version e f = rw (e, f) refl
+  held_more false b s false m1 v v1 version e f = rw (e, f) refl
+
+  module _ (lines : List (Lined State)) (due due1 : Marked) (versions versions1 : List (List ℕ)) (layout : IsLayout lines due versions) (rows : List (List (Held State))) (e : rows_of lines due versions ≡ rows) (t : ℕ) (row : List Bool) (version : ℕ) (there : t < length due.rows) (wide : length row ≡ length (marks_at due.rows t)) (joins : due1 ≡ record { width = due.width; rows = set due.rows t (union (marks_at due.rows t) row) }) (len : length versions1 ≡ length versions) (lens : (u : ℕ) → length (get_or versions1 u []) ≡ length (get_or versions u [])) where
+    cycles : length due1.rows ≡ length due.rows
+    cycles = ap (λ (m : Marked). length m.rows) joins ∙ length-set due.rows t _
+
+    width : due1.width ≡ due.width
+    width = ap (λ (m : Marked). m.width) joins
+
+    pub layout_joined : IsLayout lines due1 versions1
+    layout_joined = record {
+      components = layout.components ∙ sym width;
+      cycles = λ c h. layout.cycles c (omega (arith, h, width)) ∙ sym cycles;
+      marks = λ u h. ap (λ (m : Marked). length (marks_at m.rows u)) joins ∙ length_joined due.rows t row there wide u ∙ layout.marks u (omega (arith, h, cycles)) ∙ sym width;
+      rows = len ∙ layout.rows ∙ sym cycles;
+      numbers = λ u h. lens u ∙ layout.numbers u (omega (arith, h, cycles)) ∙ sym width;
+      few = omega (arith, layout.few, width);
+      short = omega (arith, layout.short, cycles);
+    }
+
+    pub rows_len : length (rows_of lines due1 versions1) ≡ length rows
+    rows_len = length_rows lines due1 versions1 ∙ cycles ∙ sym (seen_cycles lines due versions rows e)
+
+    pub rows_lens : (u : ℕ) → length (row_at (rows_of lines due1 versions1) u) ≡ length (row_at rows u)
+    rows_lens u = by_cycle (cases_lt u (length due.rows))
+      where
+        by_cycle : (u < length due.rows) ⊎ (length due.rows ≤ u) → length (row_at (rows_of lines due1 versions1) u) ≡ length (row_at rows u)
+        by_cycle (inl k) = length_row lines due1 versions1 u (omega (arith, k, cycles)) ∙ width ∙ sym (seen_length lines due versions rows e u k)
+        by_cycle (inr k) = lens_past lines due1 versions1 u (omega (arith, k, cycles)) ∙ sym (ap (λ r. length (row_at r u)) (sym e) ∙ lens_past lines due versions u k)
+
+    pub marked_row : (has : ℕ → Bool) → ((c : ℕ) → is_set row c ≡ has c) → ((u c : ℕ) → version_at versions1 u c ≡ cond ((eqb u t) && has c) version (version_at versions u c)) → (u c : ℕ) → held_at (rows_of lines due1 versions1) u c ≡ cond ((eqb u t) && has c) (marked (held_at rows u c) version) (held_at rows u c)
+    marked_row has same at u c =
+        held_kept lines due1 versions1 layout_joined u c
+        ∙ held_more (eqb u t) (has c) (state_at lines u c) (has_mark due.rows u c) (has_mark due1.rows u c) (version_at versions u c) (version_at versions1 u c) version (ap (λ (m : Marked). has_mark m.rows u c) joins ∙ has_joined due.rows t row there wide u c ∙ ap (λ b. has_mark due.rows u c || ((eqb u t) && b)) (same c)) (at u c)
+        ∙ ap (λ (k : Held State). cond ((eqb u t) && has c) (marked k version) k) (sym (seen lines due versions rows e layout u c))
+
+-- the ranges that have all later cycles, and the others
+module _ (to t c : ℕ) where
+  abbrev within : Bool
+  within = leb 1 t && ltb t to
+
+  mix_true : (k w h r : Bool) → ((k && w) || ((h && w) || r)) ≡ ((((true && k) || h) && w) || ((not true && (k && w)) || r))
+  mix_true true true true r = refl
+  mix_true true true false r = refl
+  mix_true true false true r = refl
+  mix_true true false false r = refl
+  mix_true false w h r = refl
+
+  mix_false : (k x w h r : Bool) → (x || ((h && w) || r)) ≡ ((((false && k) || h) && w) || ((not false && x) || r))
+  mix_false k true true true r = refl
+  mix_false k true true false r = refl
+  mix_false k true false true r = refl
+  mix_false k true false false r = refl
+  mix_false k false w h r = refl
+
+  mix : (b k x w h r : Bool) → (b ≡ true → x ≡ (k && w)) → (x || ((h && w) || r)) ≡ ((((b && k) || h) && w) || ((not b && x) || r))
+  mix true k x w h r e = rw (e refl) (mix_true k w h r)
+  mix false k x w h r e = mix_false k x w h r
+
+  covers_later : (r : CellRange) → is_later to r ≡ true → covers r t c ≡ ((eqb c r.component) && within)
+  covers_later r e =
+      let parts = and_parts (eqb r.from 1) (eqb r.to to) e in
+      ap (λ n. (eqb c r.component) && (leb n t && ltb t r.to)) (eqb-true r.from 1 parts.0) ∙ ap (λ n. (eqb c r.component) && (leb 1 t && ltb t n)) (eqb-true r.to to parts.1)
+
+  pub marked_apart : (ranges : List CellRange) → is_marked ranges t c ≡ ((has_later ranges to c && within) || is_marked_else ranges to t c)
+  marked_apart [] = refl
+  marked_apart (r ∷ rs) =
+      ap (λ b. covers r t c || b) (marked_apart rs)
+      ∙ mix (is_later to r) (eqb c r.component) (covers r t c) within (has_later rs to c) (is_marked_else rs to t c) (covers_later r)
