@@ -1,16 +1,18 @@
 -- Cells of a row that are marked together.
-use Rattle.std.proofs.Common.{◌≡◌, ℕ, ◌<◌, ◌≤◌, ◌∙◌, sym, ap, refl, arith, Bool, true, false, cond, eqb, leb, ltb, not, eq-eqb, ◌&&◌, ◌||◌, ◌⊎◌, inl, inr, List, [], ◌∷◌, length, get_or, map}
+use Rattle.std.proofs.Common.{◌≡◌, ℕ, ◌<◌, ◌≤◌, ◌∙◌, sym, ap, refl, arith, Bool, true, false, cond, eqb, leb, ltb, not, eq-eqb, ◌&&◌, ◌||◌, ◌⊎◌, inl, inr, List, [], ◌∷◌, length, get_or, replicate, take, ◌+◌, Option}
 use Rattle.std.specs.List.{range_with_len}
 use Rattle.std.proofs.Math.ListN.{set, length-set}
 use Rattle.std.proofs.lemmas.Bool.{cases_lt, cases_eq, ne_eqb, eqb-true, and_parts}
-use Rattle.std.proofs.lemmas.List.{get_or-set_same, get_or-set_other, get_or_past}
+use Rattle.std.proofs.lemmas.List.{get_or-set_same, get_or-set_other, get_or_past, get_or-replicate}
 use Rattle.std.proofs.lemmas.List.FromFn.{length-map-range_with_len, get_or-map-range_with_len}
+use Rattle.std.proofs.lemmas.List.Folds.{list_any_more}
 use Rattle.state_line.specs.Lined.{Lined}
 use Rattle.cell_marks.specs.Marked.{Marked, is_set, union, row_at as marks_at, has as has_mark}
-use Rattle.cell_table.specs.Seen.{Held, row_at, held_at, marked}
+use Rattle.cell_table.specs.Seen.{Held, nothing, fresh, row_at, held_in, held_at, marked}
 use Rattle.cell_table.specs.Layout.{version_at, line_at, state_at, kept, kept_at, rows_of, IsLayout}
 use Rattle.cell_table.specs.declared.cell.CellRange.{CellRange}
-use Rattle.cell_table.specs.Touches.{covers, is_later, has_later, is_marked, is_marked_else}
+use Rattle.cell_table.specs.Touches.{covers, is_later, has_later, is_marked, is_marked_else, held_marked}
+use Rattle.cell_table.proofs.Marking.{both}
 use Rattle.cell_table.proofs.Keeping.{seen, seen_cycles, seen_length, held_kept, length_rows, length_row, lens_past}
 
 -- a mark of a union
@@ -51,13 +53,17 @@ module _ (rows : List (List Bool)) (t : ℕ) (row : List Bool) (there : t < leng
       by_row (inr p) = ap length (get_or-set_other rows t u _ [] p)
 
 module _ {State : Type 0} where
+  held_both : (a b : Bool) (s : Option State) (m : Bool) (v version : ℕ) → ◌≡◌ {A = Held State} (kept s (m || (a && b)) (cond (a && b) version v)) (cond (a && b) (marked (kept s m v) version) (kept s m v))
+  held_both true true s true v version = refl
+  held_both true true s false v version = refl
+  held_both true false s true v version = refl
+  held_both true false s false v version = refl
+  held_both false b s true v version = refl
+  held_both false b s false v version = refl
+
   held_more : (a b : Bool) (s : Option State) (m m1 : Bool) (v v1 version : ℕ) → m1 ≡ (m || (a && b)) → v1 ≡ cond (a && b) version v → ◌≡◌ {A = Held State} (kept s m1 v1) (cond (a && b) (marked (kept s m v) version) (kept s m v))
-  held_more true true s true m1 v v1 version e f = rw (e, f) refl
-  held_more true true s false m1 v v1 version e f = rw (e, f) refl
-  held_more true false s true m1 v v1 version e f = rw (e, f) refl
-  held_more true false s false m1 v v1 version e f = rw (e, f) refl
-  held_more false b s true m1 v v1 version e f = rw (e, f) refl
-  held_more false b s false m1 v v1 version e f = rw (e, f) refl
+  held_more a b s m m1 v v1 version e f =
+      ap (λ (x : Bool). kept s x v1) e ∙ ap (λ (x : ℕ). kept s (m || (a && b)) x) f ∙ held_both a b s m v version
 
   module _ (lines : List (Lined State)) (due due1 : Marked) (versions versions1 : List (List ℕ)) (layout : IsLayout lines due versions) (rows : List (List (Held State))) (e : rows_of lines due versions ≡ rows) (t : ℕ) (row : List Bool) (version : ℕ) (there : t < length due.rows) (wide : length row ≡ length (marks_at due.rows t)) (joins : due1 ≡ record { width = due.width; rows = set due.rows t (union (marks_at due.rows t) row) }) (len : length versions1 ≡ length versions) (lens : (u : ℕ) → length (get_or versions1 u []) ≡ length (get_or versions u [])) where
     cycles : length due1.rows ≡ length due.rows
@@ -93,6 +99,17 @@ module _ {State : Type 0} where
         ∙ held_more (eqb u t) (has c) (state_at lines u c) (has_mark due.rows u c) (has_mark due1.rows u c) (version_at versions u c) (version_at versions1 u c) version (ap (λ (m : Marked). has_mark m.rows u c) joins ∙ has_joined due.rows t row there wide u c ∙ ap (λ b. has_mark due.rows u c || ((eqb u t) && b)) (same c)) (at u c)
         ∙ ap (λ (k : Held State). cond ((eqb u t) && has c) (marked k version) k) (sym (seen lines due versions rows e layout u c))
 
+pub none_range : CellRange
+none_range = record { component = 0; from = 0; to = 0 }
+
+pub or_assoc : (a b c : Bool) → ((a || b) || c) ≡ (a || (b || c))
+or_assoc true b c = refl
+or_assoc false b c = refl
+
+-- one range more
+pub later_range_more : (ranges : List CellRange) (i to c : ℕ) → i < length ranges → (has_later (take i ranges) to c || (is_later to (get_or ranges i none_range) && eqb c (get_or ranges i none_range).component)) ≡ has_later (take (i + 1) ranges) to c
+later_range_more ranges i to c h = list_any_more (λ r. is_later to r && eqb c r.component) ranges i none_range h
+
 -- the ranges that have all later cycles, and the others
 module _ (to t c : ℕ) where
   abbrev within : Bool
@@ -126,3 +143,21 @@ module _ (to t c : ℕ) where
   marked_apart (r ∷ rs) =
       ap (λ b. covers r t c || b) (marked_apart rs)
       ∙ mix (is_later to r) (eqb c r.component) (covers r t c) within (has_later rs to c) (is_marked_else rs to t c) (covers_later r)
+
+  pub retouched : {State : Type 0} (rows mids laters news : List (List (Held State))) (ranges : List CellRange) (v : ℕ) (listed : Bool) → listed ≡ has_later ranges to c → held_at laters t c ≡ cond (listed && within) (marked (held_at mids t c) v) (held_at mids t c) → held_at news t c ≡ cond (is_marked_else ranges to t c) (marked (held_at laters t c) v) (held_at laters t c) → row_at mids t ≡ cond (ltb t (length rows)) (row_at rows t) (replicate (length (row_at rows 0)) (fresh v)) → c < length (row_at rows 0) → held_at news t c ≡ held_marked rows ranges v t c
+  retouched {State = State} rows mids laters news ranges v listed same later else resized inside =
+      else
+      ∙ ap (λ k. cond (is_marked_else ranges to t c) (marked k v) k) (later ∙ ap (λ b. cond (b && within) (marked (held_at mids t c) v) (held_at mids t c)) same)
+      ∙ both (has_later ranges to c && within) (is_marked_else ranges to t c) (held_at mids t c) v
+      ∙ ap (λ b. cond b (marked (held_at mids t c) v) (held_at mids t c)) (sym (marked_apart ranges))
+      ∙ by_cycle (ltb t (length rows)) resized
+    where
+      fresh_marked : (b : Bool) → cond b (marked (fresh v) v) (fresh {State = State} v) ≡ fresh v
+      fresh_marked true = refl
+      fresh_marked false = refl
+
+      by_cycle : (b : Bool) → row_at mids t ≡ cond b (row_at rows t) (replicate (length (row_at rows 0)) (fresh v)) → cond (is_marked ranges t c) (marked (held_at mids t c) v) (held_at mids t c) ≡ cond b (cond (is_marked ranges t c) (marked (held_at rows t c) v) (held_at rows t c)) (fresh v)
+      by_cycle true e = ap (λ row. cond (is_marked ranges t c) (marked (held_in row c) v) (held_in row c)) e
+      by_cycle false e =
+          ap (λ k. cond (is_marked ranges t c) (marked k v) k) (ap (λ row. held_in row c) e ∙ get_or-replicate (length (row_at rows 0)) c (fresh v) nothing inside)
+          ∙ fresh_marked (is_marked ranges t c)

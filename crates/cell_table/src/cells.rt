@@ -238,18 +238,18 @@ impl<S: Drop> Cells<S> {
     }
 
     /// Makes cells of a cycle due, with that version: those of the components that are marked, which are listed too.
-    pub(crate) fn mark_row(&mut self, cycle: u32, marked: &Row, listed: &[u32], version: u64)
+    pub(crate) fn mark_row(&mut self, cycle: u32, row: &Row, list: &[u32], version: u64)
         requires cycle { cycle < length self.old }
-        requires width { length marked.now ≡ length (row_at self.old cycle) }
-        requires listed { (c : ℕ) → is_awake marked.now c ≡ has listed.now c }
-        requires there { All (λ c. c < length (row_at self.old cycle)) listed.now }
+        requires width { length row.now ≡ length (row_at self.old cycle) }
+        requires listed { (c : ℕ) → is_awake row.now c ≡ has list.now c }
+        requires there { All (λ c. c < length (row_at self.old cycle)) list.now }
         ensures len { length self.new ≡ length self.old }
         ensures lens { (t : ℕ) → length (row_at self.new t) ≡ length (row_at self.old t) }
         ensures at { (t c : ℕ) → held_at self.new t c
-            ≡ (if (t == cycle) && has listed.now c then marked (held_at self.old t c) version else held_at self.old t c) }
+            ≡ (if (t == cycle) && has list.now c then marked (held_at self.old t c) version else held_at self.old t c) }
     {
-        self.due.set_all(cycle, marked);
-        set_versions(&mut self.versions, cycle, listed, version);
+        self.due.set_all(cycle, row);
+        set_versions(&mut self.versions, cycle, list, version);
     }
 
     /// Removes the cycles from n on.

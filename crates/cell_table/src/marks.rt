@@ -49,61 +49,52 @@ fn is_later(range: CellRange, to: u32) -> bool
 }
 
 /// Marks and lists a range's component, where the range has all cycles from 1 on to before one.
-fn gather_one(
-    range: CellRange,
-    to: u32,
-    marked: &mut Row,
-    listed: &mut Vec<u32>,
-) -> Result<(), NoMemory>
-    requires { range.component < length marked.old }
-    ensures len { length marked.new ≡ length marked.old }
-    ensures marked { OnOk result ((c : ℕ) → is_awake marked.new c ≡ (is_awake marked.old c || (is_later to range && (c == range.component)))) }
-    ensures listed { OnOk result ((c : ℕ) → has listed.new.items c ≡ (has listed.old.items c || (is_later to range && (c == range.component)))) }
-    ensures there { (n : ℕ) → range.component < n → All (λ c. c < n) listed.old.items → OnOk result (All (λ c. c < n) listed.new.items) }
+fn gather_one(range: CellRange, to: u32, row: &mut Row, list: &mut Vec<u32>) -> Result<(), NoMemory>
+    requires { range.component < length row.old }
+    ensures len { length row.new ≡ length row.old }
+    ensures marked { OnOk result ((c : ℕ) → is_awake row.new c ≡ (is_awake row.old c || (is_later to range && (c == range.component)))) }
+    ensures listed { OnOk result ((c : ℕ) → has list.new.items c ≡ (has list.old.items c || (is_later to range && (c == range.component)))) }
+    ensures there { (n : ℕ) → range.component < n → All (λ c. c < n) list.old.items → OnOk result (All (λ c. c < n) list.new.items) }
 {
     if is_later(range, to) {
-        listed.push(range.component)?;
-        marked.set(range.component);
+        list.push(range.component)?;
+        row.set(range.component);
     }
     Ok(())
 }
 
 /// Marks and lists the components of the ranges with all cycles from 1 on to before one.
-fn gather(
-    ranges: &[CellRange],
-    to: u32,
-    marked: &mut Row,
-    listed: &mut Vec<u32>,
-) -> Result<(), NoMemory>
-    requires { All (λ range. range.component < length marked.old) ranges.now }
-    ensures len { length marked.new ≡ length marked.old }
-    ensures marked { OnOk result ((c : ℕ) → is_awake marked.new c ≡ (is_awake marked.old c || has_later ranges.now to c)) }
-    ensures listed { OnOk result ((c : ℕ) → has listed.new.items c ≡ (has listed.old.items c || has_later ranges.now to c)) }
-    ensures there { All (λ c. c < length marked.old) listed.old.items → OnOk result (All (λ c. c < length marked.old) listed.new.items) }
+fn gather(ranges: &[CellRange], to: u32, row: &mut Row, list: &mut Vec<u32>) -> Result<(), NoMemory>
+    requires { All (λ range. range.component < length row.old) ranges.now }
+    ensures len { length row.new ≡ length row.old }
+    ensures marked { OnOk result ((c : ℕ) → is_awake row.new c ≡ (is_awake row.old c || has_later ranges.now to c)) }
+    ensures listed { OnOk result ((c : ℕ) → has list.new.items c ≡ (has list.old.items c || has_later ranges.now to c)) }
+    ensures there { All (λ c. c < length row.old) list.old.items → OnOk result (All (λ c. c < length row.old) list.new.items) }
 {
     for range in ranges {
-        gather_one(*range, to, marked, listed)?;
+        gather_one(*range, to, row, list)?;
     }
     Ok(())
 }
 
 /// Marks the cells of these components at the cycles from 1 on to before one. What lies side by side is marked together:
 /// a cycle at a time.
-fn mark_later<S: Drop>(cells: &mut Cells<S>, marked: &Row, listed: &[u32], to: u32, version: u64)
+fn mark_later<S: Drop>(cells: &mut Cells<S>, row: &Row, list: &[u32], to: u32, version: u64)
+    requires some { 0 < to }
     requires to { to ≤ length cells.old }
-    requires whole { (t : ℕ) → t < length cells.old → length (row_at cells.old t) ≡ length marked.now }
-    requires listed { (c : ℕ) → is_awake marked.now c ≡ has listed.now c }
-    requires there { All (λ c. c < length marked.now) listed.now }
+    requires whole { (t : ℕ) → t < length cells.old → length (row_at cells.old t) ≡ length row.now }
+    requires listed { (c : ℕ) → is_awake row.now c ≡ has list.now c }
+    requires there { All (λ c. c < length row.now) list.now }
     ensures len { length cells.new ≡ length cells.old }
     ensures lens { (t : ℕ) → length (row_at cells.new t) ≡ length (row_at cells.old t) }
     ensures at { (t c : ℕ) → held_at cells.new t c
-        ≡ (if has listed.now c && (nat_le 1 t && nat_lt t to) then marked (held_at cells.old t c) version else held_at cells.old t c) }
+        ≡ (if has list.now c && (nat_le 1 t && nat_lt t to) then marked (held_at cells.old t c) version else held_at cells.old t c) }
 {
-    if listed.is_empty() {
+    if list.is_empty() {
         return;
     }
     for cycle in 1..to {
-        cells.mark_row(cycle, marked, listed, version);
+        cells.mark_row(cycle, row, list, version);
     }
 }
 
@@ -178,12 +169,12 @@ pub(crate) fn retouch<S: Drop>(
     // The cycles are at most this many, so the next cycle's number fits.
     let _cycles = cells.cycles();
     let to = last + 1;
-    let mut marked = Row::new(alloc, count, false)?;
-    let mut listed = Vec::new(alloc);
-    gather(ranges, to, &mut marked, &mut listed)?;
+    let mut row = Row::new(alloc, count, false)?;
+    let mut list = Vec::new(alloc);
+    gather(ranges, to, &mut row, &mut list)?;
     match resize(cells, horizon, version) {
         Ok(()) => {
-            mark_later(cells, &marked, listed.as_slice(), to, version);
+            mark_later(cells, &row, list.as_slice(), to, version);
             mark_others(cells, ranges, to, count, version);
             Ok(())
         }

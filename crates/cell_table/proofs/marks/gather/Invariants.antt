@@ -5,9 +5,9 @@ use Rattle.cell_table.specs.Touches.{has_later}
 use Rattle.cell_table.proofs.marks.gather.Given as goal
 
 abbrev pub invariant-loop-range : goal.invariant-loop-range
-invariant-loop-range g l = record {
-  len : length l.marked ≡ length l.initial.marked;
-  marked : (c : ℕ) → is_awake l.marked c ≡ (is_awake l.initial.marked c || has_later (take l.range-index l.ranges) l.to c);
-  listed : (c : ℕ) → has l.listed.items c ≡ (has l.initial.listed.items c || has_later (take l.range-index l.ranges) l.to c);
-  there : All (λ c. c < length l.initial.marked) l.initial.listed.items → All (λ c. c < length l.initial.marked) l.listed.items;
+invariant-loop-range l = record {
+  len : length l.row ≡ length l.initial.row;
+  marked : (c : ℕ) → is_awake l.row c ≡ (is_awake l.initial.row c || has_later (take l.range-index l.ranges) l.to c);
+  listed : (c : ℕ) → has l.list.items c ≡ (has l.initial.list.items c || has_later (take l.range-index l.ranges) l.to c);
+  there : All (λ c. c < length l.initial.row) l.initial.list.items → All (λ c. c < length l.initial.row) l.list.items;
 }

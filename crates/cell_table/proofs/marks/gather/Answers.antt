@@ -1,0 +1,18 @@
+use Rattle.std.proofs.Common.{◌∙◌, ◌||◌, ap, length}
+use Rattle.cell_table.specs.Readers.{has}
+use Rattle.cell_table.specs.Filling.{is_awake}
+use Rattle.cell_table.proofs.MarkedRow.{or_assoc, none_range, later_range_more}
+use Rattle.cell_table.proofs.marks.gather.Goals as goal
+
+pub loop-range-preserved : goal.loop-range-preserved
+loop-range-preserved c =
+    let inv = c.loop-range.invariant in
+    let one = c.in_ok-gather_one.ensures in
+    let i = c.loop-range.range-index in
+    let xs = c.args.ranges.now in
+    record {
+      len = c.gather_one.ensures.len ∙ inv.len;
+      marked = λ k. one.marked k ∙ ap (λ b. b || _) (inv.marked k) ∙ or_assoc (is_awake c.args.row.now k) _ _ ∙ ap (λ b. is_awake c.args.row.now k || b) (later_range_more xs i c.args.to k c.loop-range-test.true);
+      listed = λ k. one.listed k ∙ ap (λ b. b || _) (inv.listed k) ∙ or_assoc (has c.args.list.now.items k) _ _ ∙ ap (λ b. has c.args.list.now.items k || b) (later_range_more xs i c.args.to k c.loop-range-test.true);
+      there = λ h. one.there (length c.args.row.now) (c.requires i none_range c.loop-range-test.true) (inv.there h);
+    }
