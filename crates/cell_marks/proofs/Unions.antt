@@ -14,14 +14,14 @@ abbrev pub is_one : ℕ → ℕ → Bool
 is_one n i = eqb (bit_at n i) 1
 
 -- a bit as a number
-abbrev bit : Bool → ℕ
+abbrev pub bit : Bool → ℕ
 bit b = cond b 1 0
 
 -- the bits in which the union of two words isn't a third
 abbrev pub unlike : ℕ → ℕ → ℕ → ℕ
 unlike a b w = bit_xor (bit_or a b) w
 
-of_bit : (x : ℕ) → x < 2 → x ≡ bit (eqb x 1)
+pub of_bit : (x : ℕ) → x < 2 → x ≡ bit (eqb x 1)
 of_bit zero h = refl
 of_bit (suc zero) h = refl
 of_bit (suc (suc x)) h = absurd (omega arith)

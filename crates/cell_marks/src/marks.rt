@@ -1,6 +1,6 @@
 //! A mark for each cell.
 ghost use Rattle.std.specs.Prelude.{◌≡◌, ℕ, ◌<◌, ◌≤◌, ◌+◌, ◌*◌, ◌++◌, ◌^◌, ◌↔◌, ◌||◌, true, false, IsTrue, MatchOption, IfOk, OnErr, MatchResult, length, replicate, slice_set, slice_index_or, take, [], if◌then◌else◌};
-ghost use Rattle.cell_marks.specs.Marked.{is_set, has, count_in, count_of, row_at, IsFirstFrom};
+ghost use Rattle.cell_marks.specs.Marked.{is_set, has, count_in, count_of, row_at, union, IsFirstFrom};
 
 use crate::row::Row;
 use std::alloc::{AllocError, Global};
@@ -115,6 +115,19 @@ impl Marks {
         let before = row.count();
         row.set(c);
         let after = row.count();
+        self.total = moved(self.total, before, after);
+    }
+
+    /// Marks the cells of a row at which another row has marks, too; 64 of them in one step.
+    pub fn set_all(&mut self, t: u32, row: &Row)
+        requires row { t < length self.old.rows }
+        requires width { length row.now ≡ self.old.width }
+        ensures { self.new ≡ record { width = self.old.width; rows = slice_set self.old.rows t (union (row_at self.old.rows t) row.now) } }
+    {
+        let marked = &mut self.rows[t as usize];
+        let before = marked.count();
+        marked.add(row);
+        let after = marked.count();
         self.total = moved(self.total, before, after);
     }
 

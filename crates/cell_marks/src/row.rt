@@ -1,9 +1,9 @@
 //! One row of marks.
 ghost use Rattle.std.specs.Prelude.{◌≡◌, ℕ, ◌<◌, ◌≤◌, ◌+◌, ◌^◌, ◌↔◌, ◌||◌, true, false, IsTrue, MatchOption, IfOk, length, replicate, slice_set, if◌then◌else◌};
-ghost use Rattle.cell_marks.specs.Marked.{is_set, count_in, IsFirstFrom};
+ghost use Rattle.cell_marks.specs.Marked.{is_set, count_in, union, IsFirstFrom};
 
 use crate::word::word_of;
-use crate::words::{clear_all_in, clear_in, first_in, has_in, is_union_in, set_in};
+use crate::words::{add_in, clear_all_in, clear_in, first_in, has_in, is_union_in, set_in};
 use smallvec::{SmallVec, smallvec};
 use std::alloc::{AllocError, Global};
 use std::marker::Model;
@@ -106,6 +106,17 @@ impl Row {
         let was_set = self.has(c);
         self.count = more(self.count, was_set);
         set_in(&mut self.words, self.len, c);
+    }
+
+    /// Marks all components that another row marks, too; 64 of them in one step.
+    #[tactic(auto, using(crate::proofs::Added::count_le))]
+    pub(crate) fn add(&mut self, other: &Row)
+        requires { length other.now ≡ length self.old }
+        ensures { self.new ≡ union self.old other.now }
+    {
+        let _len = other.len;
+        let added = add_in(&mut self.words, &other.words, self.len);
+        self.count += added;
     }
 
     /// Takes a component's mark away.

@@ -1,5 +1,5 @@
 //! The bits of one word.
-ghost use Rattle.std.specs.Prelude.{◌≡◌, ◌≢◌, ℕ, ◌+◌, ◌-◌, ◌*◌, ◌/◌, ◌%◌, ◌^◌, ◌<◌, ◌≤◌, ◌↔◌, ◌||◌, IsTrue, MatchOption, nat_eq};
+ghost use Rattle.std.specs.Prelude.{◌≡◌, ◌≢◌, ℕ, ◌+◌, ◌-◌, ◌*◌, ◌/◌, ◌%◌, ◌^◌, ◌<◌, ◌≤◌, ◌↔◌, ◌||◌, IsTrue, MatchOption, max, nat_eq};
 ghost use Rattle.std.specs.Int.{bit_at};
 
 /// The word whose bits are all set, or all clear.
@@ -25,6 +25,16 @@ pub(crate) fn without_bit(word: u64, k: u32) -> u64
     ensures others { (i : ℕ) → i < 64 → (i ≡ k → ⊥) → bit_at result i ≡ bit_at word i }
 {
     word & !(1 << k)
+}
+
+/// The bits below n that another word has set and this one hasn't.
+pub(crate) fn missing_bits(word: u64, other: u64, n: u32) -> u64
+    requires some { 0 < n }
+    requires within { n ≤ 64 }
+    ensures below { result < 2 ^ n }
+    ensures bits { (i : ℕ) → i < n → bit_at word i + bit_at result i ≡ max (bit_at word i) (bit_at other i) }
+{
+    other & !word & (u64::MAX >> (64 - n))
 }
 
 pub(crate) fn has_bit(word: u64, k: u32) -> bool

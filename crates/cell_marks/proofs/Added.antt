@@ -1,0 +1,146 @@
+-- Words to which the bits of others are added.
+use Rattle.std.proofs.Common.{◌≡◌, ℕ, zero, suc, ◌+◌, ◌-◌, ◌*◌, ◌/◌, ◌%◌, ◌^◌, ◌<◌, ◌≤◌, ◌∙◌, sym, ap, refl, subst, arith, min, max, w64, Bool, false, eqb, ◌||◌, ◌⊎◌, inl, inr, List, length, get_or}
+use Rattle.std.proofs.Math.ListN.{set}
+use Rattle.std.specs.Int.{bit_at}
+use Rattle.std.specs.Int.Bits.{bit_and, bit_or}
+use Rattle.std.specs.Int.Count.{ones}
+use Rattle.std.proofs.lemmas.Bool.{cases_lt, cases_eq}
+use Rattle.std.proofs.lemmas.List.{get_or-set_same, get_or-set_other}
+use Rattle.std.proofs.lemmas.List.Sums.{count_by-le-length}
+use Rattle.std.proofs.lemmas.List.FromFn.{length-map-range_with_len, get_or-map-range_with_len}
+use Rattle.std.proofs.lemmas.Nat.{and_mask, mod_below, pow_pos}
+use Rattle.std.proofs.lemmas.Nat.Bits.{bit_at_and, bit_at_or, bit_at_not, bit_at_ones, bit_at-lt, bit_at_above, ones_shr}
+use Rattle.cell_marks.specs.Bits.{bit_in, bits_of}
+use Rattle.cell_marks.specs.Marked.{is_set, count_in, union}
+use Rattle.cell_marks.proofs.Bits.{length_bits, at_bits, bits_are, bit_of_word}
+use Rattle.cell_marks.proofs.Counts.{count_added, ones_counted}
+use Rattle.cell_marks.proofs.Unions.{is_one, bit, of_bit}
+
+pub length_union : (a b : List Bool) → length (union a b) ≡ length a
+length_union a b = length-map-range_with_len (λ c. is_set a c || is_set b c) 0 (length a)
+
+at_union : (a b : List Bool) (c : ℕ) → c < length a → is_set (union a b) c ≡ (is_set a c || is_set b c)
+at_union a b c h = get_or-map-range_with_len (λ c. is_set a c || is_set b c) 0 (length a) c c false h (omega arith)
+
+-- words that have the bits of two others show the union of what these show
+pub bits_union : (news olds other : List ℕ) (n : ℕ) → ((c : ℕ) → c < n → bit_in news c ≡ (bit_in olds c || bit_in other c)) → bits_of news n ≡ union (bits_of olds n) (bits_of other n)
+bits_union news olds other n each = sym (bits_are news n (union (bits_of olds n) (bits_of other n)) (length_union (bits_of olds n) (bits_of other n) ∙ length_bits olds n) at_each)
+  where
+    at_each : (c : ℕ) → c < n → is_set (union (bits_of olds n) (bits_of other n)) c ≡ bit_in news c
+    at_each c h =
+        at_union (bits_of olds n) (bits_of other n) c (omega (arith, length_bits olds n))
+        ∙ ap (λ u. u || is_set (bits_of other n) c) (at_bits olds n c h)
+        ∙ ap (λ u. bit_in olds c || u) (at_bits other n c h)
+        ∙ sym (each c h)
+
+-- the bits below m that a word misses of another's
+abbrev pub Misses : ℕ → ℕ → ℕ → ℕ → Type 0
+Misses w o more m = (i : ℕ) → i < m → bit_at w i + bit_at more i ≡ max (bit_at w i) (bit_at o i)
+
+-- such bits as a program finds them
+abbrev missing : ℕ → ℕ → ℕ → ℕ
+missing w o n = bit_and (bit_and o (18446744073709551615 - w)) (18446744073709551615 / 2 ^ (64 - n))
+
+low_bits : (n : ℕ) → n ≤ 64 → 18446744073709551615 / 2 ^ (64 - n) ≡ 2 ^ n - 1
+low_bits n h = ones_shr 64 (64 - n) (omega arith) ∙ ap (λ k. 2 ^ k - 1) (omega (arith, h))
+
+pub missing_below : (w o n : ℕ) → n ≤ 64 → missing w o n < 2 ^ n
+missing_below w o n h =
+    let x = bit_and o (18446744073709551615 - w) in
+    let e : missing w o n ≡ x % 2 ^ n = ap (bit_and x) (low_bits n h) ∙ and_mask x n in
+    subst (λ v. v < 2 ^ n) (sym e) (mod_below x (2 ^ n) (pow_pos n))
+
+-- what is found so are the bits that the word misses
+pub missing_bits : (w o n : ℕ) → n ≤ 64 → w < 2 ^ 64 → Misses w o (missing w o n) n
+missing_bits w o n h small i low =
+    let x = bit_and o (18446744073709551615 - w) in
+    let both : bit_at (missing w o n) i ≡ min (bit_at x i) (bit_at (2 ^ n - 1) i) = ap (λ v. bit_at (bit_and x v) i) (low_bits n h) ∙ bit_at_and x (2 ^ n - 1) i in
+    let one : bit_at x i ≡ min (bit_at o i) (bit_at (18446744073709551615 - w) i) = bit_at_and o (18446744073709551615 - w) i in
+    let not_set : bit_at (18446744073709551615 - w) i ≡ 1 - bit_at w i = bit_at_not w64 w i small (omega arith) in
+    omega (arith, both, one, not_set, bit_at_ones n i low, bit_at-lt w i, bit_at-lt o i)
+
+-- bits that a word misses are added to it
+or_adds : (w o more m i : ℕ) → more < 2 ^ m → Misses w o more m → bit_at (bit_or w more) i ≡ bit_at w i + bit_at more i
+or_adds w o more m i small missed = bit_at_or w more i ∙ by_place (cases_lt i m)
+  where
+    by_place : (i < m) ⊎ (m ≤ i) → max (bit_at w i) (bit_at more i) ≡ bit_at w i + bit_at more i
+    by_place (inl low) = omega (arith, missed i low, bit_at-lt w i, bit_at-lt o i)
+    by_place (inr high) = omega (arith, bit_at_above more m i small high)
+
+either : (x y : ℕ) → x < 2 → y < 2 → eqb (max x y) 1 ≡ (eqb x 1 || eqb y 1)
+either zero zero h k = refl
+either zero (suc zero) h k = refl
+either (suc zero) zero h k = refl
+either (suc zero) (suc zero) h k = refl
+either zero (suc (suc y)) h k = absurd (omega arith)
+either (suc zero) (suc (suc y)) h k = absurd (omega arith)
+either (suc (suc x)) y h k = absurd (omega arith)
+
+-- a bit of the word that was changed, and of the others
+here : (words : List ℕ) (at w c : ℕ) → at < length words → c / 64 ≡ at → bit_in (set words at w) c ≡ is_one w (c % 64)
+here words at w c there e = ap (λ u. is_one (get_or (set words at w) u 0) (c % 64)) e ∙ ap (λ v. is_one v (c % 64)) (get_or-set_same words at w 0 there)
+
+elsewhere : (words : List ℕ) (at w c : ℕ) → (c / 64 ≡ at → ⊥) → bit_in (set words at w) c ≡ bit_in words c
+elsewhere words at w c ne = ap (λ v. is_one v (c % 64)) (get_or-set_other words at (c / 64) w 0 ne)
+
+-- the words up to that one have the bits of both
+pub added_more : (words olds other : List ℕ) (at more m n : ℕ) → at < length words → m ≡ min (n - 64 * at) 64 → more < 2 ^ m → Misses (get_or words at 0) (get_or other at 0) more m → ((c : ℕ) → c < 64 * at → c < n → bit_in words c ≡ (bit_in olds c || bit_in other c)) → ((c : ℕ) → 64 * at ≤ c → bit_in words c ≡ bit_in olds c) → (c : ℕ) → c < 64 * (at + 1) → c < n → bit_in (set words at (bit_or (get_or words at 0) more)) c ≡ (bit_in olds c || bit_in other c)
+added_more words olds other at more m n there span small missed done rest c h low = by_word (cases_lt c (64 * at))
+  where
+    w : ℕ
+    w = get_or words at 0
+
+    o : ℕ
+    o = get_or other at 0
+
+    in_word : c / 64 ≡ at → c % 64 < m → bit_in (set words at (bit_or w more)) c ≡ (bit_in olds c || bit_in other c)
+    in_word e k =
+        let i = c % 64 in
+        here words at (bit_or w more) c there e
+        ∙ ap (λ b. eqb b 1) (or_adds w o more m i small missed ∙ missed i k)
+        ∙ either (bit_at w i) (bit_at o i) (bit_at-lt w i) (bit_at-lt o i)
+        ∙ ap (λ u. is_one (get_or words u 0) i || is_one (get_or other u 0) i) (sym e)
+        ∙ ap (λ b. b || bit_in other c) (rest c (omega (arith, e)))
+
+    by_word : (c < 64 * at) ⊎ (64 * at ≤ c) → bit_in (set words at (bit_or w more)) c ≡ (bit_in olds c || bit_in other c)
+    by_word (inl l) = elsewhere words at (bit_or w more) c (λ e. absurd (omega (arith, e, l))) ∙ done c l low
+    by_word (inr l) =
+        let e : c / 64 ≡ at = omega (arith, l, h) in
+        in_word e (omega (arith, e, span, low))
+
+-- the words after that one are as they were
+pub added_rest : (words olds : List ℕ) (at w : ℕ) → ((c : ℕ) → 64 * at ≤ c → bit_in words c ≡ bit_in olds c) → (c : ℕ) → 64 * (at + 1) ≤ c → bit_in (set words at w) c ≡ bit_in olds c
+added_rest words olds at w rest c h = elsewhere words at w c (λ e. absurd (omega (arith, e, h))) ∙ rest c (omega arith)
+
+-- as many more are set as there are ones in what was added
+pub added_counted : (words : List ℕ) (at o more m n : ℕ) → at < length words → m ≤ 64 → 64 * at + m ≤ n → more < 2 ^ m → Misses (get_or words at 0) o more m → count_in (bits_of (set words at (bit_or (get_or words at 0) more)) n) ≡ count_in (bits_of words n) + ones more
+added_counted words at o more m n there within room small missed =
+    count_added (bit_in words) (bit_in (set words at (bit_or w more))) (is_one more) (64 * at) m n room before inside after
+    ∙ ap (λ k. count_in (bits_of words n) + k) (ones_counted m more small)
+  where
+    w : ℕ
+    w = get_or words at 0
+
+    before : (c : ℕ) → c < 64 * at → bit_in (set words at (bit_or w more)) c ≡ bit_in words c
+    before c h = elsewhere words at (bit_or w more) c (λ e. absurd (omega (arith, e, h)))
+
+    inside : (i : ℕ) → i < m → bit (bit_in (set words at (bit_or w more)) (64 * at + i)) ≡ bit (bit_in words (64 * at + i)) + bit (is_one more i)
+    inside i h =
+        let new : bit_in (set words at (bit_or w more)) (64 * at + i) ≡ is_one (bit_or w more) i = bit_of_word (set words at (bit_or w more)) at i (omega arith) ∙ ap (λ v. is_one v i) (get_or-set_same words at (bit_or w more) 0 there) in
+        omega (arith, ap bit new, ap bit (bit_of_word words at i (omega arith)), of_bit (bit_at (bit_or w more) i) (bit_at-lt (bit_or w more) i), of_bit (bit_at w i) (bit_at-lt w i), of_bit (bit_at more i) (bit_at-lt more i), or_adds w o more m i small missed)
+
+    after : (c : ℕ) → 64 * at + m ≤ c → c < n → bit_in (set words at (bit_or w more)) c ≡ bit_in words c
+    after c h low = by_word (cases_eq (c / 64) at)
+      where
+        by_word : (c / 64 ≡ at) ⊎ (c / 64 ≡ at → ⊥) → bit_in (set words at (bit_or w more)) c ≡ bit_in words c
+        by_word (inl e) =
+            here words at (bit_or w more) c there e
+            ∙ ap (λ b. eqb b 1) (or_adds w o more m (c % 64) small missed ∙ omega (arith, bit_at_above more m (c % 64) small (omega (arith, h, e))))
+            ∙ ap (λ u. is_one (get_or words u 0) (c % 64)) (sym e)
+        by_word (inr ne) = elsewhere words at (bit_or w more) c ne
+
+-- no more are set than there are
+pub count_le : (words : List ℕ) (n : ℕ) → count_in (bits_of words n) ≤ n
+count_le words n =
+    let most : count_in (bits_of words n) ≤ length (bits_of words n) = count_by-le-length (λ b. b) (bits_of words n) in
+    omega (arith, length_bits words n)

@@ -1,0 +1,13 @@
+use Rattle.std.proofs.Common.{◌≡◌, ℕ, ◌+◌, ◌*◌, ◌<◌, ◌≤◌, ◌||◌, length}
+use Rattle.cell_marks.specs.Bits.{bit_in, bits_of}
+use Rattle.cell_marks.specs.Marked.{count_in}
+use Rattle.cell_marks.proofs.words.add_in.Given as goal
+
+abbrev pub invariant-loop-word : goal.invariant-loop-word
+invariant-loop-word l = record {
+  len : length l.words ≡ length l.initial.words;
+  done : (c : ℕ) → c < 64 * l.word → c < l.n → bit_in l.words c ≡ (bit_in l.initial.words c || bit_in l.other c);
+  rest : (c : ℕ) → 64 * l.word ≤ c → bit_in l.words c ≡ bit_in l.initial.words c;
+  counted : count_in (bits_of l.words l.n) ≡ count_in (bits_of l.initial.words l.n) + l.added;
+  few : l.added ≤ 64 * l.word;
+}
