@@ -24,14 +24,14 @@ at_union a b c h = get_or-map-range_with_len (λ c. is_set a c || is_set b c) 0 
 
 -- words that have the bits of two others show the union of what these show
 pub bits_union : (news olds other : List ℕ) (n : ℕ) → ((c : ℕ) → c < n → bit_in news c ≡ (bit_in olds c || bit_in other c)) → bits_of news n ≡ union (bits_of olds n) (bits_of other n)
-bits_union news olds other n each =
-    let a = bits_of olds n in
-    let b = bits_of other n in
-    sym (bits_are news n (union a b) (length_union a b ∙ length_bits olds n) (λ c h.
-    at_union a b c (omega (arith, length_bits olds n))
-    ∙ ap (λ u. u || is_set b c) (at_bits olds n c h)
-    ∙ ap (λ u. bit_in olds c || u) (at_bits other n c h)
-    ∙ sym (each c h)))
+bits_union news olds other n each = sym (bits_are news n (union (bits_of olds n) (bits_of other n)) (length_union (bits_of olds n) (bits_of other n) ∙ length_bits olds n) at_each)
+  where
+    at_each : (c : ℕ) → c < n → is_set (union (bits_of olds n) (bits_of other n)) c ≡ bit_in news c
+    at_each c h =
+        at_union (bits_of olds n) (bits_of other n) c (omega (arith, length_bits olds n))
+        ∙ ap (λ u. u || is_set (bits_of other n) c) (at_bits olds n c h)
+        ∙ ap (λ u. bit_in olds c || u) (at_bits other n c h)
+        ∙ sym (each c h)
 
 -- the bits below m that a word misses of another's
 abbrev pub Misses : ℕ → ℕ → ℕ → ℕ → Type 0
@@ -50,7 +50,7 @@ missing_below w o n h =
     let e : missing w o n ≡ x % 2 ^ n = ap (bit_and x) (low_bits n h) ∙ and_mask x n in
     subst (λ v. v < 2 ^ n) (sym e) (mod_below x (2 ^ n) (pow_pos n))
 
--- such bits are those that they are to be
+-- what is found so are the bits that the word misses
 pub missing_bits : (w o n : ℕ) → n ≤ 64 → w < 2 ^ 64 → Misses w o (missing w o n) n
 missing_bits w o n h small i low =
     let x = bit_and o (18446744073709551615 - w) in

@@ -99,7 +99,7 @@ module _ {State : Type 0} where
         ∙ held_more (eqb u t) (has c) (state_at lines u c) (has_mark due.rows u c) (has_mark due1.rows u c) (version_at versions u c) (version_at versions1 u c) version (ap (λ (m : Marked). has_mark m.rows u c) joins ∙ has_joined due.rows t row there wide u c ∙ ap (λ b. has_mark due.rows u c || ((eqb u t) && b)) (same c)) (at u c)
         ∙ ap (λ (k : Held State). cond ((eqb u t) && has c) (marked k version) k) (sym (seen lines due versions rows e layout u c))
 
-pub none_range : CellRange
+abbrev pub none_range : CellRange
 none_range = record { component = 0; from = 0; to = 0 }
 
 pub or_assoc : (a b c : Bool) → ((a || b) || c) ≡ (a || (b || c))
@@ -108,7 +108,7 @@ or_assoc false b c = refl
 
 -- one range more
 pub later_range_more : (ranges : List CellRange) (i to c : ℕ) → i < length ranges → (has_later (take i ranges) to c || (is_later to (get_or ranges i none_range) && eqb c (get_or ranges i none_range).component)) ≡ has_later (take (i + 1) ranges) to c
-later_range_more ranges i to c h = list_any_more (λ r. is_later to r && eqb c r.component) ranges i none_range h
+later_range_more ranges i to c h = sym (list_any_more (λ r. is_later to r && eqb c r.component) ranges i none_range h)
 
 -- the ranges that have all later cycles, and the others
 module _ (to t c : ℕ) where
