@@ -1,6 +1,7 @@
-use Rattle.std.proofs.Common.{◌∙◌, ◌||◌, ap, length}
+use Rattle.std.proofs.Common.{◌∙◌, ◌&&◌, ◌||◌, ap, eqb, get_or, length}
 use Rattle.cell_table.specs.Readers.{has}
 use Rattle.cell_table.specs.Filling.{is_awake}
+use Rattle.cell_table.specs.Touches.{is_later}
 use Rattle.cell_table.proofs.MarkedRow.{or_assoc, none_range, later_range_more}
 use Rattle.cell_table.proofs.marks.gather.Goals as goal
 
@@ -12,7 +13,7 @@ loop-range-preserved c =
     let xs = c.args.ranges.now in
     record {
       len = c.gather_one.ensures.len ∙ inv.len;
-      marked = λ k. one.marked k ∙ ap (λ b. b || _) (inv.marked k) ∙ or_assoc (is_awake c.args.row.now k) _ _ ∙ ap (λ b. is_awake c.args.row.now k || b) (later_range_more xs i c.args.to k c.loop-range-test.true);
-      listed = λ k. one.listed k ∙ ap (λ b. b || _) (inv.listed k) ∙ or_assoc (has c.args.list.now.items k) _ _ ∙ ap (λ b. has c.args.list.now.items k || b) (later_range_more xs i c.args.to k c.loop-range-test.true);
+      marked = λ k. one.marked k ∙ ap (λ b. b || (is_later c.args.to (get_or xs i none_range) && eqb k (get_or xs i none_range).component)) (inv.marked k) ∙ or_assoc (is_awake c.args.row.now k) _ _ ∙ ap (λ b. is_awake c.args.row.now k || b) (later_range_more xs i c.args.to k c.loop-range-test.true);
+      listed = λ k. one.listed k ∙ ap (λ b. b || (is_later c.args.to (get_or xs i none_range) && eqb k (get_or xs i none_range).component)) (inv.listed k) ∙ or_assoc (has c.args.list.now.items k) _ _ ∙ ap (λ b. has c.args.list.now.items k || b) (later_range_more xs i c.args.to k c.loop-range-test.true);
       there = λ h. one.there (length c.args.row.now) (c.requires i none_range c.loop-range-test.true) (inv.there h);
     }
