@@ -14,6 +14,7 @@ pub mod FilledRows
 pub mod Woken
 pub mod MarkedCycle
 pub mod MarkedRow
+pub mod Held
 pub mod Touched
 pub mod Asking
 pub mod Shortcut

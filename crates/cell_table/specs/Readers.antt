@@ -1,8 +1,8 @@
 -- Which components read which, and what a table keeps of it.
-use Rattle.std.specs.Prelude.{◌≡◌, ℕ, ◌<◌, ◌==◌, Bool, List, [], length, slice_index_or, All}
+use Rattle.std.specs.Prelude.{◌≡◌, ℕ, ◌<◌, ◌≤◌, ◌+◌, ◌==◌, Bool, true, is_some, List, [], length, slice_index_or, All}
 use Rattle.std.specs.List.{list_any}
 use Rattle.grid_law.specs.Rules.{Rules}
-use Rattle.cell_table.specs.Seen.{Held}
+use Rattle.cell_table.specs.Seen.{Held, held_at}
 use Rattle.cell_table.specs.Consistent.{IsTable}
 
 -- some of the numbers is c
@@ -28,8 +28,14 @@ module _ {State Slots Slot : Type 0} (R : Rules State Slots Slot) where
   abbrev pub AreNear : Slots → List (List ℕ) → Type 0
   AreNear s lists = (c : ℕ) → c < R.components s → near_at lists c ≡ R.near s c
 
+  -- each cell before a cycle holds a state
+  abbrev pub AreHeld : Slots → List (List (Held State)) → ℕ → Type 0
+  AreHeld s rows n = (t c : ℕ) → t < n → c < R.components s → is_some (held_at rows t c).state ≡ true
+
   -- what is true of a table's fields
-  pub record IsKept (s : Slots) (horizon : ℕ) (rows : List (List (Held State))) (readers neighbours : List (List ℕ)) : Type 0 where
+  pub record IsKept (s : Slots) (horizon : ℕ) (rows : List (List (Held State))) (readers neighbours : List (List ℕ)) (held : ℕ) : Type 0 where
     pub table : IsTable R s horizon rows
     pub index : IsIndex s readers
     pub near : AreNear s neighbours
+    pub states : AreHeld s rows held
+    pub within : held ≤ horizon + 1

@@ -41,6 +41,8 @@ pub struct Table<G: Grid> {
     cells: Cells<G::State>,
     readers: Readers,
     neighbours: Neighbours,
+    /// Before which cycle each cell is known to hold a state; there may be more of them.
+    held: u32,
 }
 
 impl<G: Grid> Model for Table<G> {
@@ -51,7 +53,7 @@ impl<G: Grid> Model for Table<G> {
 
     ghost view = { λ t. record { slots = t.slots; horizon = t.horizon; clock = t.clock; rows = t.cells } };
 
-    ghost invariant = { λ t. IsKept G.rules t.slots t.horizon t.cells t.readers t.neighbours };
+    ghost invariant = { λ t. IsKept G.rules t.slots t.horizon t.cells t.readers t.neighbours t.held };
 }
 
 impl<G: Grid> Table<G> {
@@ -93,6 +95,7 @@ impl<G: Grid> Table<G> {
             cells,
             readers,
             neighbours,
+            held: 0,
         })
     }
 

@@ -368,8 +368,35 @@ impl<G: Grid> Table<G> {
         }
     }
 
+    /// Keeps in mind that each cell before a cycle holds a state: none of them is due.
+    fn note_held(&mut self, end: u32)
+        requires within { end ≤ self.old.horizon + 1 }
+        requires none { NoneDueBefore G.rules self.old end 0 }
+        ensures { self.new ≡ self.old }
+    {
+        self.held = self.held.max(end);
+    }
+
     /// Settles the cells before a cycle, and tells a watcher.
     fn settle_before<W: Watcher<G>>(
+        &mut self,
+        end: u32,
+        watcher: &mut W,
+    ) -> Result<Settled, SettleFault>
+        requires within { end ≤ self.old.horizon + 1 }
+        requires watched { W.keeps watcher.old self.old }
+        ensures watched { W.keeps watcher.new self.new }
+        ensures all { IfOk result (λ s. IsAt G.rules self.old self.new end 0 s.computed) }
+        ensures stops { IfErr result (λ f. StopsBefore G.rules end self.old self.new (computed_of f)) }
+        ensures spent { IfErr result (λ f. IsClockSpent f → IsSpentBefore G.rules end self.new 0 0) }
+    {
+        let settled = self.settle_due(end, watcher)?;
+        self.note_held(end);
+        Ok(settled)
+    }
+
+    /// As `settle_before`.
+    fn settle_due<W: Watcher<G>>(
         &mut self,
         end: u32,
         watcher: &mut W,

@@ -2,7 +2,6 @@
 ghost use Rattle.std.specs.Prelude.{◌≡◌, ℕ, is_some, ◌+◌, ◌<◌, ◌≤◌, ◌-◌, ◌^◌, ◌↔◌, IfOk, OnOk, OnErr, unwrap_or, true, false, ◌||◌, ◌&&◌, ◌==◌, nat_le, nat_lt, All, List, ◌∷◌};
 ghost use Rattle.std.specs.Option.{option_copied};
 ghost use Rattle.grid_law.specs.Rules.{Differ, reader_at};
-ghost use Rattle.cell_table.specs.Seen.{held_at};
 ghost use Rattle.cell_table.specs.Cells.{IsThere};
 ghost use Rattle.cell_table.specs.Inputs.{inputs_of};
 ghost use Rattle.cell_table.specs.Reads.{reads_by, is_reader};
@@ -18,20 +17,6 @@ use crate::{Cell, CellRange, TouchFault};
 use grid_law::{Changed, Grid, NoMemory, Reader};
 use std::alloc::Global;
 use std::sync::Arc;
-
-/// From how many readers on it pays to look at all states once, for where near states are wanting.
-const MANY_READERS: u32 = 8;
-
-/// How many of these readers are those of later cycles.
-fn later_in(readers: &[Reader]) -> u32 {
-    let mut count = 0u32;
-    for reader in readers {
-        if !reader.first {
-            count = count.saturating_add(1);
-        }
-    }
-    count
-}
 
 impl<G: Grid> Table<G> {
     /// Whether a component reads the slot at cycle 0.
@@ -55,54 +40,15 @@ impl<G: Grid> Table<G> {
         }
     }
 
-    /// Before which cycle a component holds a state at each one, looked at up to `end`: one look at each stretch of
-    /// equal states.
-    fn held_to(&self, component: u32, end: u32) -> u32
-        requires component { component < G.rules.components self.now.slots }
-        requires end { end ≤ self.now.horizon + 1 }
-        ensures within { result ≤ end }
-        ensures held { (t : ℕ) → t < result → is_some (held_at self.now.rows t component).state ≡ true }
-    {
-        let mut cycle = 0;
-        let mut hint = 0;
-        while cycle < end {
-            let own = self.standing(Cell { cycle, component }, hint);
-            if own.state.is_none() {
-                return cycle;
-            }
-            cycle = own.end.min(end);
-            hint = own.stretch.saturating_add(1);
-        }
-        cycle
-    }
-
-    /// Before which cycle each component holds a state at each one, looked at up to `end`.
-    fn all_held_to(&self, end: u32) -> u32
-        requires { end ≤ self.now.horizon + 1 }
-        ensures within { result ≤ end }
-        ensures held { (t c : ℕ) → t < result → c < G.rules.components self.now.slots → is_some (held_at self.now.rows t c).state ≡ true }
-    {
-        let mut held = end;
-        for component in 0..G::components(&self.slots) {
-            held = self.held_to(component, held);
-        }
-        held
-    }
-
-    /// Before which cycle each cell's near states are known to be there, as far as `end`. One number tells it where no cell
-    /// is due. Else each component's states are looked at, where many readers will ask for them; few ask for themselves.
-    fn ready_for(&self, readers: &[Reader], end: u32) -> u32
+    /// Before which cycle each cell's near states are known to be there, as far as `end`; no cell is looked at.
+    fn ready_to(&self, end: u32) -> u32
         requires { end ≤ self.now.horizon + 1 }
         ensures { AreReady G.rules self.now result }
     {
         if self.due_to(self.horizon) == 0 {
             return end;
         }
-        if later_in(readers) < MANY_READERS {
-            return 0;
-        }
-        let held = self.all_held_to(end);
-        if held < end { held + 1 } else { end }
+        if self.held < end { self.held + 1 } else { end }
     }
 
     /// Adds those cells of a range whose near states are there, where the range reads a slot.
@@ -257,7 +203,7 @@ impl<G: Grid> Table<G> {
         // The cycles are at most this many, so the next cycle's number fits.
         let _cycles = self.cells.cycles();
         let readers = G::readers(alloc, &self.slots, slot)?;
-        let ready = self.ready_for(readers.as_slice(), last + 1);
+        let ready = self.ready_to(last + 1);
         for reader in readers.as_slice() {
             self.add_reader(*reader, slot, last, ready, ranges)?;
         }
@@ -309,6 +255,7 @@ impl<G: Grid> Table<G> {
                 self.slots = next;
                 self.horizon = horizon;
                 self.clock = version;
+                self.held = self.held.min(horizon);
                 Ok(())
             }
             Err(_) => Err(NoMemory),
@@ -347,8 +294,8 @@ impl<G: Grid> Table<G> {
     /// those with a near cell one cycle earlier that differs between the two runs. After a fault
     /// nothing is changed. Of each slot listed its readers are asked, and no other component: at
     /// cycle 0; or later once for all cycles, where it is sure to read the slot, and else for each stretch of cycles in
-    /// which its own state is the same. Where no cell is due, nothing else is looked at; else each stretch of states, for
-    /// where states are wanting, and behind that the near states of the cells that read the slot.
+    /// which its own state is the same. Up to where each cell is known to hold a state nothing else is looked at; behind that
+    /// the near states of the cells that read the slot.
     ///
     /// # Errors
     ///

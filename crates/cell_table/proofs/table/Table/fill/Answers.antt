@@ -1,8 +1,9 @@
-use Rattle.std.proofs.Common.{◌+◌, ◌-◌, ◌*◌, ◌^◌, ◌<◌, ◌≤◌, ◌∙◌, sym, ap, subst, arith, length}
+use Rattle.std.proofs.Common.{◌+◌, ◌-◌, ◌*◌, ◌^◌, ◌<◌, ◌≤◌, ◌∙◌, sym, ap, subst, arith, is_some, length}
 use Rattle.cell_table.specs.Seen.{Held, Seen, fresh, held_at}
 use Rattle.cell_table.specs.Consistent.{IsWhole}
 use Rattle.cell_table.specs.Settling.{NoneDueBefore}
 use Rattle.cell_table.specs.Filling.{AllNew, version_after}
+use Rattle.cell_table.proofs.Held.{held_before}
 use Rattle.cell_table.proofs.Filled.{known_before, new_behind, holds_outside, filled_table, at_end, room_for}
 use Rattle.cell_table.proofs.table.Table.fill.Goals as goal
 
@@ -78,6 +79,10 @@ invariant_of-self g c =
           ∙ ap (λ (r : Held g.row.G-State.Denot). fresh (version_after (R.near i.slots d) (i.clock + (to - from - 1) * n) r.version n)) (f.rest to d a (omega arith) (omega (arith, b, table.whole.cycles))));
       index = c.self.invariant.index;
       near = c.self.invariant.near;
+      states = λ t d h a.
+          let before = held_before R v from i.held c.self.invariant.within c.self.invariant.states news t d h a in
+          ap (λ (r : Held g.row.G-State.Denot). is_some r.state) (k.others t d (omega (arith, before, there, f.len, table.whole.cycles)) (λ e. absurd (omega (arith, e, before, f.from))) ∙ f.earlier t d a before) ∙ c.self.invariant.states t d h a;
+      within = c.self.invariant.within;
     }
 
 pub clock_filled-clock-requires : goal.clock_filled-clock-requires

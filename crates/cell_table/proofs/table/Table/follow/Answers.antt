@@ -1,6 +1,7 @@
-use Rattle.std.proofs.Common.{◌∙◌}
+use Rattle.std.proofs.Common.{◌∙◌, sym, arith}
 use Rattle.cell_table.specs.Seen.{Seen}
 use Rattle.grid_law.specs.Rules.{Differ}
+use Rattle.cell_table.proofs.Held.{held_edited}
 use Rattle.cell_table.proofs.Reading.{index_along, near_along}
 use Rattle.cell_table.proofs.Touched.{is_table_touched, touched_from_marks}
 use Rattle.cell_table.proofs.table.Table.follow.Goals as goal
@@ -16,4 +17,6 @@ invariant_of-self g c =
       table = is_table_touched R g.G.Grid.laws v c.self.invariant.table c.args.next c.args.listed.now differ c.args.horizon c.retouch.new.cells (λ t k h m. c.in-Ok.ensures.at t k h (rw count m) ∙ touched_from_marks R v c.args.listed.now c.args.marks.now c.args.horizon c.self.invariant.table.whole.cycles (rw (← c.self.view_is) at c.requires.at) t k h m) c.in-Ok.ensures.len (λ t h. c.in-Ok.ensures.whole t h ∙ count);
       index = index_along R g.G.Grid.laws v.slots c.args.next i.readers differ.shape c.self.invariant.index;
       near = near_along R g.G.Grid.laws v.slots c.args.next i.neighbours differ.shape c.self.invariant.near;
+      states = held_edited R v c.args.next c.args.listed.now c.args.horizon i.held c.min-self-inside.result c.retouch.new.cells c.self.invariant.within (omega (arith, c.min-self-inside.ensures)) (omega (arith, c.min-self-inside.ensures)) (sym (g.G.Grid.laws.shape_components v.slots c.args.next differ.shape)) c.self.invariant.states (λ t k h m. c.in-Ok.ensures.at t k h (rw count m) ∙ touched_from_marks R v c.args.listed.now c.args.marks.now c.args.horizon c.self.invariant.table.whole.cycles (rw (← c.self.view_is) at c.requires.at) t k h m);
+      within = omega (arith, c.min-self-inside.ensures);
     }

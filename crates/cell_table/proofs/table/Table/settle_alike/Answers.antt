@@ -2,13 +2,15 @@ use Rattle.std.proofs.Common.{◌≡◌, ℕ, ◌+◌, ◌-◌, ◌*◌, ◌^◌
 use Rattle.std.proofs.lemmas.List.{length-replicate}
 use Rattle.std.proofs.lemmas.List.Sums.{count_by-le-length}
 use Rattle.cell_marks.specs.Marked.{count_in}
-use Rattle.cell_table.specs.Seen.{Seen, held_at, row_at, due_in_row}
+use Rattle.cell_table.specs.Seen.{Held, Seen, held_at, row_at, due_in_row}
 use Rattle.cell_table.specs.Consistent.{IsWhole}
 use Rattle.cell_table.specs.Filling.{is_awake}
 use Rattle.cell_table.specs.Passing.{woken}
 use Rattle.cell_table.specs.Settling.{NoneDueBefore, IsAt}
 use Rattle.cell_table.specs.Repeating.{any_changes, BeginsAlike, StaysAlike, AreDueAlike}
 use Rattle.cell_table.proofs.Filled.{room_changed}
+use Rattle.cell_table.proofs.Held.{kept_alike, kept_behind}
+use Rattle.cell_table.proofs.Passing.{woken_state}
 use Rattle.cell_table.proofs.Passes.{begins_at}
 use Rattle.cell_table.proofs.Repeated.{stays_less, goes_on_to, stays_table, holds_but, ranges_within}
 use Rattle.cell_table.proofs.table.Table.settle_alike.Goals as goal
@@ -76,6 +78,14 @@ invariant_of-self-2 g c =
           behind (begins_at R g.G.Grid.laws v table s none (omega arith));
       index = c.self.invariant.index;
       near = c.self.invariant.near;
+      states = λ t d h k.
+          let same = λ (h : t < i.held). kept_alike R i.slots i.held i.cells rows1 changes s e
+          (λ t d k h l. c.in-Ok-repeat_cells.ensures.repeated t d (omega (arith, k, width)) h l)
+          c.in-Ok-repeat_cells.ensures.earlier c.in-Ok-repeat_cells.ensures.later c.self.invariant.states t d h k in
+          kept_behind R i.slots i.held e rows1 rows2 t d (same h)
+          (λ p. c.mark_changed.ensures.others t d (omega (arith, h, c.self.invariant.within, c.repeat_cells.ensures.len, table.whole.cycles)) (λ q. p (omega (arith, q, last_one))))
+          (λ p. subst (λ u. (held_at rows2 u d).state ≡ (held_at rows1 u d).state) (sym p) (ap (λ (r : Held g.row.G-State.Denot). r.state) (behind (omega (arith, p, h, c.self.invariant.within)) d k) ∙ woken_state R (record { slots = i.slots; horizon = i.horizon; clock = i.clock; rows = rows1 }) (λ t k. is_awake changes k) 0 before (e - 1) n d ∙ ap (λ u. (held_at rows1 u d).state) last_one));
+      within = c.self.invariant.within;
     }
 
 pub returns-clause-on : goal.returns-clause-on

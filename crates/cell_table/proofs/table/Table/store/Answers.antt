@@ -1,5 +1,6 @@
 use Rattle.std.proofs.Common.{ℕ, ◌≤◌, ◌<◌, ◌∙◌, arith, length}
 use Rattle.std.specs.Arc.{arc_value}
+use Rattle.cell_table.proofs.Held.{held_stored}
 use Rattle.cell_table.proofs.Stores.{is_table_after}
 use Rattle.cell_table.proofs.table.Table.store.Goals as goal
 
@@ -12,4 +13,6 @@ invariant_of-self g c =
       table = is_table_after g.G.Grid.rules g.G.Grid.laws i.slots i.horizon i.cells c.store_in.new.cells c.self.invariant.table c.args.cell.cycle c.args.cell.component (arc_value c.args.state) c.args.changed c.clock_after-clock.result (rw (← c.self.view_is) at c.requires.changes).0 (λ t1 c1 h k. s.at t1 c1 (below t1 h) k) (rw (← c.self.view_is) at c.requires.computed) s.len (λ t1 h. s.lens t1 ∙ c.self.invariant.table.whole.components t1 h);
       index = c.self.invariant.index;
       near = c.self.invariant.near;
+      states = held_stored g.G.Grid.rules i.slots i.horizon i.held i.cells c.store_in.new.cells c.args.cell.cycle c.args.cell.component (arc_value c.args.state) c.args.changed c.clock_after-clock.result c.self.invariant.within c.self.invariant.states (λ t1 c1 h k. s.at t1 c1 (below t1 h) k);
+      within = c.self.invariant.within;
     }
