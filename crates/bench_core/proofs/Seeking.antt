@@ -3,11 +3,10 @@ use Rattle.std.proofs.Common.{◌≡◌, ℕ, zero, suc, ◌+◌, ◌*◌, ◌<�
 use Rattle.std.specs.Prelude.{nat_lt}
 use Rattle.std.proofs.Math.Nat.{min-le_right}
 use Rattle.std.proofs.lemmas.Bool.{cases_lt, lt-ltb, ltb-true}
-use Rattle.cell_table.specs.Settling.{IsSettledTo, IsClockSpent}
+use Rattle.cell_table.specs.Settling.{IsClockSpent}
 use Rattle.cell_table.specs.declared.given.SettleFault.{SettleFault}
 use Rattle.omega_net.specs.Numbers.{components}
 use Rattle.machine_cells.specs.declared.state.MachineState.{MachineState}
-use Rattle.machine_cells.specs.GridRules.{rp3_rules}
 use Rattle.machine_cells.specs.Run.{run}
 use Rattle.machine_cells.specs.Runs.{state_in}
 use Rattle.project_book.specs.Project.{Project}
@@ -18,15 +17,11 @@ use Rattle.run_queries.specs.declared.query.Query.TheVariants.{Reply}
 use Rattle.run_queries.specs.declared.body.Body.TheVariants.{Reply as Replied}
 use Rattle.run_queries.specs.declared.body.Received.{Received}
 use Rattle.run_queries.proofs.Stretches.{same_issued, same_reply}
-use Rattle.bench_core.specs.Shown.{Shown, IsBench, project_of, held}
+use Rattle.bench_core.specs.Shown.{Shown, project_of, held}
 use Rattle.bench_core.specs.Asks.{HoldsRunTo}
 use Rattle.bench_core.specs.Settled.{IsSettledFrom, IsPartlySettledFrom, IsSpentTo}
 use Rattle.bench_core.specs.Seeking.{AreSlices, SeeksAs, first_slice, slice_of, begins_at, replied_in, replied_by}
 use Rattle.bench_core.proofs.Looking.{run_held}
-
--- after a settling up to a cycle the cells up to it hold the run
-pub holds_to : (b : Shown) (last : ℕ) → IsBench b.table b.journal → last ≤ (project_of b).horizon → IsSettledTo rp3_rules last b.table → HoldsRunTo b last
-holds_to b last bench within settled t c le lt = settled.runs t c (record { cycle = omega (arith, bench.horizon, within, le); component = lt }) le
 
 -- what states that hold the run tell is what the run tells
 pub replied_is : (b : Shown) (p n last : ℕ) → p < components (project_of b).k → last ≤ (project_of b).horizon → HoldsRunTo b last

@@ -38,7 +38,7 @@ placed P map same a = let m : (place_in P a).«module» < lines P.k = placed_wit
 
 -- after a settling to a query's last cycle it holds the run
 module _ (b : Shown) (bench : IsBench b.table b.journal) (last : ℕ) (settled : IsSettledTo rp3_rules last b.table) where
-  holds_to : (end : ℕ) → end ≤ last → end ≤ (project_of b).horizon → HoldsRunTo b end
+  pub holds_to : (end : ℕ) → end ≤ last → end ≤ (project_of b).horizon → HoldsRunTo b end
   holds_to end up_to within t c le lt = settled.runs t c (record { cycle = omega (arith, bench.horizon); component = lt }) (omega arith)
 
   up_to_date : (q : Query) → bad_query (project_of b) q ≡ None → ((a : ℕ) → module_of (project_of b) a < components (project_of b).k)

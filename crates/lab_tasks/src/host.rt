@@ -60,8 +60,41 @@ fn file_bytes<R: Files + AllocGlobal>(rt: &R, name: &str) -> io::Result<Vec<u8>>
     Ok(bytes)
 }
 
-fn beside(alloc: Global, name: &str) -> io::Result<String> {
-    Ok(format!(in alloc; "{name}.part")?)
+/// How many names of a file in the making are tried.
+const MOST_PARTS: u32 = 100;
+
+/// The name of a file in the making that is tried at this turn: with a number from the second turn on.
+fn beside(alloc: Global, name: &str, turn: u32) -> io::Result<String> {
+    if turn == 0 {
+        return Ok(format!(in alloc; "{name}.part")?);
+    }
+    Ok(format!(in alloc; "{name}.part{turn}")?)
+}
+
+/// Makes an empty file: whether it did, since nothing had that name.
+fn is_made<R: Files>(rt: &R, name: &str) -> io::Result<bool> {
+    match fs::File::create_new(rt, name) {
+        Ok(_file) => Ok(true),
+        Err(fault) => {
+            if fault.kind() == io::ErrorKind::AlreadyExists {
+                Ok(false)
+            } else {
+                Err(fault)
+            }
+        }
+    }
+}
+
+/// Makes an empty file beside a name, and gives the name of that: none that there was, so neither the file that was read nor
+/// another is written over, or taken away.
+fn part_of<R: Files + AllocGlobal>(rt: &R, name: &str) -> io::Result<String> {
+    for turn in 0..MOST_PARTS {
+        let part = beside(rt.alloc(), name, turn)?;
+        if is_made(rt, part.as_str())? {
+            return Ok(part);
+        }
+    }
+    Err(io::Error::from(io::ErrorKind::AlreadyExists))
 }
 
 /// Writes a file as `part`, and then gives it its name.
@@ -72,7 +105,7 @@ fn write_as<R: Files>(rt: &R, part: &str, file: &OutFile) -> io::Result<()> {
 
 /// Writes a file beside its name first, so that it is never half written there; where that fails the part is taken away.
 fn save_file<R: Files + AllocGlobal>(rt: &R, file: &OutFile) -> io::Result<()> {
-    let part = beside(rt.alloc(), file.name.as_str())?;
+    let part = part_of(rt, file.name.as_str())?;
     match write_as(rt, part.as_str(), file) {
         Ok(()) => Ok(()),
         Err(fault) => {

@@ -77,7 +77,7 @@ impl<R: Wait> Desk for Seated<R> {
         self.pass.edit(&self.rt, edit)
     }
 
-    /// Settles the bench and asks it, in one turn.
+    /// Settles the bench as far as the answer looks, and answers it, in one turn.
     fn ask<T: Threads + Sync>(&mut self, rt: &T, query: Query) -> Told {
         self.pass.ask_with(&self.rt, rt, query)
     }

@@ -19,8 +19,11 @@ use wave_workers::{Gate, attend};
 const LONGEST: u32 = 15_000;
 
 /// How often two workers that sleep between their 66 cells and those of an edit ask their gates at most, woken for no reason now
-/// and then; two that don't sleep ask as often in some ten milliseconds.
-const MOST_TURNS: u64 = 10_000;
+/// and then; two that don't sleep ask as often within a pause, on a slow machine too.
+const MOST_TURNS: u64 = 1_000;
+
+/// For how many milliseconds they are let be once all is computed.
+const PAUSE: u64 = 100;
 
 /// What the workers are told, and tell.
 #[derive(Drop)]
@@ -116,10 +119,10 @@ fn sleeping_workers_wake(rt: HostRuntime) -> Result<(), Fail> {
     .ok()
     .ok_or("no thread")?;
     assert!(rt; settles(&rt, &mut pass, 0));
-    pause(&rt, 20);
+    pause(&rt, PAUSE);
     assert!(rt; equal(&rt, pass.edit(&rt, word(300, 5)), Ok(1)));
     assert!(rt; settles(&rt, &mut pass, 1));
-    pause(&rt, 20);
+    pause(&rt, PAUSE);
     assert!(rt; ends(&rt, &pass, &board));
     assert!(rt; equal(&rt, thread.join(&rt), (2, None)));
     assert!(rt; board.asked.load(Ordering::SeqCst) < MOST_TURNS);
