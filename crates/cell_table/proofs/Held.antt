@@ -1,5 +1,5 @@
 -- The cells that hold a state go on to hold one.
-use Rattle.std.proofs.Common.{◌≡◌, ℕ, ◌+◌, ◌-◌, ◌<◌, ◌≤◌, ◌∙◌, sym, ap, refl, arith, Bool, true, false, cond, eqb, ltb, ◌&&◌, ◌⊎◌, inl, inr, Option, None, Some, is_some, List, length}
+use Rattle.std.proofs.Common.{◌≡◌, ℕ, ◌+◌, ◌-◌, ◌<◌, ◌≤◌, ◌∙◌, sym, ap, refl, arith, Bool, true, false, cond, ltb, ◌⊎◌, inl, inr, is_some, List}
 use Rattle.std.proofs.lemmas.Bool.{cases_lt, cases_eq, le-ltb, false≢true}
 use Rattle.grid_law.specs.Rules.{Rules}
 use Rattle.cell_table.specs.Seen.{Held, Seen, held_at, fresh, stored, marked}

@@ -1,6 +1,5 @@
 -- Cells of a row that are marked together.
 use Rattle.std.proofs.Common.{◌≡◌, ℕ, ◌<◌, ◌≤◌, ◌∙◌, sym, ap, refl, arith, Bool, true, false, cond, eqb, leb, ltb, not, eq-eqb, ◌&&◌, ◌||◌, ◌⊎◌, inl, inr, List, [], ◌∷◌, length, get_or, replicate, take, ◌+◌, Option}
-use Rattle.std.specs.List.{range_with_len}
 use Rattle.std.proofs.Math.ListN.{set, length-set}
 use Rattle.std.proofs.lemmas.Bool.{cases_lt, cases_eq, ne_eqb, eqb-true, and_parts}
 use Rattle.std.proofs.lemmas.List.{get_or-set_same, get_or-set_other, get_or_past, get_or-replicate}
@@ -9,7 +8,7 @@ use Rattle.std.proofs.lemmas.List.Folds.{list_any_more}
 use Rattle.state_line.specs.Lined.{Lined}
 use Rattle.cell_marks.specs.Marked.{Marked, is_set, union, row_at as marks_at, has as has_mark}
 use Rattle.cell_table.specs.Seen.{Held, nothing, fresh, row_at, held_in, held_at, marked}
-use Rattle.cell_table.specs.Layout.{version_at, line_at, state_at, kept, kept_at, rows_of, IsLayout}
+use Rattle.cell_table.specs.Layout.{version_at, state_at, kept, rows_of, IsLayout}
 use Rattle.cell_table.specs.declared.cell.CellRange.{CellRange}
 use Rattle.cell_table.specs.Touches.{covers, is_later, has_later, is_marked, is_marked_else, held_marked}
 use Rattle.cell_table.proofs.Marking.{both}
