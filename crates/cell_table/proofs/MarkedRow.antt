@@ -1,5 +1,5 @@
 -- Cells of a row that are marked together.
-use Rattle.std.proofs.Common.{◌≡◌, ℕ, ◌<◌, ◌≤◌, ◌∙◌, sym, ap, refl, arith, Bool, true, false, cond, eqb, leb, ltb, not, eq-eqb, ◌&&◌, ◌||◌, ◌⊎◌, inl, inr, List, [], ◌∷◌, length, get_or, replicate, take, ◌+◌, Option}
+use Rattle.std.proofs.Common.{◌≡◌, ℕ, zero, suc, ◌<◌, ◌≤◌, ◌∙◌, sym, ap, refl, arith, Bool, true, false, cond, eqb, leb, ltb, not, eq-eqb, ◌&&◌, ◌||◌, ◌⊎◌, inl, inr, List, [], ◌∷◌, length, get_or, replicate, take, ◌+◌, Option}
 use Rattle.std.proofs.Math.ListN.{set, length-set}
 use Rattle.std.proofs.lemmas.Bool.{cases_lt, cases_eq, ne_eqb, eqb-true, and_parts}
 use Rattle.std.proofs.lemmas.List.{get_or-set_same, get_or-set_other, get_or_past, get_or-replicate}
@@ -10,8 +10,9 @@ use Rattle.cell_marks.specs.Marked.{Marked, is_set, union, row_at as marks_at, h
 use Rattle.cell_table.specs.Seen.{Held, nothing, fresh, row_at, held_in, held_at, marked}
 use Rattle.cell_table.specs.Layout.{version_at, state_at, kept, rows_of, IsLayout}
 use Rattle.cell_table.specs.declared.cell.CellRange.{CellRange}
-use Rattle.cell_table.specs.Touches.{covers, is_later, has_later, is_marked, is_marked_else, held_marked}
+use Rattle.cell_table.specs.Touches.{GoesOn, covers, is_later, has_later, is_marked, is_marked_else, held_marked}
 use Rattle.cell_table.proofs.Marking.{both}
+use Rattle.cell_table.proofs.Asking.{range_on}
 use Rattle.cell_table.proofs.Keeping.{seen, seen_cycles, seen_length, held_kept, length_rows, length_row, lens_past}
 
 -- a mark of a union
@@ -160,3 +161,39 @@ module _ (to t c : ℕ) where
       by_cycle false e =
           ap (λ k. cond (is_marked ranges t c) (marked k v) k) (ap (λ row. held_in row c) e ∙ get_or-replicate (length (row_at rows 0)) c (fresh v) nothing inside)
           ∙ fresh_marked (is_marked ranges t c)
+
+-- a range that goes on from another one
+pub and_true : (a : Bool) → a ≡ (a && true)
+and_true true = refl
+and_true false = refl
+
+or_swap : (a r b : Bool) → ((a || r) || b) ≡ ((a || b) || r)
+or_swap true r b = refl
+or_swap false true true = refl
+or_swap false true false = refl
+or_swap false false true = refl
+or_swap false false false = refl
+
+pub covers_joined : (last range : CellRange) (t c : ℕ) → GoesOn last range → covers (record { component = last.component; from = last.from; to = range.to }) t c ≡ (covers last t c || covers range t c)
+covers_joined last range t c goes_on =
+    let k = eqb c last.component in
+    let one = k && (leb last.from t && ltb t last.to) in
+    let other = k && (leb last.to t && ltb t range.to) in
+    let up : last.to ≤ range.to = omega (arith, goes_on.1, goes_on.3) in
+    and_true (k && (leb last.from t && ltb t range.to))
+    ∙ sym (range_on false k t last.from last.to range.to true true goes_on.2 up (λ h l. refl))
+    ∙ ap (λ b. b || (other && true)) (sym (and_true one))
+    ∙ ap (λ b. one || b) (sym (and_true other))
+    ∙ ap (λ n. one || ((eqb c n) && (leb last.to t && ltb t range.to))) goes_on.0
+    ∙ ap (λ n. one || ((eqb c range.component) && (leb n t && ltb t range.to))) goes_on.1
+
+pub marked_joined : (t c : ℕ) (ranges : List CellRange) (i : ℕ) (range joined : CellRange) → i < length ranges → covers joined t c ≡ (covers (get_or ranges i none_range) t c || covers range t c) → is_marked (set ranges i joined) t c ≡ (is_marked ranges t c || covers range t c)
+marked_joined t c [] i range joined h e = absurd (omega (arith, h))
+marked_joined t c (r ∷ rs) zero range joined h e = ap (λ b. b || is_marked rs t c) e ∙ or_swap (covers r t c) (covers range t c) (is_marked rs t c)
+marked_joined t c (r ∷ rs) (suc i) range joined h e = ap (λ b. covers r t c || b) (marked_joined t c rs i range joined (omega (arith, h)) e) ∙ sym (or_assoc (covers r t c) (is_marked rs t c) (covers range t c))
+
+-- what stands at a place hangs on no default
+pub same_get : {X : Type 0} (xs : List X) (i : ℕ) (d e : X) → i < length xs → get_or xs i d ≡ get_or xs i e
+same_get [] i d e h = absurd (omega (arith, h))
+same_get (x ∷ xs) zero d e h = refl
+same_get (x ∷ xs) (suc i) d e h = same_get xs i d e (omega (arith, h))

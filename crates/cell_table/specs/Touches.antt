@@ -20,6 +20,10 @@ is_marked ranges t c = list_any (λ range. covers range t c) ranges
 abbrev pub IsWithin : ℕ → ℕ → CellRange → Type 0
 IsWithin n count range = (range.from ≤ range.to) × (range.to ≤ n) × (range.component < count)
 
+-- the range begins where the last one of its component ends
+abbrev pub GoesOn : CellRange → CellRange → Type 0
+GoesOn last range = (last.component ≡ range.component) × (last.to ≡ range.from) × (last.from ≤ last.to) × (range.from ≤ range.to)
+
 -- the range has all cycles from 1 on to before one
 abbrev pub is_later : ℕ → CellRange → Bool
 is_later to range = (range.from == 1) && (range.to == to)

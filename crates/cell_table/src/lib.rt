@@ -47,7 +47,8 @@
 //!
 //! Callers see a list of rows, one for each cycle. Inside, each component has a line of its states
 //! (`state_line`), in which equal states at consecutive cycles are one stretch, and the due cells are
-//! bits that are counted (`cell_marks`). So an edit asks the readers of a slot once for each stretch;
+//! bits that are counted (`cell_marks`). So an edit asks a reader of a slot once for each stretch, or not at all
+//! where it is sure to read it;
 //! a cell whose near cells all go on in their stretches gets the state of the cell before it without
 //! a step; and where nothing is due, one number tells it. Cycles that are all new are filled: each is
 //! computed before it is stored, and only components near one that changed are looked at. Cycles in which

@@ -1,16 +1,26 @@
 //! Following an edit: the cells that it marks, and the cycles up to its horizon.
-ghost use Rattle.std.specs.Prelude.{◌≡◌, ℕ, ◌+◌, ◌++◌, ◌<◌, ◌≤◌, IfOk, OnOk, OnErr, length, map, replicate, All, Some, if◌then◌else◌, nat_lt, ◌^◌, ◌&&◌, ◌||◌, ◌==◌, nat_le};
+ghost use Rattle.std.specs.Prelude.{IsTrue, ◌↔◌, ◌≡◌, ℕ, ◌+◌, ◌++◌, ◌<◌, ◌≤◌, IfOk, OnOk, OnErr, length, map, replicate, All, Some, if◌then◌else◌, nat_lt, ◌^◌, ◌&&◌, ◌||◌, ◌==◌, nat_le};
 ghost use Rattle.cell_table.specs.Seen.{held_at, row_at, marked, fresh};
 ghost use Rattle.cell_table.specs.Readers.{has};
 ghost use Rattle.cell_table.specs.Filling.{is_awake};
-ghost use Rattle.cell_table.specs.Touches.{covers, is_later, has_later, is_marked, is_marked_else, IsWithin, held_marked};
+ghost use Rattle.cell_table.specs.Touches.{GoesOn, covers, is_later, has_later, is_marked, is_marked_else, IsWithin, held_marked};
 
 use crate::cells::Cells;
 use crate::{Cell, CellRange};
 use cell_marks::Row;
 use grid_law::NoMemory;
 
-/// Adds a range, where its cells read a slot.
+/// Whether a range begins where another one of its component ends.
+fn goes_on(last: CellRange, range: CellRange) -> bool
+    ensures { IsTrue result ↔ GoesOn last range }
+{
+    last.component == range.component
+        && last.to == range.from
+        && last.from <= last.to
+        && range.from <= range.to
+}
+
+/// Adds a range, where its cells read a slot; to the last one, where it goes on from that.
 pub(crate) fn add_where(
     ranges: &mut Vec<CellRange>,
     range: CellRange,
@@ -19,9 +29,15 @@ pub(crate) fn add_where(
     ensures at { OnOk result ((t c : ℕ) → is_marked ranges.new.items t c ≡ (is_marked ranges.old.items t c || (covers range t c && reads))) }
     ensures within { (n count : ℕ) → All (IsWithin n count) ranges.old.items → IsWithin n count range → OnOk result (All (IsWithin n count) ranges.new.items) }
 {
-    if reads {
-        ranges.push(range)?;
+    if !reads {
+        return Ok(());
     }
+    let count = ranges.len();
+    if count > 0 && goes_on(ranges[count - 1], range) {
+        ranges[count - 1].to = range.to;
+        return Ok(());
+    }
+    ranges.push(range)?;
     Ok(())
 }
 

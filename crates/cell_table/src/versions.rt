@@ -40,6 +40,17 @@ fn spread(each: &mut SmallVec<u64, 8>, count: u32, version: u64)
     }
 }
 
+/// Puts a version in some places.
+fn put_all(each: &mut [u64], places: &[u32], version: u64)
+    requires { All (λ c. c < length each.old) places.now }
+    ensures len { length each.new ≡ length each.old }
+    ensures at { (c : ℕ) → slice_index_or each.new c 0 ≡ (if has places.now c then version else slice_index_or each.old c 0) }
+{
+    for place in places {
+        each[*place as usize] = version;
+    }
+}
+
 impl Versions {
     fn new(alloc: Global, count: u32, version: u64) -> Result<Versions, NoMemory>
         ensures { IfOk result (λ v. v ≡ replicate count version) }
@@ -80,9 +91,10 @@ impl Versions {
         ensures len { length self.new ≡ length self.old }
         ensures at { (c : ℕ) → slice_index_or self.new c 0 ≡ (if has components.now c then version else slice_index_or self.old c 0) }
     {
-        for c in components {
-            self.set(*c, version);
+        if self.each.is_empty() {
+            spread(&mut self.each, self.count, self.all);
         }
+        put_all(&mut self.each, components, version);
     }
 }
 
