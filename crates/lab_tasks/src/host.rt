@@ -4,11 +4,12 @@ use crate::other_net::AllOn;
 use crate::outcome::{OutFile, Outcome};
 use crate::progress::Progress;
 use crate::task::perform;
-use crate::words::{Asked, read_words};
+use crate::words::{Asked, CurveWords, read_words};
 use clap::Error;
 use project_file::{MAX_BYTES, fault_place};
 use std::alloc::Global;
 use std::io::{Eprint, Print, Read, Write};
+use std::path::{Path, PathBuf};
 use std::process::ExitCode;
 use std::rt::{Env, Files};
 use std::thread::Threads;
@@ -209,32 +210,88 @@ fn performed<'a, R: Host>(
     outcome
 }
 
-/// Whether two names are of one file.
+/// Where a file of a name will be that isn't there: by its folder, without links.
+fn new_place<R: Files + AllocGlobal>(rt: &R, name: &str) -> io::Result<PathBuf> {
+    let path = Path::new(name);
+    let (Some(folder), Some(last)) = (path.parent(), path.file_name()) else {
+        return Err(io::Error::from(io::ErrorKind::NotFound));
+    };
+    let folder = if folder.as_str().is_empty() {
+        fs::canonicalize(rt, ".")?
+    } else {
+        fs::canonicalize(rt, folder.as_str())?
+    };
+    Ok(folder.join(rt.alloc(), last)?)
+}
+
+/// Where the file of a name is, or will be.
+fn place<R: Files + AllocGlobal>(rt: &R, name: &str) -> io::Result<PathBuf> {
+    match fs::canonicalize(rt, name) {
+        Err(fault) if fault.kind() == io::ErrorKind::NotFound => new_place(rt, name),
+        found => found,
+    }
+}
+
+/// Whether two names are of one file, be it there or not.
 fn is_one_file<R: Files + AllocGlobal>(rt: &R, name: &str, other: &str) -> io::Result<bool> {
-    let (path, other) = (fs::canonicalize(rt, name)?, fs::canonicalize(rt, other)?);
+    if name == other {
+        return Ok(true);
+    }
+    let (path, other) = (place(rt, name)?, place(rt, other)?);
     Ok(path == other)
 }
 
-/// Refuses to write a converted project over the file that is read, by whatever name, where it may not be.
-fn refuse_source<'a, R: Files + AllocGlobal>(rt: &R, asked: &Asked<'a>) -> Result<(), End<'a>> {
-    let Asked::Convert(words) = asked else {
+/// Why a file isn't written over the one that is read, where no word allows it.
+const NOT_SOURCE: &str = "another file than the one that is read";
+
+/// Why a picture isn't written where its table goes, which would be written over it.
+const NOT_TABLE: &str = "another file than the one at --csv";
+
+/// Refuses a word that names the file of this name, by whatever name.
+fn refuse_file<'a, R: Files + AllocGlobal>(
+    rt: &R,
+    name: &str,
+    option: &'static str,
+    word: Option<&'a str>,
+    reason: Reason,
+) -> Result<(), End<'a>> {
+    let Some(word) = word else {
         return Ok(());
     };
-    let Some(word) = words.out else {
-        return Ok(());
-    };
-    if words.force {
-        return Ok(());
-    }
-    match is_one_file(rt, words.file, word) {
+    match is_one_file(rt, name, word) {
         Ok(true) => Err(End::Word {
-            option: "--out",
+            option,
             word,
-            reason: Reason::Source,
+            reason,
         }),
         Err(fault) if fault.kind() == io::ErrorKind::OutOfMemory => Err(End::Memory),
-        // Mostly there is no file of that name.
         Ok(false) | Err(_) => Ok(()),
+    }
+}
+
+/// Refuses to write a picture and its table to one file.
+fn refuse_table<'a, R: Files + AllocGlobal>(rt: &R, words: &CurveWords<'a>) -> Result<(), End<'a>> {
+    match words.csv {
+        Some(table) => refuse_file(rt, table, "--out", words.out, Reason::Form(NOT_TABLE)),
+        None => Ok(()),
+    }
+}
+
+/// Refuses to write over the file that is read, but for a converted project that may be, or two files as one.
+fn refuse_over<'a, R: Files + AllocGlobal>(rt: &R, asked: &Asked<'a>) -> Result<(), End<'a>> {
+    let source = Reason::Form(NOT_SOURCE);
+    match asked {
+        Asked::Map(words) => refuse_file(rt, words.file, "--out", words.out, source),
+        Asked::Order(words) => refuse_file(rt, words.file, "--out", words.out, source),
+        Asked::Sweep(words) => refuse_file(rt, words.file, "--csv", words.csv, source),
+        Asked::Rates(words) | Asked::Delays(words) => refuse_table(rt, words),
+        Asked::Convert(words) => {
+            if words.force {
+                return Ok(());
+            }
+            refuse_file(rt, words.file, "--out", words.out, Reason::Source)
+        }
+        Asked::Check { .. } => Ok(()),
     }
 }
 
@@ -247,7 +304,7 @@ fn tell_place<R: Eprint + AllocGlobal>(rt: &R, bytes: &[u8]) {
 
 /// Does what is asked for.
 fn done<R: Host>(rt: &R, asked: &Asked<'_>, terminal: bool) -> u8 {
-    if let Err(end) = refuse_source(rt, asked) {
+    if let Err(end) = refuse_over(rt, asked) {
         return ended(rt, &end);
     }
     let bytes = match bytes_for(rt, asked) {
