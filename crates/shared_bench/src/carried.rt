@@ -13,7 +13,7 @@ ghost use Rattle.shared_bench.specs.Legal.{noted};
 ghost use Rattle.bench_core.specs.Told.{TellsAt, TellsAsked};
 ghost use Rattle.bench_core.specs.Answering.{SettlesAs};
 ghost use Rattle.shared_bench.specs.Answers.{ClaimsAs, EditsAs, IsGivenSpent};
-ghost use Rattle.shared_bench.specs.Slices.{IsNextSlice, SlicesAs};
+ghost use Rattle.shared_bench.specs.Slices.{slice_end, IsNextSlice, SlicesAs};
 
 use bench_core::{Asked, Bench, Told};
 use cell_table::{Cell, Claim, Done, Given, SettleFault};
@@ -23,6 +23,16 @@ use project_book::{Edit, EditFault, Project};
 use run_queries::Query;
 use std::marker::Model;
 use std::thread::Threads;
+
+/// The last cycle of a slice of so many cells that begins at this cycle.
+#[tactic(auto, using(crate::proofs::Slices::some_component))]
+fn slice_end(project: &Project, cycle: u32, cells: u32) -> u32
+    ensures { result ≡ slice_end project.now cells cycle }
+{
+    let cycles = cells / project.shape().components();
+    let last = cycle.saturating_add(cycles.saturating_sub(1));
+    last.min(project.horizon())
+}
 
 /// A bench on the heap, so that a turn moves one pointer. Contracts see the bench.
 #[derive(Drop)]
@@ -94,21 +104,18 @@ impl Carried {
     }
 
     /// The last cycle of the next slice, of so many cells; none where no cell is due. No cell is looked at.
-    #[tactic(auto, using(crate::proofs::Slices::some_component, crate::proofs::Slices::none_due, crate::proofs::Slices::next_slice))]
+    #[tactic(auto, using(crate::proofs::Slices::none_due, crate::proofs::Slices::next_slice))]
     fn next_slice(&self, cells: u32) -> Option<u32>
         ensures { MatchOption result (NoneDue rp3_rules self.now.table) (IsNextSlice self.now cells) }
     {
-        let first = match self.bench.cells().next_due(Cell {
+        let from = Cell {
             cycle: 0,
             component: 0,
-        }) {
-            Some(first) => first,
-            None => return None,
         };
-        let project = self.bench.project();
-        let cycles = cells / project.shape().components();
-        let last = first.cycle.saturating_add(cycles.saturating_sub(1));
-        Some(last.min(project.horizon()))
+        match self.bench.cells().next_due(from) {
+            Some(first) => Some(slice_end(self.bench.project(), first.cycle, cells)),
+            None => None,
+        }
     }
 
     /// Settles the next slice, of so many cells, up to the cycle that is told; none where no cell is due.
