@@ -1,5 +1,5 @@
 -- What becomes of a pass by work, and what is counted.
-use Rattle.std.specs.Prelude.{◌≡◌, ℕ, ◌+◌, ◌-◌, ◌^◌, ◌<◌, ◌≤◌, Bool, true, false, min, List, [], ◌∷◌, ◌++◌, length, Option, None, Some}
+use Rattle.std.specs.Prelude.{◌≡◌, ℕ, ◌+◌, ◌-◌, ◌^◌, ◌<◌, ◌≤◌, Bool, true, false, min, List, [], ◌∷◌, ◌++◌, length, Option, None, Some, Result, Ok, Err}
 use Rattle.cell_table.specs.Claims.{Computed, NoneDue}
 use Rattle.cell_table.specs.declared.given.Given.{Given}
 use Rattle.cell_table.specs.declared.given.Given.TheVariants as given
@@ -57,6 +57,12 @@ came_for given.NotDue = Refused
 came_for given.Overtaken = Refused
 came_for given.Foreign = Refused
 came_for (given.Memory back) = Refused
+
+-- what a turn came to in which a slice was settled so
+abbrev pub came_for_slice : Result (Option ℕ) SettleFault → Came
+came_for_slice (Ok (Some last)) = Settled
+came_for_slice (Ok None) = Idle
+came_for_slice (Err fault) = Failed
 
 -- whether no cell was due, or the next turn would meet the same fault
 abbrev pub does_nothing : Came → Bool

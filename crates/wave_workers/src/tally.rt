@@ -1,8 +1,8 @@
 //! How many results were given and stored.
 ghost use Rattle.std.specs.Prelude.{◌≡◌, ◌≤◌};
-ghost use Rattle.wave_workers.specs.Working.{came_for, counted, does_nothing, given_by, stored_by};
+ghost use Rattle.wave_workers.specs.Working.{came_for, came_for_slice, counted, does_nothing, given_by, stored_by};
 
-use cell_table::{Done, Given};
+use cell_table::{Done, Given, SettleFault};
 use machine_cells::Rp3;
 
 /// What a turn came to.
@@ -33,6 +33,17 @@ impl Came {
             Given::ClockSpent(_) => Came::Spent,
             Given::Gone | Given::NotDue | Given::Overtaken | Given::Foreign | Given::Memory(_) =>
                 Came::Refused,
+        }
+    }
+
+    /// What a turn came to in which a slice was settled so.
+    pub fn of_slice(settled: Result<Option<u32>, SettleFault>) -> Came
+        ensures { result ≡ came_for_slice settled }
+    {
+        match settled {
+            Ok(Some(_)) => Came::Settled,
+            Ok(None) => Came::Idle,
+            Err(_) => Came::Failed,
         }
     }
 

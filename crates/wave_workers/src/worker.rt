@@ -27,7 +27,7 @@ pub struct Plan {
 
 /// How many cells the slices have together that workers settle in a turn each: who asks meanwhile waits for all of them at
 /// most, and a cell takes 0.1 to 0.5 microseconds. A slice has a whole cycle at least.
-const CELLS: u32 = 4_096;
+const CELLS: u32 = 1_024;
 
 impl Plan {
     /// So many turns for each of so many gates, and no sleep.
@@ -112,11 +112,7 @@ fn slice<R: Wait>(rt: &R, pass: &mut Pass, workers: u32) -> Came
     ensures kept { IsKept pass.old pass.new }
     ensures left { (d : AnyBench) × HasLeft pass.new d × (result ≡ Came.Idle → NoneDue rp3_rules d.table) }
 {
-    match pass.settle_some(rt, CELLS / workers.max(1)) {
-        Ok(Some(_)) => Came::Settled,
-        Ok(None) => Came::Idle,
-        Err(_) => Came::Failed,
-    }
+    Came::of_slice(pass.settle_some(rt, CELLS / workers.max(1)))
 }
 
 /// A slice where the worker sleeps, else a cell.
