@@ -1,5 +1,5 @@
 -- A pass that goes on, and passes that are joined.
-use Rattle.std.proofs.Common.{◌≡◌, ℕ, ◌+◌, ◌<◌, ◌≤◌, List, [], ◌∷◌, ◌++◌, length, Option, None, Some, Result, Ok, Err, refl, sym, ap, ◌∙◌, arith, subst, length-append, append-nil, append_assoc}
+use Rattle.std.proofs.Common.{◌≡◌, ℕ, ◌+◌, ◌<◌, List, [], ◌∷◌, ◌++◌, length, Option, None, Some, Result, Ok, Err, refl, sym, ap, ◌∙◌, arith, subst, length-append, append-nil, append_assoc}
 use Rattle.shared_bench.specs.Known.{Known, IsLater, IsSplit, IsJoined, SomeIsLegal}
 use Rattle.shared_bench.specs.Legal.{merge}
 use Rattle.shared_bench.specs.Slices.{SlicesAs}
