@@ -82,6 +82,27 @@ fn example_11(rt: HostRuntime) -> Result<(), Fail> {
     Ok(())
 }
 
+/// Slices of a run of 66 cells, of which a cycle has six: each begins at the cycle of the first due cell and is of whole cycles,
+/// of one at least; the last ends at the horizon, and then there is none. An edit of a word makes its module due from cycle 0 on.
+#[test]
+fn slices_go_on_to_the_horizon(rt: HostRuntime) -> Result<(), Fail> {
+    let mut pass = opened(rt.alloc(), fresh(rt.alloc())?, 1)?;
+    for (cells, last) in [
+        (12, Some(1)),
+        (0, Some(2)),
+        (17, Some(4)),
+        (1_000, Some(10)),
+        (1, None),
+    ] {
+        assert!(rt; equal(&rt, pass.settle_some(&rt, cells), Ok(last)));
+    }
+    assert!(rt; equal(&rt, pass.edit(&rt, word(0, 20)), Ok(1)));
+    assert!(rt; equal(&rt, pass.settle_some(&rt, 12), Ok(Some(1))));
+    assert!(rt; equal(&rt, pass.settle_some(&rt, 600), Ok(Some(10))));
+    assert!(rt; equal(&rt, pass.settle_some(&rt, 600), Ok(None)));
+    Ok(())
+}
+
 /// 14: two claims of one cell, computed and given in two threads. One result is stored, and then the cell isn't due.
 #[test]
 fn example_14(rt: HostRuntime) -> Result<(), Fail> {

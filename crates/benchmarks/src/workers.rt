@@ -17,7 +17,7 @@ use std::sync::{Arc, Wait};
 use std::thread::Threads;
 use std::time::{Duration, Instant};
 use std::{fmt, thread};
-use wave_workers::{Gate, Worked, attend, work};
+use wave_workers::{Gate, attend, work};
 
 /// How often each thing is done.
 const TIMES: u32 = 5;
@@ -311,11 +311,10 @@ fn answers_and_end<H: Hall>(
     answers
 }
 
-/// Works until the gates end it: how many results were stored.
-fn attended<H: Hall>(host: &H, pass: Pass, gates: Vec<Counting>, board: &Board) -> u64 {
-    let Worked { stored, .. } = attend(host, pass, gates);
+/// Works until the gates end it.
+fn attended<H: Hall>(host: &H, pass: Pass, gates: Vec<Counting>, board: &Board) {
+    attend(host, pass, gates);
     board.left.store(1, Ordering::SeqCst);
-    stored
 }
 
 /// Edits with answers beside four workers, that sleep while no cell is due.
@@ -329,12 +328,11 @@ fn with_workers<H: Hall>(
     let own = second(&mut pass)?;
     let board = new_board(rt.alloc(), u64::MAX)?;
     let gates = gates(rt.alloc(), &board, 4)?;
-    let (answers, stored) = thread::join(
+    let (answers, ()) = thread::join(
         host,
         || -> Result<Answers> { answers_and_end(rt, host, load, pass, &board) },
-        || -> u64 { attended(host, own, gates, &board) },
+        || attended(host, own, gates, &board),
     );
-    eprintln!(rt; "{load}, beside edits: {stored} results of workers stored")?;
     answers
 }
 

@@ -6,4 +6,5 @@ pub mod Counting
 pub mod Joining
 pub mod Told
 pub mod Benches
+pub mod Slices
 pub mod Passes

@@ -1,6 +1,7 @@
 pub mod Legal
 pub mod Known
 pub mod Answers
+pub mod Slices
 pub mod Rule
 pub mod Turn
 pub mod Inside

@@ -1,6 +1,8 @@
 //! A bench behind a pointer, and what is done with it in a turn.
-ghost use Rattle.std.specs.Prelude.{◌≡◌, ◌≤◌, ◌++◌, ◌∷◌, [], length, true, false, IfOk, IfErr, Ok, Err};
+ghost use Rattle.std.specs.Prelude.{◌≡◌, ◌≤◌, ◌++◌, ◌∷◌, [], length, true, false, IfOk, IfErr, MatchOption, Ok, Err};
+ghost use Rattle.cell_table.specs.Claims.{NoneDue};
 ghost use Rattle.cell_table.specs.Gives.{GivesAs};
+ghost use Rattle.cell_table.specs.Settling.{IsClockSpent};
 ghost use Rattle.machine_cells.specs.GridRules.{rp3_rules};
 ghost use Rattle.project_book.specs.Edits.{accepts, edited};
 ghost use Rattle.bench_core.specs.Shown.{project_of, version_of};
@@ -11,15 +13,26 @@ ghost use Rattle.shared_bench.specs.Legal.{noted};
 ghost use Rattle.bench_core.specs.Told.{TellsAt, TellsAsked};
 ghost use Rattle.bench_core.specs.Answering.{SettlesAs};
 ghost use Rattle.shared_bench.specs.Answers.{ClaimsAs, EditsAs, IsGivenSpent};
+ghost use Rattle.shared_bench.specs.Slices.{slice_end, IsNextSlice, SlicesAs};
 
 use bench_core::{Asked, Bench, Told};
-use cell_table::{Cell, Claim, Done, Given};
+use cell_table::{Cell, Claim, Done, Given, SettleFault};
 use grid_law::NoMemory;
 use machine_cells::Rp3;
 use project_book::{Edit, EditFault, Project};
 use run_queries::Query;
 use std::marker::Model;
 use std::thread::Threads;
+
+/// The last cycle of a slice of so many cells that begins at this cycle.
+#[tactic(auto, using(crate::proofs::Slices::some_component))]
+fn slice_end(project: &Project, cycle: u32, cells: u32) -> u32
+    ensures { result ≡ slice_end project.now cells cycle }
+{
+    let cycles = cells / project.shape().components();
+    let last = cycle.saturating_add(cycles.saturating_sub(1));
+    last.min(project.horizon())
+}
 
 /// A bench on the heap, so that a turn moves one pointer. Contracts see the bench.
 #[derive(Drop)]
@@ -88,6 +101,44 @@ impl Carried {
         let given = self.bench.give(done);
         self.bench.is_bench();
         given
+    }
+
+    /// The last cycle of the next slice, of so many cells; none where no cell is due. No cell is looked at.
+    #[tactic(auto, using(crate::proofs::Slices::none_due, crate::proofs::Slices::next_slice))]
+    fn next_slice(&self, cells: u32) -> Option<u32>
+        ensures { MatchOption result (NoneDue rp3_rules self.now.table) (IsNextSlice self.now cells) }
+    {
+        let from = Cell {
+            cycle: 0,
+            component: 0,
+        };
+        match self.bench.cells().next_due(from) {
+            Some(first) => Some(slice_end(self.bench.project(), first.cycle, cells)),
+            None => None,
+        }
+    }
+
+    /// Settles the next slice, of so many cells, up to the cycle that is told; none where no cell is due.
+    ///
+    /// # Errors
+    ///
+    /// As `Bench::settle_to`. What was settled stays so.
+    #[tactic(auto, using(crate::proofs::Benches::spent_is, crate::proofs::Benches::is_spent))]
+    pub fn settle_some(&mut self, cells: u32) -> Result<Option<u32>, SettleFault>
+        ensures journal { self.new.journal ≡ self.old.journal }
+        ensures project { project_of self.new ≡ project_of self.old }
+        ensures kept { spent_of self.old ≡ true → spent_of self.new ≡ true }
+        ensures slices { SlicesAs self.old cells result self.new }
+        ensures spent { IfErr result (λ f. IsClockSpent f → spent_of self.new ≡ true) }
+    {
+        let last = match self.next_slice(cells) {
+            Some(last) => last,
+            None => return Ok(None),
+        };
+        match self.bench.settle_to(last) {
+            Ok(_) => Ok(Some(last)),
+            Err(fault) => Err(fault),
+        }
     }
 
     /// Edits in the author's name.

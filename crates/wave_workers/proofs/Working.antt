@@ -1,13 +1,15 @@
 -- A pass that goes on, and passes that are joined.
-use Rattle.std.proofs.Common.{◌≡◌, ℕ, ◌+◌, ◌<◌, ◌≤◌, List, [], ◌∷◌, ◌++◌, length, Option, None, Some, refl, sym, ap, ◌∙◌, arith, subst, length-append, append-nil, append_assoc}
+use Rattle.std.proofs.Common.{◌≡◌, ℕ, ◌+◌, ◌<◌, List, [], ◌∷◌, ◌++◌, length, Option, None, Some, Result, Ok, Err, refl, sym, ap, ◌∙◌, arith, subst, length-append, append-nil, append_assoc}
 use Rattle.shared_bench.specs.Known.{Known, IsLater, IsSplit, IsJoined, SomeIsLegal}
 use Rattle.shared_bench.specs.Legal.{merge}
+use Rattle.shared_bench.specs.Slices.{SlicesAs}
 use Rattle.shared_bench.proofs.Seats.{starts_trans}
 use Rattle.shared_bench.proofs.Passes.{later_same, later_joined}
 use Rattle.cell_table.specs.Claims.{NoneDue}
+use Rattle.cell_table.specs.declared.given.SettleFault.{SettleFault}
 use Rattle.machine_cells.specs.GridRules.{rp3_rules}
 use Rattle.bench_core.specs.Shown.{Shown}
-use Rattle.wave_workers.specs.Working.{IsKept, IsWorked, HasLeft, HasLooked}
+use Rattle.wave_workers.specs.Working.{IsKept, IsWorked, HasLeft, HasLooked, came_for_slice}
 use Rattle.wave_workers.specs.declared.tally.Came.{Came}
 use Rattle.wave_workers.specs.declared.tally.Came.TheVariants.{Idle}
 use Rattle.wave_workers.specs.declared.worked.WorkFault.{WorkFault}
@@ -67,3 +69,9 @@ looked first last came before d is later left idle =
     let more : length last.seen ≡ length first.seen + length rest = ap length later.seen.1 ∙ length-append first.seen rest in
     let seen : length d.journal ≡ length last.seen = ap length left.3.0.0 in
     (d, left, idle, omega (arith, is, more, seen))
+
+-- where a slice's turn was idle, no cell is due of the bench that was left
+pub idle_slice : (d next : Shown) (cells : ℕ) (r : Result (Option ℕ) SettleFault) → SlicesAs d cells r next → came_for_slice r ≡ Idle → NoneDue rp3_rules next.table
+idle_slice d next cells (Ok (Some last)) s e = absurd cc
+idle_slice d next cells (Ok None) s e = subst (λ (b : Shown). NoneDue rp3_rules b.table) (sym s.1) s.0
+idle_slice d next cells (Err fault) s e = absurd cc

@@ -1,5 +1,5 @@
 -- What becomes of a pass by work, and what is counted.
-use Rattle.std.specs.Prelude.{◌≡◌, ℕ, ◌+◌, ◌-◌, ◌^◌, ◌<◌, ◌≤◌, Bool, true, false, min, List, [], ◌∷◌, ◌++◌, length, Option, None, Some}
+use Rattle.std.specs.Prelude.{◌≡◌, ℕ, ◌+◌, ◌-◌, ◌^◌, ◌<◌, ◌≤◌, Bool, true, false, min, List, [], ◌∷◌, ◌++◌, length, Option, None, Some, Result, Ok, Err}
 use Rattle.cell_table.specs.Claims.{Computed, NoneDue}
 use Rattle.cell_table.specs.declared.given.Given.{Given}
 use Rattle.cell_table.specs.declared.given.Given.TheVariants as given
@@ -17,7 +17,7 @@ use Rattle.shared_bench.specs.declared.view.Turn.{Turn}
 use Rattle.shared_bench.specs.declared.pass.SplitFault.{SplitFault}
 use Rattle.shared_bench.specs.declared.pass.SplitFault.TheVariants as split
 use Rattle.wave_workers.specs.declared.tally.Came.{Came}
-use Rattle.wave_workers.specs.declared.tally.Came.TheVariants.{Idle, Failed, Spent, Refused, Stored}
+use Rattle.wave_workers.specs.declared.tally.Came.TheVariants.{Idle, Failed, Spent, Refused, Stored, Settled}
 use Rattle.wave_workers.specs.declared.worked.WorkFault.{WorkFault}
 use Rattle.wave_workers.specs.declared.worked.WorkFault.TheVariants as work
 
@@ -58,13 +58,20 @@ came_for given.Overtaken = Refused
 came_for given.Foreign = Refused
 came_for (given.Memory back) = Refused
 
--- whether a turn has changed nothing, so that the next one would find the same
+-- what a turn came to in which a slice was settled so
+abbrev pub came_for_slice : Result (Option ℕ) SettleFault → Came
+came_for_slice (Ok (Some last)) = Settled
+came_for_slice (Ok None) = Idle
+came_for_slice (Err fault) = Failed
+
+-- whether no cell was due, or the next turn would meet the same fault
 abbrev pub does_nothing : Came → Bool
 does_nothing Idle = true
 does_nothing Failed = true
 does_nothing Spent = true
 does_nothing Refused = false
 does_nothing Stored = false
+does_nothing Settled = false
 
 -- the pass left this bench in its last turn
 abbrev pub HasLeft : Known → Shown → Type 0
@@ -82,6 +89,7 @@ given_by Failed = 0
 given_by Spent = 1
 given_by Refused = 1
 given_by Stored = 1
+given_by Settled = 0
 
 abbrev pub stored_by : Came → ℕ
 stored_by Idle = 0
@@ -89,6 +97,7 @@ stored_by Failed = 0
 stored_by Spent = 0
 stored_by Refused = 0
 stored_by Stored = 1
+stored_by Settled = 0
 
 -- a sum that stops at the greatest number of 64 bits
 abbrev pub counted : ℕ → ℕ → ℕ

@@ -1,7 +1,8 @@
 //! What a worker asks and tells.
 use cell_table::Cell;
 
-/// Who looks on at a worker. Its calls are made in the worker's thread, outside of every turn.
+/// Who looks on at a worker. Its calls are made in the worker's thread, outside of every turn. A worker that settles slices
+/// claims no cell, and so tells of none.
 pub trait Gate {
     /// Whether the worker begins this turn. Its turns are counted from 0.
     fn go_on(&mut self, turn: u64) -> bool;

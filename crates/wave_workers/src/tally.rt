@@ -1,8 +1,8 @@
 //! How many results were given and stored.
 ghost use Rattle.std.specs.Prelude.{◌≡◌, ◌≤◌};
-ghost use Rattle.wave_workers.specs.Working.{came_for, counted, does_nothing, given_by, stored_by};
+ghost use Rattle.wave_workers.specs.Working.{came_for, came_for_slice, counted, does_nothing, given_by, stored_by};
 
-use cell_table::{Done, Given};
+use cell_table::{Done, Given, SettleFault};
 use machine_cells::Rp3;
 
 /// What a turn came to.
@@ -10,7 +10,7 @@ use machine_cells::Rp3;
 pub enum Came {
     /// No cell was due that could be computed.
     Idle,
-    /// A growth was refused before a result was there.
+    /// A growth was refused before a result was there, or a slice met a fault.
     Failed,
     /// The result was given, and refused since the clock is spent.
     Spent,
@@ -18,6 +18,8 @@ pub enum Came {
     Refused,
     /// The result was stored.
     Stored,
+    /// A slice was settled, and more may be due.
+    Settled,
 }
 
 impl Came {
@@ -34,13 +36,24 @@ impl Came {
         }
     }
 
-    /// Whether the turn has changed nothing, so that the next one would find the same.
+    /// What a turn came to in which a slice was settled so.
+    pub fn of_slice(settled: Result<Option<u32>, SettleFault>) -> Came
+        ensures { result ≡ came_for_slice settled }
+    {
+        match settled {
+            Ok(Some(_)) => Came::Settled,
+            Ok(None) => Came::Idle,
+            Err(_) => Came::Failed,
+        }
+    }
+
+    /// Whether the worker waits for an edit: no cell was due, or the next turn would meet the same fault.
     pub fn is_for_nothing(self) -> bool
         ensures { result ≡ does_nothing self }
     {
         match self {
             Came::Idle | Came::Failed | Came::Spent => true,
-            Came::Refused | Came::Stored => false,
+            Came::Refused | Came::Stored | Came::Settled => false,
         }
     }
 }
@@ -70,7 +83,7 @@ impl Tally {
         ensures stored { result.stored ≡ counted self.stored (stored_by came) }
     {
         match came {
-            Came::Idle | Came::Failed => self,
+            Came::Idle | Came::Failed | Came::Settled => self,
             Came::Spent | Came::Refused => Tally {
                 given: self.given.saturating_add(1),
                 stored: self.stored,

@@ -16,13 +16,18 @@ use std::thread::Promise;
 /// How each worker works.
 #[derive(Clone, Copy)]
 pub struct Plan {
-    /// How many workers there are: a worker claims so many components behind its last cell.
+    /// How many workers there are: a worker claims so many components behind its last cell, and settles so small a part of
+    /// `CELLS` in a turn.
     pub workers: u32,
     /// How many turns it makes at most.
     pub turns: u64,
-    /// Whether it sleeps while nothing is due.
+    /// Whether it settles slices in place of single cells, and sleeps while nothing is due.
     pub sleeps: bool,
 }
+
+/// How many cells the slices have together that workers settle in a turn each: who asks meanwhile waits for all of them at
+/// most, and a cell takes 0.1 to 0.5 microseconds. A slice has a whole cycle at least.
+const CELLS: u32 = 1_024;
 
 impl Plan {
     /// So many turns for each of so many gates, and no sleep.
@@ -36,7 +41,7 @@ impl Plan {
         }
     }
 
-    /// Turns for as long as each of so many gates goes on, and sleep while nothing is due.
+    /// Turns for as long as each of so many gates goes on, in which slices are settled, and sleep while nothing is due.
     pub fn attending(gates: usize) -> Plan
         ensures { result ≡ record { workers = min gates (2 ^ 32 - 1); turns = 2 ^ 64 - 1; sleeps = true } }
     {
@@ -102,19 +107,45 @@ fn turn<R: Wait, G: Gate>(
     Came::of(pass.give(rt, done))
 }
 
+/// Settles the next slice, in one turn.
+fn slice<R: Wait>(rt: &R, pass: &mut Pass, workers: u32) -> Came
+    ensures kept { IsKept pass.old pass.new }
+    ensures left { (d : AnyBench) × HasLeft pass.new d × (result ≡ Came.Idle → NoneDue rp3_rules d.table) }
+{
+    Came::of_slice(pass.settle_some(rt, CELLS / workers.max(1)))
+}
+
+/// A slice where the worker sleeps, else a cell.
+fn work_once<R: Wait, G: Gate>(
+    rt: &R,
+    pass: &mut Pass,
+    gate: &mut G,
+    from: &mut Cell,
+    plan: Plan,
+) -> Came
+    ensures kept { IsKept pass.old pass.new }
+    ensures left { (d : AnyBench) × HasLeft pass.new d × (result ≡ Came.Idle → NoneDue rp3_rules d.table) }
+{
+    if plan.sleeps {
+        slice(rt, pass, plan.workers)
+    } else {
+        turn(rt, pass, gate, from, plan.workers)
+    }
+}
+
 /// A turn, and the journal's length before it.
 fn watched_turn<R: Wait, G: Gate>(
     rt: &R,
     pass: &mut Pass,
     gate: &mut G,
     from: &mut Cell,
-    workers: u32,
+    plan: Plan,
 ) -> Watched
     ensures kept { IsKept pass.old pass.new }
     ensures looked { HasLooked pass.new result.came result.length }
 {
     let length = pass.length();
-    let came = turn(rt, pass, gate, from, workers);
+    let came = work_once(rt, pass, gate, from, plan);
     Watched { came, length }
 }
 
@@ -146,7 +177,7 @@ pub fn run_worker<R: Wait, G: Gate + Drop>(
         if !gate.go_on(number) {
             break;
         }
-        let watched = watched_turn(rt, &mut pass, &mut gate, &mut from, plan.workers);
+        let watched = watched_turn(rt, &mut pass, &mut gate, &mut from, plan);
         tally = tally.after(watched.came);
         if plan.sleeps && watched.came.is_for_nothing() {
             sleep(rt, &pass, watched);

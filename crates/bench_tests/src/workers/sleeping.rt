@@ -18,7 +18,7 @@ use wave_workers::{Gate, attend};
 /// How many milliseconds something is waited for at most.
 const LONGEST: u32 = 15_000;
 
-/// How often two workers that sleep between their 66 cells and those of an edit ask their gates at most, woken for no reason now
+/// How often two workers that sleep between their slices and those of an edit ask their gates at most, woken for no reason now
 /// and then; two that don't sleep ask as often within a pause, on a slow machine too.
 const MOST_TURNS: u64 = 1_000;
 
@@ -94,7 +94,7 @@ fn ends<R: Clock>(rt: &R, pass: &Pass, board: &Board) -> bool {
     false
 }
 
-/// Two workers compute all cells and sleep, compute those of an edit and sleep again, and end, without many turns. The opening has as many seats
+/// Two workers settle all cells and sleep, settle those of an edit and sleep again, and end, without many turns. The opening has as many seats
 /// as there are passes: this one, that of the thread, and one for each worker.
 #[test]
 fn sleeping_workers_wake(rt: HostRuntime) -> Result<(), Fail> {

@@ -3,6 +3,7 @@
 //! call returns is all that is said: that another pass ever passes its turn on isn't.
 ghost use Rattle.std.specs.Prelude.{◌≡◌, true, [], ◌∷◌, ◌++◌, length, IfOk, IfErr, IfSome, Err};
 ghost use Rattle.cell_table.specs.Gives.{GivesAs};
+ghost use Rattle.cell_table.specs.Settling.{IsClockSpent};
 ghost use Rattle.machine_cells.specs.GridRules.{rp3_rules};
 ghost use Rattle.bench_core.specs.Shown.{Shown as AnyBench};
 ghost use Rattle.bench_core.specs.Asks.{AsksAs};
@@ -10,11 +11,12 @@ ghost use Rattle.shared_bench.specs.Known.{IsLater, TookTurn};
 ghost use Rattle.bench_core.specs.Told.{TellsAt, TellsAsked, AnswersAt, RefusesAt};
 ghost use Rattle.bench_core.specs.Answering.{SettlesAs};
 ghost use Rattle.shared_bench.specs.Answers.{project_seen, IsMet, IsInTurn, EditsAs, ClaimsAs, IsGivenSpent};
+ghost use Rattle.shared_bench.specs.Slices.{SlicesAs};
 
 use super::Pass;
 use crate::steps::{leave, leave_edited, wait_turn};
 use bench_core::{Asked, Told};
-use cell_table::{Cell, Claim, Done, Given};
+use cell_table::{Cell, Claim, Done, Given, SettleFault};
 use grid_law::NoMemory;
 use machine_cells::Rp3;
 use project_book::{Edit, EditFault, Project};
@@ -100,6 +102,28 @@ impl Pass {
         let given = bench.give(done);
         leave(&self.table.shared, &mut self.seat, bench);
         given
+    }
+
+    /// Settles the next slice of the bench, as `Bench::settle_to`, in one turn: from the cycle of its first due cell on, as many
+    /// whole cycles as have so many cells, at least one. The last of these cycles is told, and behind it more may be due; none
+    /// where no cell is due, and then nothing of the bench is changed.
+    ///
+    /// # Errors
+    ///
+    /// ClockSpent where a store would change a state and the clock is 2^64 - 1, Memory where a growth was refused. The cells
+    /// computed stay stored, and the rest stays due.
+    pub fn settle_some<R: Wait>(&mut self, rt: &R, cells: u32) -> Result<Option<u32>, SettleFault>
+        ensures later { IsLater self.old self.new }
+        ensures own { (self.new.numbers ≡ self.old.numbers) × (self.new.receipts ≡ self.old.receipts) }
+        ensures in_turn { (d : AnyBench) × (next : AnyBench) × IsInTurn self.new d × IsInTurn self.new next × SlicesAs d cells result next × TookTurn self.old self.new d next }
+        ensures spent { IfErr result (λ f. IsClockSpent f → self.new.spent ≡ true) }
+    {
+        let mut bench = wait_turn(rt, &self.table.shared, &mut self.seat, self.ticket);
+        self.ticket = None;
+        let settled = bench.settle_some(cells);
+        bench.history();
+        leave(&self.table.shared, &mut self.seat, bench);
+        settled
     }
 
     /// Makes an edit under the pass's number, in one turn: the new version, which is the length of the journal.

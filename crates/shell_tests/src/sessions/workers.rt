@@ -110,7 +110,7 @@ fn comes(word: &AtomicU64) -> bool {
     false
 }
 
-/// Gives its line once the worker has computed a cell.
+/// Gives its line once the worker has settled a slice.
 #[derive(Drop)]
 struct Waiting<'a> {
     line: &'a [u8],
@@ -127,24 +127,23 @@ impl Read for Waiting<'_> {
     }
 }
 
-/// Computes its first cell once the reader was asked.
+/// Behind its first slice it says that it has computed, once the reader was asked.
 #[derive(Drop)]
 struct Holding {
     meeting: Arc<Meeting, Global>,
 }
 
 impl Gate for Holding {
-    fn go_on(&mut self, _turn: u64) -> bool {
+    fn go_on(&mut self, turn: u64) -> bool {
+        if turn == 1 && comes(&self.meeting.asked) {
+            self.meeting.computed.store(1, Ordering::SeqCst);
+        }
         true
     }
 
     fn claimed(&mut self, _cell: Cell) {}
 
-    fn computed(&mut self, _cell: Cell) {
-        if is_told(&self.meeting.computed) || comes(&self.meeting.asked) {
-            self.meeting.computed.store(1, Ordering::SeqCst);
-        }
-    }
+    fn computed(&mut self, _cell: Cell) {}
 }
 
 /// 9.1: the shell waits for its reader while the worker computes, and the worker for the shell.

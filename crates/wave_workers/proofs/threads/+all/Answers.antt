@@ -1,5 +1,4 @@
-use Rattle.std.proofs.Common.{rules, ◌≡◌, ◌+◌, ◌<◌, vec_len, subst, sym, ap, ◌∙◌}
-use Rattle.std.specs.Prelude.{None}
+use Rattle.std.proofs.Common.{rules, ◌≡◌, ◌+◌, ◌<◌, vec_len, subst, sym, ◌∙◌}
 use Rattle.shared_bench.specs.Known.{Known, IsSplit}
 use Rattle.wave_workers.specs.Working.{IsKept, IsWorked}
 use Rattle.wave_workers.proofs.Working.{worked_none, worked_one}
