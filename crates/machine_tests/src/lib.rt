@@ -1,10 +1,12 @@
-//! Tests of `omega_net`, `machine_cells`, `monitor_sums` and `saturation`: wires, cells of the machine, and what is counted
-//! and reported of them. A crate with tests is proved twice by the gate, so those of a crate whose proofs take minutes stand
+//! Tests of `omega_net`, `machine_cells`, `flat_row`, `monitor_sums` and `saturation`: wires, cells and rows of the machine, and
+//! what is counted and reported of them. A crate with tests is proved twice by the gate, so those of a crate whose proofs take minutes stand
 //! beside it. Nothing stands on this crate.
 #![tactic(auto)]
 
 #[cfg(test)]
 mod cells;
+#[cfg(test)]
+mod rows;
 #[cfg(test)]
 mod sums;
 #[cfg(test)]

@@ -1,0 +1,13 @@
+pub mod Labels
+pub mod Masks
+pub mod Decisions
+pub mod Queues
+pub mod Shows
+pub mod Row
+pub mod Rows
+pub mod Moving
+pub mod Leaving
+pub mod Combining
+pub mod Stages
+pub mod Ends
+pub mod Step
