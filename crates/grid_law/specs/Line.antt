@@ -49,6 +49,7 @@ line_rules = record {
   components = length;
   near = λ s c. line_near (length s) c;
   reads = λ s near c slot. line_reads (slice_get near 0) c slot;
+  always_reads = λ s c slot. Bool.false;
   readers = λ s slot. line_readers (length s) slot;
   start = λ s c. (number_at s c).seed;
   step = line_step;

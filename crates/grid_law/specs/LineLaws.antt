@@ -119,6 +119,7 @@ line_laws = record {
   same_reads = λ a b near c h slot. refl;
   same_result = same_line_result;
   reads_own = λ s own others c slot. refl;
+  always_reads = λ s own others c slot e. absurd (false≢true e);
   readers = λ s near c slot h r. line_reads_readers (length s) near c slot h r;
   readers_exist = λ s slot. all_within (length s) slot;
   readers_ascend = λ s slot. alone_ascends (reader_of slot) (ltb (place_of slot) (length s));

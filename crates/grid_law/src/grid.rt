@@ -54,6 +54,12 @@ pub trait Grid {
         requires { c < rules.components s.now }
         ensures { result ≡ rules.reads s.now (own.now ∷ []) c slot.now };
 
+    /// Whether `c` is sure to read `slot` after cycle 0, whatever its state is. Where this says no, it may read it at some
+    /// state all the same. No state is looked at, so a table asks it once for all cycles.
+    fn always_reads(s: &Self::Slots, c: u32, slot: &Self::Slot) -> bool
+        requires { c < rules.components s.now }
+        ensures { result ≡ rules.always_reads s.now c slot.now };
+
     /// The components that may read `slot`, at cycle 0 or at a later one: every one for which `reads`
     /// says yes at some near states is listed with such a cycle. By component from the lowest on, cycle
     /// 0 before the later ones, each once.

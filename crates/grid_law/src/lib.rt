@@ -14,6 +14,7 @@
 //!   gets the same state;
 //! - own state: after cycle 0 what a component reads hangs on its own state one cycle earlier and on
 //!   no other near state; `reads_later` is `reads` by that one;
+//! - what `always_reads` says that a component reads after cycle 0 it reads at every state;
 //! - readers: a component that reads a slot at some state is one of its `readers`, which are found
 //!   without a look at any state;
 //! - `next` is `step` over states that are lent, and nothing where the state stays as it is;

@@ -62,6 +62,10 @@ impl Grid for Line {
         }
     }
 
+    fn always_reads(_s: &Numbers, _c: u32, _slot: &LineSlot) -> bool {
+        false
+    }
+
     fn readers(alloc: Global, s: &Numbers, slot: &LineSlot) -> Result<Vec<Reader>, NoMemory> {
         let mut readers = Vec::new(alloc);
         if slot.place() < s.count() {

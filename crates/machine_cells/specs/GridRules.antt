@@ -10,7 +10,7 @@ use Rattle.project_book.specs.declared.slot.Slot.{Slot}
 use Rattle.project_book.specs.Slots.{SameAt}
 use Rattle.machine_cells.specs.Run.{start_of}
 use Rattle.machine_cells.specs.Cells.{pulled}
-use Rattle.machine_cells.specs.Reads.{reads, readers}
+use Rattle.machine_cells.specs.Reads.{reads, always_reads, readers}
 
 -- the components beside one, by number; of a number that is no component's, none
 abbrev pub beside_numbers : ℕ → Option Component → List ℕ
@@ -34,6 +34,7 @@ rp3_rules = record {
   components = λ P. components P.k;
   near = λ P c. near_cells P.k c;
   reads = reads;
+  always_reads = always_reads;
   readers = readers;
   start = first_state;
   step = next_state;

@@ -49,13 +49,17 @@ abbrev pub back_reads : ℕ → List Slot
 back_reads zero = []
 back_reads (suc k) = Depth LowReverse ∷ Depth CombReverse ∷ []
 
+-- what a module or a switch reads beside the shape after cycle 0, whatever its state is
+abbrev pub fixed_reads : ℕ → Option Component → List Slot
+fixed_reads k (Some (ModuleAt m)) = Depth ModuleQueue ∷ back_reads k
+fixed_reads k (Some (Switch LowNet stage j)) = Depth LowForward ∷ Depth LowReverse ∷ last_reads k stage
+fixed_reads k (Some (Switch CombNet stage j)) = Depth CombForward ∷ Depth CombReverse ∷ Wait ∷ Combine stage ∷ last_reads k stage
+fixed_reads k _ = []
+
 -- what a component reads beside the shape after cycle 0, where its own state one cycle earlier was this
 abbrev pub later_reads : Project → Option Component → MachineState → List Slot
 later_reads P (Some (ProcAt p)) (Proc s) = index_reads p s.index ++ (entry_reads (entry_at P p s.index) ++ out_reads P.k s.out)
-later_reads P (Some (ModuleAt m)) (Module s) = Depth ModuleQueue ∷ back_reads P.k
-later_reads P (Some (Switch LowNet stage j)) (Low s) = Depth LowForward ∷ Depth LowReverse ∷ last_reads P.k stage
-later_reads P (Some (Switch CombNet stage j)) (Comb s) = Depth CombForward ∷ Depth CombReverse ∷ Wait ∷ Combine stage ∷ last_reads P.k stage
-later_reads P _ _ = []
+later_reads P component own = fixed_reads P.k component
 
 -- at cycle 0 a module reads all first words and all pages, and other components nothing more
 abbrev pub start_reads : Option Component → Slot → Bool
@@ -94,6 +98,10 @@ abbrev pub reads : Project → List MachineState → ℕ → Slot → Bool
 reads P [] c slot = or_shape slot (start_reads (component_of P.k c) slot)
 reads P (own ∷ others) c slot = or_shape slot (is_listed (later_reads P (component_of P.k c) own) slot)
 
+-- `always_reads`: the shape, and what is read whatever the state is
+abbrev pub always_reads : Project → ℕ → Slot → Bool
+always_reads P c slot = or_shape slot (is_listed (fixed_reads P.k (component_of P.k c)) slot)
+
 -- the depths that a processor may read, behind whichever port a request of its waits
 abbrev pub out_depths : ℕ → List Slot
 out_depths zero = Depth ModuleQueue ∷ []
@@ -110,10 +118,7 @@ proc_may_read k p _ = false
 -- and any component: a module and a switch read the same slots at every state
 abbrev pub later_may_read : ℕ → Option Component → Slot → Bool
 later_may_read k (Some (ProcAt p)) slot = proc_may_read k p slot
-later_may_read k (Some (ModuleAt m)) slot = is_listed (Depth ModuleQueue ∷ back_reads k) slot
-later_may_read k (Some (Switch LowNet stage j)) slot = is_listed (Depth LowForward ∷ Depth LowReverse ∷ last_reads k stage) slot
-later_may_read k (Some (Switch CombNet stage j)) slot = is_listed (Depth CombForward ∷ Depth CombReverse ∷ Wait ∷ Combine stage ∷ last_reads k stage) slot
-later_may_read k None slot = false
+later_may_read k component slot = is_listed (fixed_reads k component) slot
 
 -- whether a component may read a slot, at cycle 0 or at a later one
 abbrev pub may_read : Project → ℕ → Bool → Slot → Bool

@@ -4,7 +4,7 @@ ghost use Rattle.project_book.specs.declared.slot.Slot.TheVariants.{Depth, Wait,
 ghost use Rattle.project_book.specs.declared.edit.Depths.TheVariants.{LowForward, LowReverse, CombForward, CombReverse, ModuleQueue};
 ghost use Rattle.page_map.specs.Limits.{address_count, page_count};
 ghost use Rattle.project_book.specs.Project.{page_of, word_of};
-ghost use Rattle.machine_cells.specs.Reads.{SameAtAll, SameMemory, index_reads, entry_reads, out_reads, last_reads, back_reads, later_reads};
+ghost use Rattle.machine_cells.specs.Reads.{SameAtAll, SameMemory, index_reads, entry_reads, out_reads, last_reads, back_reads, fixed_reads, later_reads};
 
 use crate::MachineState;
 use omega_net::{Component, Net, ScriptEntry};
@@ -48,24 +48,27 @@ pub(crate) fn agree_later(
 {
     match (component, own) {
         (Component::Proc(proc), MachineState::Proc(s)) => agree_proc(a, b, proc, s),
-        (Component::Module(_), MachineState::Module(_)) => agree_module(a, b),
-        (
-            Component::Switch {
-                net: Net::Low,
-                stage,
-                ..
-            },
-            MachineState::Low(_),
-        ) => { agree_low(a, b, stage) }
-        (
-            Component::Switch {
-                net: Net::Comb,
-                stage,
-                ..
-            },
-            MachineState::Comb(_),
-        ) => { agree_comb(a, b, stage) }
-        _ => true,
+        _ => agree_fixed(a, b, component),
+    }
+}
+
+/// Whether they agree in what a component reads whatever its state is.
+fn agree_fixed(a: &Project, b: &Project, component: Component) -> bool
+    ensures { IsTrue result ↔ SameAtAll a.now b.now (fixed_reads a.now.k (Some component)) }
+{
+    match component {
+        Component::Proc(_) => true,
+        Component::Module(_) => agree_module(a, b),
+        Component::Switch {
+            net: Net::Low,
+            stage,
+            ..
+        } => agree_low(a, b, stage),
+        Component::Switch {
+            net: Net::Comb,
+            stage,
+            ..
+        } => agree_comb(a, b, stage),
     }
 }
 

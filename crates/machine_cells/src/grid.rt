@@ -11,7 +11,7 @@ use crate::MachineState;
 use crate::agree::{agree_later, same_memory};
 use crate::near::state_at;
 use crate::readers::readers;
-use crate::reads::{later_reads, start_reads};
+use crate::reads::{fixed_reads, later_reads, start_reads};
 use crate::start::start_of;
 use crate::step::{moved, pulled};
 use arrayvec::ArrayVec;
@@ -89,6 +89,14 @@ impl Grid for Rp3 {
         match slot {
             Slot::Shape => true,
             _ => later_reads(s, component, own, *slot),
+        }
+    }
+
+    fn always_reads(s: &Project, c: u32, slot: &Slot) -> bool {
+        let component = component_at(s.shape(), c);
+        match slot {
+            Slot::Shape => true,
+            _ => fixed_reads(s.k(), component, *slot),
         }
     }
 

@@ -31,7 +31,7 @@
 //!
 //! The index and the request are those of the processor's state one cycle earlier. What a component
 //! reads at some state it may read: a processor every entry of its script, every page, the window and
-//! the depths of the queues behind its ports, the others the same slots at every state.
+//! the depths of the queues behind its ports, the others the same slots at every state (`always_reads`).
 #![tactic(auto)]
 
 mod agree;

@@ -2,7 +2,7 @@
 ghost use Rattle.std.specs.Prelude.{◌≡◌, ◌<◌, ◌∷◌, Some};
 ghost use Rattle.project_book.specs.declared.slot.Slot.TheVariants.{Depth, Wait, Combine};
 ghost use Rattle.project_book.specs.declared.edit.Depths.TheVariants.{LowForward, LowReverse, CombForward, CombReverse, ModuleQueue};
-ghost use Rattle.machine_cells.specs.Reads.{is_listed, index_reads, entry_reads, out_reads, last_reads, back_reads, later_reads, start_reads, later_may_read, proc_may_read};
+ghost use Rattle.machine_cells.specs.Reads.{is_listed, index_reads, entry_reads, out_reads, last_reads, back_reads, fixed_reads, later_reads, start_reads, later_may_read, proc_may_read};
 
 use crate::MachineState;
 use omega_net::{Component, Net, ScriptEntry};
@@ -33,33 +33,16 @@ pub(crate) fn later_reads(
 {
     match (component, own) {
         (Component::Proc(proc), MachineState::Proc(s)) => proc_reads(project, proc, s, slot),
-        (Component::Module(_), MachineState::Module(_)) => module_reads(project.k(), slot),
-        (
-            Component::Switch {
-                net: Net::Low,
-                stage,
-                ..
-            },
-            MachineState::Low(_),
-        ) => { low_reads(project.k(), stage, slot) }
-        (
-            Component::Switch {
-                net: Net::Comb,
-                stage,
-                ..
-            },
-            MachineState::Comb(_),
-        ) => { comb_reads(project.k(), stage, slot) }
-        _ => false,
+        _ => fixed_reads(project.k(), component, slot),
     }
 }
 
-/// Whether a component may read a slot after cycle 0, beside the shape, whatever its state is.
-pub(crate) fn later_may_read(k: u32, component: Component, slot: Slot) -> bool
-    ensures { result ≡ later_may_read k (Some component) slot }
+/// Whether a component reads a slot after cycle 0, beside the shape, whatever its state is: no processor is sure to.
+pub(crate) fn fixed_reads(k: u32, component: Component, slot: Slot) -> bool
+    ensures { result ≡ is_listed (fixed_reads k (Some component)) slot }
 {
     match component {
-        Component::Proc(proc) => proc_may_read(k, proc, slot),
+        Component::Proc(_) => false,
         Component::Module(_) => module_reads(k, slot),
         Component::Switch {
             net: Net::Low,
@@ -71,6 +54,16 @@ pub(crate) fn later_may_read(k: u32, component: Component, slot: Slot) -> bool
             stage,
             ..
         } => comb_reads(k, stage, slot),
+    }
+}
+
+/// Whether a component may read a slot after cycle 0, beside the shape, whatever its state is.
+pub(crate) fn later_may_read(k: u32, component: Component, slot: Slot) -> bool
+    ensures { result ≡ later_may_read k (Some component) slot }
+{
+    match component {
+        Component::Proc(proc) => proc_may_read(k, proc, slot),
+        _ => fixed_reads(k, component, slot),
     }
 }
 

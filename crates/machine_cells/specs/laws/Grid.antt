@@ -23,13 +23,13 @@ use Rattle.project_book.specs.declared.edit.Depths.TheVariants.{LowForward, LowR
 use Rattle.project_book.specs.Slots.{SameAt}
 use Rattle.machine_cells.specs.Run.{start_of}
 use Rattle.machine_cells.specs.Cells.{pulled}
-use Rattle.machine_cells.specs.Reads.{reads, may_read, or_shape, start_reads, later_reads, index_reads, entry_reads, out_reads, is_listed, same_slot, depth_number, SameAtAll, SameStart}
+use Rattle.machine_cells.specs.Reads.{reads, may_read, or_shape, start_reads, fixed_reads, later_reads, index_reads, entry_reads, out_reads, is_listed, same_slot, depth_number, SameAtAll, SameStart}
 use Rattle.machine_cells.specs.GridRules.{rp3_rules, near_cells, beside_numbers}
 use Rattle.omega_net.proofs.Wiring.{or_left, or_right}
 use Rattle.machine_cells.specs.laws.Ends.{component_there}
 use Rattle.machine_cells.specs.laws.Reading.{steps_agree, entry_same}
 use Rattle.machine_cells.specs.laws.Starts.{same_words_in}
-use Rattle.machine_cells.specs.laws.Readers.{reads_readers, readers_exist, readers_ascend}
+use Rattle.machine_cells.specs.laws.Readers.{always_are_read, reads_readers, readers_exist, readers_ascend}
 
 -- the list of near cells is omega_net's, of a component that there is
 pub near_is : (k c : ℕ) → c < components k → near_cells k c ≡ near k c
@@ -175,10 +175,11 @@ module _ (P Q : Project) where
       let entry = (entry_same P Q k p s.index _ h).0 in
       ap (λ e. index_reads p s.index ++ (entry_reads e ++ out_reads P.k s.out)) entry
       ∙ ap (λ n. index_reads p s.index ++ (entry_reads (entry_at Q p s.index) ++ out_reads n s.out)) k
-  same_later (Some (ModuleAt m)) (Module s) k h = rw k refl
-  same_later (Some (Switch LowNet stage j)) (Low s) k h = rw k refl
-  same_later (Some (Switch CombNet stage j)) (Comb s) k h = rw k refl
-  same_later _ _ k h = refl
+  same_later (Some (ProcAt p)) _ k h = refl
+  same_later (Some (ModuleAt m)) own k h = ap (λ n. fixed_reads n (Some (ModuleAt m))) k
+  same_later (Some (Switch LowNet stage j)) own k h = ap (λ n. fixed_reads n (Some (Switch LowNet stage j))) k
+  same_later (Some (Switch CombNet stage j)) own k h = ap (λ n. fixed_reads n (Some (Switch CombNet stage j))) k
+  same_later None own k h = refl
 
   same_reads : (near : List MachineState) (c : ℕ) → Agrees rp3_rules P Q near c → (slot : Slot) → reads P near c slot ≡ reads Q near c slot
   same_reads [] c h slot = ap (λ n. or_shape slot (start_reads (component_of n c) slot)) h.shape
@@ -229,6 +230,7 @@ the_laws = record {
   same_reads = same_reads;
   same_result = same_result;
   reads_own = λ P own others c slot. refl;
+  always_reads = always_are_read;
   readers = λ P near c slot h e. reads_readers P near c slot h e;
   readers_exist = λ P slot. readers_exist (λ c first. may_read P c first slot) (components P.k) 0 (components P.k) (omega arith);
   readers_ascend = λ P slot. readers_ascend (λ c first. may_read P c first slot) 0 (components P.k);

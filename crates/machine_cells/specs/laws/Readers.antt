@@ -26,7 +26,7 @@ use Rattle.project_book.specs.Limits.{script_entries}
 use Rattle.project_book.specs.declared.slot.Slot.{Slot}
 use Rattle.project_book.specs.declared.slot.Slot.TheVariants.{Shape, Entry, Word, Page as PageAt, Depth, Wait, Combine, Window}
 use Rattle.project_book.specs.declared.edit.Depths.TheVariants.{LowForward, LowReverse, CombForward, CombReverse, ModuleQueue}
-use Rattle.machine_cells.specs.Reads.{reads, may_read, reader_if, readers, or_shape, later_reads, later_may_read, proc_may_read, index_reads, entry_reads, out_reads, is_listed, same_slot}
+use Rattle.machine_cells.specs.Reads.{reads, always_reads, fixed_reads, may_read, reader_if, readers, or_shape, later_reads, later_may_read, proc_may_read, index_reads, entry_reads, out_reads, is_listed, same_slot}
 
 either : (a b : Bool) → (a || b) ≡ true → (a ≡ true) ⊎ (b ≡ true)
 either true b e = inl refl
@@ -118,10 +118,19 @@ proc_may k p i entry out slot e = by_index (listed_apart (index_reads p i) (entr
 
 later_may : (P : Project) (o : Option Component) (own : MachineState) (slot : Slot) → is_listed (later_reads P o own) slot ≡ true → later_may_read P.k o slot ≡ true
 later_may P (Some (ProcAt p)) (Proc s) slot e = proc_may P.k p s.index (entry_at P p s.index) s.out slot e
-later_may P (Some (ModuleAt m)) (Module s) slot e = e
-later_may P (Some (Switch LowNet stage j)) (Low s) slot e = e
-later_may P (Some (Switch CombNet stage j)) (Comb s) slot e = e
-later_may P _ _ slot e = absurd (false≢true e)
+later_may P (Some (ProcAt p)) _ slot e = absurd (false≢true e)
+later_may P (Some (ModuleAt m)) own slot e = e
+later_may P (Some (Switch LowNet stage j)) own slot e = e
+later_may P (Some (Switch CombNet stage j)) own slot e = e
+later_may P None own slot e = e
+
+-- what is read whatever the state is, is read at this one
+fixed_later : (P : Project) (o : Option Component) (own : MachineState) (slot : Slot) → is_listed (fixed_reads P.k o) slot ≡ true → is_listed (later_reads P o own) slot ≡ true
+fixed_later P (Some (ProcAt p)) own slot e = absurd (false≢true e)
+fixed_later P (Some (ModuleAt m)) own slot e = e
+fixed_later P (Some (Switch LowNet stage j)) own slot e = e
+fixed_later P (Some (Switch CombNet stage j)) own slot e = e
+fixed_later P None own slot e = absurd (false≢true e)
 
 -- with the shape, which every component reads
 shape_or : (slot : Slot) (a b : Bool) → (a ≡ true → b ≡ true) → or_shape slot a ≡ true → or_shape slot b ≡ true
@@ -133,6 +142,9 @@ shape_or (Depth q) a b f e = f e
 shape_or Wait a b f e = f e
 shape_or (Combine s) a b f e = f e
 shape_or Window a b f e = f e
+
+pub always_are_read : (P : Project) (own : MachineState) (others : List MachineState) (c : ℕ) (slot : Slot) → always_reads P c slot ≡ true → reads P (own ∷ others) c slot ≡ true
+always_are_read P own others c slot e = shape_or slot _ _ (fixed_later P (component_of P.k c) own slot) e
 
 reads_may : (P : Project) (near : List MachineState) (c : ℕ) (slot : Slot) → reads P near c slot ≡ true → may_read P c (is_first near) slot ≡ true
 reads_may P [] c slot e = e
