@@ -163,8 +163,7 @@ lower_shown P S net n holds s l le within = by_test (s == P.k) refl
     by_test true e = let same : s ≡ P.k = eqb-true s P.k e in subst (λ r. ReplyShown P S net n r l) (sym same) (at_modules P S net n holds l within)
     by_test false e =
         let lt : s < P.k = grind (arith, nat_tests) in
-        let w = holds.switches s (l % half P.k) lt (mod-lt l (half_some P.k s lt)) in
-        (
+        let w = holds.switches s (l % half P.k) lt (mod-lt l (half_some P.k s lt)) in (
           switch_of net P.k n s (l % half P.k) w.0 w.1,
           ap (λ c. slice_get S (number_of P.k c)) (meets_switch P.k net s l lt) ∙ w.2,
           ap (λ x. head (queue_of n.replies s x)) (label_before P.k s l lt within) ∙ reply_shown net P.k n s (l % half P.k) w.0 w.1 l (input_small P.k s l lt within),

@@ -129,9 +129,12 @@ module _ (P : Project) (few : P.k ≤ 6) (S : List MachineState) (n : Network) w
   requests_show net holds asked s lt before behind at_before at_behind = record {
     heads = λ l within.
         let u = upper_shown P S net n holds s l (omega arith) within in
-        let x = label_small P.k s l few (omega arith) within in
-        (u.0, u.1, head_at module_route (level_at n.requests s).rule before (P.k - 1 - s) (rotated_right P.k s l) (queue_of n.requests s (rotated_right P.k s l)) (request_on (on_line net s l) u.0)
-        (at_before (rotated_right P.k s l) x) (ap (λ r. r.by) (asked.requests s (omega arith)) ∙ forward_bit P.k s lt) u.2);
+        let x = label_small P.k s l few (omega arith) within in (
+          u.0,
+          u.1,
+          head_at module_route (level_at n.requests s).rule before (P.k - 1 - s) (rotated_right P.k s l) (queue_of n.requests s (rotated_right P.k s l)) (request_on (on_line net s l) u.0)
+              (at_before (rotated_right P.k s l) x) (ap (λ r. r.by) (asked.requests s (omega arith)) ∙ forward_bit P.k s lt) u.2,
+        );
     queues = λ j small.
         let w = holds.switches s j lt small in
         (switch_of net P.k n s j w.0 w.1, w.2, λ o within. queues_shown net asked s j lt small behind at_behind w.0 w.1 o within);
@@ -152,15 +155,21 @@ module _ (P : Project) (few : P.k ≤ 6) (S : List MachineState) (n : Network) w
   low_replies_show holds asked s lt behind before at_behind at_before = record {
     heads = λ l within.
         let u = lower_shown P S LowNet n holds (suc s) l (omega arith) within in
-        let x = label_small P.k (suc s) l few (omega arith) within in
-        (u.0, u.1, head_at proc_route (level_at n.replies (suc s)).rule behind (P.k - 1 - s) (rotated_right P.k (suc s) l) (queue_of n.replies (suc s) (rotated_right P.k (suc s) l)) (reply_on P.k (on_line LowNet (suc s) l) u.0)
-        (at_behind (rotated_right P.k (suc s) l) x) (ap (λ r. r.by) (asked.replies (suc s) (omega arith)) ∙ back_bit P.k s lt) u.2);
+        let x = label_small P.k (suc s) l few (omega arith) within in (
+          u.0,
+          u.1,
+          head_at proc_route (level_at n.replies (suc s)).rule behind (P.k - 1 - s) (rotated_right P.k (suc s) l) (queue_of n.replies (suc s) (rotated_right P.k (suc s) l)) (reply_on P.k (on_line LowNet (suc s) l) u.0)
+              (at_behind (rotated_right P.k (suc s) l) x) (ap (λ r. r.by) (asked.replies (suc s) (omega arith)) ∙ back_bit P.k s lt) u.2,
+        );
     queues = λ j small.
-        let w = holds.switches s j lt small in
-        (switch_of LowNet P.k n s j w.0 w.1, w.2, λ i within. (
-          subst (λ q. IsRoom 2 1 before (port_label P.k s j i) (free (reverse P LowNet) q)) (at_port (λ i. queue_of n.replies s (port_label P.k s j i)) i within) (back_room LowNet asked s j lt small before at_before i within),
-          turn_at (λ i. turn_of n.back_turns s (port_label P.k s j i)) i within,
-        ));
+        let w = holds.switches s j lt small in (
+          switch_of LowNet P.k n s j w.0 w.1,
+          w.2,
+          λ i within. (
+            subst (λ q. IsRoom 2 1 before (port_label P.k s j i) (free (reverse P LowNet) q)) (at_port (λ i. queue_of n.replies s (port_label P.k s j i)) i within) (back_room LowNet asked s j lt small before at_before i within),
+            turn_at (λ i. turn_of n.back_turns s (port_label P.k s j i)) i within,
+          ),
+        );
   }
 
   comb_replies_show : Holds P.k CombNet n S → IsNetworkOf P CombNet n → (s : ℕ) → s < P.k → (behind before : Marks)
@@ -172,12 +181,15 @@ module _ (P : Project) (few : P.k ≤ 6) (S : List MachineState) (n : Network) w
         let x = label_small P.k (suc s) l few (omega arith) within in
         (u.0, u.1, ap (λ t. t.any) (at_behind (rotated_right P.k (suc s) l) x) ∙ ap is_some u.2);
     queues = λ j small.
-        let w = holds.switches s j lt small in
-        (switch_of CombNet P.k n s j w.0 w.1, w.2, (
-          subst (λ x. IsRoom 4 2 before x (free (reverse P CombNet) (queue_of n.replies s (port_label P.k s j 0)))) (none (switch_label P.k s j) (2 ^ (P.k - 1 - s))) (back_room CombNet asked s j lt small before at_before 0 (omega arith)),
-          subst (λ x. IsRoom 4 2 before x (free (reverse P CombNet) (queue_of n.replies s (port_label P.k s j 1)))) (one (switch_label P.k s j) (2 ^ (P.k - 1 - s))) (back_room CombNet asked s j lt small before at_before 1 (omega arith)),
-          ap (λ x. bit x (slice_index_or n.back_turns s 0)) (sym (none (switch_label P.k s j) (2 ^ (P.k - 1 - s)))),
-        ));
+        let w = holds.switches s j lt small in (
+          switch_of CombNet P.k n s j w.0 w.1,
+          w.2,
+          (
+            subst (λ x. IsRoom 4 2 before x (free (reverse P CombNet) (queue_of n.replies s (port_label P.k s j 0)))) (none (switch_label P.k s j) (2 ^ (P.k - 1 - s))) (back_room CombNet asked s j lt small before at_before 0 (omega arith)),
+            subst (λ x. IsRoom 4 2 before x (free (reverse P CombNet) (queue_of n.replies s (port_label P.k s j 1)))) (one (switch_label P.k s j) (2 ^ (P.k - 1 - s))) (back_room CombNet asked s j lt small before at_before 1 (omega arith)),
+            ap (λ x. bit x (slice_index_or n.back_turns s 0)) (sym (none (switch_label P.k s j) (2 ^ (P.k - 1 - s)))),
+          ),
+        );
   }
     where
       none : (a d : ℕ) → a + 0 * d ≡ a
@@ -225,7 +237,7 @@ module _ (P : Project) (S : List MachineState) (net : Net) (s l : ℕ) (le : s �
   shown_request : upper_state P S (on_line net s l) ≡ Some u → moved_request (moves P S) (on_line net s l) ≡ cond (is_some (moved_request (moves P S) (on_line net s l))) (request_on (on_line net s l) u) None
   shown_request up =
       let e : moved_request (moves P S) (on_line net s l) ≡ at_ends (request_between P (on_line net s l)) (Some u) (lower_state P S (on_line net s l)) =
-          request_moved P S (on_line net s l) le within ∙ ap (λ o. at_ends (request_between P (on_line net s l)) o (lower_state P S (on_line net s l))) up in
+      request_moved P S (on_line net s l) le within ∙ ap (λ o. at_ends (request_between P (on_line net s l)) o (lower_state P S (on_line net s l))) up in
       e ∙ by_lower (lower_state P S (on_line net s l)) ∙ ap (λ m. cond (is_some m) (request_on (on_line net s l) u) None) (sym e)
     where
       by_lower : (o : Option MachineState)
@@ -236,7 +248,7 @@ module _ (P : Project) (S : List MachineState) (net : Net) (s l : ℕ) (le : s �
   shown_reply : lower_state P S (on_line net s l) ≡ Some u → moved_reply (moves P S) (on_line net s l) ≡ cond (is_some (moved_reply (moves P S) (on_line net s l))) (reply_on P.k (on_line net s l) u) None
   shown_reply low =
       let e : moved_reply (moves P S) (on_line net s l) ≡ at_ends (reply_between P (on_line net s l)) (upper_state P S (on_line net s l)) (Some u) =
-          reply_moved P S (on_line net s l) le within ∙ ap (λ o. at_ends (reply_between P (on_line net s l)) (upper_state P S (on_line net s l)) o) low in
+      reply_moved P S (on_line net s l) le within ∙ ap (λ o. at_ends (reply_between P (on_line net s l)) (upper_state P S (on_line net s l)) o) low in
       e ∙ by_upper (upper_state P S (on_line net s l)) ∙ ap (λ m. cond (is_some m) (reply_on P.k (on_line net s l) u) None) (sym e)
     where
       by_upper : (o : Option MachineState)
@@ -279,7 +291,7 @@ module _ (P : Project) (R : Arrays) (of : IsRowOf P R) (m : ℕ) (small : m < 64
   answers net marks at =
       let e = (network_asked P R of net).replies P.k (omega arith) in
       let room = room_at proc_route (level_at (network R net).replies P.k).rule marks m _ 1 (depth_of P ModuleQueue) (queue_of (network R net).replies P.k m) (at m small)
-          (ap (λ r. r.two) e) (ap (λ r. r.one) e ∙ own P.k 1 (places_for net 1)) (ap (λ r. r.depth) e ∙ own P.k (depth_of P ModuleQueue) (reverse P net)) in
+      (ap (λ r. r.two) e) (ap (λ r. r.one) e ∙ own P.k 1 (places_for net 1)) (ap (λ r. r.depth) e ∙ own P.k (depth_of P ModuleQueue) (reverse P net)) in
       room.1 ∙ ap (λ k. nat_le 1 (free (depth_of P ModuleQueue) (queue_of (network R net).replies k m))) (sym of.size)
 
   module_shows : (lq cq lr cr : Marks)

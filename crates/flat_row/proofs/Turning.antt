@@ -43,9 +43,9 @@ module _ {T : Type 0} (route : T → ℕ) (b i o x y : ℕ) (before : Marks) (ro
       ∙ ap (λ n. (bit b (route m) == n) && takes_from room turn i y) to
       ∙ by_test (bit b (route m) == o) refl
       ∙ sym (
-        ap (λ t. is_some (sent_to route b o (cond (t && takes_from room turn (bit b x) (port b (bit x before.asks) x)) (Some m) None))) h.0
-        ∙ ap (λ n. is_some (sent_to route b o (cond (takes_from room turn n (port b (bit x before.asks) x)) (Some m) None))) own
-        ∙ ap (λ n. is_some (sent_to route b o (cond (takes_from room turn i (port b n x)) (Some m) None))) h.1
+      ap (λ t. is_some (sent_to route b o (cond (t && takes_from room turn (bit b x) (port b (bit x before.asks) x)) (Some m) None))) h.0
+      ∙ ap (λ n. is_some (sent_to route b o (cond (takes_from room turn n (port b (bit x before.asks) x)) (Some m) None))) own
+      ∙ ap (λ n. is_some (sent_to route b o (cond (takes_from room turn i (port b n x)) (Some m) None))) h.1
       )
     where
       sent : (t s : Bool) → (bit b (route m) == o) ≡ t → is_some (sent_to route b o (cond s (Some m) None)) ≡ (s && t)
@@ -81,11 +81,11 @@ module _ {T : Type 0} (route : T → ℕ) (b i o x y : ℕ) (before : Marks) (ro
 turn_alike : (turn : ℕ) (a b c d : Bool) → a ≡ c → b ≡ d → turn_after turn a b ≡ turn_after turn c d
 turn_alike turn a b c d e f = ap (λ t. turn_after turn t b) e ∙ ap (λ t. turn_after turn c t) f
 
-request_sent : (b o : ℕ) (m : Option Request) → sent_to (λ (r : Request). r.place.«module») b o m ≡ request_to b o m
+pub request_sent : (b o : ℕ) (m : Option Request) → sent_to (λ (r : Request). r.place.«module») b o m ≡ request_to b o m
 request_sent b o None = refl
 request_sent b o (Some r) = refl
 
-reply_sent : (b o : ℕ) (m : Option Reply) → sent_to (λ (y : Reply). y.tag.proc) b o m ≡ reply_to b o m
+pub reply_sent : (b o : ℕ) (m : Option Reply) → sent_to (λ (y : Reply). y.tag.proc) b o m ≡ reply_to b o m
 reply_sent b o None = refl
 reply_sent b o (Some y) = refl
 
@@ -96,22 +96,22 @@ module _ (P : Project) (few : P.k ≤ 6) (stage j : ℕ) (lt : stage < P.k) (sma
   abbrev at : ℕ → ℕ
   at o = port_label P.k stage j o
 
-  stands : (i : ℕ) → i < 2 → StandsAt P.k stage j i (at i)
+  pub stands : (i : ℕ) → i < 2 → StandsAt P.k stage j i (at i)
   stands i h = stands_at P.k stage j i (at i) few lt small h refl (port_within P.k stage j i lt small h)
 
   -- the lines of a switch
-  line_in : (i : ℕ) → i < 2 → i * half P.k + j < lines P.k
+  pub line_in : (i : ℕ) → i < 2 → i * half P.k + j < lines P.k
   line_in zero h = omega (arith, half_twice P.k stage lt, small)
   line_in (suc zero) h = omega (arith, half_twice P.k stage lt, small)
   line_in (suc (suc i)) h = absurd (omega arith)
 
-  line_out : (i : ℕ) → i < 2 → 2 * j + i < lines P.k
+  pub line_out : (i : ℕ) → i < 2 → 2 * j + i < lines P.k
   line_out i h = omega (arith, half_twice P.k stage lt, small, h)
 
-  into : (net : Net) (i : ℕ) → i < 2 → label P.k (wire_into P.k net stage j i) ≡ at i
+  pub into : (net : Net) (i : ℕ) → i < 2 → label P.k (wire_into P.k net stage j i) ≡ at i
   into net i h = let named : LabelsName P.k = each_is_named P.k in named.into net stage j i lt small h
 
-  out : (net : Net) (i : ℕ) → i < 2 → label P.k (wire_out net stage j i) ≡ at i
+  pub out : (net : Net) (i : ℕ) → i < 2 → label P.k (wire_out net stage j i) ≡ at i
   out net i h = let named : LabelsName P.k = each_is_named P.k in named.out net stage j i lt small h
 
   -- what comes to a queue of a switch, from either side of it
@@ -208,18 +208,18 @@ rows_turn P isp R row of = record {
       let turn = slice_index_or (network R net).turns stage 0 in
       let x = (stands P isp.small stage j lt small o oh).small in
       let from : (i : ℕ) → i < 2 → comes (P.k - 1 - stage) (heads_of before) (room_of behind) turn i (port_label P.k stage j o) ≡ is_some (request_to (P.k - 1 - stage) o (moved_request (moves P (states_of R)) (wire_into P.k net stage j i))) =
-          (λ i ih. request_comes P isp.small stage j lt small R net before (room_of behind) turn leave i o ih oh (request_head P isp.small stage j lt small R net of before at_before i ih)
-          (set (port_label P.k stage j i) (stands P isp.small stage j lt small i ih).small)
-          (decides.requests net stage before behind leave lt at_before at_behind set (i * half P.k + j) (line_in P isp.small stage j lt small i ih))) in
+      (λ i ih. request_comes P isp.small stage j lt small R net before (room_of behind) turn leave i o ih oh (request_head P isp.small stage j lt small R net of before at_before i ih)
+      (set (port_label P.k stage j i) (stands P isp.small stage j lt small i ih).small)
+      (decides.requests net stage before behind leave lt at_before at_behind set (i * half P.k + j) (line_in P isp.small stage j lt small i ih))) in
       turns (port_label P.k stage j o) x ∙ turn_alike (bit (port_label P.k stage j o) turn) _ _ _ _ (from 0 (omega arith)) (from 1 (omega arith));
   low_replies = λ stage behind before leave next lt at_behind at_before set turns j i small ih.
       let decides = rows_decide P isp R row of in
       let turn = slice_index_or R.low.back_turns stage 0 in
       let x = (stands P isp.small stage j lt small i ih).small in
       let from : (o : ℕ) → o < 2 → comes (P.k - 1 - stage) (heads_of behind) (room_of before) turn o (port_label P.k stage j i) ≡ is_some (reply_to (P.k - 1 - stage) i (moved_reply (moves P (states_of R)) (wire_out LowNet stage j o))) =
-          (λ o oh. reply_comes P isp.small stage j lt small R behind (room_of before) turn leave o i oh ih (reply_head P isp.small stage j lt small R of behind at_behind o oh)
-          (set (port_label P.k stage j o) (stands P isp.small stage j lt small o oh).small)
-          (decides.low_replies stage behind before leave lt at_behind at_before set (2 * j + o) (line_out P isp.small stage j lt small o oh))) in
+      (λ o oh. reply_comes P isp.small stage j lt small R behind (room_of before) turn leave o i oh ih (reply_head P isp.small stage j lt small R of behind at_behind o oh)
+      (set (port_label P.k stage j o) (stands P isp.small stage j lt small o oh).small)
+      (decides.low_replies stage behind before leave lt at_behind at_before set (2 * j + o) (line_out P isp.small stage j lt small o oh))) in
       turns (port_label P.k stage j i) x ∙ turn_alike (bit (port_label P.k stage j i) turn) _ _ _ _ (from 0 (omega arith)) (from 1 (omega arith));
   comb_replies = λ stage behind before leave next lt at_behind at_before set turns j small.
       let decides = rows_decide P isp R row of in
@@ -228,10 +228,10 @@ rows_turn P isp R row of = record {
       let first : port_label P.k stage j 0 ≡ z = none (switch_label P.k stage j) (2 ^ (P.k - 1 - stage)) in
       let x = (stands P isp.small stage j lt small 0 (omega arith)).small in
       let from : (o : ℕ) → o < 2 → comes_both (P.k - 1 - stage) behind.any (room_of before) turn o (port_label P.k stage j 0) ≡ is_some (moved_reply (moves P (states_of R)) (wire_out CombNet stage j o)) =
-          (λ o oh. reply_comes_both P isp.small stage j lt small R behind (room_of before) turn leave o oh
-          (ap (λ t. t.any) (at_behind (port_label P.k stage j o) (stands P isp.small stage j lt small o oh).small))
-          (set (port_label P.k stage j o) (stands P isp.small stage j lt small o oh).small)
-          (decides.comb_replies stage behind before leave lt at_behind at_before set (2 * j + o) (line_out P isp.small stage j lt small o oh))) in
+      (λ o oh. reply_comes_both P isp.small stage j lt small R behind (room_of before) turn leave o oh
+      (ap (λ t. t.any) (at_behind (port_label P.k stage j o) (stands P isp.small stage j lt small o oh).small))
+      (set (port_label P.k stage j o) (stands P isp.small stage j lt small o oh).small)
+      (decides.comb_replies stage behind before leave lt at_behind at_before set (2 * j + o) (line_out P isp.small stage j lt small o oh))) in
       ap (λ y. bit y next) (sym first)
       ∙ turns (port_label P.k stage j 0) x ∙ turn_alike (bit (port_label P.k stage j 0) turn) _ _ _ _ (from 0 (omega arith)) (from 1 (omega arith))
       ∙ ap (λ y. turn_after (bit y turn) (is_some (moved_reply (moves P (states_of R)) (wire_out CombNet stage j 0))) (is_some (moved_reply (moves P (states_of R)) (wire_out CombNet stage j 1)))) first;

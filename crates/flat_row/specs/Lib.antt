@@ -6,3 +6,8 @@ pub mod Shows
 pub mod Row
 pub mod Rows
 pub mod Moving
+pub mod Leaving
+pub mod Combining
+pub mod Stages
+pub mod Ends
+pub mod Step

@@ -1,5 +1,5 @@
 -- What levels hold when heads have moved from one to another.
-use Rattle.std.specs.Prelude.{◌≡◌, ℕ, zero, suc, ◌-◌, ◌==◌, ◌&&◌, Bool, true, if◌then◌else◌, List, length, Option, None, Some, slice_index_or}
+use Rattle.std.specs.Prelude.{◌≡◌, ℕ, zero, suc, ◌-◌, ◌<◌, ◌≤◌, ◌==◌, ◌&&◌, nat_lt, Bool, true, if◌then◌else◌, List, length, Option, None, Some, IsSome, slice_index_or}
 use Rattle.arrayvec.specs.ArrayVec.{ArrayVec}
 use Rattle.omega_net.specs.Wires.{bit}
 use Rattle.omega_net.specs.Queues.{head, without_head, joined}
@@ -43,6 +43,13 @@ moved route b leaves from to levels l z =
     else (if l == to then joined (joined (queue_of levels to z) (arrival route b leaves levels from 0 z)) (arrival route b leaves levels from 1 z)
     else queue_of levels l z)
 
+-- the queues where the head at a label has moved to the same label of another level
+abbrev pub passed_straight : {T : Type 0} → ℕ → ℕ → ℕ → List (Queues T) → ℕ → ℕ → ArrayVec T
+passed_straight from to x levels l z =
+    if (l == from) && (z == x) then without_head true (queue_of levels from x)
+    else (if (l == to) && (z == x) then joined (queue_of levels to x) (head (queue_of levels from x))
+    else queue_of levels l z)
+
 -- the queues where the heads of a level have moved to the same labels of another level
 abbrev pub moved_straight : {T : Type 0} → (ℕ → Bool) → ℕ → ℕ → List (Queues T) → ℕ → ℕ → ArrayVec T
 moved_straight leaves from to levels l z =
@@ -61,3 +68,24 @@ forth_after route k forth enter levels (suc l) z =
     if l == k then joined (queue_of levels (suc k) z) (if_leaves (has enter z) (queue_of levels k z))
     else joined (joined (without_head (leaves_forth k forth enter (suc l) z) (queue_of levels (suc l) z))
     (arrival route (k - 1 - l) (has (slice_index_or forth l 0)) levels l 0 z)) (arrival route (k - 1 - l) (has (slice_index_or forth l 0)) levels l 1 z)
+
+-- where a label is in the set that leaves a level, a message waits there
+abbrev pub AllWait : {T : Type 0} → ℕ → List ℕ → ℕ → List (Queues T) → Type 0
+AllWait k forth enter levels = (l x : ℕ) → l ≤ k → x < 64 → leaves_forth k forth enter l x ≡ true → IsSome (head (queue_of levels l x))
+
+-- the same on the way back, where sets are by the stage that messages come from behind
+abbrev pub AllWaitBack : {T : Type 0} → ℕ → List ℕ → List (Queues T) → Type 0
+AllWaitBack k back levels = (s x : ℕ) → s < k → x < 64 → has (slice_index_or back s 0) x ≡ true → IsSome (head (queue_of levels (suc s) x))
+
+-- a queue of a level of replies where the head has left, if its label is in the set behind the stage before it; what leaves the first
+-- level leaves by itself
+abbrev pub left_back : {T : Type 0} → List ℕ → List (Queues T) → ℕ → ℕ → ArrayVec T
+left_back back levels zero z = queue_of levels 0 z
+left_back back levels (suc s) z = without_head (has (slice_index_or back s 0) z) (queue_of levels (suc s) z)
+
+-- a level of replies where all of the low network that leave behind stages have moved, by the levels before
+abbrev pub back_after : {T : Type 0} → (T → ℕ) → ℕ → List ℕ → List (Queues T) → ℕ → ℕ → ArrayVec T
+back_after route k back levels l z =
+    if nat_lt l k then joined (joined (left_back back levels l z)
+    (arrival route (k - 1 - l) (has (slice_index_or back l 0)) levels (suc l) 0 z)) (arrival route (k - 1 - l) (has (slice_index_or back l 0)) levels (suc l) 1 z)
+    else left_back back levels l z

@@ -1,6 +1,7 @@
 //! The queues of a level of a network: one for each label.
 ghost use Rattle.std.specs.Prelude.{◌≡◌, ℕ, ◌<◌, ◌≤◌, length, replicate, slice_set, IfOk, IsSome, Some, true, []};
 ghost use Rattle.omega_net.specs.Ports.{queue_at, empty};
+ghost use Rattle.omega_net.specs.Limits.{queue_places};
 ghost use Rattle.omega_net.specs.Queues.{head, without_head, joined};
 ghost use Rattle.flat_row.specs.Masks.{has, IsSetOf};
 ghost use Rattle.flat_row.specs.Queues.{shown_of, shown_at, asks_one, with_queue};
@@ -59,7 +60,8 @@ impl<T: Routed> Level<T> {
     /// The messages of a queue, the first of which has waited longest.
     pub fn messages(&self, x: u32) -> &[T]
         requires { x < length self.now.queues }
-        ensures { result.now ≡ (queue_at self.now.queues x).items }
+        ensures value { result.now ≡ (queue_at self.now.queues x).items }
+        ensures fits { length result.now ≤ queue_places }
     {
         self.queues[x as usize].as_slice()
     }
@@ -103,7 +105,7 @@ impl<T: Routed> Level<T> {
 }
 
 /// So many queues in which nothing waits.
-fn empty_queues<T>(alloc: Global, lines: u32) -> Result<Vec<Places<T>>, AllocError>
+pub(crate) fn empty_queues<T>(alloc: Global, lines: u32) -> Result<Vec<Places<T>>, AllocError>
 where
     T: Drop,
     ensures { IfOk result (λ queues. queues.items ≡ replicate lines empty) }

@@ -1,4 +1,4 @@
-//! The whole machine a cycle at a time: what a flat row of it stands on.
+//! The whole machine a cycle at a time: a flat row of all its states, and what it stands on.
 //!
 //! A line of a network is named by its label, which is the line before a stage rotated right by the stage among k bits
 //! (Lawrie 1975 describes the shuffle that this undoes). A stage then joins the same two labels before and behind it, which
@@ -14,17 +14,35 @@
 //! - On every project and every whole state: where marks and turns are those of the state, the labels that leave are those of the
 //!   wires over which a message moves ([`stages_decide`], [`ends_decide`], `specs/Shows.antt`); so, of every row that is such a state
 //!   by levels and labels, the heads at those labels are what moves ([`rows_decide`], [`rows_turn`], `specs/Rows.antt`).
+//! - A [`Row`] is a whole state of a project's machine by levels, labels and sets of labels (`states_of`, `IsRowOf`,
+//!   `specs/Row.antt`). [`Row::start`] is the first states, [`Row::read`] gives a component's state, and [`Row::step`] makes of it the
+//!   row whose states are `cycle` of those before: a third way to say the machine, beside the definition and the components that pull.
 //!
-//! The row itself, with its step, isn't here yet.
+//! A step takes no memory but where a module keeps a word more. Where that was refused the row is no state of its machine any more.
 #![tactic(auto)]
 
+mod acting;
+mod bits;
+mod combining;
+mod crossing;
 mod decide;
 mod labels;
 mod laws;
+mod leaving;
 mod level;
 mod marks;
+mod moving;
 mod pairs;
 mod queue;
+mod read;
+mod row;
+mod serving;
+mod side;
+mod sides;
+mod stages;
+mod step;
+mod waits;
+mod words;
 
 pub use decide::{Decided, Heads, Room, Served, decided_apart, decided_together, served_by_turns};
 pub use labels::{label_of, labels_name, line_of};
@@ -32,3 +50,4 @@ pub use laws::{ends_decide, rows_decide, rows_turn, stages_decide};
 pub use level::Level;
 pub use marks::{Marks, Routed, Rule, Shown, shown_by, with_shown};
 pub use queue::Places;
+pub use row::Row;

@@ -98,7 +98,7 @@ pub fn with_shown(marks: Marks, x: u32, shown: Shown) -> Marks
 }
 
 /// A set in which a label is, or isn't.
-fn with_mark(set: u64, x: u32, mark: bool) -> u64
+pub(crate) fn with_mark(set: u64, x: u32, mark: bool) -> u64
     requires { x < 64 }
     ensures { IsSetOf (λ y. if y == x then mark else has set y) result }
 {

@@ -1,5 +1,5 @@
 //! A queue whose places are there from the start.
-ghost use Rattle.std.specs.Prelude.{◌≡◌, ◌<◌, ◌≤◌, [], length, slice_set, IfOk, IsSome, Some, true};
+ghost use Rattle.std.specs.Prelude.{◌≡◌, ◌<◌, ◌≤◌, [], length, remove, slice_set, slice_index_or, IfOk, IsSome, Some, true};
 ghost use Rattle.omega_net.specs.Limits.{queue_places};
 ghost use Rattle.omega_net.specs.Queues.{head, without_head, joined};
 
@@ -66,6 +66,15 @@ impl<T> Places<T> {
         if self.messages.len() < QUEUE_PLACES {
             self.messages.push_reserved(message);
         }
+    }
+
+    /// Takes out a message.
+    pub fn remove(&mut self, index: usize) -> T
+        requires { index < length self.old.items }
+        ensures value { result ≡ slice_index_or self.old.items index result }
+        ensures after { self.new ≡ record { items = remove self.old.items index } }
+    {
+        self.messages.remove(index)
     }
 
     /// Puts another message in the place of one.

@@ -1,0 +1,12 @@
+use Rattle.std.proofs.Common.{ℕ, ◌-◌, ◌≤◌}
+use Rattle.flat_row.proofs.Ending.{PartlyReceived}
+use Rattle.flat_row.proofs.acting.receive.Given as goal
+
+abbrev pub invariant-loop-p : goal.invariant-loop-p
+invariant-loop-p l = record {
+  within : l.next ≤ 64;
+  partly : PartlyReceived l.set l.next l.initial.level l.level l.got;
+}
+
+abbrev pub decreases-loop-p : goal.decreases-loop-p
+decreases-loop-p l = 64 - l.next

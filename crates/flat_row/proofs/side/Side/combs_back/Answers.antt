@@ -1,0 +1,20 @@
+use Rattle.std.proofs.Common.{◌≡◌, ℕ, suc, ◌+◌, ◌<◌, ◌≤◌, ◌∙◌, ap, sym, subst, length, arith, refl}
+use Rattle.omega_net.specs.Numbers.{lines}
+use Rattle.flat_row.specs.Row.{Network, HasLevels}
+use Rattle.flat_row.specs.Moving.{AllWait, AllWaitBack, forth_after, back_after}
+use Rattle.flat_row.specs.Stages.{CombBack}
+use Rattle.flat_row.proofs.Siding.{replies_only}
+use Rattle.flat_row.proofs.side.Side.combs_back.Goals as goal
+
+pub combs_back-requires-clause-levels : goal.combs_back-requires-clause-levels
+combs_back-requires-clause-levels c = subst (λ (n : Network). HasLevels (c.args.project.now.k + 1) (lines c.args.project.now.k) n.replies) (sym c.self.view_is) c.requires.levels
+
+pub combs_back-requires-clause-some : goal.combs_back-requires-clause-some
+combs_back-requires-clause-some c = subst (λ (n : Network). AllWaitBack c.args.project.now.k c.args.leave.now n.replies) (sym c.self.view_is) c.requires.some
+
+pub returns-clause-only : goal.returns-clause-only
+returns-clause-only c = replies_only c.args.self.now c.self.inside.requests.items c.self.inside.replies.items c.self.inside.turns c.self.inside.back_turns c.self.view_is c.combs_back.new.levels.items c.combs_back.ensures.shape
+
+pub returns-clause-crossed : goal.returns-clause-crossed
+returns-clause-crossed c =
+    subst (λ (n : Network). CombBack c.args.project.now c.args.leave.now n.replies c.combs_back.new.levels.items c.args.waits.now.items c.combs_back.new.waits.items) c.self.view_is c.combs_back.ensures

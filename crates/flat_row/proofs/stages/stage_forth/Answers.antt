@@ -1,0 +1,32 @@
+use Rattle.std.proofs.Common.{◌≡◌, ℕ, ◌+◌, ◌-◌, ◌<◌, ◌≤◌, ◌∙◌, ap, sym, subst, length, arith, refl}
+use Rattle.flat_row.specs.Combining.{cleared}
+use Rattle.flat_row.specs.Stages.{buffers_in}
+use Rattle.flat_row.proofs.Staging.{beside_is, put_here, put_other, put_same, none_combined, can_cross, forth_met}
+use Rattle.flat_row.proofs.stages.stage_forth.Goals as goal
+
+pub index_mut-beside-requires : goal.index_mut-beside-requires
+index_mut-beside-requires c = omega (arith, c.requires.buffers.many, c.requires.stage)
+
+pub cross_forth-requires-clause-can : goal.cross_forth-requires-clause-can
+cross_forth-requires-clause-can c =
+    can_cross c.args.project.now (c.is_project.ensures.project.small) (c.args.project.now.k + 2) c.args.levels.now.items c.requires.levels c.args.stage c.requires.stage c.comb_settings-settings.result c.comb_settings-settings.ensures c.clear.new.self (ap (λ b. length b.entries) c.clear.ensures ∙ (ap (λ b. length b.entries) (beside_is c.args.waits.now.items c.args.stage c.index_mut-beside.result.now c.index_mut-beside.result.now (subst (λ n. c.args.stage < n) (sym c.requires.buffers.many) c.requires.stage) c.index_mut-beside.ensures.value) ∙ c.requires.buffers.each c.args.stage c.requires.stage)) c.args.stage (c.args.stage + 1) (λ e. omega (arith, e)) (omega (arith, c.requires.stage)) (omega (arith, c.requires.stage))
+
+pub cross_forth-requires-clause-from : goal.cross_forth-requires-clause-from
+cross_forth-requires-clause-from c = omega (arith, c.requires.levels.many, c.requires.stage)
+
+pub cross_forth-requires-clause-to : goal.cross_forth-requires-clause-to
+cross_forth-requires-clause-to c = omega (arith, c.requires.levels.many, c.requires.stage)
+
+pub cross_forth-requires-clause-none : goal.cross_forth-requires-clause-none
+cross_forth-requires-clause-none c = none_combined c.index_mut-beside.result.now c.clear.new.self c.clear.ensures
+
+pub returns-clause-met : goal.returns-clause-met
+returns-clause-met c =
+    forth_met c.args.project.now c.args.stage c.args.stage (c.args.stage + 1) c.args.leave c.args.levels.now.items c.cross_forth.new.levels.items c.comb_settings-settings.result c.clear.new.self c.cross_forth.new.waits (cleared (buffers_in c.args.waits.now.items c.args.stage)) _ c.comb_settings-settings.ensures
+    (c.clear.ensures ∙ ap cleared (beside_is c.args.waits.now.items c.args.stage c.index_mut-beside.result.now c.index_mut-beside.result.now (subst (λ n. c.args.stage < n) (sym c.requires.buffers.many) c.requires.stage) c.index_mut-beside.ensures.value)) (sym (put_here c.args.waits.now.items c.args.stage c.index_mut-beside.result.now c.cross_forth.new.waits (subst (λ n. c.args.stage < n) (sym c.requires.buffers.many) c.requires.stage) c.index_mut-beside.ensures.value)) c.cross_forth.ensures
+
+pub returns-clause-buffers : goal.returns-clause-buffers
+returns-clause-buffers c = put_same c.args.waits.now.items c.args.stage c.index_mut-beside.result.now c.cross_forth.new.waits (subst (λ n. c.args.stage < n) (sym c.requires.buffers.many) c.requires.stage) c.index_mut-beside.ensures.value (c.cross_forth.ensures.entries ∙ ap (λ b. length b.entries) c.clear.ensures)
+
+pub returns-clause-others : goal.returns-clause-others
+returns-clause-others c = put_other c.args.waits.now.items c.args.stage c.index_mut-beside.result.now c.cross_forth.new.waits (subst (λ n. c.args.stage < n) (sym c.requires.buffers.many) c.requires.stage) c.index_mut-beside.ensures.value

@@ -1,0 +1,65 @@
+-- What modules and processors do in a cycle, by label.
+use Rattle.std.specs.Prelude.{◌≡◌, ℕ, ◌<◌, ◌≤◌, ◌+◌, true, false, if◌then◌else◌, List, [], ◌∷◌, length, Option, None, Some, slice_index_or}
+use Rattle.arrayvec.specs.ArrayVec.{ArrayVec}
+use Rattle.omega_net.specs.declared.message.Request.{Request}
+use Rattle.omega_net.specs.declared.message.Reply.{Reply}
+use Rattle.omega_net.specs.Queues.{head, without_head, joined}
+use Rattle.omega_net.specs.Ports.{queue_at, message_at}
+use Rattle.mem_module.specs.declared.words.Stored.{Stored}
+use Rattle.mem_module.specs.MemModule.{answer_to, words_after}
+use Rattle.ref_proc.specs.declared.state.Outgoing.{Outgoing}
+use Rattle.ref_proc.specs.declared.state.ProcState.{ProcState}
+use Rattle.ref_proc.specs.RefProc.{proc_start, proc_after}
+use Rattle.machine_cells.specs.Cycle.{proc_settings}
+use Rattle.project_book.specs.Project.{Project}
+use Rattle.flat_row.specs.Masks.{has}
+use Rattle.flat_row.specs.Queues.{Queues}
+use Rattle.flat_row.specs.Row.{out_from}
+use Rattle.flat_row.specs.Rows.{if_leaves}
+
+-- a reply to nobody, and the one at a label
+abbrev pub no_reply : Reply
+no_reply = record { tag = record { proc = 0; issue = 0 }; word = 0 }
+
+abbrev pub reply_at : List Reply → ℕ → Reply
+reply_at replies m = slice_index_or replies m no_reply
+
+-- the words of a module
+abbrev pub words_of : List (List Stored) → ℕ → List Stored
+words_of words m = slice_index_or words m []
+
+-- these modules have served their heads, and their answers are kept
+pub record AllServed (modules : ℕ) (old new : Queues Request) (words next : List (List Stored)) (answers : List Reply) : Type 0 where
+  pub queues : (m : ℕ) → m < 64 → queue_at new.queues m ≡ without_head (has modules m) (queue_at old.queues m)
+  pub stored : (m : ℕ) → m < 64 → words_of next m ≡ words_after (words_of words m) (if_leaves (has modules m) (queue_at old.queues m))
+  pub made : (m : ℕ) → m < 64 → has modules m ≡ true → Some (reply_at answers m) ≡ answer_to (words_of words m) (head (queue_at old.queues m))
+
+-- the answers of these modules wait
+abbrev pub AreAnswered : ℕ → List Reply → Queues Reply → Queues Reply → Type 0
+AreAnswered modules answers old new = (m : ℕ) → m < 64 → queue_at new.queues m ≡ joined (queue_at old.queues m) (if has modules m then Some (reply_at answers m) else None)
+
+-- these processors have received their replies
+pub record AllReceived (set : ℕ) (old new : Queues Reply) (got : List (Option Reply)) : Type 0 where
+  pub queues : (p : ℕ) → p < 64 → queue_at new.queues p ≡ without_head (has set p) (queue_at old.queues p)
+  pub messages : (p : ℕ) → p < 64 → message_at got p ≡ if_leaves (has set p) (queue_at old.queues p)
+
+-- a processor but for what it shows
+abbrev pub proc_at : List ProcState → ℕ → ProcState
+proc_at procs p = slice_index_or procs p proc_start
+
+-- a processor, with what it shows on the networks
+abbrev pub shown_with : List ProcState → Queues Request → Queues Request → ℕ → ProcState
+shown_with procs low comb p = record (proc_at procs p) { out = out_from (head (queue_at low.queues p)) (head (queue_at comb.queues p)) }
+
+-- a processor one cycle later, where it receives these replies, and what leaves has left
+abbrev pub acted : Project → ℕ → Option Reply → Option Reply → ProcState → ProcState
+acted P p low comb s = proc_after (proc_settings P p s.index) (record { replies = low ∷ comb ∷ []; request_leaves = false }) s
+
+-- a processor shows at most one request
+abbrev pub ShowsOne : Queues Request → Queues Request → ℕ → Type 0
+ShowsOne low comb p = length (queue_at low.queues p).items + length (queue_at comb.queues p).items ≤ 1
+
+-- a processor that showed this still shows it, or it has issued a request where it showed none
+pub record HasIssued (before : Option Outgoing) (s : ProcState) : Type 0 where
+  pub still : s.sent ≡ false → s.out ≡ before
+  pub issued : s.sent ≡ true → (before ≡ None) × ((o : Outgoing) × (s.out ≡ Some o))

@@ -1,0 +1,196 @@
+//! What processors do in a cycle.
+ghost use Rattle.std.specs.Prelude.{◌≡◌, ◌≢◌, ℕ, ◌<◌, if◌then◌else◌, length, IsSome, IfSome, Some, true, None};
+ghost use Rattle.omega_net.specs.Numbers.{lines};
+ghost use Rattle.omega_net.specs.Ports.{queue_at, message_at};
+ghost use Rattle.omega_net.specs.Queues.{head};
+ghost use Rattle.machine_cells.specs.Cycle.{proc_settings};
+ghost use Rattle.project_book.specs.Project.{place_for};
+ghost use Rattle.project_book.specs.Scripts.{IsEntry};
+ghost use Rattle.flat_row.specs.Masks.{has};
+ghost use Rattle.flat_row.specs.Combining.{SameLevel};
+ghost use Rattle.flat_row.specs.Ends.{AllReceived, HasIssued, shown_with, acted, ShowsOne, proc_at};
+ghost use Rattle.flat_row.specs.Row.{out_from};
+
+use crate::level::Level;
+use crate::moving::first_from;
+use crate::read::out_from;
+use omega_net::{Net, Reply, Request, ScriptEntry};
+use page_map::Place;
+use project_book::Project;
+use ref_proc::{Outgoing, ProcSettings, ProcState, ProcTraffic};
+
+/// Processors receive the heads of the replies before them on a network.
+pub(crate) fn receive(level: &mut Level<Reply>, set: u64) -> [Option<Reply>; 64]
+    requires { (p : ℕ) → p < 64 → has set p ≡ true → IsSome (head (queue_at level.old.queues p)) }
+    ensures shape { SameLevel level.old level.new }
+    ensures received { AllReceived set level.old level.new result }
+{
+    let mut got = [None; 64];
+    let mut next = 0;
+    while let Some(p) = first_from(set, next) {
+        got[p as usize] = Some(level.take(p));
+        next = p + 1;
+    }
+    got
+}
+
+/// All processors take their replies, and the entry of each acts. What leaves has left.
+pub(crate) fn act_all(
+    project: &Project,
+    procs: &mut Vec<ProcState>,
+    low: &mut Level<Request>,
+    comb: &mut Level<Request>,
+    low_got: &[Option<Reply>; 64],
+    comb_got: &[Option<Reply>; 64],
+)
+    requires procs { length procs.old.items ≡ lines project.now.k }
+    requires low { length low.old.queues ≡ lines project.now.k }
+    requires comb { length comb.old.queues ≡ lines project.now.k }
+    requires one { (p : ℕ) → ShowsOne low.old comb.old p }
+    ensures many { length procs.new.items ≡ length procs.old.items }
+    ensures low { SameLevel low.old low.new }
+    ensures comb { SameLevel comb.old comb.new }
+    ensures one { (p : ℕ) → ShowsOne low.new comb.new p }
+    ensures acted { (p : ℕ) → p < lines project.now.k → shown_with procs.new.items low.new comb.new p ≡ acted project.now p (message_at low_got.now p) (message_at comb_got.now p) (shown_with procs.old.items low.old comb.old p) }
+{
+    let lines = project.shape().lines();
+    for p in 0..lines {
+        let replies = [low_got[p as usize], comb_got[p as usize]];
+        act(project, procs, low, comb, p, replies);
+    }
+}
+
+/// A processor takes its replies, and its entry acts.
+fn act(
+    project: &Project,
+    procs: &mut Vec<ProcState>,
+    low: &mut Level<Request>,
+    comb: &mut Level<Request>,
+    p: u32,
+    replies: [Option<Reply>; 2],
+)
+    requires there { p < lines project.now.k }
+    requires procs { length procs.old.items ≡ lines project.now.k }
+    requires low { length low.old.queues ≡ lines project.now.k }
+    requires comb { length comb.old.queues ≡ lines project.now.k }
+    requires one { ShowsOne low.old comb.old p }
+    ensures many { length procs.new.items ≡ length procs.old.items }
+    ensures low { SameLevel low.old low.new }
+    ensures comb { SameLevel comb.old comb.new }
+    ensures one { ShowsOne low.new comb.new p }
+    ensures acted { shown_with procs.new.items low.new comb.new p ≡ acted project.now p (message_at replies 0) (message_at replies 1) (shown_with procs.old.items low.old comb.old p) }
+    ensures others { (q : ℕ) → q ≢ p → proc_at procs.new.items q ≡ proc_at procs.old.items q }
+    ensures low_others { (q : ℕ) → q ≢ p → queue_at low.new.queues q ≡ queue_at low.old.queues q }
+    ensures comb_others { (q : ℕ) → q ≢ p → queue_at comb.new.queues q ≡ queue_at comb.old.queues q }
+{
+    let own = ProcState {
+        out: shown(low, comb, p),
+        ..procs[p as usize]
+    };
+    let next = acted(project, p, own, replies);
+    show(low, comb, p, &next);
+    procs[p as usize] = next;
+}
+
+/// What a processor shows.
+fn shown(low: &Level<Request>, comb: &Level<Request>, p: u32) -> Option<Outgoing>
+    requires low { p < length low.now.queues }
+    requires comb { p < length comb.now.queues }
+    ensures { result ≡ out_from (head (queue_at low.now.queues p)) (head (queue_at comb.now.queues p)) }
+{
+    out_from(low.messages(p).first(), comb.messages(p).first())
+}
+
+/// A processor one cycle later, where what leaves has left.
+fn acted(project: &Project, p: u32, own: ProcState, replies: [Option<Reply>; 2]) -> ProcState
+    requires { p < lines project.now.k }
+    ensures acted { result ≡ acted project.now p (message_at replies 0) (message_at replies 1) own }
+    ensures issued { HasIssued own.out result }
+{
+    project.is_project();
+    let settings = proc_settings(project, p as u8, own.index);
+    let traffic = ProcTraffic {
+        replies,
+        request_leaves: false,
+    };
+    own.step(&settings, &traffic)
+}
+
+/// A processor shows what it has issued, if it has, where it showed nothing.
+fn show(low: &mut Level<Request>, comb: &mut Level<Request>, p: u32, next: &ProcState)
+    requires low { p < length low.old.queues }
+    requires comb { p < length comb.old.queues }
+    requires one { ShowsOne low.old comb.old p }
+    requires issued { HasIssued (out_from (head (queue_at low.old.queues p)) (head (queue_at comb.old.queues p))) next.now }
+    ensures low { SameLevel low.old low.new }
+    ensures comb { SameLevel comb.old comb.new }
+    ensures one { ShowsOne low.new comb.new p }
+    ensures shown { out_from (head (queue_at low.new.queues p)) (head (queue_at comb.new.queues p)) ≡ next.now.out }
+    ensures low_others { (q : ℕ) → q ≢ p → queue_at low.new.queues q ≡ queue_at low.old.queues q }
+    ensures comb_others { (q : ℕ) → q ≢ p → queue_at comb.new.queues q ≡ queue_at comb.old.queues q }
+{
+    match issued(next) {
+        Some(outgoing) => give(low, comb, p, next, outgoing),
+        None => {}
+    }
+}
+
+/// A processor shows this request.
+fn give(
+    low: &mut Level<Request>,
+    comb: &mut Level<Request>,
+    p: u32,
+    next: &ProcState,
+    outgoing: Outgoing,
+)
+    requires low { p < length low.old.queues }
+    requires comb { p < length comb.old.queues }
+    requires issued { HasIssued (out_from (head (queue_at low.old.queues p)) (head (queue_at comb.old.queues p))) next.now }
+    requires outgoing { Some outgoing ≡ (if next.now.sent then next.now.out else None) }
+    ensures low { SameLevel low.old low.new }
+    ensures comb { SameLevel comb.old comb.new }
+    ensures one { ShowsOne low.new comb.new p }
+    ensures shown { out_from (head (queue_at low.new.queues p)) (head (queue_at comb.new.queues p)) ≡ next.now.out }
+    ensures low_others { (q : ℕ) → q ≢ p → queue_at low.new.queues q ≡ queue_at low.old.queues q }
+    ensures comb_others { (q : ℕ) → q ≢ p → queue_at comb.new.queues q ≡ queue_at comb.old.queues q }
+{
+    let _ = next;
+    match outgoing.net {
+        Net::Low => low.give(p, outgoing.request),
+        Net::Comb => comb.give(p, outgoing.request),
+    }
+}
+
+/// The request that was issued in a cycle, if one was.
+fn issued(next: &ProcState) -> Option<Outgoing>
+    ensures { result ≡ (if next.now.sent then next.now.out else None) }
+{
+    if next.sent { next.out } else { None }
+}
+
+/// What a processor reads of a project where its script has come to that index.
+fn proc_settings(project: &Project, proc: u8, index: u16) -> ProcSettings
+    ensures { result ≡ proc_settings project.now proc index }
+{
+    let entry = project.entry(u32::from(proc), u32::from(index));
+    ProcSettings {
+        proc,
+        entry,
+        place: place_for(project, entry),
+        window: project.window(),
+    }
+}
+
+/// The place of the address that an entry names; without one, any.
+fn place_for(project: &Project, entry: Option<ScriptEntry>) -> Place
+    requires { IfSome entry IsEntry }
+    ensures { result ≡ place_for project.now entry }
+{
+    let nowhere = Place { module: 0, row: 0 };
+    match entry {
+        Some(ScriptEntry::Reference { address, .. } | ScriptEntry::Until { address, .. }) => {
+            project.place(address).unwrap_or(nowhere)
+        }
+        _ => nowhere,
+    }
+}

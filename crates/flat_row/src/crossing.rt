@@ -1,0 +1,146 @@
+//! Messages that cross a stage of combining switches, one switch after another.
+ghost use Rattle.std.specs.Prelude.{◌≡◌, ℕ, ◌<◌, ◌==◌, ◌&&◌, ◌||◌, IsSome, length, true};
+ghost use Rattle.omega_net.specs.Queues.{head};
+ghost use Rattle.omega_net.specs.Wires.{bit};
+ghost use Rattle.comb_switch.specs.CombSwitch.{arrives, returns_to};
+ghost use Rattle.flat_row.specs.Labels.{port};
+ghost use Rattle.flat_row.specs.Masks.{has, IsSetOf};
+ghost use Rattle.flat_row.specs.Row.{queue_of, combined_of};
+ghost use Rattle.flat_row.specs.Combining.{CanCross, Met, MetBoth, AllMet, meeting, splitting};
+
+use crate::bits::has;
+use crate::combining::{arrives, returns_to};
+use crate::level::Level;
+use crate::moving::{first_from, port_of};
+use crate::pairs::{at_first, to_first};
+use crate::waits::Waits;
+use comb_switch::CombSettings;
+use omega_net::{Reply, Request};
+
+/// A stage of combining switches that messages cross from one level to another: what the switches read of the project, and the
+/// labels whose heads leave.
+#[derive(Clone, Copy, Debug)]
+pub(crate) struct Crossing {
+    pub(crate) settings: CombSettings,
+    pub(crate) from: usize,
+    pub(crate) to: usize,
+    pub(crate) leave: u64,
+}
+
+/// All requests that leave a level arrive at their switches, where nothing has combined yet.
+pub(crate) fn cross_forth(levels: &mut Vec<Level<Request>>, waits: &mut Waits, crossing: &Crossing)
+    requires can { CanCross crossing.now.settings.bit crossing.now.from crossing.now.to levels.old.items waits.old }
+    requires from { crossing.now.from < length levels.old.items }
+    requires to { crossing.now.to < length levels.old.items }
+    requires some { (y : ℕ) → y < 64 → has crossing.now.leave y ≡ true → IsSome (head (queue_of levels.old.items crossing.now.from y)) }
+    requires none { (x : ℕ) → combined_of waits.old x ≡ 0 }
+    ensures { AllMet (meeting crossing.now.settings.bit) (arrives crossing.now.settings) crossing.now.settings.bit crossing.now.from crossing.now.to crossing.now.leave levels.old.items levels.new.items waits.old waits.new }
+{
+    let switches = senders(crossing);
+    let mut next = 0;
+    while let Some(x) = first_from(switches, next) {
+        meet_both(levels, waits, crossing, x);
+        next = x + 1;
+    }
+}
+
+/// All replies that leave a level return to their switches.
+pub(crate) fn cross_back(levels: &mut Vec<Level<Reply>>, waits: &mut Waits, crossing: &Crossing)
+    requires can { CanCross crossing.now.settings.bit crossing.now.from crossing.now.to levels.old.items waits.old }
+    requires from { crossing.now.from < length levels.old.items }
+    requires to { crossing.now.to < length levels.old.items }
+    requires some { (y : ℕ) → y < 64 → has crossing.now.leave y ≡ true → IsSome (head (queue_of levels.old.items crossing.now.from y)) }
+    ensures { AllMet (splitting crossing.now.settings.bit) (returns_to crossing.now.settings) crossing.now.settings.bit crossing.now.from crossing.now.to crossing.now.leave levels.old.items levels.new.items waits.old waits.new }
+{
+    let switches = senders(crossing);
+    let mut next = 0;
+    while let Some(x) = first_from(switches, next) {
+        return_both(levels, waits, crossing, x);
+        next = x + 1;
+    }
+}
+
+/// The switches to which something comes, by the label of port 0.
+fn senders(crossing: &Crossing) -> u64
+    requires { crossing.now.settings.bit < 6 }
+    ensures { IsSetOf (λ x. (bit crossing.now.settings.bit x == 0) && (has crossing.now.leave x || has crossing.now.leave (port crossing.now.settings.bit 1 x))) result }
+{
+    let by = crossing.settings.bit;
+    at_first(by, crossing.leave) | to_first(by, crossing.leave)
+}
+
+/// Both requests that leave for a switch arrive there, that of port 0 first.
+fn meet_both(levels: &mut Vec<Level<Request>>, waits: &mut Waits, crossing: &Crossing, x: u32)
+    requires can { CanCross crossing.now.settings.bit crossing.now.from crossing.now.to levels.old.items waits.old }
+    requires from { crossing.now.from < length levels.old.items }
+    requires to { crossing.now.to < length levels.old.items }
+    requires there { x < 64 }
+    requires first { bit crossing.now.settings.bit x ≡ 0 }
+    requires some { (y : ℕ) → y < 64 → port crossing.now.settings.bit 0 y ≡ x → has crossing.now.leave y ≡ true → IsSome (head (queue_of levels.old.items crossing.now.from y)) }
+    requires none { combined_of waits.old x ≡ 0 }
+    ensures { MetBoth (meeting crossing.now.settings.bit) (arrives crossing.now.settings) crossing.now.settings.bit crossing.now.from crossing.now.to crossing.now.leave x levels.old.items levels.new.items waits.old waits.new }
+{
+    meet(levels, waits, crossing, x, 0);
+    meet(levels, waits, crossing, x, 1);
+}
+
+/// The request at a port of a switch arrives there, if it leaves.
+fn meet(levels: &mut Vec<Level<Request>>, waits: &mut Waits, crossing: &Crossing, x: u32, side: u8)
+    requires can { CanCross crossing.now.settings.bit crossing.now.from crossing.now.to levels.old.items waits.old }
+    requires from { crossing.now.from < length levels.old.items }
+    requires to { crossing.now.to < length levels.old.items }
+    requires there { x < 64 }
+    requires first { bit crossing.now.settings.bit x ≡ 0 }
+    requires side { side < 2 }
+    requires some { has crossing.now.leave (port crossing.now.settings.bit side x) ≡ true → IsSome (head (queue_of levels.old.items crossing.now.from (port crossing.now.settings.bit side x))) }
+    requires few { combined_of waits.old x < 2 }
+    ensures { Met (meeting crossing.now.settings.bit) (arrives crossing.now.settings) crossing.now.settings.bit crossing.now.from crossing.now.to x (port crossing.now.settings.bit side x) (has crossing.now.leave (port crossing.now.settings.bit side x)) levels.old.items levels.new.items waits.old waits.new }
+{
+    let y = port_of(crossing.settings.bit, x, side);
+    if has(crossing.leave, y) {
+        let before = &mut levels[crossing.from];
+        let request = before.take(y);
+        let behind = &mut levels[crossing.to];
+        arrives(behind, waits, &crossing.settings, x, request);
+    }
+}
+
+/// Both replies that leave for a switch return to it, that of port 0 first.
+fn return_both(levels: &mut Vec<Level<Reply>>, waits: &mut Waits, crossing: &Crossing, x: u32)
+    requires can { CanCross crossing.now.settings.bit crossing.now.from crossing.now.to levels.old.items waits.old }
+    requires from { crossing.now.from < length levels.old.items }
+    requires to { crossing.now.to < length levels.old.items }
+    requires there { x < 64 }
+    requires first { bit crossing.now.settings.bit x ≡ 0 }
+    requires some { (y : ℕ) → y < 64 → port crossing.now.settings.bit 0 y ≡ x → has crossing.now.leave y ≡ true → IsSome (head (queue_of levels.old.items crossing.now.from y)) }
+    ensures { MetBoth (splitting crossing.now.settings.bit) (returns_to crossing.now.settings) crossing.now.settings.bit crossing.now.from crossing.now.to crossing.now.leave x levels.old.items levels.new.items waits.old waits.new }
+{
+    return_one(levels, waits, crossing, x, 0);
+    return_one(levels, waits, crossing, x, 1);
+}
+
+/// The reply at a port of a switch returns to it, if it leaves.
+fn return_one(
+    levels: &mut Vec<Level<Reply>>,
+    waits: &mut Waits,
+    crossing: &Crossing,
+    x: u32,
+    side: u8,
+)
+    requires can { CanCross crossing.now.settings.bit crossing.now.from crossing.now.to levels.old.items waits.old }
+    requires from { crossing.now.from < length levels.old.items }
+    requires to { crossing.now.to < length levels.old.items }
+    requires there { x < 64 }
+    requires first { bit crossing.now.settings.bit x ≡ 0 }
+    requires side { side < 2 }
+    requires some { has crossing.now.leave (port crossing.now.settings.bit side x) ≡ true → IsSome (head (queue_of levels.old.items crossing.now.from (port crossing.now.settings.bit side x))) }
+    ensures { Met (splitting crossing.now.settings.bit) (returns_to crossing.now.settings) crossing.now.settings.bit crossing.now.from crossing.now.to x (port crossing.now.settings.bit side x) (has crossing.now.leave (port crossing.now.settings.bit side x)) levels.old.items levels.new.items waits.old waits.new }
+{
+    let y = port_of(crossing.settings.bit, x, side);
+    if has(crossing.leave, y) {
+        let before = &mut levels[crossing.from];
+        let reply = before.take(y);
+        let behind = &mut levels[crossing.to];
+        returns_to(behind, waits, &crossing.settings, x, reply);
+    }
+}

@@ -1,0 +1,72 @@
+//! What modules do in a cycle.
+ghost use Rattle.std.specs.Prelude.{◌≡◌, ℕ, ◌<◌, ◌≤◌, length, IsSome, Some, true, OnOk, IfOk};
+ghost use Rattle.omega_net.specs.Ports.{queue_at};
+ghost use Rattle.omega_net.specs.Queues.{head};
+ghost use Rattle.mem_module.specs.MemModule.{answer_to, words_after};
+ghost use Rattle.flat_row.specs.Masks.{has};
+ghost use Rattle.flat_row.specs.Combining.{SameLevel};
+ghost use Rattle.flat_row.specs.Ends.{AllServed, AreAnswered};
+
+use crate::level::Level;
+use crate::moving::first_from;
+use grid_law::NoMemory;
+use mem_module::Words;
+use omega_net::{Reply, Request};
+
+/// Modules serve the heads of their requests on a network: their answers, which wait nowhere yet.
+///
+/// # Errors
+///
+/// Where a growth was refused. Then some modules have served, and others haven't.
+pub(crate) fn serve(
+    level: &mut Level<Request>,
+    words: &mut Vec<Words>,
+    modules: u64,
+) -> Result<[Reply; 64], NoMemory>
+    requires some { (m : ℕ) → m < 64 → has modules m ≡ true → IsSome (head (queue_at level.old.queues m)) }
+    requires there { length level.old.queues ≤ length words.old.items }
+    ensures shape { SameLevel level.old level.new }
+    ensures many { length words.new.items ≡ length words.old.items }
+    ensures served { IfOk result (λ answers. AllServed modules level.old level.new words.old.items words.new.items answers) }
+{
+    let mut answers = [Reply::default(); 64];
+    let mut next = 0;
+    while let Some(m) = first_from(modules, next) {
+        let request = level.take(m);
+        let stored = &mut words[m as usize];
+        let reply = serve_request(stored, request)?;
+        answers[m as usize] = reply;
+        next = m + 1;
+    }
+    Ok(answers)
+}
+
+/// A module does a request: the word that it leaves, and the reply, which is the word before.
+fn serve_request(words: &mut Words, request: Request) -> Result<Reply, NoMemory>
+    ensures words { OnOk result (words.new ≡ words_after words.old (Some request)) }
+    ensures answer { IfOk result (λ reply. Some reply ≡ answer_to words.old (Some request)) }
+{
+    let row = request.place.row;
+    let old = words.word(row);
+    let new = request.op.apply(old);
+    if new != old {
+        words.put(row, new)?;
+    }
+    Ok(Reply {
+        tag: request.tag,
+        word: old,
+    })
+}
+
+/// The answers of modules go last into their replies on a network.
+pub(crate) fn answer(level: &mut Level<Reply>, modules: u64, answers: &[Reply; 64])
+    requires { (m : ℕ) → m < 64 → has modules m ≡ true → m < length level.old.queues }
+    ensures shape { SameLevel level.old level.new }
+    ensures answered { AreAnswered modules answers.now level.old level.new }
+{
+    let mut next = 0;
+    while let Some(m) = first_from(modules, next) {
+        level.give(m, answers[m as usize]);
+        next = m + 1;
+    }
+}
