@@ -12,7 +12,7 @@ use Rattle.flat_row.specs.Masks.{has}
 use Rattle.flat_row.specs.Queues.{Queues}
 use Rattle.flat_row.specs.Row.{queue_of}
 use Rattle.flat_row.specs.Rows.{if_leaves}
-use Rattle.flat_row.specs.Moving.{SameShape, label_to, passed, sent_to, arrival, moved}
+use Rattle.flat_row.specs.Moving.{label_to, passed, sent_to, arrival, moved}
 use Rattle.flat_row.proofs.Masking.{ports_of, ArePorts, same_first, same_second, first_port, other_port, room_below}
 
 pub false_true : false ≡ true → ⊥

@@ -4,15 +4,12 @@ use Rattle.std.specs.Prelude.{◌==◌, ◌&&◌, ◌||◌, nat_lt, IsSome, bit_
 use Rattle.std.proofs.Math.ListN.{set, length-set}
 use Rattle.std.proofs.lemmas.List.{get_or-set_same, get_or-set_other}
 use Rattle.std.proofs.lemmas.Bool.{cases_lt, eqb-true, eq-eqb, lt-ltb, le-ltb}
-use Rattle.std.proofs.lemmas.Nat.{pow_pos}
 use Rattle.std.proofs.lemmas.Nat.Bits.{bit_at-lt}
 use Rattle.arrayvec.specs.ArrayVec.{ArrayVec}
 use Rattle.omega_net.specs.declared.message.Request.{Request}
-use Rattle.omega_net.specs.declared.message.Reply.{Reply}
 use Rattle.omega_net.specs.Wires.{bit}
 use Rattle.omega_net.specs.Queues.{head, without_head}
 use Rattle.omega_net.specs.Ports.{queue_at, empty}
-use Rattle.comb_switch.specs.declared.waiting.Waiting.{Waiting}
 use Rattle.comb_switch.specs.declared.state.CombState.{CombState}
 use Rattle.comb_switch.specs.declared.settings.CombSettings.{CombSettings}
 use Rattle.comb_switch.specs.CombSwitch.{youngest_for, combines, last_in, combined_in, meets, arrives}

@@ -1,6 +1,6 @@
 -- A module and a processor one cycle later, by what the row holds of them.
-use Rattle.std.proofs.Common.{◌≡◌, ℕ, zero, suc, ◌+◌, ◌<◌, ◌≤◌, Bool, true, false, cond, List, [], ◌∷◌, length, drop, refl, ap, sym, ◌∙◌, subst, Option, None, Some, arith}
-use Rattle.std.specs.Prelude.{◌==◌, ◌||◌, is_some, slice_get}
+use Rattle.std.proofs.Common.{◌≡◌, ◌+◌, ◌≤◌, Bool, true, false, cond, List, [], ◌∷◌, length, refl, ap, ◌∙◌, Option, None, Some, arith}
+use Rattle.std.specs.Prelude.{◌||◌, is_some, slice_get}
 use Rattle.arrayvec.specs.ArrayVec.{ArrayVec}
 use Rattle.omega_net.specs.declared.component.Net.{Net}
 use Rattle.omega_net.specs.declared.component.Net.TheVariants.{Low as LowNet, Comb as CombNet}
@@ -10,11 +10,11 @@ use Rattle.omega_net.specs.Queues.{head, without_head, joined}
 use Rattle.mem_module.specs.declared.words.Stored.{Stored}
 use Rattle.mem_module.specs.declared.state.ModuleState.{ModuleState}
 use Rattle.mem_module.specs.declared.step.ModuleTraffic.{ModuleTraffic}
-use Rattle.mem_module.specs.MemModule.{is_net, served_on, answer_to, answer_if, words_after, turn_from, module_serving}
+use Rattle.mem_module.specs.MemModule.{is_net, answer_to, words_after, turn_from, module_serving}
 use Rattle.ref_proc.specs.declared.state.Outgoing.{Outgoing}
 use Rattle.ref_proc.specs.declared.state.ProcState.{ProcState}
 use Rattle.ref_proc.specs.declared.step.ProcSettings.{ProcSettings}
-use Rattle.ref_proc.specs.RefProc.{acting, count_in, proc_after}
+use Rattle.ref_proc.specs.RefProc.{proc_after}
 use Rattle.flat_row.specs.Row.{out_from}
 use Rattle.flat_row.specs.Rows.{if_leaves}
 

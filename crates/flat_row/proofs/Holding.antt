@@ -1,5 +1,5 @@
 -- The message that a component shows on a wire is the head of the queue at the wire's label.
-use Rattle.std.proofs.Common.{◌≡◌, ℕ, zero, suc, ◌+◌, ◌-◌, ◌*◌, ◌%◌, ◌/◌, ◌^◌, ◌<◌, ◌≤◌, Bool, true, false, cond, List, [], ◌∷◌, length, refl, ap, sym, ◌∙◌, subst, Option, None, Some, arith}
+use Rattle.std.proofs.Common.{◌≡◌, ℕ, zero, suc, ◌+◌, ◌*◌, ◌%◌, ◌/◌, ◌^◌, ◌<◌, ◌≤◌, Bool, true, false, cond, List, [], ◌∷◌, length, refl, ap, sym, ◌∙◌, subst, Option, None, Some, arith}
 use Rattle.std.specs.Prelude.{◌==◌, slice_get, option_map}
 use Rattle.std.proofs.lemmas.Option.{slice_get-map}
 use Rattle.std.proofs.lemmas.Bool.{eqb-true, eq-eqb}
@@ -23,7 +23,7 @@ use Rattle.ref_proc.specs.RefProc.{out_on, proc_request}
 use Rattle.mem_module.specs.declared.state.ModuleState.{ModuleState}
 use Rattle.comb_switch.specs.declared.waiting.Waiting.{Waiting}
 use Rattle.machine_cells.specs.declared.state.MachineState.{MachineState}
-use Rattle.machine_cells.specs.declared.state.MachineState.TheVariants.{Proc, Module, Low, Comb}
+use Rattle.machine_cells.specs.declared.state.MachineState.TheVariants.{Proc, Module}
 use Rattle.machine_cells.specs.Moves.{request_on, reply_on, upper_state, lower_state}
 use Rattle.machine_cells.proofs.Runs.{below-get}
 use Rattle.project_book.specs.Project.{Project}

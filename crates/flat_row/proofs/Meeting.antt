@@ -1,9 +1,8 @@
 -- Messages that come to the queues of one combining switch.
-use Rattle.std.proofs.Common.{◌≡◌, ℕ, zero, suc, ◌+◌, ◌-◌, ◌*◌, ◌^◌, ◌<◌, ◌≤◌, Bool, true, false, cond, List, [], ◌∷◌, length, get_or, refl, ap, sym, ◌∙◌, subst, Option, None, Some, arith}
+use Rattle.std.proofs.Common.{◌≡◌, ℕ, zero, suc, ◌+◌, ◌<◌, Bool, true, false, cond, List, [], ◌∷◌, length, get_or, refl, ap, sym, ◌∙◌, Option, None, Some, arith}
 use Rattle.std.proofs.Math.ListN.{set, length-set}
 use Rattle.std.proofs.lemmas.List.{get_or-set_same, get_or-set_other, get_or_default}
-use Rattle.std.proofs.lemmas.Bool.{eqb-true, eq-eqb}
-use Rattle.std.specs.Prelude.{◌==◌, ◌&&◌, not, nat_lt, is_some, unwrap_or, remove, position}
+use Rattle.std.specs.Prelude.{◌&&◌, not, nat_lt, is_some, remove, position}
 use Rattle.std.specs.List.{list_any}
 use Rattle.arrayvec.specs.ArrayVec.{ArrayVec}
 use Rattle.word_ops.specs.declared.op.Op.{Op}

@@ -1,12 +1,12 @@
 -- A combining switch one cycle later, by what its levels and its wait buffer hold.
-use Rattle.std.proofs.Common.{◌≡◌, ℕ, zero, suc, ◌+◌, ◌-◌, ◌*◌, ◌^◌, ◌<◌, ◌≤◌, Bool, true, false, cond, List, [], ◌∷◌, length, get_or, refl, ap, sym, ◌∙◌, subst, Option, None, Some, arith}
+use Rattle.std.proofs.Common.{◌≡◌, ℕ, zero, suc, ◌+◌, ◌-◌, ◌*◌, ◌^◌, ◌<◌, ◌≤◌, Bool, true, false, cond, List, [], ◌∷◌, get_or, refl, ap, sym, ◌∙◌, subst, Option, None, Some, arith}
 use Rattle.std.specs.Prelude.{is_some, slice_index_or, position}
 use Rattle.std.proofs.lemmas.Nat.Bits.{bit_at-zero}
 use Rattle.arrayvec.specs.ArrayVec.{ArrayVec}
-use Rattle.omega_net.specs.declared.component.Net.TheVariants.{Low as LowNet, Comb as CombNet}
+use Rattle.omega_net.specs.declared.component.Net.TheVariants.{Comb as CombNet}
 use Rattle.omega_net.specs.declared.message.Request.{Request}
 use Rattle.omega_net.specs.declared.message.Reply.{Reply}
-use Rattle.omega_net.specs.Numbers.{lines, half}
+use Rattle.omega_net.specs.Numbers.{half}
 use Rattle.omega_net.specs.Wires.{bit, wire_into, wire_out}
 use Rattle.omega_net.specs.Queues.{without_head, turn_after}
 use Rattle.omega_net.specs.Ports.{queue_at, empty, request_to, same_tag}
@@ -23,7 +23,7 @@ use Rattle.flat_row.specs.Queues.{Queues}
 use Rattle.flat_row.specs.Row.{Network, Buffers, Arrays, queue_of, port_label, turn_of, states_of, wait_of, combined_of, comb_of}
 use Rattle.flat_row.specs.Rows.{if_leaves}
 use Rattle.flat_row.specs.Moving.{leaves_forth, left_back}
-use Rattle.flat_row.specs.Combining.{core, at_ports, meeting, splitting, cleared, both_come}
+use Rattle.flat_row.specs.Combining.{core, at_ports, meeting, splitting, cleared}
 use Rattle.flat_row.specs.Stages.{buffers_in, met_at, returned_at}
 use Rattle.flat_row.specs.Leaving.{AllForth, AllBack, Enters, Receives}
 use Rattle.flat_row.proofs.Turning.{stands}

@@ -1,27 +1,24 @@
 -- What processors do in a cycle, one after another.
-use Rattle.std.proofs.Common.{◌≡◌, ℕ, zero, suc, ◌+◌, ◌<◌, ◌≤◌, Bool, true, false, cond, List, [], ◌∷◌, ◌++◌, length, get_or, refl, ap, sym, ◌∙◌, subst, ◌⊎◌, inl, inr, Option, None, Some, arith}
-use Rattle.std.specs.Prelude.{◌==◌, ◌&&◌, ◌||◌, not, nat_lt, nat_le, is_none, slice_get}
+use Rattle.std.proofs.Common.{◌≡◌, ℕ, ◌+◌, ◌<◌, ◌≤◌, Bool, true, false, cond, List, [], ◌∷◌, length, refl, ap, sym, ◌∙◌, subst, ◌⊎◌, inl, inr, Option, None, Some, arith}
+use Rattle.std.specs.Prelude.{◌==◌, ◌&&◌, ◌||◌, nat_lt, nat_le, is_none, slice_get}
 use Rattle.std.proofs.Math.ListN.{set}
 use Rattle.std.proofs.lemmas.List.{get_or-set_same, get_or-set_other}
 use Rattle.std.proofs.lemmas.Bool.{cases_lt, eqb-true, eq-eqb}
 use Rattle.arrayvec.specs.ArrayVec.{ArrayVec}
 use Rattle.word_ops.specs.declared.op.Op.{Op}
-use Rattle.omega_net.specs.declared.component.Net.{Net}
 use Rattle.omega_net.specs.declared.component.Net.TheVariants.{Low as LowNet, Comb as CombNet}
 use Rattle.omega_net.specs.declared.message.Request.{Request}
 use Rattle.omega_net.specs.declared.message.Reply.{Reply}
 use Rattle.omega_net.specs.declared.script.ScriptEntry.{ScriptEntry}
 use Rattle.omega_net.specs.declared.script.ScriptEntry.TheVariants.{Reference, Until, Fence, Idle}
-use Rattle.omega_net.specs.Numbers.{lines}
 use Rattle.omega_net.specs.Queues.{head, joined}
 use Rattle.omega_net.specs.Ports.{queue_at, message_at}
 use Rattle.ref_proc.specs.declared.state.Outgoing.{Outgoing}
 use Rattle.ref_proc.specs.declared.state.ProcState.{ProcState}
 use Rattle.ref_proc.specs.declared.step.ProcSettings.{ProcSettings}
-use Rattle.ref_proc.specs.declared.step.ProcTraffic.{ProcTraffic}
-use Rattle.ref_proc.specs.RefProc.{proc_start, taking, acting, referring, issuing, trying, tries, has_brought, fencing, next_entry, on_after, spending}
+use Rattle.ref_proc.specs.RefProc.{proc_start, taking, acting, referring, issuing, tries, has_brought, next_entry, on_after, spending}
 use Rattle.project_book.specs.Project.{Project}
-use Rattle.flat_row.specs.Queues.{Queues, with_queue}
+use Rattle.flat_row.specs.Queues.{Queues}
 use Rattle.flat_row.specs.Row.{out_from}
 use Rattle.flat_row.specs.Combining.{SameLevel}
 use Rattle.flat_row.specs.Ends.{HasIssued, shown_with, acted, ShowsOne, proc_at}

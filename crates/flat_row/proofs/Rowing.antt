@@ -11,23 +11,22 @@ use Rattle.omega_net.specs.declared.component.Net.TheVariants.{Low as LowNet, Co
 use Rattle.omega_net.specs.declared.message.Request.{Request}
 use Rattle.omega_net.specs.declared.message.Reply.{Reply}
 use Rattle.omega_net.specs.Numbers.{lines, half}
-use Rattle.omega_net.specs.Wires.{bit, net_number}
+use Rattle.omega_net.specs.Wires.{bit}
 use Rattle.omega_net.specs.Queues.{free, head}
-use Rattle.omega_net.specs.Ports.{queue_at}
 use Rattle.comb_switch.specs.declared.waiting.Waiting.{Waiting}
 use Rattle.machine_cells.specs.declared.state.MachineState.{MachineState}
 use Rattle.machine_cells.specs.Moves.{moves, moved_request, moved_reply, request_between, reply_between, at_ends, if_taken, takes_request, takes_reply, request_on, reply_on, upper_state, lower_state}
 use Rattle.machine_cells.proofs.Parts.{request_moved, reply_moved}
-use Rattle.project_book.specs.Project.{Project, IsProject, forward, reverse, depth_of}
+use Rattle.project_book.specs.Project.{Project, forward, reverse, depth_of}
 use Rattle.project_book.specs.declared.edit.Depths.TheVariants.{ModuleQueue}
 use Rattle.flat_row.specs.declared.marks.Rule.{Rule}
 use Rattle.flat_row.specs.declared.marks.Marks.{Marks}
 use Rattle.flat_row.specs.Labels.{rotated_right, label, switch_label, LabelsName}
 use Rattle.flat_row.specs.Masks.{has}
-use Rattle.flat_row.specs.Queues.{Queues, shown_of, shown_at}
-use Rattle.flat_row.specs.Shows.{on_line, IsHead, IsRoom, IsQueues, IsLowBack, IsCombBack, ShowsRequests, ShowsLowReplies, ShowsCombReplies, ShowsEntering, ShowsReceived, ShowsModule, StagesDecide, StageDecides, EndsDecide, EndDecides}
+use Rattle.flat_row.specs.Queues.{shown_of, shown_at}
+use Rattle.flat_row.specs.Shows.{on_line, IsHead, IsRoom, IsQueues, ShowsRequests, ShowsLowReplies, ShowsCombReplies, ShowsEntering, ShowsReceived, ShowsModule}
 use Rattle.flat_row.specs.Row.{Network, Arrays, IsRow, IsRowOf, IsNetworkOf, level_at, queue_of, port_label, turn_of, switch_of, module_of, states_of, places_for}
-use Rattle.flat_row.specs.Rows.{MarksRequests, MarksReplies, if_leaves, network, RowDecides, RowsDecide}
+use Rattle.flat_row.specs.Rows.{MarksRequests, MarksReplies, if_leaves, network, RowsDecide}
 use Rattle.flat_row.proofs.Labelling.{each_is_named}
 use Rattle.flat_row.proofs.Showing.{stages_decide, ends_decide}
 use Rattle.flat_row.proofs.Holding.{Holds, low_holds, comb_holds, at_port, port_small, upper_shown, lower_shown}

@@ -1,10 +1,9 @@
 -- What the functions that decide from a row's levels find is what leaves in the whole state that the row is.
-use Rattle.std.proofs.Common.{◌≡◌, ℕ, zero, suc, ◌+◌, ◌-◌, ◌<◌, ◌≤◌, Bool, true, false, List, length, get_or, refl, ap, sym, ◌∙◌, subst, inl, inr, Option, None, Some, arith}
+use Rattle.std.proofs.Common.{◌≡◌, ℕ, suc, ◌+◌, ◌-◌, ◌<◌, Bool, true, false, List, length, get_or, refl, ap, sym, ◌∙◌, subst, inl, inr, Option, arith}
 use Rattle.std.proofs.Math.ListN.{set}
 use Rattle.std.proofs.lemmas.List.{get_or-set_same, get_or-set_other}
 use Rattle.std.proofs.lemmas.Bool.{cases_lt, eqb-true, eq-eqb}
-use Rattle.std.specs.Prelude.{◌==◌, ◌&&◌, is_some, IsSome, slice_get, slice_index_or, bit_and}
-use Rattle.arrayvec.specs.ArrayVec.{ArrayVec}
+use Rattle.std.specs.Prelude.{◌==◌, ◌&&◌, is_some, IsSome, slice_index_or, bit_and}
 use Rattle.omega_net.specs.declared.component.Net.{Net}
 use Rattle.omega_net.specs.declared.component.Net.TheVariants.{Low as LowNet, Comb as CombNet}
 use Rattle.omega_net.specs.declared.message.Request.{Request}
@@ -18,7 +17,7 @@ use Rattle.flat_row.specs.declared.decide.Heads.{Heads}
 use Rattle.flat_row.specs.declared.decide.Room.{Room}
 use Rattle.flat_row.specs.Masks.{has, IsSetOf}
 use Rattle.flat_row.specs.Queues.{Queues, shown_of, shown_at}
-use Rattle.flat_row.specs.Decisions.{leaves, comes, leaves_both, comes_both, takes_from, takes_both, TurnsAfter}
+use Rattle.flat_row.specs.Decisions.{leaves, comes, leaves_both, comes_both, TurnsAfter}
 use Rattle.flat_row.specs.Labels.{label}
 use Rattle.flat_row.specs.Shows.{on_line, heads_of, room_of}
 use Rattle.flat_row.specs.Row.{Arrays, IsRow, IsRowOf, HasNetwork, level_at, queue_of}

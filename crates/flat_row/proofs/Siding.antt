@@ -1,8 +1,8 @@
 -- One network in a step.
-use Rattle.std.proofs.Common.{◌≡◌, ℕ, zero, suc, ◌+◌, ◌<◌, ◌≤◌, List, length, get_or, refl, ap, sym, ◌∙◌, subst, Option, None, Some, cond, true, arith}
-use Rattle.std.proofs.Math.ListN.{set, length-set}
+use Rattle.std.proofs.Common.{◌≡◌, ℕ, suc, ◌<◌, ◌≤◌, List, length, get_or, refl, ap, sym, ◌∙◌, subst, Option, None, Some, cond, arith}
+use Rattle.std.proofs.Math.ListN.{set}
 use Rattle.std.proofs.lemmas.List.{get_or-set_same, get_or-set_other}
-use Rattle.std.specs.Prelude.{◌-◌, IsSome, slice_index_or}
+use Rattle.std.specs.Prelude.{◌-◌, slice_index_or}
 use Rattle.std.proofs.lemmas.Bool.{le-ltb}
 use Rattle.mem_module.specs.MemModule.{words_after, answer_to}
 use Rattle.omega_net.specs.declared.message.Request.{Request}
@@ -15,7 +15,7 @@ use Rattle.ref_proc.specs.declared.state.ProcState.{ProcState}
 use Rattle.project_book.specs.Project.{Project}
 use Rattle.flat_row.specs.Masks.{has}
 use Rattle.flat_row.specs.Queues.{Queues}
-use Rattle.flat_row.specs.Row.{Network, Buffers, HasLevels, no_queues, level_at, queue_of}
+use Rattle.flat_row.specs.Row.{Network, Buffers, no_queues, level_at, queue_of}
 use Rattle.flat_row.specs.Rows.{if_leaves}
 use Rattle.flat_row.specs.Combining.{SameLevel}
 use Rattle.flat_row.specs.Ends.{reply_at, AllServed, AreAnswered, AllReceived, ShowsOne, shown_with, acted}

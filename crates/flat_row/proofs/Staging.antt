@@ -1,5 +1,5 @@
 -- Messages that cross the stages of the combining network one after another.
-use Rattle.std.proofs.Common.{◌≡◌, ℕ, zero, suc, ◌+◌, ◌-◌, ◌<◌, ◌≤◌, Bool, true, false, cond, List, [], length, get_or, refl, ap, sym, ◌∙◌, subst, ◌⊎◌, inl, inr, Option, arith}
+use Rattle.std.proofs.Common.{◌≡◌, ℕ, suc, ◌+◌, ◌-◌, ◌<◌, ◌≤◌, Bool, true, false, cond, List, [], length, get_or, refl, ap, sym, ◌∙◌, subst, ◌⊎◌, inl, inr, Option, arith}
 use Rattle.std.specs.Prelude.{◌==◌, IsSome, slice_index_or}
 use Rattle.std.proofs.Math.ListN.{set, length-set}
 use Rattle.std.proofs.lemmas.List.{get_or-set_same, get_or-set_other, get_or_default}

@@ -1,5 +1,5 @@
 -- The row before the first cycle is the first states of its project.
-use Rattle.std.proofs.Common.{◌≡◌, ℕ, zero, suc, ◌+◌, ◌<◌, ◌≤◌, Bool, false, List, [], ◌∷◌, ◌++◌, length, map, get_or, replicate, refl, ap, sym, subst, ◌∙◌, inl, inr, Option, None, Some, arith}
+use Rattle.std.proofs.Common.{◌≡◌, ℕ, zero, suc, ◌+◌, ◌<◌, ◌≤◌, Bool, false, List, [], ◌∷◌, ◌++◌, length, map, get_or, replicate, refl, ap, sym, subst, ◌∙◌, inl, inr, None, Some, arith}
 use Rattle.std.specs.Prelude.{◌==◌}
 use Rattle.std.proofs.lemmas.List.{get_or-map, get_or-replicate, get_or_past, length-map, length-replicate, map_push}
 use Rattle.std.proofs.lemmas.Option.{get_or_from_slice_get}
@@ -17,13 +17,10 @@ use Rattle.omega_net.specs.Wires.{bit, below}
 use Rattle.omega_net.specs.Queues.{head}
 use Rattle.omega_net.specs.Ports.{queue_at, empty}
 use Rattle.omega_net.proofs.Numbering.{Has, component_has}
-use Rattle.ref_proc.specs.declared.state.Outgoing.{Outgoing}
 use Rattle.ref_proc.specs.declared.state.ProcState.{ProcState}
 use Rattle.ref_proc.specs.RefProc.{proc_start, net_for}
 use Rattle.mem_module.specs.declared.words.Stored.{Stored}
-use Rattle.low_switch.specs.declared.state.LowState.{LowState}
 use Rattle.comb_switch.specs.declared.waiting.Waiting.{Waiting}
-use Rattle.comb_switch.specs.declared.state.CombState.{CombState}
 use Rattle.machine_cells.specs.declared.state.MachineState.{MachineState}
 use Rattle.machine_cells.specs.declared.state.MachineState.TheVariants.{Proc, Module, Low, Comb}
 use Rattle.machine_cells.specs.Run.{words_in, start_of, first_states}
@@ -33,7 +30,7 @@ use Rattle.flat_row.specs.declared.marks.Rule.{Rule}
 use Rattle.flat_row.specs.Masks.{has}
 use Rattle.flat_row.specs.Queues.{Queues}
 use Rattle.flat_row.specs.Labels.{switch_label}
-use Rattle.flat_row.specs.Row.{Network, Buffers, Arrays, IsRow, IsRowOf, IsNetworkOf, HasNetwork, HasLevels, no_queues, level_at, queue_of, port_label, turn_of, buffers_at, wait_of, combined_of, out_from, out_of, state_of, states_of, request_rule, reply_rule, first_network, first_buffers, first_requests, first_replies, first_words, first_row}
+use Rattle.flat_row.specs.Row.{Network, Buffers, Arrays, IsRow, IsRowOf, IsNetworkOf, HasNetwork, HasLevels, no_queues, queue_of, port_label, turn_of, buffers_at, wait_of, combined_of, out_from, out_of, state_of, states_of, request_rule, reply_rule, first_network, first_buffers, first_requests, first_replies, first_words, first_row}
 
 module _ {X : Type 0} where
   -- a list by numbers from 0 on

@@ -1,9 +1,9 @@
 -- A step of the row, from what its parts promise.
-use Rattle.std.proofs.Common.{◌≡◌, ℕ, zero, suc, ◌+◌, ◌-◌, ◌^◌, ◌<◌, ◌≤◌, Bool, true, false, cond, List, [], ◌∷◌, length, get_or, drop, refl, ap, sym, ◌∙◌, subst, ◌⊎◌, inl, inr, Option, None, Some, arith}
+use Rattle.std.proofs.Common.{◌≡◌, ℕ, zero, suc, ◌+◌, ◌-◌, ◌^◌, ◌<◌, ◌≤◌, Bool, true, false, cond, List, [], ◌∷◌, length, drop, refl, ap, sym, ◌∙◌, subst, inl, inr, Option, None, Some, arith}
 use Rattle.std.proofs.Math.Pow.{pow_mono}
 use Rattle.std.proofs.lemmas.List.{get_or_past}
-use Rattle.std.proofs.lemmas.Bool.{cases_lt, eqb-true, eq-eqb, ne_eqb}
-use Rattle.std.specs.Prelude.{◌==◌, ◌||◌, IsSome, slice_get, slice_index_or, bit_or}
+use Rattle.std.proofs.lemmas.Bool.{cases_lt, eqb-true, eq-eqb}
+use Rattle.std.specs.Prelude.{◌==◌, IsSome, slice_index_or, bit_or}
 use Rattle.arrayvec.specs.ArrayVec.{ArrayVec}
 use Rattle.omega_net.specs.declared.component.Net.{Net}
 use Rattle.omega_net.specs.declared.component.Net.TheVariants.{Low as LowNet, Comb as CombNet}
@@ -13,7 +13,7 @@ use Rattle.omega_net.specs.declared.message.Request.{Request}
 use Rattle.omega_net.specs.declared.message.Reply.{Reply}
 use Rattle.omega_net.specs.Numbers.{lines, half, Exists}
 use Rattle.omega_net.specs.Queues.{head, without_head, joined}
-use Rattle.omega_net.specs.Ports.{queue_at, empty, message_at}
+use Rattle.omega_net.specs.Ports.{empty, message_at}
 use Rattle.mem_module.specs.declared.words.Stored.{Stored}
 use Rattle.ref_proc.specs.declared.state.ProcState.{ProcState}
 use Rattle.project_book.specs.Project.{Project, IsProject, depth_of}
@@ -30,12 +30,11 @@ use Rattle.flat_row.specs.declared.leaving.Plan.{Plan}
 use Rattle.flat_row.specs.Labels.{switch_label}
 use Rattle.flat_row.specs.Masks.{has}
 use Rattle.flat_row.specs.Queues.{Queues}
-use Rattle.flat_row.specs.Row.{Network, Buffers, Arrays, IsRow, IsRowOf, IsNetworkOf, HasNetwork, HasLevels, level_at, queue_of, state_of, states_of, buffers_at, wait_of, combined_of, low_of, comb_of, proc_of, module_of}
+use Rattle.flat_row.specs.Row.{Network, Buffers, Arrays, IsRow, IsRowOf, IsNetworkOf, HasNetwork, HasLevels, level_at, queue_of, state_of, states_of, wait_of, combined_of, low_of, comb_of, proc_of, module_of}
 use Rattle.flat_row.specs.Rows.{if_leaves, network}
 use Rattle.flat_row.specs.Moving.{SameShape, AllWait, AllWaitBack, arrival, leaves_forth, forth_after, left_back, back_after}
 use Rattle.flat_row.specs.Stages.{CombForth, HasBuffers, buffers_in}
 use Rattle.flat_row.specs.Ends.{ShowsOne, reply_at, words_of, shown_with}
-use Rattle.flat_row.specs.Leaving.{AllForth, AllBack, Enters, Receives}
 use Rattle.flat_row.specs.Step.{Serves, OnlyModules, BothServed, Departed, BothActed, Returned, CombsReturned, IsPlan}
 use Rattle.flat_row.proofs.Passing.{level_within, shape_twice}
 use Rattle.flat_row.proofs.Staging.{levels_still, buffers_still}

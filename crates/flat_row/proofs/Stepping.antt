@@ -1,19 +1,19 @@
 -- The whole state of a row one cycle later is the cycle of its whole state, component by component.
-use Rattle.std.proofs.Common.{◌≡◌, ℕ, zero, suc, ◌+◌, ◌-◌, ◌*◌, ◌^◌, ◌<◌, ◌≤◌, Bool, true, false, cond, List, [], ◌∷◌, ◌++◌, length, drop, refl, ap, sym, ◌∙◌, subst, ◌⊎◌, inl, inr, Option, None, Some, arith}
-use Rattle.std.specs.Prelude.{◌==◌, ◌&&◌, ◌||◌, nat_lt, is_some, slice_get, slice_index, slice_index_or}
+use Rattle.std.proofs.Common.{◌≡◌, ℕ, zero, suc, ◌+◌, ◌-◌, ◌*◌, ◌<◌, ◌≤◌, Bool, true, false, cond, List, [], ◌∷◌, refl, ap, sym, ◌∙◌, ◌⊎◌, inl, inr, arith}
+use Rattle.std.specs.Prelude.{◌==◌, is_some, slice_get, slice_index_or}
 use Rattle.std.proofs.lemmas.Bool.{cases_lt, eqb-true, eq-eqb, ne_eqb, lt-ltb}
 use Rattle.arrayvec.specs.ArrayVec.{ArrayVec}
 use Rattle.omega_net.specs.declared.component.Net.{Net}
-use Rattle.omega_net.specs.declared.component.Net.TheVariants.{Low as LowNet, Comb as CombNet}
+use Rattle.omega_net.specs.declared.component.Net.TheVariants.{Low as LowNet}
 use Rattle.omega_net.specs.declared.message.Request.{Request}
 use Rattle.omega_net.specs.declared.message.Reply.{Reply}
 use Rattle.omega_net.specs.Numbers.{lines, half}
 use Rattle.omega_net.specs.Wires.{bit, wire_into, wire_out}
-use Rattle.omega_net.specs.Queues.{head, without_head, joined, queue_after, turn_after}
-use Rattle.omega_net.specs.Ports.{queue_at, request_to, reply_to}
+use Rattle.omega_net.specs.Queues.{without_head, joined, queue_after, turn_after}
+use Rattle.omega_net.specs.Ports.{request_to, reply_to}
 use Rattle.low_switch.specs.declared.state.LowState.{LowState}
 use Rattle.low_switch.specs.LowSwitch.{low_after}
-use Rattle.project_book.specs.Project.{Project, IsProject}
+use Rattle.project_book.specs.Project.{Project}
 use Rattle.machine_cells.specs.Moves.{Move, moves, moved_request, moved_reply}
 use Rattle.machine_cells.specs.Cycle.{switch_traffic}
 use Rattle.flat_row.specs.Labels.{label, port}
@@ -23,8 +23,7 @@ use Rattle.flat_row.specs.Shows.{on_line}
 use Rattle.flat_row.specs.Row.{Network, Arrays, queue_of, port_label, turn_of, states_of, low_of}
 use Rattle.flat_row.specs.Rows.{if_leaves, network}
 use Rattle.flat_row.specs.Moving.{sent_to, arrival, leaves_forth, forth_after, left_back, back_after}
-use Rattle.flat_row.specs.Leaving.{AllForth, AllBack, Enters, Receives, StageForth, StageBack}
-use Rattle.flat_row.proofs.Showing.{StandsAt}
+use Rattle.flat_row.specs.Leaving.{AllForth, AllBack, Enters, Receives}
 use Rattle.flat_row.proofs.Turning.{request_sent, reply_sent, stands, line_in, line_out, into, out}
 
 -- a head leaves where a message moves

@@ -1,8 +1,7 @@
 -- The turns that a stage decides are those of what moves to the queues of its switches.
 use Rattle.std.proofs.Common.{◌≡◌, ℕ, zero, suc, ◌+◌, ◌-◌, ◌*◌, ◌^◌, ◌<◌, ◌≤◌, Bool, true, false, cond, refl, ap, sym, ◌∙◌, Option, None, Some, arith}
-use Rattle.std.specs.Prelude.{◌==◌, ◌&&◌, ◌||◌, is_some, slice_get, slice_index_or}
-use Rattle.std.proofs.lemmas.Bool.{eqb-true, eq-eqb}
-use Rattle.arrayvec.specs.ArrayVec.{ArrayVec}
+use Rattle.std.specs.Prelude.{◌==◌, ◌&&◌, ◌||◌, is_some, slice_index_or}
+use Rattle.std.proofs.lemmas.Bool.{eqb-true}
 use Rattle.omega_net.specs.declared.component.Net.{Net}
 use Rattle.omega_net.specs.declared.component.Net.TheVariants.{Low as LowNet, Comb as CombNet}
 use Rattle.omega_net.specs.declared.message.Request.{Request}
@@ -19,9 +18,9 @@ use Rattle.flat_row.specs.declared.decide.Room.{Room}
 use Rattle.flat_row.specs.Labels.{label, switch_label, port, LabelsName}
 use Rattle.flat_row.specs.Masks.{has}
 use Rattle.flat_row.specs.Decisions.{takes_from, leaves, comes, takes_both, leaves_both, comes_both}
-use Rattle.flat_row.specs.Shows.{on_line, IsHead, heads_of, room_of}
+use Rattle.flat_row.specs.Shows.{IsHead, heads_of, room_of}
 use Rattle.flat_row.specs.Row.{Arrays, IsRowOf, queue_of, level_at, port_label, states_of}
-use Rattle.flat_row.specs.Rows.{MarksRequests, MarksReplies, if_leaves, network, RowDecides, RowsTurn}
+use Rattle.flat_row.specs.Rows.{MarksRequests, MarksReplies, if_leaves, network, RowsTurn}
 use Rattle.flat_row.specs.Moving.{sent_to}
 use Rattle.flat_row.proofs.Labelling.{each_is_named}
 use Rattle.flat_row.proofs.Showing.{StandsAt, stands_at}

@@ -1,39 +1,32 @@
 -- The row one cycle later, by what each part of a step leaves.
-use Rattle.std.proofs.Common.{◌≡◌, ℕ, zero, suc, ◌+◌, ◌-◌, ◌<◌, ◌≤◌, Bool, true, false, cond, List, [], ◌∷◌, length, get_or, refl, ap, sym, ◌∙◌, subst, Option, None, Some, arith}
-use Rattle.std.proofs.Math.ListN.{set, length-set}
-use Rattle.std.proofs.Math.Pow.{pow_mono}
-use Rattle.std.proofs.lemmas.List.{get_or-set_same, get_or-set_other}
-use Rattle.std.specs.Prelude.{◌==◌, ◌||◌, is_some, bit_or}
+use Rattle.std.proofs.Common.{◌≡◌, ℕ, suc, ◌<◌, ◌≤◌, Bool, true, false, cond, List, [], ◌∷◌, refl, ap, sym, ◌∙◌, Option, None, Some, arith}
+use Rattle.std.specs.Prelude.{◌||◌, is_some, bit_or}
 use Rattle.arrayvec.specs.ArrayVec.{ArrayVec}
 use Rattle.omega_net.specs.declared.component.Net.{Net}
 use Rattle.omega_net.specs.declared.component.Net.TheVariants.{Low as LowNet, Comb as CombNet}
-use Rattle.omega_net.specs.declared.component.Component.{Component}
-use Rattle.omega_net.specs.declared.component.Component.TheVariants.{Proc as ProcAt, Module as ModuleAt, Switch}
 use Rattle.omega_net.specs.declared.message.Request.{Request}
 use Rattle.omega_net.specs.declared.message.Reply.{Reply}
-use Rattle.omega_net.specs.Numbers.{lines, half, Exists}
+use Rattle.omega_net.specs.Numbers.{lines}
 use Rattle.omega_net.specs.Wires.{wire_of_proc, wire_of_module}
 use Rattle.omega_net.specs.Queues.{head, without_head, joined}
-use Rattle.omega_net.specs.Ports.{queue_at, message_at}
+use Rattle.omega_net.specs.Ports.{queue_at}
 use Rattle.mem_module.specs.declared.words.Stored.{Stored}
 use Rattle.mem_module.specs.declared.state.ModuleState.{ModuleState}
-use Rattle.mem_module.specs.MemModule.{is_net, answer_to, served_net, turn_from, words_after, module_serving, module_after}
+use Rattle.mem_module.specs.MemModule.{is_net, answer_to, served_net, words_after, module_serving, module_after}
 use Rattle.ref_proc.specs.declared.state.ProcState.{ProcState}
 use Rattle.ref_proc.specs.RefProc.{net_for, proc_after}
-use Rattle.project_book.specs.Project.{Project, IsProject, depth_of}
+use Rattle.project_book.specs.Project.{Project, depth_of}
 use Rattle.project_book.specs.declared.edit.Depths.TheVariants.{ModuleQueue}
-use Rattle.machine_cells.specs.declared.state.MachineState.TheVariants.{Proc, Module, Low, Comb}
 use Rattle.machine_cells.specs.Moves.{Move, moves, moved_request, moved_reply}
-use Rattle.machine_cells.specs.Cycle.{cycle, part_of, module_traffic, proc_traffic, proc_settings}
-use Rattle.flat_row.specs.Labels.{label, rotated_right, LabelsName}
-use Rattle.flat_row.specs.Masks.{has, IsSetOf}
+use Rattle.machine_cells.specs.Cycle.{module_traffic, proc_traffic, proc_settings}
+use Rattle.flat_row.specs.Labels.{label, LabelsName}
+use Rattle.flat_row.specs.Masks.{has}
 use Rattle.flat_row.specs.Queues.{Queues}
-use Rattle.flat_row.specs.Decisions.{served_at, NetsAfter}
 use Rattle.flat_row.specs.Shows.{on_line}
-use Rattle.flat_row.specs.Row.{Network, Buffers, Arrays, IsRow, IsRowOf, level_at, queue_of, state_of, states_of, module_of, proc_of, out_of, out_from}
+use Rattle.flat_row.specs.Row.{Arrays, IsRow, queue_of, states_of, module_of, proc_of, out_of, out_from}
 use Rattle.flat_row.specs.Rows.{if_leaves, network}
-use Rattle.flat_row.specs.Moving.{leaves_forth, forth_after, left_back, back_after}
-use Rattle.flat_row.specs.Ends.{reply_at, words_of, AllServed, AreAnswered, AllReceived, proc_at, shown_with, acted}
+use Rattle.flat_row.specs.Moving.{leaves_forth}
+use Rattle.flat_row.specs.Ends.{words_of, proc_at, shown_with, acted}
 use Rattle.flat_row.specs.Leaving.{AllForth, AllBack, Enters, Receives}
 use Rattle.flat_row.specs.Step.{Serves}
 use Rattle.flat_row.proofs.Labelling.{each_is_named}

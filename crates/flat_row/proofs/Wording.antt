@@ -1,14 +1,14 @@
 -- The words of the modules at cycle 0.
-use Rattle.std.proofs.Common.{◌≡◌, ℕ, zero, suc, ◌+◌, ◌<◌, ◌≤◌, Bool, true, false, cond, List, [], ◌∷◌, ◌++◌, length, map, take, get_or, refl, ap, sym, ◌∙◌, subst, Option, Some, arith}
-use Rattle.std.specs.Prelude.{◌==◌, nat_lt, slice_get, option_map}
+use Rattle.std.proofs.Common.{◌≡◌, ℕ, zero, suc, ◌+◌, ◌<◌, ◌≤◌, Bool, true, false, cond, List, [], ◌∷◌, ◌++◌, length, take, get_or, refl, ap, ◌∙◌, Some, arith}
+use Rattle.std.specs.Prelude.{slice_get, option_map}
 use Rattle.std.proofs.lemmas.Option.{slice_get-map}
 use Rattle.std.proofs.lemmas.Bool.{lt-ltb, le-ltb, ne_eqb}
 use Rattle.omega_net.specs.declared.component.Component.TheVariants.{Module as ModuleAt}
-use Rattle.omega_net.specs.Numbers.{lines, components, number_of, component_of}
+use Rattle.omega_net.specs.Numbers.{lines, components, component_of}
 use Rattle.omega_net.specs.Wires.{below}
 use Rattle.omega_net.proofs.Numbering.{number_within, number_leads_back}
 use Rattle.mem_module.specs.declared.words.Stored.{Stored}
-use Rattle.mem_module.specs.Memory.{with_word, stored, rows_below, rows_above, AscendsFrom, IsAscending}
+use Rattle.mem_module.specs.Memory.{with_word, AscendsFrom, IsAscending}
 use Rattle.mem_module.specs.MemModule.{module_start}
 use Rattle.mem_module.proofs.Rows.{with_ascends}
 use Rattle.machine_cells.specs.declared.state.MachineState.TheVariants.{Module}

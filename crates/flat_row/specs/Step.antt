@@ -1,8 +1,7 @@
 -- What the parts of a step leave of a network.
-use Rattle.std.specs.Prelude.{◌≡◌, ℕ, suc, ◌-◌, ◌<◌, ◌≤◌, true, if◌then◌else◌, List, length, Option, None, Some}
+use Rattle.std.specs.Prelude.{◌≡◌, ℕ, suc, ◌-◌, ◌<◌, true, if◌then◌else◌, List, length, Option, None, Some}
 use Rattle.omega_net.specs.declared.component.Net.{Net}
 use Rattle.omega_net.specs.declared.component.Net.TheVariants.{Low as LowNet, Comb as CombNet}
-use Rattle.omega_net.specs.declared.message.Request.{Request}
 use Rattle.omega_net.specs.declared.message.Reply.{Reply}
 use Rattle.omega_net.specs.Numbers.{lines}
 use Rattle.omega_net.specs.Wires.{bit}
@@ -15,12 +14,12 @@ use Rattle.ref_proc.specs.RefProc.{net_for}
 use Rattle.project_book.specs.Project.{Project, depth_of}
 use Rattle.project_book.specs.declared.edit.Depths.TheVariants.{ModuleQueue}
 use Rattle.flat_row.specs.Masks.{has}
-use Rattle.flat_row.specs.Row.{Network, Buffers, Arrays, HasLevels, level_at, queue_of, module_of}
+use Rattle.flat_row.specs.Row.{Network, Buffers, Arrays, level_at, queue_of, module_of}
 use Rattle.flat_row.specs.Rows.{if_leaves}
-use Rattle.flat_row.specs.Moving.{SameShape, AllWait, AllWaitBack, forth_after, left_back, back_after}
+use Rattle.flat_row.specs.Moving.{SameShape, left_back}
 use Rattle.flat_row.specs.Combining.{splitting}
-use Rattle.flat_row.specs.Stages.{CombForth, SameBuffers, buffers_in, returned_at}
-use Rattle.flat_row.specs.Ends.{reply_at, words_of, AllServed, shown_with, acted, ShowsOne}
+use Rattle.flat_row.specs.Stages.{SameBuffers, buffers_in, returned_at}
+use Rattle.flat_row.specs.Ends.{reply_at, words_of, shown_with, acted, ShowsOne}
 use Rattle.flat_row.specs.Leaving.{WaitForth, AllForth, AllBack, Enters, Receives}
 use Rattle.flat_row.specs.declared.leaving.Plan.{Plan}
 

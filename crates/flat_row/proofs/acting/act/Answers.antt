@@ -1,4 +1,4 @@
-use Rattle.std.proofs.Common.{◌≡◌, ℕ, ◌<◌, ◌∙◌, ap, sym, subst, length, refl}
+use Rattle.std.proofs.Common.{◌<◌, ◌∙◌, ap, sym, subst, length}
 use Rattle.std.proofs.lemmas.List.{get_or_default}
 use Rattle.omega_net.specs.Ports.{message_at}
 use Rattle.ref_proc.specs.RefProc.{proc_start}

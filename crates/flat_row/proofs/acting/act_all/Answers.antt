@@ -1,4 +1,4 @@
-use Rattle.std.proofs.Common.{◌≡◌, ℕ, ◌<◌, ◌≤◌, ◌∙◌, ap, sym, subst, length, arith, refl}
+use Rattle.std.proofs.Common.{◌∙◌, ap, arith}
 use Rattle.omega_net.specs.Numbers.{lines}
 use Rattle.flat_row.proofs.Processing.{none_acted, one_acted}
 use Rattle.flat_row.proofs.acting.act_all.Goals as goal

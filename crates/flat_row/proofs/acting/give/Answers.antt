@@ -1,4 +1,4 @@
-use Rattle.std.proofs.Common.{◌≡◌, ℕ, ◌<◌, ◌∙◌, ap, sym, length, refl, Some}
+use Rattle.std.proofs.Common.{refl, Some}
 use Rattle.omega_net.specs.Ports.{queue_at}
 use Rattle.omega_net.specs.Queues.{joined}
 use Rattle.flat_row.proofs.Ending.{same_level, changed_same, changed_here, changed_other}

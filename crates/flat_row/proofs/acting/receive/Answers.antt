@@ -1,4 +1,4 @@
-use Rattle.std.proofs.Common.{◌≡◌, ℕ, ◌+◌, ◌-◌, ◌<◌, ◌≤◌, ◌∙◌, sym, subst, length, arith, refl}
+use Rattle.std.proofs.Common.{arith, refl}
 use Rattle.flat_row.proofs.Ending.{nothing_got, none_received, some_received, one_received, all_received, some_within}
 use Rattle.flat_row.proofs.acting.receive.Goals as goal
 

@@ -1,4 +1,4 @@
-use Rattle.std.proofs.Common.{ℕ, ◌-◌, ◌≤◌}
+use Rattle.std.proofs.Common.{◌-◌, ◌≤◌}
 use Rattle.flat_row.proofs.Ending.{PartlyReceived}
 use Rattle.flat_row.proofs.acting.receive.Given as goal
 

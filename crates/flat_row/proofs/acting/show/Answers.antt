@@ -1,4 +1,3 @@
-use Rattle.std.proofs.Common.{refl}
 use Rattle.flat_row.proofs.Ending.{same_level}
 use Rattle.flat_row.proofs.Processing.{shows_still}
 use Rattle.flat_row.proofs.acting.show.Goals as goal

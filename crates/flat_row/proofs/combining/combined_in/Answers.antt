@@ -1,4 +1,4 @@
-use Rattle.std.proofs.Common.{◌≡◌, ℕ, ◌+◌, ◌-◌, ◌<◌, ◌≤◌, ◌∙◌, ap, sym, subst, length, arith, refl}
+use Rattle.std.proofs.Common.{◌<◌, ap, sym, subst, length, refl}
 use Rattle.std.specs.Prelude.{unwrap_or}
 use Rattle.omega_net.specs.Ports.{queue_at}
 use Rattle.flat_row.specs.Row.{combined_of}

@@ -1,4 +1,4 @@
-use Rattle.std.proofs.Common.{◌≡◌, ℕ, ◌+◌, ◌-◌, ◌<◌, ◌≤◌, ◌∙◌, ap, sym, subst, length, arith, refl}
+use Rattle.std.proofs.Common.{◌<◌, sym, subst, length}
 use Rattle.flat_row.proofs.Meeting.{level_same, level_only, last_in_is}
 use Rattle.flat_row.proofs.combining.last_in.Goals as goal
 

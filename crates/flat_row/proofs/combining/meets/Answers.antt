@@ -1,4 +1,4 @@
-use Rattle.std.proofs.Common.{◌≡◌, ℕ, ◌+◌, ◌-◌, ◌<◌, ◌≤◌, ◌∙◌, ap, sym, subst, length, arith, refl}
+use Rattle.std.proofs.Common.{◌<◌, ◌∙◌, ap, sym, subst, length}
 use Rattle.omega_net.specs.Ports.{queue_at}
 use Rattle.flat_row.proofs.Meeting.{meets_does, meets_some, meets_none}
 use Rattle.flat_row.proofs.combining.meets.Goals as goal

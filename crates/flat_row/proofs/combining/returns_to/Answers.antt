@@ -1,4 +1,4 @@
-use Rattle.std.proofs.Common.{◌≡◌, ℕ, ◌+◌, ◌-◌, ◌<◌, ◌≤◌, ◌∙◌, ap, sym, subst, length, arith, refl}
+use Rattle.std.proofs.Common.{◌<◌, ap, subst, length}
 use Rattle.std.proofs.Common.{None, Some}
 use Rattle.flat_row.proofs.Meeting.{returns_is}
 use Rattle.flat_row.proofs.combining.returns_to.Goals as goal

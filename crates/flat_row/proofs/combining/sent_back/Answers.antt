@@ -1,4 +1,4 @@
-use Rattle.std.proofs.Common.{◌≡◌, ℕ, ◌+◌, ◌-◌, ◌<◌, ◌≤◌, ◌∙◌, ap, sym, subst, length, arith, refl}
+use Rattle.std.proofs.Common.{◌<◌, sym, subst, length}
 use Rattle.std.proofs.lemmas.Nat.Bits.{bit_at-lt}
 use Rattle.flat_row.proofs.Meeting.{level_same, level_only, sent_back_is}
 use Rattle.flat_row.proofs.combining.sent_back.Goals as goal

@@ -1,4 +1,4 @@
-use Rattle.std.proofs.Common.{◌≡◌, ℕ, ◌+◌, ◌-◌, ◌<◌, ◌≤◌, ◌∙◌, ap, sym, subst, length, arith, refl}
+use Rattle.std.proofs.Common.{◌<◌, ap, sym, subst, refl}
 use Rattle.flat_row.specs.Labels.{port}
 use Rattle.flat_row.proofs.Meeting.{splits_is, splits_only, same_twice}
 use Rattle.flat_row.proofs.combining.splits.Goals as goal

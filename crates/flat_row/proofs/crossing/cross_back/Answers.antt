@@ -1,4 +1,4 @@
-use Rattle.std.proofs.Common.{◌≡◌, ℕ, ◌+◌, ◌-◌, ◌<◌, ◌≤◌, ◌∙◌, ap, sym, subst, length, arith, refl, true}
+use Rattle.std.proofs.Common.{◌<◌, sym, subst, arith, refl}
 use Rattle.comb_switch.specs.CombSwitch.{returns_to}
 use Rattle.flat_row.specs.Combining.{splitting}
 use Rattle.flat_row.proofs.Crossed.{splitting_local, still_can, none_yet, is_first, some_there, one_met, all_met}

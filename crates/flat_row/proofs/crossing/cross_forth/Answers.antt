@@ -1,4 +1,4 @@
-use Rattle.std.proofs.Common.{◌≡◌, ℕ, ◌+◌, ◌-◌, ◌<◌, ◌≤◌, ◌∙◌, ap, sym, subst, length, arith, refl, true}
+use Rattle.std.proofs.Common.{◌<◌, sym, subst, arith, refl}
 use Rattle.comb_switch.specs.CombSwitch.{arrives}
 use Rattle.flat_row.specs.Combining.{meeting}
 use Rattle.flat_row.proofs.Crossed.{meeting_local, still_can, none_yet, is_first, some_there, count_there, one_met, all_met}

@@ -1,4 +1,4 @@
-use Rattle.std.proofs.Common.{ℕ, ◌-◌, ◌≤◌}
+use Rattle.std.proofs.Common.{◌-◌, ◌≤◌}
 use Rattle.comb_switch.specs.CombSwitch.{arrives}
 use Rattle.flat_row.specs.Combining.{meeting}
 use Rattle.flat_row.proofs.Crossed.{PartlyMet}

@@ -1,10 +1,8 @@
-use Rattle.std.proofs.Common.{◌≡◌, ℕ, ◌+◌, ◌-◌, ◌<◌, ◌≤◌, ◌∙◌, ap, sym, subst, length, arith, refl, true}
+use Rattle.std.proofs.Common.{◌<◌, ◌∙◌, sym, subst, arith}
 use Rattle.std.specs.Prelude.{IsSome}
 use Rattle.comb_switch.specs.CombSwitch.{returns_to}
 use Rattle.omega_net.specs.Queues.{head}
 use Rattle.flat_row.specs.Labels.{port}
-use Rattle.flat_row.specs.Masks.{has}
-use Rattle.flat_row.specs.Row.{queue_of}
 use Rattle.flat_row.specs.Combining.{splitting}
 use Rattle.flat_row.proofs.Masking.{same_first}
 use Rattle.flat_row.proofs.Carrying.{port_small, port_again}

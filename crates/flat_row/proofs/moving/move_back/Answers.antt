@@ -1,8 +1,5 @@
-use Rattle.std.proofs.Common.{◌≡◌, ◌≢◌, ℕ, ◌+◌, ◌-◌, ◌<◌, ◌≤◌, ◌∙◌, ap, sym, subst, length, arith}
-use Rattle.std.specs.Prelude.{IsSome}
-use Rattle.omega_net.specs.Numbers.{lines}
+use Rattle.std.proofs.Common.{◌≡◌, ◌+◌, ◌<◌, ◌≤◌, ◌∙◌, ap, sym, subst, arith}
 use Rattle.flat_row.specs.Labels.{port}
-use Rattle.flat_row.specs.Row.{level_at, queue_of}
 use Rattle.flat_row.proofs.Backing.{partly_back, none_back, back_waits, back_more, all_back}
 use Rattle.flat_row.proofs.Passing.{shape_same, shape_twice}
 use Rattle.flat_row.proofs.Staying.{port_stays}

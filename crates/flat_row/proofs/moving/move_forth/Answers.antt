@@ -1,10 +1,9 @@
-use Rattle.std.proofs.Common.{◌≡◌, ◌≢◌, ℕ, ◌+◌, ◌-◌, ◌<◌, ◌≤◌, ◌∙◌, ap, sym, subst, length, arith}
+use Rattle.std.proofs.Common.{◌≡◌, ◌+◌, ◌-◌, ◌<◌, ◌≤◌, ◌∙◌, ap, sym, subst, arith}
 use Rattle.std.specs.Prelude.{IsSome}
-use Rattle.omega_net.specs.Numbers.{lines}
 use Rattle.omega_net.specs.Queues.{head}
 use Rattle.flat_row.specs.Labels.{port}
 use Rattle.flat_row.specs.Masks.{has}
-use Rattle.flat_row.specs.Row.{level_at, queue_of}
+use Rattle.flat_row.specs.Row.{queue_of}
 use Rattle.flat_row.specs.Moving.{moved_straight}
 use Rattle.flat_row.proofs.Forthing.{partly, entered, enter_waits, forth_waits, forth_more, all_forth}
 use Rattle.flat_row.proofs.Passing.{shape_twice}

@@ -1,7 +1,7 @@
-use Rattle.std.proofs.Common.{◌≡◌, ℕ, ◌+◌, ◌-◌, ◌<◌, ◌≤◌, ◌∙◌, ap, sym, subst, length, arith}
+use Rattle.std.proofs.Common.{◌<◌, ◌∙◌, sym, subst, arith}
 use Rattle.std.specs.Prelude.{IsSome}
 use Rattle.omega_net.specs.Queues.{head}
-use Rattle.flat_row.specs.Row.{level_at, queue_of}
+use Rattle.flat_row.specs.Row.{queue_of}
 use Rattle.flat_row.specs.Labels.{port}
 use Rattle.flat_row.proofs.Carrying.{none_moved, all_moved, one_more, head_still}
 use Rattle.flat_row.proofs.Passing.{shape_same, shape_twice, level_within, waiting}

@@ -1,7 +1,7 @@
-use Rattle.std.proofs.Common.{◌≡◌, ℕ, ◌+◌, ◌-◌, ◌<◌, ◌≤◌, ◌∙◌, ap, sym, subst, length, arith}
+use Rattle.std.proofs.Common.{◌<◌, ◌∙◌, sym, subst, length, arith}
 use Rattle.std.specs.Prelude.{IsSome}
 use Rattle.omega_net.specs.Queues.{head}
-use Rattle.flat_row.specs.Row.{level_at, queue_of}
+use Rattle.flat_row.specs.Row.{level_at}
 use Rattle.flat_row.proofs.Straight.{none_straight, all_straight, one_straight, straight_still_there}
 use Rattle.flat_row.proofs.Passing.{shape_same, shape_twice, level_within}
 use Rattle.flat_row.proofs.moving.move_straight.Goals as goal

@@ -1,4 +1,4 @@
-use Rattle.std.proofs.Common.{◌≡◌, ℕ, ◌+◌, ◌-◌, ◌<◌, ◌≤◌, ◌∙◌, sym, subst, length, arith, refl}
+use Rattle.std.proofs.Common.{◌<◌, sym, subst, arith, refl}
 use Rattle.flat_row.proofs.Ending.{none_answered, one_answered, all_answered}
 use Rattle.flat_row.proofs.serving.answer.Goals as goal
 

@@ -1,4 +1,4 @@
-use Rattle.std.proofs.Common.{ℕ, ◌-◌, ◌≤◌}
+use Rattle.std.proofs.Common.{◌-◌, ◌≤◌}
 use Rattle.flat_row.proofs.Ending.{PartlyAnswered}
 use Rattle.flat_row.proofs.serving.answer.Given as goal
 

@@ -1,4 +1,4 @@
-use Rattle.std.proofs.Common.{◌≡◌, ℕ, ◌+◌, ◌-◌, ◌<◌, ◌≤◌, ◌∙◌, ap, sym, length, arith, refl, Some, []}
+use Rattle.std.proofs.Common.{◌<◌, ◌∙◌, ap, length, arith, refl, Some, []}
 use Rattle.std.proofs.Math.ListN.{length-set}
 use Rattle.std.proofs.lemmas.List.{get_or_default}
 use Rattle.mem_module.specs.MemModule.{words_after, answer_to}

@@ -1,4 +1,4 @@
-use Rattle.std.proofs.Common.{ℕ, ◌-◌, ◌≤◌}
+use Rattle.std.proofs.Common.{◌-◌, ◌≤◌}
 use Rattle.flat_row.proofs.Ending.{PartlyServed}
 use Rattle.flat_row.proofs.serving.serve.Given as goal
 

@@ -1,5 +1,4 @@
-use Rattle.std.proofs.Common.{◌≡◌, ℕ, suc, ◌+◌, ◌<◌, ◌≤◌, ◌∙◌, ap, sym, subst, length, arith, refl}
-use Rattle.omega_net.specs.Numbers.{lines}
+use Rattle.std.proofs.Common.{◌<◌, ◌∙◌, ap, sym, subst, length, arith}
 use Rattle.flat_row.specs.Row.{Network, level_at}
 use Rattle.flat_row.specs.Ends.{ShowsOne}
 use Rattle.flat_row.proofs.Siding.{level_is, acted_in}

@@ -1,4 +1,4 @@
-use Rattle.std.proofs.Common.{◌≡◌, ℕ, suc, ◌+◌, ◌-◌, ◌<◌, ◌≤◌, ◌∙◌, ap, sym, subst, length, arith, refl}
+use Rattle.std.proofs.Common.{◌≤◌, ◌∙◌, sym, subst}
 use Rattle.omega_net.specs.Numbers.{lines}
 use Rattle.flat_row.proofs.Siding.{only_same, both_served}
 use Rattle.flat_row.proofs.sides.serve_both.Goals as goal

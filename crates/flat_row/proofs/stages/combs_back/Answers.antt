@@ -1,4 +1,4 @@
-use Rattle.std.proofs.Common.{◌≡◌, ℕ, ◌+◌, ◌-◌, ◌<◌, ◌≤◌, ◌∙◌, ap, sym, subst, length, arith, refl}
+use Rattle.std.proofs.Common.{◌≡◌, ◌+◌, ◌<◌, ◌≤◌, subst, arith}
 use Rattle.omega_net.specs.Numbers.{lines}
 use Rattle.flat_row.proofs.Staging.{PartlyBack, none_back_yet, back_some, back_stage_more, all_back_met, levels_still, buffers_still}
 use Rattle.flat_row.proofs.stages.combs_back.Goals as goal

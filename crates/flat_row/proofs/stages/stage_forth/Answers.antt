@@ -1,4 +1,4 @@
-use Rattle.std.proofs.Common.{◌≡◌, ℕ, ◌+◌, ◌-◌, ◌<◌, ◌≤◌, ◌∙◌, ap, sym, subst, length, arith, refl}
+use Rattle.std.proofs.Common.{◌+◌, ◌<◌, ◌∙◌, ap, sym, subst, length, arith}
 use Rattle.flat_row.specs.Combining.{cleared}
 use Rattle.flat_row.specs.Stages.{buffers_in}
 use Rattle.flat_row.proofs.Staging.{beside_is, put_here, put_other, put_same, none_combined, can_cross, forth_met}

@@ -1,4 +1,4 @@
-use Rattle.std.proofs.Common.{◌≡◌, ℕ, suc, ◌+◌, ◌-◌, ◌<◌, ◌≤◌, ◌∙◌, ap, sym, subst, length, arith, refl}
+use Rattle.std.proofs.Common.{◌≡◌, ◌∙◌, subst, arith, refl}
 use Rattle.std.proofs.Math.ListN.{length-set}
 use Rattle.flat_row.specs.Leaving.{AllBack}
 use Rattle.flat_row.proofs.Sending.{back_stages}

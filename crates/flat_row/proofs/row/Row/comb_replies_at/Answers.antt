@@ -1,10 +1,9 @@
-use Rattle.std.proofs.Common.{◌≡◌, ℕ, suc, ◌+◌, ◌-◌, ◌<◌, ◌≤◌, ◌∙◌, ap, sym, subst, length, arith, refl}
-use Rattle.std.specs.Prelude.{slice_index_or, List}
-use Rattle.omega_net.specs.declared.message.Request.{Request}
+use Rattle.std.proofs.Common.{◌≡◌, suc, ◌+◌, ◌-◌, ◌∙◌, ap, subst, length, arith, refl}
+use Rattle.std.specs.Prelude.{slice_index_or}
 use Rattle.omega_net.specs.declared.message.Reply.{Reply}
-use Rattle.omega_net.specs.declared.component.Net.TheVariants.{Low as LowNet, Comb as CombNet}
+use Rattle.omega_net.specs.declared.component.Net.TheVariants.{Comb as CombNet}
 use Rattle.flat_row.specs.Row.{Network, Arrays, level_at}
-use Rattle.flat_row.specs.Rows.{network, MarksRequests, MarksReplies}
+use Rattle.flat_row.specs.Rows.{network, MarksReplies}
 use Rattle.flat_row.proofs.Sending.{network_there, marks_there, comb_stage_back}
 use Rattle.flat_row.proofs.row.Row.comb_replies_at.Goals as goal
 

@@ -1,10 +1,7 @@
-use Rattle.std.proofs.Common.{◌≡◌, ℕ, suc, ◌+◌, ◌-◌, ◌<◌, ◌≤◌, ◌∙◌, ap, sym, subst, length, arith}
-use Rattle.std.specs.Prelude.{slice_index_or, List}
-use Rattle.omega_net.specs.declared.message.Request.{Request}
+use Rattle.std.proofs.Common.{◌∙◌, ap, length, arith}
 use Rattle.omega_net.specs.declared.message.Reply.{Reply}
-use Rattle.omega_net.specs.declared.component.Net.TheVariants.{Low as LowNet, Comb as CombNet}
-use Rattle.flat_row.specs.Row.{Network, Arrays, level_at}
-use Rattle.flat_row.specs.Rows.{network, MarksRequests, MarksReplies}
+use Rattle.flat_row.specs.Row.{Network}
+use Rattle.flat_row.specs.Rows.{network}
 use Rattle.flat_row.proofs.Sending.{network_there, marks_there, all_receive}
 use Rattle.flat_row.proofs.row.Row.receiving.Goals as goal
 

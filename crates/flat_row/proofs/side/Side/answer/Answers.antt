@@ -1,4 +1,4 @@
-use Rattle.std.proofs.Common.{◌≡◌, ℕ, suc, ◌+◌, ◌<◌, ◌≤◌, ◌∙◌, ap, sym, subst, length, arith, refl}
+use Rattle.std.proofs.Common.{◌<◌, ◌∙◌, ap, sym, subst, length, arith}
 use Rattle.flat_row.specs.Row.{Network, level_at}
 use Rattle.flat_row.proofs.Siding.{level_is, answered_in}
 use Rattle.flat_row.proofs.side.Side.answer.Goals as goal

@@ -1,7 +1,7 @@
-use Rattle.std.proofs.Common.{◌≡◌, ℕ, suc, ◌+◌, ◌<◌, ◌≤◌, ◌∙◌, ap, sym, subst, length, arith, refl}
+use Rattle.std.proofs.Common.{◌+◌, sym, subst}
 use Rattle.omega_net.specs.Numbers.{lines}
 use Rattle.flat_row.specs.Row.{Network, HasLevels}
-use Rattle.flat_row.specs.Moving.{AllWait, AllWaitBack, forth_after, back_after}
+use Rattle.flat_row.specs.Moving.{AllWaitBack}
 use Rattle.flat_row.specs.Stages.{CombBack}
 use Rattle.flat_row.proofs.Siding.{replies_only}
 use Rattle.flat_row.proofs.side.Side.combs_back.Goals as goal

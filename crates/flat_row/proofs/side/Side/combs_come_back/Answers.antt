@@ -1,8 +1,7 @@
-use Rattle.std.proofs.Common.{◌≡◌, ℕ, suc, ◌+◌, ◌-◌, ◌<◌, ◌≤◌, ◌∙◌, ap, sym, subst, length, arith, refl}
-use Rattle.omega_net.specs.declared.message.Reply.{Reply}
-use Rattle.flat_row.specs.Row.{level_at, queue_of}
+use Rattle.std.proofs.Common.{◌<◌, ◌∙◌, ap, sym, subst, length, arith}
+use Rattle.flat_row.specs.Row.{level_at}
 use Rattle.flat_row.specs.Step.{NetAnswered}
-use Rattle.flat_row.proofs.Siding.{returned_by, back_end, combs_by}
+use Rattle.flat_row.proofs.Siding.{returned_by, combs_by}
 use Rattle.flat_row.proofs.side.Side.combs_come_back.Goals as goal
 
 pub answer-requires-clause-there : goal.answer-requires-clause-there

@@ -1,8 +1,7 @@
-use Rattle.std.proofs.Common.{◌≡◌, ℕ, suc, ◌+◌, ◌-◌, ◌<◌, ◌≤◌, ◌∙◌, ap, sym, subst, length, arith, refl}
+use Rattle.std.proofs.Common.{◌∙◌, ap, sym, subst, length, arith}
 use Rattle.std.specs.Prelude.{IsSome}
 use Rattle.omega_net.specs.Queues.{head}
 use Rattle.flat_row.specs.Row.{queue_of}
-use Rattle.flat_row.specs.Stages.{CombForth}
 use Rattle.flat_row.proofs.Siding.{departed_by}
 use Rattle.flat_row.proofs.side.Side.depart.Goals as goal
 

@@ -1,4 +1,4 @@
-use Rattle.std.proofs.Common.{◌≡◌, ℕ, suc, ◌+◌, ◌<◌, ◌≤◌, ◌∙◌, ap, sym, subst, length, arith, refl}
+use Rattle.std.proofs.Common.{◌≡◌, suc, ◌+◌, ◌<◌, ◌∙◌, ap, sym, subst, length, arith}
 use Rattle.std.specs.Prelude.{IsSome}
 use Rattle.omega_net.specs.Queues.{head}
 use Rattle.omega_net.specs.Ports.{queue_at}

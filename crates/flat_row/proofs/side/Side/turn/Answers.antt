@@ -1,4 +1,4 @@
-use Rattle.std.proofs.Common.{◌≡◌, ℕ, suc, ◌+◌, ◌<◌, ◌≤◌, ◌∙◌, ap, sym, subst, length, arith, refl}
+use Rattle.std.proofs.Common.{ap}
 use Rattle.flat_row.specs.Row.{Network}
 use Rattle.flat_row.proofs.side.Side.turn.Goals as goal
 
