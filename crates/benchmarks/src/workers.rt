@@ -6,7 +6,7 @@ use crate::loads::What;
 use crate::turns::{second, shared};
 use crate::waves;
 use anyhow::{Error, Result};
-use bench_core::Told as Answered;
+use bench_core::{Asked, Told as Answered};
 use cell_table::Cell;
 use project_book::Project;
 use run_queries::Query;
@@ -25,14 +25,14 @@ const TIMES: u32 = 5;
 /// How many seats a bench has: for four workers, for who starts them, and for who edits.
 const SEATS: u32 = 6;
 
-/// How long nobody edits before each edit, in microseconds.
-const REST: u64 = 1_000;
+/// How long nobody edits before each edit, in microseconds: workers are asleep then.
+const REST: u64 = 10_000;
 
 /// How long nobody asks after an edit where workers may compute meanwhile, in microseconds.
 const PAUSE: u64 = 100_000;
 
-/// A question that waits for every cell.
-const REPLY: Query = Query::Reply { proc: 0, issue: 0 };
+/// How long who waits for workers sleeps between two looks, in microseconds.
+const LOOK: u64 = 100;
 
 /// What lets workers run: a handle that each thread takes with it.
 pub trait Hall: Threads + Wait + Sync + Send + Copy + Drop + 'static {}
@@ -154,6 +154,14 @@ fn fresh_pass(alloc: Global, project: &Project) -> Result<Pass> {
     shared(alloc, bench, SEATS)
 }
 
+/// A question that waits for every cell: a word at the last cycle.
+fn last_word(project: &Project) -> Query {
+    Query::Memory {
+        address: 0,
+        cycle: project.horizon(),
+    }
+}
+
 /// How many cells a project's run has.
 fn cells_of(project: &Project) -> u64 {
     let cycles = u64::from(project.horizon()).saturating_add(1);
@@ -179,6 +187,42 @@ fn worked<H: Hall>(
     }
 }
 
+/// Looks until the question is answered, and then ends the workers: how long that took.
+fn waited<H: Hall>(
+    rt: &HostRuntime,
+    host: &H,
+    pass: Pass,
+    query: Query,
+    since: Instant,
+    board: &Board,
+) -> Result<u64> {
+    let mut pass = pass;
+    for _ in 0..u32::MAX {
+        if let Asked::Answer { .. } = pass.look(host, query) {
+            break;
+        }
+        thread::sleep(rt, Duration::from_micros(LOOK));
+    }
+    let time = taken(rt, since);
+    end(board, &pass);
+    time
+}
+
+/// Settles a fresh bench by so many workers, slice by slice: the time.
+fn sliced<H: Hall>(rt: &HostRuntime, host: &H, project: &Project, workers: u32) -> Result<u64> {
+    let mut pass = fresh_pass(rt.alloc(), project)?;
+    let own = second(&mut pass)?;
+    let board = new_board(rt.alloc(), u64::MAX)?;
+    let gates = gates(rt.alloc(), &board, workers)?;
+    let since = Instant::now(rt)?;
+    let (time, ()) = thread::join(
+        host,
+        || -> Result<u64> { waited(rt, host, pass, last_word(project), since, &board) },
+        || attended(host, own, gates, &board),
+    );
+    time
+}
+
 /// Settles a fresh bench by 1, 2 and 4 workers, and by one thread in its turn.
 fn all_worked<H: Hall>(rt: &HostRuntime, host: &H, load: Load, project: &Project) -> Result<()> {
     let cells = cells_of(project);
@@ -186,7 +230,7 @@ fn all_worked<H: Hall>(rt: &HostRuntime, host: &H, load: Load, project: &Project
     for _ in 0..TIMES {
         let mut pass = fresh_pass(rt.alloc(), project)?;
         let since = Instant::now(rt)?;
-        answered(&mut pass, host)?;
+        answered(&mut pass, host, last_word(project))?;
         alone = alone.and(taken(rt, since)?);
     }
     let beside = Beside {
@@ -211,12 +255,17 @@ fn all_worked<H: Hall>(rt: &HostRuntime, host: &H, load: Load, project: &Project
             cells,
             beside,
         )?;
+        let mut times = Times::none();
+        for _ in 0..TIMES {
+            times = times.and(sliced(rt, host, project, workers)?);
+        }
+        row_beside(rt, load, "and in slices", times, cells, beside)?;
     }
     Ok(())
 }
 
-fn answered<H: Hall>(pass: &mut Pass, host: &H) -> Result<()> {
-    match pass.ask(host, REPLY) {
+fn answered<H: Hall>(pass: &mut Pass, host: &H, query: Query) -> Result<()> {
+    match pass.ask(host, query) {
         Answered::Answer { .. } => Ok(()),
         _ => Err(Error::msg("no answer")),
     }
@@ -237,6 +286,7 @@ fn edits<H: Hall>(
     host: &H,
     load: Load,
     pass: &mut Pass,
+    query: Query,
     what: What,
 ) -> Result<Times> {
     let mut times = Times::none();
@@ -244,7 +294,7 @@ fn edits<H: Hall>(
         thread::sleep(rt, Duration::from_micros(REST));
         let since = Instant::now(rt)?;
         pass.edit(host, what.edit(load, time))?;
-        answered(pass, host)?;
+        answered(pass, host, query)?;
         times = times.and(taken(rt, since)?);
     }
     Ok(times)
@@ -256,6 +306,7 @@ fn pauses<H: Hall>(
     host: &H,
     load: Load,
     pass: &mut Pass,
+    query: Query,
     pause: u64,
 ) -> Result<Times> {
     let mut times = Times::none();
@@ -263,7 +314,7 @@ fn pauses<H: Hall>(
         pass.edit(host, What::Depth.edit(load, time))?;
         thread::sleep(rt, Duration::from_micros(pause));
         let since = Instant::now(rt)?;
-        answered(pass, host)?;
+        answered(pass, host, query)?;
         times = times.and(taken(rt, since)?);
     }
     Ok(times)
@@ -274,14 +325,15 @@ fn all_edits<H: Hall>(
     host: &H,
     load: Load,
     pass: &mut Pass,
+    query: Query,
     pause: u64,
 ) -> Result<Answers> {
-    answered(pass, host)?;
+    answered(pass, host, query)?;
     Ok(Answers {
-        word: edits(rt, host, load, pass, What::Word)?,
-        entry: edits(rt, host, load, pass, What::LastEntry)?,
-        depth: edits(rt, host, load, pass, What::Depth)?,
-        paused: pauses(rt, host, load, pass, pause)?,
+        word: edits(rt, host, load, pass, query, What::Word)?,
+        entry: edits(rt, host, load, pass, query, What::LastEntry)?,
+        depth: edits(rt, host, load, pass, query, What::Depth)?,
+        paused: pauses(rt, host, load, pass, query, pause)?,
     })
 }
 
@@ -303,10 +355,11 @@ fn answers_and_end<H: Hall>(
     host: &H,
     load: Load,
     pass: Pass,
+    query: Query,
     board: &Board,
 ) -> Result<Answers> {
     let mut pass = pass;
-    let answers = all_edits(rt, host, load, &mut pass, PAUSE);
+    let answers = all_edits(rt, host, load, &mut pass, query, PAUSE);
     end(board, &pass);
     answers
 }
@@ -330,7 +383,9 @@ fn with_workers<H: Hall>(
     let gates = gates(rt.alloc(), &board, 4)?;
     let (answers, ()) = thread::join(
         host,
-        || -> Result<Answers> { answers_and_end(rt, host, load, pass, &board) },
+        || -> Result<Answers> {
+            answers_and_end(rt, host, load, pass, last_word(project), &board)
+        },
         || attended(host, own, gates, &board),
     );
     answers
@@ -344,7 +399,7 @@ fn beside_workers<H: Hall>(
     project: &Project,
 ) -> Result<u32> {
     let mut pass = fresh_pass(rt.alloc(), project)?;
-    let without = all_edits(rt, host, load, &mut pass, REST)?;
+    let without = all_edits(rt, host, load, &mut pass, last_word(project), REST)?;
     let with = with_workers(rt, host, load, project)?;
     for (what, times, other) in [
         ("a word", with.word, without.word),

@@ -17,6 +17,7 @@
 mod carried;
 mod pass;
 mod plays;
+mod post;
 mod steps;
 mod view;
 

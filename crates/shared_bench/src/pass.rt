@@ -8,7 +8,8 @@ ghost use Rattle.shared_bench.specs.Answers.{project_at};
 mod turns;
 
 use crate::carried::Carried;
-use crate::plays::{Joins, LENGTH, Splits, TurnSeat, TurnTable};
+use crate::plays::{Joins, LENGTH, NUMBERS, Splits, TurnSeat, TurnTable};
+use crate::post::Post;
 use crate::steps::{draw_first, enter, fill, look, take_ticket};
 use crate::view::Opening;
 use bench_core::Bench;
@@ -16,6 +17,7 @@ use std::alloc::Global;
 use std::marker::Model;
 use std::snapshot::Snapshot;
 use std::sync::{Arc, Wait};
+use std::time::Duration;
 
 /// Why a pass wasn't split.
 #[derive(Clone, Copy, PartialEq, Eq, Debug, Drop)]
@@ -35,6 +37,7 @@ pub enum SplitFault {
 #[derive(Drop)]
 pub struct Pass {
     table: Arc<TurnTable, Global>,
+    post: Arc<Post, Global>,
     seat: TurnSeat,
     number: u32,
     seats: u32,
@@ -84,9 +87,13 @@ pub fn open(alloc: Global, bench: Bench, seats: u32) -> Result<Pass, Bench>
     let Ok(table) = Arc::new(alloc, table) else {
         return Err(Box::into_inner(bench));
     };
+    let Ok(post) = Arc::new(alloc, Post::new()) else {
+        return Err(Box::into_inner(bench));
+    };
     fill(&table.shared, &mut seat, Carried { bench });
     Ok(Pass {
         table,
+        post,
         seat,
         number: 0,
         seats,
@@ -117,7 +124,15 @@ impl Pass {
     /// Sleeps while the journal has this many entries, until an edit is made or `wake_all` is called. It may also return for
     /// no reason.
     pub fn park<R: Wait>(&self, rt: &R, length: u32) {
-        self.table.shared.park(rt, LENGTH, length);
+        self.post.park(rt, &self.table.shared, length);
+    }
+
+    /// Sleeps for so long, whatever is edited meanwhile, and nobody is made to wake it. It may also return for no reason.
+    pub fn nap<R: Wait>(&self, rt: &R, duration: Duration) {
+        let numbers = self.table.shared.peek(NUMBERS);
+        self.table
+            .shared
+            .park_timeout(rt, NUMBERS, (numbers % (1 << 32)) as u32, duration);
     }
 
     /// Wakes those who are parked on a pass of this opening.
@@ -145,7 +160,7 @@ impl Pass {
         ensures same { self.new ≡ self.old }
         ensures ok { IfOk result (λ p. IsSplit self.old p) }
     {
-        let Ok(table) = Arc::try_clone(&self.table) else {
+        let (Ok(table), Ok(post)) = (Arc::try_clone(&self.table), Arc::try_clone(&self.post)) else {
             return Err(SplitFault::Memory);
         };
         let mut seat = table.shared.split_seat::<Splits>(&mut self.seat);
@@ -154,6 +169,7 @@ impl Pass {
         };
         Ok(Pass {
             table,
+            post,
             seat,
             number,
             seats: self.seats,
@@ -171,6 +187,7 @@ impl Pass {
     {
         let Pass {
             table,
+            post,
             mut seat,
             number,
             seats,
@@ -180,6 +197,7 @@ impl Pass {
         } = self;
         let Pass {
             table: _,
+            post: _,
             seat: other_seat,
             number: _,
             seats: _,
@@ -195,6 +213,7 @@ impl Pass {
         };
         Pass {
             table,
+            post,
             seat,
             number,
             seats,
@@ -222,6 +241,7 @@ impl Pass {
         }
         let Pass {
             table,
+            post,
             mut seat,
             number,
             seats,
@@ -237,6 +257,7 @@ impl Pass {
             Some(held) => Ok(held.open()),
             None => Err(Pass {
                 table,
+                post,
                 seat,
                 number,
                 seats,

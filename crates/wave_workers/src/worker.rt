@@ -12,6 +12,7 @@ use shared_bench::Pass;
 use std::snapshot::Snapshot;
 use std::sync::Wait;
 use std::thread::Promise;
+use std::time::Duration;
 
 /// How each worker works.
 #[derive(Clone, Copy)]
@@ -28,6 +29,10 @@ pub struct Plan {
 /// How many cells the slices have together that workers settle in a turn each: who asks meanwhile waits for all of them at
 /// most, and a cell takes 0.1 to 0.5 microseconds. A slice has a whole cycle at least.
 const CELLS: u32 = 1_024;
+
+/// For how many microseconds nobody edits before a worker that an edit woke begins: longer than a program takes to read an
+/// answer and ask, so that a question which comes at once finds no worker before it.
+const NAP: u64 = 1_000;
 
 impl Plan {
     /// So many turns for each of so many gates, and no sleep.
@@ -157,8 +162,22 @@ fn sleep<R: Wait>(rt: &R, pass: &Pass, watched: Watched)
     pass.park(rt, watched.length);
 }
 
+/// Lets whoever has just edited ask first: naps for as long as edits come.
+fn hold_back<R: Wait>(rt: &R, pass: &mut Pass)
+    ensures { IsKept pass.old pass.new }
+{
+    for _ in rt.forever() {
+        let length = pass.length();
+        pass.nap(rt, Duration::from_micros(NAP));
+        if pass.length() == length {
+            return;
+        }
+    }
+}
+
 /// A worker that begins at this component: it works until its gate stops it, or its turns are used up. Where it sleeps,
-/// it does so after a turn that could do nothing, until the next edit or until it is woken.
+/// it does so after a turn that could do nothing, until the next edit or until it is woken, and begins once no edit has
+/// come for a millisecond.
 pub fn run_worker<R: Wait, G: Gate + Drop>(
     rt: &R,
     mut pass: Pass,
@@ -181,6 +200,7 @@ pub fn run_worker<R: Wait, G: Gate + Drop>(
         tally = tally.after(watched.came);
         if plan.sleeps && watched.came.is_for_nothing() {
             sleep(rt, &pass, watched);
+            hold_back(rt, &mut pass);
         }
     }
     Attended { pass, tally }
