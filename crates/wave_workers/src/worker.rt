@@ -166,13 +166,35 @@ fn sleep<R: Wait>(rt: &R, pass: &Pass, watched: Watched)
 fn hold_back<R: Wait>(rt: &R, pass: &mut Pass)
     ensures { IsKept pass.old pass.new }
 {
+    let mut length = pass.length();
     for _ in rt.forever() {
-        let length = pass.length();
         pass.nap(rt, Duration::from_micros(NAP));
-        if pass.length() == length {
+        let now = pass.length();
+        if now == length {
             return;
         }
+        length = now;
     }
+}
+
+/// A turn, and the sleep after one that could do nothing, where the plan is to sleep: until the next edit, and as long after it
+/// as edits come. What the turn came to.
+fn turn_and_sleep<R: Wait, G: Gate>(
+    rt: &R,
+    pass: &mut Pass,
+    gate: &mut G,
+    from: &mut Cell,
+    plan: Plan,
+) -> Came
+    ensures { IsKept pass.old pass.new }
+{
+    let watched = watched_turn(rt, pass, gate, from, plan);
+    if !plan.sleeps || !watched.came.is_for_nothing() {
+        return watched.came;
+    }
+    sleep(rt, pass, watched);
+    hold_back(rt, pass);
+    watched.came
 }
 
 /// A worker that begins at this component: it works until its gate stops it, or its turns are used up. Where it sleeps,
@@ -196,12 +218,8 @@ pub fn run_worker<R: Wait, G: Gate + Drop>(
         if !gate.go_on(number) {
             break;
         }
-        let watched = watched_turn(rt, &mut pass, &mut gate, &mut from, plan);
-        tally = tally.after(watched.came);
-        if plan.sleeps && watched.came.is_for_nothing() {
-            sleep(rt, &pass, watched);
-            hold_back(rt, &mut pass);
-        }
+        let came = turn_and_sleep(rt, &mut pass, &mut gate, &mut from, plan);
+        tally = tally.after(came);
     }
     Attended { pass, tally }
 }
