@@ -157,6 +157,34 @@ fn an_edit_wakes_who_is_parked(rt: HostRuntime) -> Result<(), Fail> {
     Ok(())
 }
 
+/// Two sleep until the edit.
+fn both_sleep<R: Host>(rt: &R, one: Pass, other: Pass, ready: &Board, board: &Board) {
+    thread::join(
+        rt,
+        move || sleeps(rt, one, ready, board),
+        move || sleeps(rt, other, ready, board),
+    );
+}
+
+/// The edit wakes one of them, and that one lets the other go.
+#[test]
+fn an_edit_wakes_all_who_are_parked(rt: HostRuntime) -> Result<(), Fail> {
+    let mut one = opened(rt.alloc(), fresh(rt.alloc())?, 3)?;
+    let (two, three) = (split(&mut one)?, split(&mut one)?);
+    let (ready, board) = (Board::new(), Board::new());
+    thread::join(
+        &rt,
+        || {
+            assert!(rt; ready.sees(&rt, 2));
+            pause(&rt);
+            assert!(rt; equal(&rt, one.edit(&rt, word(0, 20)), Ok(1)));
+            assert!(rt; board.sees(&rt, 2));
+        },
+        || both_sleep(&rt, two, three, &ready, &board),
+    );
+    Ok(())
+}
+
 /// Wakes until so many have come: whether they do in time.
 fn wakes<R: Clock>(rt: &R, pass: Pass, board: &Board, all: u64) -> bool {
     for _ in 0..MOST_LOOKS {
