@@ -54,7 +54,8 @@ impl Row {
             &self.comb_got,
             active,
         );
-        self.low.come_back(shape, &low, served.low, &self.low_answers);
+        self.low
+            .come_back(shape, &low, served.low, &self.low_answers);
         self.comb.combs_come_back(
             &mut self.waits,
             project,

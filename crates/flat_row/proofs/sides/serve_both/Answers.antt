@@ -28,6 +28,6 @@ returns-clause-many c = c.serve-2.ensures.many ∙ c.in_ok-serve.ensures.many
 pub returns-clause-both : goal.returns-clause-both
 returns-clause-both c =
     on_ok_weaker c.serve-2.result (λ done.
-      both_served c.args.shape c.args.served.now.low c.args.served.now.comb c.args.low.now c.serve.new.self c.args.comb.now c.serve-2.new.self c.args.words.now.items c.serve.new.words.items c.serve-2.new.words.items c.serve.new.answers c.serve-2.new.answers
-      c.in_ok-serve.ensures.served done)
+    both_served c.args.shape c.args.served.now.low c.args.served.now.comb c.args.low.now c.serve.new.self c.args.comb.now c.serve-2.new.self c.args.words.now.items c.serve.new.words.items c.serve-2.new.words.items c.serve.new.answers c.serve-2.new.answers
+    c.in_ok-serve.ensures.served done)
     c.serve-2.ensures.served
