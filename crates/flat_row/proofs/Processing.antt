@@ -227,18 +227,22 @@ module _ (P : Project) (low_got comb_got : Replies) (active : ℕ) (old : List P
     all_acted none few p within = up_to 64 (λ y le s w. none y le s) p (label_small few within) within
 
     module _ (x : ℕ) (small : x < 64) (le : n ≤ x) (none : (y : ℕ) → n ≤ y → y < x → has active y ≡ false) where
-      -- at a place where there is no processor nothing is done
-      pub none_there : lines P.k ≤ x → PartlyActed P (x + 1) low_got comb_got rests old now low low_now comb comb_now
-      none_there past = record {
+      -- at a place where there is no processor nothing is done, and its label is marked
+      pub none_there : lines P.k ≤ x → (later : ℕ) → IsSetOf (λ y. cond (y == x) true (has rests y)) later → PartlyActed P (x + 1) low_got comb_got later old now low low_now comb comb_now
+      none_there past later marked = record {
         many = partly.many;
         low_same = partly.low_same;
         comb_same = partly.comb_same;
         one = partly.one;
         done = λ p h within. up_to x (λ y l s w. none y l s) p (omega (arith, within, past)) within;
         still = λ p h. partly.still p (omega (arith, h, le));
-        stay = partly.stay;
-        rest = partly.rest;
+        stay = λ p s within so. partly.stay p s within (elsewhere p s within so (p == x) refl);
+        rest = λ p s within so. partly.rest p s within (elsewhere p s within so (p == x) refl);
       }
+        where
+          elsewhere : (p : ℕ) → p < 64 → p < lines P.k → has later p ≡ true → (t : Bool) → (p == x) ≡ t → has rests p ≡ true
+          elsewhere p s within so true e = let is : p ≡ x = eqb-true p x e in absurd (omega (arith, is, within, past))
+          elsewhere p s within so false e = ap (λ b. cond b true (has rests p)) (sym e) ∙ sym (marked p s) ∙ so
 
       module _ (new : List ProcState) (low_new comb_new : Queues Request) (later : ℕ) (mark : Bool)
           (many : length new ≡ length now) (low_kept : SameLevel low_now low_new) (comb_kept : SameLevel comb_now comb_new) (one : ShowsOne low_new comb_new x)

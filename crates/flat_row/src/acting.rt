@@ -96,6 +96,9 @@ pub(crate) fn act_all(
             let replies = [low_got.of(p), comb_got.of(p)];
             let stays = act(project, procs, low, comb, p, replies);
             rests = with_mark(rests, p, stays);
+        } else {
+            // No processor has this label, so it is never asked again.
+            rests = with_mark(rests, p, true);
         }
         next = p + 1;
     }

@@ -38,6 +38,9 @@ act-stays-requires-clause-one c = c.loop-p.invariant.partly.one c.in-Some.p
 pub with_mark-rests-requires : goal.with_mark-rests-requires
 with_mark-rests-requires c = c.in-Some.ensures.there.1
 
+pub with_mark-rests-requires-else-p-lines : goal.with_mark-rests-requires-else-p-lines
+with_mark-rests-requires-else-p-lines c = c.in-Some.ensures.there.1
+
 pub loop-p-smaller : goal.loop-p-smaller
 loop-p-smaller c = omega (arith, c.in-Some.ensures.there.0, c.in-Some.ensures.there.1)
 
@@ -59,7 +62,7 @@ loop-p-preserved c = record {
         (none_there c.args.project.now c.args.low_got.now c.args.comb_got.now c.args.active c.args.procs.now.items c.args.low.now c.args.comb.now c.requires.others
         c.loop-p.next c.loop-p.rests c.loop-p.procs.items c.loop-p.low c.loop-p.comb c.loop-p.invariant.partly
         c.in-Some.p c.in-Some.ensures.there.1 c.in-Some.ensures.there.0 c.in-Some.ensures.passed
-        (let size = c.lines-lines.ensures.value ∙ ap lines c.shape.ensures in omega (arith, w.if-p-lines.false, size)))
+        (let size = c.lines-lines.ensures.value ∙ ap lines c.shape.ensures in omega (arith, w.if-p-lines.false, size)) w.with_mark-rests-else-p-lines.result w.with_mark-rests-else-p-lines.ensures)
   ];
 }
 
