@@ -3,7 +3,7 @@ use Rattle.std.proofs.Common.{◌≡◌, ℕ, zero, suc, ◌-◌, ◌^◌, ◌<�
 use Rattle.std.specs.Prelude.{◌==◌, ◌&&◌, ◌||◌, not, min, max, bit_and, bit_or}
 use Rattle.std.specs.Int.{bit_at, bit_not, w64}
 use Rattle.std.proofs.lemmas.Nat.{and_le_l}
-use Rattle.std.proofs.lemmas.Nat.Bits.{bit_at_and, bit_at_or, bit_at_not, bit_at-lt}
+use Rattle.std.proofs.lemmas.Nat.Bits.{bit_at_and, bit_at_or, bit_at_not, bit_at-lt, bit_at-zero}
 use Rattle.omega_net.specs.Wires.{bit}
 use Rattle.omega_net.specs.Queues.{turn_after}
 use Rattle.flat_row.specs.declared.decide.Heads.{Heads}
@@ -368,3 +368,31 @@ served_turn low comb turn a b small p q x within =
     ∙ ap (λ t. t && has (bit_not w64 b) x) (has_or turn a x ∙ ap (λ t. has turn x || t) (p x within))
     ∙ ap (λ t. (has turn x || is_net Low (served_at low comb turn x)) && t) (has_not b x small within ∙ ap not (q x within)))
     ∙ serve_turn (has low x) (has comb x) (has turn x)
+
+-- where nothing waits nothing leaves
+empty_at : (any : ℕ) → any ≡ 0 → (x : ℕ) → has any x ≡ false
+empty_at any e x = ap (λ a. has a x) e ∙ ap (λ n. n == 1) (bit_at-zero x)
+
+and_false : (a : Bool) → (a && false) ≡ false
+and_false true = refl
+and_false false = refl
+
+module _ (by : ℕ) (heads : Heads) (room : Room) (turn : ℕ) (e : heads.any ≡ 0) where
+  none_comes : (i y : ℕ) → comes by heads room turn i y ≡ false
+  none_comes i y = ap (λ t. t && (asks heads (port by i y) == bit by y) && takes_from room turn i y) (empty_at heads.any e (port by i y))
+
+  pub none_leave : IsSetOf (leaves by heads room turn) 0
+  none_leave x small = empty_at 0 refl x ∙ sym (ap (λ t. t && takes_from room turn (bit by x) (port by (asks heads x) x)) (empty_at heads.any e x))
+
+  pub none_turn : TurnsAfter turn (comes by heads room turn 0) (comes by heads room turn 1) turn
+  none_turn y small = sym (ap (λ t. turn_after (bit y turn) t (comes by heads room turn 1 y)) (none_comes 0 y) ∙ ap (λ t. turn_after (bit y turn) false t) (none_comes 1 y))
+
+module _ (by any : ℕ) (room : Room) (turn : ℕ) (e : any ≡ 0) where
+  none_comes_both : (i x : ℕ) → comes_both by any room turn i x ≡ false
+  none_comes_both i x = ap (λ t. (bit by x == 0) && (t && takes_both by room turn i x)) (empty_at any e (port by i x)) ∙ and_false (bit by x == 0)
+
+  pub none_leave_both : IsSetOf (leaves_both by any room turn) 0
+  none_leave_both x small = empty_at 0 refl x ∙ sym (ap (λ t. t && takes_both by room turn (bit by x) x) (empty_at any e x))
+
+  pub none_turn_both : TurnsAfter turn (comes_both by any room turn 0) (comes_both by any room turn 1) turn
+  none_turn_both y small = sym (ap (λ t. turn_after (bit y turn) t (comes_both by any room turn 1 y)) (none_comes_both 0 y) ∙ ap (λ t. turn_after (bit y turn) false t) (none_comes_both 1 y))

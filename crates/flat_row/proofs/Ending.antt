@@ -1,20 +1,21 @@
 -- What modules and processors do in a cycle, one label after another.
-use Rattle.std.proofs.Common.{◌≡◌, ℕ, ◌+◌, ◌<◌, ◌≤◌, Bool, true, false, cond, List, [], length, replicate, refl, ap, sym, ◌∙◌, subst, ◌⊎◌, inl, inr, Option, None, Some, arith}
+use Rattle.std.proofs.Common.{◌≡◌, ℕ, ◌+◌, ◌<◌, ◌≤◌, Bool, true, false, cond, List, [], length, refl, ap, sym, ◌∙◌, subst, ◌⊎◌, inl, inr, Option, None, Some, arith}
 use Rattle.std.proofs.Math.ListN.{set, length-set}
-use Rattle.std.proofs.lemmas.List.{get_or-set_same, get_or-set_other, get_or_past, get_or-replicate}
+use Rattle.std.proofs.lemmas.List.{get_or-set_same, get_or-set_other, get_or_past}
 use Rattle.std.proofs.lemmas.Bool.{cases_lt, eqb-true, eq-eqb, lt-ltb, le-ltb}
 use Rattle.std.specs.Prelude.{◌==◌, ◌&&◌, IsSome}
 use Rattle.arrayvec.specs.ArrayVec.{ArrayVec}
 use Rattle.omega_net.specs.declared.message.Request.{Request}
 use Rattle.omega_net.specs.declared.message.Reply.{Reply}
 use Rattle.omega_net.specs.Queues.{head, without_head, joined}
-use Rattle.omega_net.specs.Ports.{queue_at, message_at, empty}
+use Rattle.omega_net.specs.Ports.{queue_at, empty}
 use Rattle.mem_module.specs.declared.words.Stored.{Stored}
 use Rattle.mem_module.specs.MemModule.{answer_to, words_after}
 use Rattle.flat_row.specs.Masks.{has}
 use Rattle.flat_row.specs.Queues.{Queues, with_queue}
 use Rattle.flat_row.specs.Rows.{if_leaves}
 use Rattle.flat_row.specs.Combining.{SameLevel}
+use Rattle.flat_row.specs.declared.acting.Replies.{Replies}
 use Rattle.flat_row.specs.Ends.{no_reply, reply_at, words_of, AllServed, AreAnswered, AllReceived}
 use Rattle.flat_row.proofs.Carrying.{upto, upto_other, upto_here, upto_later, upto_none, false_true}
 
@@ -188,30 +189,34 @@ module _ (modules : ℕ) (answers : List Reply) (old : Queues Reply) where
               ∙ ap (λ t. joined (queue_at old.queues m) (cond t (Some (reply_at answers m)) None)) (sym (upto_other modules n x m le none (ne m e)))
 
 -- processors below n have received
-pub record PartlyReceived (set n : ℕ) (old now : Queues Reply) (got : List (Option Reply)) : Type 0 where
+pub record PartlyReceived (set n : ℕ) (old now : Queues Reply) (got : Replies) : Type 0 where
   pub same : SameLevel old now
-  pub places : length got ≡ 64
+  pub set_is : got.set ≡ set
+  pub places : length got.at ≡ 64
   pub queues : (p : ℕ) → p < 64 → queue_at now.queues p ≡ without_head (upto set n p) (queue_at old.queues p)
-  pub messages : (p : ℕ) → p < 64 → message_at got p ≡ if_leaves (upto set n p) (queue_at old.queues p)
+  pub messages : (p : ℕ) → p < 64 → upto set n p ≡ true → Some (reply_at got.at p) ≡ head (queue_at old.queues p)
 
--- at first nothing has been received
-pub nothing_got : (p : ℕ) → p < 64 → message_at {T = Reply} (replicate 64 None) p ≡ None
-nothing_got p small = get_or-replicate 64 p None None small
+where_true : {T : Type 0} (t : Bool) (a b : Option T) → (t ≡ true → a ≡ b) → cond t a None ≡ cond t b None
+where_true true a b h = h refl
+where_true false a b h = refl
 
 module _ (those : ℕ) (old : Queues Reply) where
-  pub none_received : (got : List (Option Reply)) → length got ≡ 64 → ((p : ℕ) → p < 64 → message_at got p ≡ None) → PartlyReceived those 0 old old got
-  none_received got long empty = record {
+  pub none_received : (got : Replies) → got.set ≡ those → length got.at ≡ 64 → PartlyReceived those 0 old old got
+  none_received got set_is long = record {
     same = same_level old;
+    set_is = set_is;
     places = long;
     queues = λ p small. sym (ap (λ t. without_head t (queue_at old.queues p)) (upto_none those p));
-    messages = λ p small. empty p small ∙ sym (ap (λ t. if_leaves t (queue_at old.queues p)) (upto_none those p));
+    messages = λ p small e. absurd (false_true (sym (upto_none those p) ∙ e));
   }
 
-  module _ (n : ℕ) (now : Queues Reply) (got : List (Option Reply)) (partly : PartlyReceived those n old now got) where
+  module _ (n : ℕ) (now : Queues Reply) (got : Replies) (partly : PartlyReceived those n old now got) where
     pub all_received : ((y : ℕ) → n ≤ y → y < 64 → has those y ≡ false) → AllReceived those old now got
     all_received none = record {
       queues = λ p small. partly.queues p small ∙ ap (λ t. without_head t (queue_at old.queues p)) (upto_all those n p small none);
-      messages = λ p small. partly.messages p small ∙ ap (λ t. if_leaves t (queue_at old.queues p)) (upto_all those n p small none);
+      messages = λ p small.
+          ap (λ v. cond (has v p) (Some (reply_at got.at p)) None) partly.set_is
+          ∙ where_true (has those p) (Some (reply_at got.at p)) (head (queue_at old.queues p)) (λ e. partly.messages p small (upto_all those n p small none ∙ e));
     }
 
     module _ (x : ℕ) (small : x < 64) (le : n ≤ x) (none : (y : ℕ) → n ≤ y → y < x → has those y ≡ false) (here : has those x ≡ true) where
@@ -221,14 +226,16 @@ module _ (those : ℕ) (old : Queues Reply) where
       pub some_received : ((p : ℕ) → p < 64 → has those p ≡ true → IsSome (head (queue_at old.queues p))) → IsSome (head (queue_at now.queues x))
       some_received some = subst (λ q. IsSome (head q)) (sym reply_there) (some x small here)
 
-      module _ (new : Queues Reply) (later : List (Option Reply)) (reply : Reply) (there : x < length now.queues)
-          (shown : head (queue_at now.queues x) ≡ Some reply) (taken : new ≡ with_queue now x (without_head true (queue_at now.queues x))) (kept : later ≡ set got x (Some reply)) where
+      module _ (new : Queues Reply) (later : Replies) (reply : Reply) (there : x < length now.queues)
+          (shown : head (queue_at now.queues x) ≡ Some reply) (taken : new ≡ with_queue now x (without_head true (queue_at now.queues x)))
+          (set_kept : later.set ≡ got.set) (kept : later.at ≡ set got.at x reply) where
         pub one_received : PartlyReceived those (x + 1) old new later
         one_received = record {
           same = level_twice old now new partly.same (changed_same now new x (without_head true (queue_at now.queues x)) taken);
-          places = ap length kept ∙ length-set got x (Some reply) ∙ partly.places;
+          set_is = set_kept ∙ partly.set_is;
+          places = ap length kept ∙ length-set got.at x reply ∙ partly.places;
           queues = λ p s. by_queue p s (p == x) refl;
-          messages = λ p s. by_got p s (p == x) refl;
+          messages = λ p s u. by_got p s u (p == x) refl;
         }
           where
             ne : (p : ℕ) → (p == x) ≡ false → p ≡ x → ⊥
@@ -242,10 +249,10 @@ module _ (those : ℕ) (old : Queues Reply) where
             by_queue p s false e =
                 changed_other now new x (without_head true (queue_at now.queues x)) taken p (ne p e) ∙ partly.queues p s ∙ ap (λ t. without_head t (queue_at old.queues p)) (sym (upto_other those n x p le none (ne p e)))
 
-            by_got : (p : ℕ) → p < 64 → (t : Bool) → (p == x) ≡ t → message_at later p ≡ if_leaves (upto those (x + 1) p) (queue_at old.queues p)
-            by_got p s true e =
+            by_got : (p : ℕ) → p < 64 → upto those (x + 1) p ≡ true → (t : Bool) → (p == x) ≡ t → Some (reply_at later.at p) ≡ head (queue_at old.queues p)
+            by_got p s u true e =
                 let is : p ≡ x = eqb-true p x e in
-                ap (message_at later) is ∙ ap (λ ms. message_at ms x) kept ∙ get_or-set_same got x (Some reply) None (omega (arith, small, partly.places)) ∙ sym shown ∙ ap head reply_there
-                ∙ sym (ap (λ t. if_leaves t (queue_at old.queues x)) (upto_here those x here)) ∙ ap (λ y. if_leaves (upto those (x + 1) y) (queue_at old.queues y)) (sym is)
-            by_got p s false e =
-                ap (λ ms. message_at ms p) kept ∙ get_or-set_other got x p (Some reply) None (ne p e) ∙ partly.messages p s ∙ ap (λ t. if_leaves t (queue_at old.queues p)) (sym (upto_other those n x p le none (ne p e)))
+                ap (λ y. Some (reply_at later.at y)) is ∙ ap (λ ms. Some (reply_at ms x)) kept ∙ ap (λ y. Some y) (get_or-set_same got.at x reply no_reply (omega (arith, small, partly.places))) ∙ sym shown ∙ ap head reply_there
+                ∙ ap (λ y. head (queue_at old.queues y)) (sym is)
+            by_got p s u false e =
+                ap (λ ms. Some (reply_at ms p)) kept ∙ ap (λ y. Some y) (get_or-set_other got.at x p reply no_reply (ne p e)) ∙ partly.messages p s (sym (upto_other those n x p le none (ne p e)) ∙ u)

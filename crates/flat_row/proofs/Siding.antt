@@ -1,5 +1,5 @@
 -- One network in a step.
-use Rattle.std.proofs.Common.{◌≡◌, ℕ, suc, ◌<◌, ◌≤◌, List, length, get_or, refl, ap, sym, ◌∙◌, subst, Option, None, Some, cond, arith}
+use Rattle.std.proofs.Common.{◌≡◌, ℕ, suc, ◌<◌, ◌≤◌, List, length, get_or, refl, ap, sym, ◌∙◌, subst, None, Some, true, cond, arith}
 use Rattle.std.proofs.Math.ListN.{set}
 use Rattle.std.proofs.lemmas.List.{get_or-set_same, get_or-set_other}
 use Rattle.std.specs.Prelude.{◌-◌, slice_index_or}
@@ -9,16 +9,17 @@ use Rattle.omega_net.specs.declared.message.Request.{Request}
 use Rattle.omega_net.specs.declared.message.Reply.{Reply}
 use Rattle.omega_net.specs.Numbers.{lines}
 use Rattle.omega_net.specs.Queues.{head, without_head, joined}
-use Rattle.omega_net.specs.Ports.{queue_at, message_at}
+use Rattle.omega_net.specs.Ports.{queue_at}
 use Rattle.mem_module.specs.declared.words.Stored.{Stored}
 use Rattle.ref_proc.specs.declared.state.ProcState.{ProcState}
 use Rattle.project_book.specs.Project.{Project}
 use Rattle.flat_row.specs.Masks.{has}
 use Rattle.flat_row.specs.Queues.{Queues}
-use Rattle.flat_row.specs.Row.{Network, Buffers, no_queues, level_at, queue_of}
+use Rattle.flat_row.specs.Row.{Network, Buffers, Rests, no_queues, level_at, queue_of}
 use Rattle.flat_row.specs.Rows.{if_leaves}
 use Rattle.flat_row.specs.Combining.{SameLevel}
-use Rattle.flat_row.specs.Ends.{reply_at, AllServed, AreAnswered, AllReceived, ShowsOne, shown_with, acted}
+use Rattle.flat_row.specs.declared.acting.Replies.{Replies}
+use Rattle.flat_row.specs.Ends.{reply_at, got_at, AllServed, AreAnswered, AllReceived, ShowsOne, shown_with, acted}
 use Rattle.flat_row.specs.Labels.{port}
 use Rattle.flat_row.specs.Stages.{CombBack, buffers_in}
 use Rattle.flat_row.specs.Moving.{SameShape, arrival, left_back, back_after}
@@ -59,7 +60,7 @@ module _ (now : Network) (requests : List (Queues Request)) (replies : List (Que
     rest = λ l z ne. level_rest replies at level new there q l z (λ f. ne (f ∙ e));
   })
 
-  pub received_in : (those : ℕ) (got : List (Option Reply)) (level new : Queues Reply) → 0 < length replies → level ≡ get_or replies 0 level → SameLevel level new → AllReceived those level new got
+  pub received_in : (those : ℕ) (got : Replies) (level new : Queues Reply) → 0 < length replies → level ≡ get_or replies 0 level → SameLevel level new → AllReceived those level new got
       → NetReceived those now (net_of requests (set replies 0 new) turns back) got
   received_in those got level new there q same received = subst (λ n. NetReceived those n (net_of requests (set replies 0 new) turns back) got) is (record {
     requests = refl;
@@ -99,11 +100,13 @@ module _ (now : Network) (requests : List (Queues Request)) (replies : List (Que
 pub acted_in : (P : Project) (low comb : Network) (la : List (Queues Request)) (lb : List (Queues Reply)) (lc ld : List ℕ) (ca : List (Queues Request)) (cb : List (Queues Reply)) (cc cd : List ℕ)
     → net_of la lb lc ld ≡ low → net_of ca cb cc cd ≡ comb
     → (low_level low_new comb_level comb_new : Queues Request) → 0 < length la → 0 < length ca → low_level ≡ get_or la 0 low_level → comb_level ≡ get_or ca 0 comb_level
-    → SameLevel low_level low_new → SameLevel comb_level comb_new → (low_got comb_got : List (Option Reply)) (procs next : List ProcState) → length next ≡ length procs
+    → SameLevel low_level low_new → SameLevel comb_level comb_new → (low_got comb_got : Replies) (rests : ℕ) (procs next : List ProcState) → length next ≡ length procs
     → ((p : ℕ) → ShowsOne low_new comb_new p)
-    → ((p : ℕ) → p < lines P.k → shown_with next low_new comb_new p ≡ acted P p (message_at low_got p) (message_at comb_got p) (shown_with procs low_level comb_level p))
-    → BothActed P low_got comb_got low (net_of (set la 0 low_new) lb lc ld) comb (net_of (set ca 0 comb_new) cb cc cd) procs next
-acted_in P low comb la lb lc ld ca cb cc cd low_is comb_is low_level low_new comb_level comb_new low_there comb_there low_q comb_q low_same comb_same low_got comb_got procs next many one acts = record {
+    → ((p : ℕ) → p < lines P.k → shown_with next low_new comb_new p ≡ acted P p (got_at low_got p) (got_at comb_got p) (shown_with procs low_level comb_level p))
+    → ((p : ℕ) → p < lines P.k → has rests p ≡ true → shown_with next low_new comb_new p ≡ shown_with procs low_level comb_level p)
+    → ((p : ℕ) → p < lines P.k → has rests p ≡ true → Rests P p (shown_with next low_new comb_new p))
+    → BothActed P low_got comb_got rests low (net_of (set la 0 low_new) lb lc ld) comb (net_of (set ca 0 comb_new) cb cc cd) procs next
+acted_in P low comb la lb lc ld ca cb cc cd low_is comb_is low_level low_new comb_level comb_new low_there comb_there low_q comb_q low_same comb_same low_got comb_got rests procs next many one acts stay rest = record {
   low_only = requests_only low la lb lc ld low_is (set la 0 low_new) (put_shape la 0 low_level low_new low_there low_q low_same);
   comb_only = requests_only comb ca cb cc cd comb_is (set ca 0 comb_new) (put_shape ca 0 comb_level comb_new comb_there comb_q comb_same);
   many = many;
@@ -112,8 +115,12 @@ acted_in P low comb la lb lc ld ca cb cc cd low_is comb_is low_level low_new com
   one = λ p. subst (λ v. ShowsOne v (level_at (set ca 0 comb_new) 0) p) (sym low_put) (subst (λ v. ShowsOne low_new v p) (sym comb_put) (one p));
   acts = λ p within.
       ap (λ v. shown_with next v (level_at (set ca 0 comb_new) 0) p) low_put ∙ ap (λ v. shown_with next low_new v p) comb_put ∙ acts p within
-      ∙ ap (λ v. acted P p (message_at low_got p) (message_at comb_got p) (shown_with procs v comb_level p)) low_was
-      ∙ ap (λ v. acted P p (message_at low_got p) (message_at comb_got p) (shown_with procs (level_at low.requests 0) v p)) comb_was;
+      ∙ ap (λ v. acted P p (got_at low_got p) (got_at comb_got p) (shown_with procs v comb_level p)) low_was
+      ∙ ap (λ v. acted P p (got_at low_got p) (got_at comb_got p) (shown_with procs (level_at low.requests 0) v p)) comb_was;
+  stay = λ p within so.
+      ap (λ v. shown_with next v (level_at (set ca 0 comb_new) 0) p) low_put ∙ ap (λ v. shown_with next low_new v p) comb_put ∙ stay p within so
+      ∙ ap (λ v. shown_with procs v comb_level p) low_was ∙ ap (λ v. shown_with procs (level_at low.requests 0) v p) comb_was;
+  rest = λ p within so. subst (λ v. Rests P p (shown_with next v (level_at (set ca 0 comb_new) 0) p)) (sym low_put) (subst (λ v. Rests P p (shown_with next low_new v p)) (sym comb_put) (rest p within so));
 }
   where
     low_put : level_at (set la 0 low_new) 0 ≡ low_new
@@ -146,7 +153,7 @@ both_served k low comb low_old low_new comb_old comb_new words among next low_an
 }
 
 -- requests move, then processors receive
-pub departed_by : (those : ℕ) (old mid new : Network) (got : List (Option Reply)) → OnlyRequests old mid → NetReceived those mid new got → Departed those old new got
+pub departed_by : (those : ℕ) (old mid new : Network) (got : Replies) → OnlyRequests old mid → NetReceived those mid new got → Departed those old new got
 departed_by those old mid new got o r = record {
   turns = r.turns ∙ o.turns;
   back_turns = r.back_turns ∙ o.back_turns;

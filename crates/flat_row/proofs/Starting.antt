@@ -1,5 +1,5 @@
 -- The row before the first cycle is the first states of its project.
-use Rattle.std.proofs.Common.{◌≡◌, ℕ, zero, suc, ◌+◌, ◌<◌, ◌≤◌, Bool, false, List, [], ◌∷◌, ◌++◌, length, map, get_or, replicate, refl, ap, sym, subst, ◌∙◌, inl, inr, None, Some, arith}
+use Rattle.std.proofs.Common.{◌≡◌, ℕ, zero, suc, ◌+◌, ◌<◌, ◌≤◌, Bool, true, false, List, [], ◌∷◌, ◌++◌, length, map, get_or, replicate, refl, ap, sym, subst, ◌∙◌, inl, inr, None, Some, arith}
 use Rattle.std.specs.Prelude.{◌==◌}
 use Rattle.std.proofs.lemmas.List.{get_or-map, get_or-replicate, get_or_past, length-map, length-replicate, map_push}
 use Rattle.std.proofs.lemmas.Option.{get_or_from_slice_get}
@@ -93,8 +93,15 @@ network_of P net = record {
   replies = λ l h. ap (λ q. q.rule) (at_below (λ l. level (lines P.k) (reply_rule P net) l) (P.k + 1) l no_queues h);
 }
 
+-- no label is in the empty set
+none_in : (x : ℕ) → has 0 x ≡ true → ⊥
+none_in x e = false_true (sym (ap (λ b. b == 1) (bit_at-zero x)) ∙ e)
+  where
+    false_true : false ≡ true → ⊥
+    false_true f = cc
+
 pub first_is_of : (P : Project) → IsRowOf P (first_row P)
-first_is_of P = record { size = refl; low = network_of P LowNet; comb = network_of P CombNet }
+first_is_of P = record { size = refl; low = network_of P LowNet; comb = network_of P CombNet; rest = λ p h so. absurd (none_in p so) }
 
 -- its queues, turns and buffers
 module _ (P : Project) where
@@ -223,7 +230,7 @@ module _ (P : Project) where
 -- a row that is made of these parts
 pub same_row : (P : Project) (k : ℕ) (low comb : Network) (buffers : List Buffers) (procs : List ProcState) (words : List (List Stored))
     → k ≡ P.k → low ≡ first_network P LowNet → comb ≡ first_network P CombNet → buffers ≡ replicate k (first_buffers k) → procs ≡ replicate (lines k) proc_start → words ≡ first_words P (lines P.k)
-    → record { k = k; low = low; comb = comb; buffers = buffers; procs = procs; words = words; module_turns = 0; served = 0 } ≡ first_row P
+    → record { k = k; low = low; comb = comb; buffers = buffers; procs = procs; words = words; module_turns = 0; served = 0; rests = 0 } ≡ first_row P
 same_row P k low comb buffers procs words a b c d e f =
     ap (λ o. made k o comb buffers procs words) b
     ∙ ap (λ o. made k (first_network P LowNet) o buffers procs words) c
@@ -233,7 +240,7 @@ same_row P k low comb buffers procs words a b c d e f =
     ∙ ap (λ o. made o (first_network P LowNet) (first_network P CombNet) (replicate o (first_buffers o)) (replicate (lines o) proc_start) (first_words P (lines P.k))) a
   where
     made : ℕ → Network → Network → List Buffers → List ProcState → List (List Stored) → Arrays
-    made k low comb buffers procs words = record { k = k; low = low; comb = comb; buffers = buffers; procs = procs; words = words; module_turns = 0; served = 0 }
+    made k low comb buffers procs words = record { k = k; low = low; comb = comb; buffers = buffers; procs = procs; words = words; module_turns = 0; served = 0; rests = 0 }
 
 pub made_is_row : (P : Project) (R : Arrays) → IsProject P → R ≡ first_row P → IsRow R
 made_is_row P R isp e = subst IsRow (sym e) (first_is_row P isp)

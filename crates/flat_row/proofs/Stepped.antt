@@ -1,5 +1,5 @@
 -- A step of the row, from what its parts promise.
-use Rattle.std.proofs.Common.{◌≡◌, ℕ, zero, suc, ◌+◌, ◌-◌, ◌^◌, ◌<◌, ◌≤◌, Bool, true, false, cond, List, [], ◌∷◌, length, drop, refl, ap, sym, ◌∙◌, subst, inl, inr, Option, None, Some, arith}
+use Rattle.std.proofs.Common.{◌≡◌, ℕ, zero, suc, ◌+◌, ◌-◌, ◌^◌, ◌<◌, ◌≤◌, Bool, true, false, cond, List, [], ◌∷◌, length, drop, refl, ap, sym, ◌∙◌, subst, inl, inr, None, Some, arith}
 use Rattle.std.proofs.Math.Pow.{pow_mono}
 use Rattle.std.proofs.lemmas.List.{get_or_past}
 use Rattle.std.proofs.lemmas.Bool.{cases_lt, eqb-true, eq-eqb}
@@ -13,7 +13,7 @@ use Rattle.omega_net.specs.declared.message.Request.{Request}
 use Rattle.omega_net.specs.declared.message.Reply.{Reply}
 use Rattle.omega_net.specs.Numbers.{lines, half, Exists}
 use Rattle.omega_net.specs.Queues.{head, without_head, joined}
-use Rattle.omega_net.specs.Ports.{empty, message_at}
+use Rattle.omega_net.specs.Ports.{empty}
 use Rattle.mem_module.specs.declared.words.Stored.{Stored}
 use Rattle.ref_proc.specs.declared.state.ProcState.{ProcState}
 use Rattle.project_book.specs.Project.{Project, IsProject, depth_of}
@@ -30,13 +30,15 @@ use Rattle.flat_row.specs.declared.leaving.Plan.{Plan}
 use Rattle.flat_row.specs.Labels.{switch_label}
 use Rattle.flat_row.specs.Masks.{has}
 use Rattle.flat_row.specs.Queues.{Queues}
-use Rattle.flat_row.specs.Row.{Network, Buffers, Arrays, IsRow, IsRowOf, IsNetworkOf, HasNetwork, HasLevels, level_at, queue_of, state_of, states_of, wait_of, combined_of, low_of, comb_of, proc_of, module_of}
+use Rattle.flat_row.specs.declared.acting.Replies.{Replies}
+use Rattle.flat_row.specs.Row.{Rests, out_from, Network, Buffers, Arrays, IsRow, IsRowOf, IsNetworkOf, HasNetwork, HasLevels, level_at, queue_of, state_of, states_of, wait_of, combined_of, low_of, comb_of, proc_of, module_of}
 use Rattle.flat_row.specs.Rows.{if_leaves, network}
 use Rattle.flat_row.specs.Moving.{SameShape, AllWait, AllWaitBack, arrival, leaves_forth, forth_after, left_back, back_after}
 use Rattle.flat_row.specs.Stages.{CombForth, HasBuffers, buffers_in}
-use Rattle.flat_row.specs.Ends.{ShowsOne, reply_at, words_of, shown_with}
+use Rattle.flat_row.specs.Ends.{ShowsOne, Stays, reply_at, got_at, words_of, proc_at, shown_with}
 use Rattle.flat_row.specs.Step.{Serves, OnlyModules, BothServed, Departed, BothActed, Returned, CombsReturned, IsPlan}
 use Rattle.flat_row.proofs.Passing.{level_within, shape_twice}
+use Rattle.flat_row.proofs.Processing.{label_small, with_out}
 use Rattle.flat_row.proofs.Staging.{levels_still, buffers_still}
 use Rattle.flat_row.proofs.Stepping.{leaves_back, low_steps}
 use Rattle.flat_row.proofs.Mixing.{comb_steps}
@@ -122,8 +124,14 @@ module _ (P : Project) (isp : IsProject P) (R : Arrays) (row : IsRow R) (of : Is
     shown_comb : (p : ℕ) → queue_of C0.requests 0 p ≡ queue_of R.comb.requests 0 p
     shown_comb p = comb_only.others 0 p (λ e. omega (arith, e))
 
+    -- and processors show what they showed
+    shown_so : (p : ℕ) → shown_with R.procs (level_at L0.requests 0) (level_at C0.requests 0) p ≡ proc_of R p
+    shown_so p =
+        ap (λ q. with_out (proc_at R.procs p) (out_from (head q) (head (queue_of C0.requests 0 p)))) (shown_low p)
+        ∙ ap (λ q. with_out (proc_at R.procs p) (out_from (head (queue_of R.low.requests 0 p)) (head q))) (shown_comb p)
+
     abbrev serving_row : Arrays
-    serving_row = record { k = R.k; low = L0; comb = C0; buffers = R.buffers; procs = R.procs; words = W; module_turns = R.module_turns; served = R.served }
+    serving_row = record { k = R.k; low = L0; comb = C0; buffers = R.buffers; procs = R.procs; words = W; module_turns = R.module_turns; served = R.served; rests = R.rests }
 
     pub serving_is_row : IsRow serving_row
     serving_is_row = record {
@@ -138,7 +146,7 @@ module _ (P : Project) (isp : IsProject P) (R : Arrays) (row : IsRow R) (of : Is
     }
 
     pub serving_is_of : IsRowOf P serving_row
-    serving_is_of = record { size = of.size; low = low_of_net; comb = comb_of_net }
+    serving_is_of = record { size = of.size; low = low_of_net; comb = comb_of_net; rest = λ p within so. subst (λ s. Rests P p s) (sym (shown_so p)) (of.rest p within so) }
 
     -- what departing needs
     kept_low : (l z : ℕ) → l ≤ P.k → queue_of L0.requests l z ≡ queue_of R.low.requests l z
@@ -187,7 +195,7 @@ module _ (P : Project) (isp : IsProject P) (R : Arrays) (row : IsRow R) (of : Is
     pub comb_replies_of : HasLevels (P.k + 1) (lines P.k) C0.replies
     comb_replies_of = subst (λ k. HasLevels (k + 1) (lines k) C0.replies) of.size comb_there.replies
 
-    module _ (L1 C1 : Network) (B1 : List Buffers) (low_got comb_got : List (Option Reply)) (low_gone : Departed low.receive L0 L1 low_got) (comb_gone : Departed comb.receive C0 C1 comb_got)
+    module _ (L1 C1 : Network) (B1 : List Buffers) (low_got comb_got : Replies) (low_gone : Departed low.receive L0 L1 low_got) (comb_gone : Departed comb.receive C0 C1 comb_got)
         (low_queues : (l z : ℕ) → l < R.k + 2 → z < 64 → queue_of L1.requests l z ≡ forth_after (λ (r : Request). r.place.«module») R.k low.forth.leave low.enter L0.requests l z)
         (crossed : CombForth P comb.forth.leave comb.enter C0.requests C1.requests R.buffers B1) where
       -- what acting needs
@@ -225,7 +233,30 @@ module _ (P : Project) (isp : IsProject P) (R : Arrays) (row : IsRow R) (of : Is
         | inr h ↦ omega (arith, past_labels L1.requests 0 P.k p few (act_low.each 0 (omega arith)) h, past_labels C1.requests 0 P.k p few (act_comb.each 0 (omega arith)) h)
       ]
 
-      module _ (L2 C2 : Network) (procs : List ProcState) (acted : BothActed P low_got comb_got L1 L2 C1 C2 R.procs procs) where
+      -- who isn't asked to act stays as it is
+      module _ (active : ℕ) (low_set : low_got.set ≡ low.receive) (comb_set : comb_got.set ≡ comb.receive)
+          (rests_so : (p : ℕ) → p < 64 → has active p ≡ false → has R.rests p ≡ true) (low_none : (p : ℕ) → p < 64 → has active p ≡ false → has low.receive p ≡ false)
+          (comb_none : (p : ℕ) → p < 64 → has active p ≡ false → has comb.receive p ≡ false)
+          (low_stays : (p : ℕ) → p < 64 → has active p ≡ false → leaves_forth R.k low.forth.leave low.enter 0 p ≡ false)
+          (comb_stays : (p : ℕ) → p < 64 → has active p ≡ false → leaves_forth R.k comb.forth.leave comb.enter 0 p ≡ false) where
+        -- it shows what it showed
+        still_shown : (p : ℕ) → p < 64 → has active p ≡ false → shown_with R.procs (level_at L1.requests 0) (level_at C1.requests 0) p ≡ proc_of R p
+        still_shown p small out =
+            ap (λ q. with_out (proc_at R.procs p) (out_from (head q) (head (queue_of C1.requests 0 p))))
+            (low_left p small ∙ ap (λ t. without_head t (queue_of R.low.requests 0 p)) (ap (λ k. leaves_forth k low.forth.leave low.enter 0 p) (sym of.size) ∙ low_stays p small out))
+            ∙ ap (λ q. with_out (proc_at R.procs p) (out_from (head (queue_of R.low.requests 0 p)) (head q)))
+            (comb_left p small ∙ ap (λ t. without_head t (queue_of R.comb.requests 0 p)) (ap (λ k. leaves_forth k comb.forth.leave comb.enter 0 p) (sym of.size) ∙ comb_stays p small out))
+
+        pub act_others : (p : ℕ) → p < lines P.k → has active p ≡ false → Stays P low_got comb_got (shown_with R.procs (level_at L1.requests 0) (level_at C1.requests 0) p) p
+        act_others p within out =
+            let small : p < 64 = label_small few within in
+            record {
+              low_none = ap (λ s. has s p) low_set ∙ low_none p small out;
+              comb_none = ap (λ s. has s p) comb_set ∙ comb_none p small out;
+              rests = subst (λ s. Rests P p s) (sym (still_shown p small out)) (of.rest p within (rests_so p small out));
+            }
+
+      module _ (L2 C2 : Network) (procs : List ProcState) (rests : ℕ) (acted : BothActed P low_got comb_got rests L1 L2 C1 C2 R.procs procs) where
         -- what coming back needs
         behind_low : (l z : ℕ) → 0 < l → queue_of L2.replies l z ≡ queue_of R.low.replies l z
         behind_low l z h = ap (λ rs. queue_of rs l z) acted.low_only.replies ∙ low_gone.rest l z h ∙ ap (λ rs. queue_of rs l z) low_only.replies
@@ -264,7 +295,7 @@ module _ (P : Project) (isp : IsProject P) (R : Arrays) (row : IsRow R) (of : Is
             (comb_back : Returned P.k comb.back.leave served.comb comb_answers comb.forth.turns comb.back.turns C2 C3) (combs : CombsReturned P comb.back.leave C2 C3 B1 B3)
             (long : length low.forth.turns ≡ 6) (long_back : length low.back.turns ≡ 6) (comb_long : length comb.forth.turns ≡ 6) (comb_long_back : length comb.back.turns ≡ 6) where
           abbrev new : Arrays
-          new = record { k = R.k; low = L3; comb = C3; buffers = B3; procs = procs; words = W; module_turns = served.turn; served = bit_or served.low served.comb }
+          new = record { k = R.k; low = L3; comb = C3; buffers = B3; procs = procs; words = W; module_turns = served.turn; served = bit_or served.low served.comb; rests = rests }
 
           low_requests_shape : SameShape L0.requests L3.requests
           low_requests_shape = subst (λ rs. SameShape L0.requests rs) (sym low_back.requests) (shape_twice L0.requests L1.requests L2.requests low_gone.requests_shape acted.low_only.shape)
@@ -301,11 +332,16 @@ module _ (P : Project) (isp : IsProject P) (R : Arrays) (row : IsRow R) (of : Is
             );
           }
 
+          -- what processors are after they have acted, they still are
+          shown_now : (p : ℕ) → proc_of new p ≡ shown_with procs (level_at L2.requests 0) (level_at C2.requests 0) p
+          shown_now p = ap (λ rs. shown_with procs (level_at rs 0) (level_at C3.requests 0) p) low_back.requests ∙ ap (λ rs. shown_with procs (level_at L2.requests 0) (level_at rs 0) p) comb_back.requests
+
           pub new_is_of : IsRowOf P new
           new_is_of = record {
             size = of.size;
             low = network_of_still P LowNet L0 L3 low_of_net low_requests_shape low_replies_shape;
             comb = network_of_still P CombNet C0 C3 comb_of_net comb_requests_shape comb_replies_shape;
+            rest = λ p within so. subst (λ s. Rests P p s) (sym (shown_now p)) (acted.rest p within so);
           }
 
           -- the queues of requests behind the processors
@@ -338,13 +374,13 @@ module _ (P : Project) (isp : IsProject P) (R : Arrays) (row : IsRow R) (of : Is
           proc_so : (p : ℕ) → p < lines P.k → proc_of new p ≡ proc_after (proc_settings P p (proc_of R p).index) (proc_traffic (moves P (states_of R)) p) (proc_of R p)
           proc_so p within =
               let ps : p < 64 = small_line p within in
-              proc_whole P R new row p within (leaves_forth P.k low.forth.leave low.enter 0 p) (leaves_forth P.k comb.forth.leave comb.enter 0 p) (message_at low_got p) (message_at comb_got p) (level_at L1.requests 0) (level_at C1.requests 0)
+              proc_whole P R new row p within (leaves_forth P.k low.forth.leave low.enter 0 p) (leaves_forth P.k comb.forth.leave comb.enter 0 p) (got_at low_got p) (got_at comb_got p) (level_at L1.requests 0) (level_at C1.requests 0)
               (sends_it P R LowNet low.forth.leave low.forth.turns low.enter low.receive low_plan.forth low_plan.enter low_plan.receive p within)
               (sends_it P R CombNet comb.forth.leave comb.forth.turns comb.enter comb.receive comb_plan.forth comb_plan.enter comb_plan.receive p within)
               (receives_it P R LowNet low.forth.leave low.forth.turns low.enter low.receive low_plan.forth low_plan.enter low_plan.receive p within ∙ sym (low_gone.messages p ps ∙ ap (λ rs. if_leaves (has low.receive p) (queue_of rs 0 p)) low_only.replies))
               (receives_it P R CombNet comb.forth.leave comb.forth.turns comb.enter comb.receive comb_plan.forth comb_plan.enter comb_plan.receive p within ∙ sym (comb_gone.messages p ps ∙ ap (λ rs. if_leaves (has comb.receive p) (queue_of rs 0 p)) comb_only.replies))
               (low_left p ps) (comb_left p ps)
-              (ap (λ rs. shown_with procs (level_at rs 0) (level_at C3.requests 0) p) low_back.requests ∙ ap (λ rs. shown_with procs (level_at L2.requests 0) (level_at rs 0) p) comb_back.requests ∙ acted.acts p within)
+              (shown_now p ∙ acted.acts p within)
 
           -- a module
           module_so : (m : ℕ) → m < lines P.k → module_of new m ≡ module_after (depth_of P ModuleQueue) (module_traffic (moves P (states_of R)) P.k m) (module_of R m)

@@ -3,7 +3,7 @@ use Rattle.std.specs.Prelude.{◌≡◌, ℕ, ◌<◌, ◌≤◌, ◌+◌, true,
 use Rattle.omega_net.specs.declared.message.Request.{Request}
 use Rattle.omega_net.specs.declared.message.Reply.{Reply}
 use Rattle.omega_net.specs.Queues.{head, without_head, joined}
-use Rattle.omega_net.specs.Ports.{queue_at, message_at}
+use Rattle.omega_net.specs.Ports.{queue_at}
 use Rattle.mem_module.specs.declared.words.Stored.{Stored}
 use Rattle.mem_module.specs.MemModule.{answer_to, words_after}
 use Rattle.ref_proc.specs.declared.state.Outgoing.{Outgoing}
@@ -13,7 +13,8 @@ use Rattle.machine_cells.specs.Cycle.{proc_settings}
 use Rattle.project_book.specs.Project.{Project}
 use Rattle.flat_row.specs.Masks.{has}
 use Rattle.flat_row.specs.Queues.{Queues}
-use Rattle.flat_row.specs.Row.{out_from}
+use Rattle.flat_row.specs.Row.{out_from, Rests}
+use Rattle.flat_row.specs.declared.acting.Replies.{Replies}
 use Rattle.flat_row.specs.Rows.{if_leaves}
 
 -- a reply to nobody, and the one at a label
@@ -37,10 +38,14 @@ pub record AllServed (modules : ℕ) (old new : Queues Request) (words next : Li
 abbrev pub AreAnswered : ℕ → List Reply → Queues Reply → Queues Reply → Type 0
 AreAnswered modules answers old new = (m : ℕ) → m < 64 → queue_at new.queues m ≡ joined (queue_at old.queues m) (if has modules m then Some (reply_at answers m) else None)
 
+-- the reply at a label, of those that have come
+abbrev pub got_at : Replies → ℕ → Option Reply
+got_at got p = if has got.set p then Some (reply_at got.at p) else None
+
 -- these processors have received their replies
-pub record AllReceived (set : ℕ) (old new : Queues Reply) (got : List (Option Reply)) : Type 0 where
+pub record AllReceived (set : ℕ) (old new : Queues Reply) (got : Replies) : Type 0 where
   pub queues : (p : ℕ) → p < 64 → queue_at new.queues p ≡ without_head (has set p) (queue_at old.queues p)
-  pub messages : (p : ℕ) → p < 64 → message_at got p ≡ if_leaves (has set p) (queue_at old.queues p)
+  pub messages : (p : ℕ) → p < 64 → got_at got p ≡ if_leaves (has set p) (queue_at old.queues p)
 
 -- a processor but for what it shows
 abbrev pub proc_at : List ProcState → ℕ → ProcState
@@ -53,6 +58,12 @@ shown_with procs low comb p = record (proc_at procs p) { out = out_from (head (q
 -- a processor one cycle later, where it receives these replies, and what leaves has left
 abbrev pub acted : Project → ℕ → Option Reply → Option Reply → ProcState → ProcState
 acted P p low comb s = proc_after (proc_settings P p s.index) (record { replies = low ∷ comb ∷ []; request_leaves = false }) s
+
+-- a processor that isn't asked to act: no reply has come to it, and it rests
+pub record Stays (P : Project) (low_got comb_got : Replies) (s : ProcState) (p : ℕ) : Type 0 where
+  pub low_none : has low_got.set p ≡ false
+  pub comb_none : has comb_got.set p ≡ false
+  pub rests : Rests P p s
 
 -- a processor shows at most one request
 abbrev pub ShowsOne : Queues Request → Queues Request → ℕ → Type 0

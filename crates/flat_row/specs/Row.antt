@@ -1,5 +1,5 @@
 -- The row: what all components hold, by level and label; and the whole state that it is.
-use Rattle.std.specs.Prelude.{◌≡◌, ℕ, suc, ◌+◌, ◌-◌, ◌*◌, ◌^◌, ◌<◌, ◌≤◌, ◌==◌, nat_lt, if◌then◌else◌, List, [], ◌∷◌, length, map, replicate, Option, None, Some, slice_index_or}
+use Rattle.std.specs.Prelude.{◌≡◌, ℕ, suc, ◌+◌, ◌-◌, ◌*◌, ◌^◌, ◌<◌, ◌≤◌, ◌==◌, nat_lt, if◌then◌else◌, true, false, List, [], ◌∷◌, length, map, replicate, Option, None, Some, slice_index_or}
 use Rattle.arrayvec.specs.ArrayVec.{ArrayVec}
 use Rattle.omega_net.specs.declared.component.Net.{Net}
 use Rattle.omega_net.specs.declared.component.Net.TheVariants.{Low as LowNet, Comb as CombNet}
@@ -13,7 +13,7 @@ use Rattle.omega_net.specs.Queues.{head}
 use Rattle.omega_net.specs.Ports.{empty, queue_at}
 use Rattle.ref_proc.specs.declared.state.Outgoing.{Outgoing}
 use Rattle.ref_proc.specs.declared.state.ProcState.{ProcState}
-use Rattle.ref_proc.specs.RefProc.{proc_start, net_for}
+use Rattle.ref_proc.specs.RefProc.{proc_start, proc_after, net_for}
 use Rattle.mem_module.specs.declared.words.Stored.{Stored}
 use Rattle.mem_module.specs.declared.state.ModuleState.{ModuleState}
 use Rattle.low_switch.specs.declared.state.LowState.{LowState}
@@ -24,6 +24,7 @@ use Rattle.machine_cells.specs.declared.state.MachineState.TheVariants.{Proc, Mo
 use Rattle.project_book.specs.Project.{Project, forward, reverse, depth_of}
 use Rattle.project_book.specs.declared.edit.Depths.TheVariants.{ModuleQueue}
 use Rattle.machine_cells.specs.Run.{words_in}
+use Rattle.machine_cells.specs.Cycle.{proc_settings}
 use Rattle.flat_row.specs.declared.marks.Rule.{Rule}
 use Rattle.flat_row.specs.Queues.{Queues}
 use Rattle.flat_row.specs.Labels.{switch_label}
@@ -44,7 +45,8 @@ pub record Buffers : Type 0 where
   pub once : ℕ
   pub twice : ℕ
 
--- the row; of processors all but what they show, and of modules the words and marks by themselves
+-- the row; of processors all but what they show, of modules the words and marks by themselves, and the set of the processors that stay as
+-- they are until a reply comes or what they show leaves
 pub record Arrays : Type 0 where
   pub k : ℕ
   pub low : Network
@@ -54,6 +56,7 @@ pub record Arrays : Type 0 where
   pub words : List (List Stored)
   pub module_turns : ℕ
   pub served : ℕ
+  pub rests : ℕ
 
 -- a level that isn't there
 abbrev pub no_queues : {T : Type 0} → Queues T
@@ -193,10 +196,16 @@ pub record IsNetworkOf (P : Project) (net : Net) (n : Network) : Type 0 where
   pub requests : (l : ℕ) → l < P.k + 2 → (level_at n.requests l).rule ≡ request_rule P net l
   pub replies : (l : ℕ) → l < P.k + 1 → (level_at n.replies l).rule ≡ reply_rule P net l
 
+-- a processor that is the same one cycle later, where no reply comes and what leaves has left
+abbrev pub Rests : Project → ℕ → ProcState → Type 0
+Rests P p s = proc_after (proc_settings P p s.index) (record { replies = None ∷ None ∷ []; request_leaves = false }) s ≡ s
+
+-- the levels ask what the machine of a project asks, and the processors that are said to rest do
 pub record IsRowOf (P : Project) (R : Arrays) : Type 0 where
   pub size : R.k ≡ P.k
   pub low : IsNetworkOf P LowNet R.low
   pub comb : IsNetworkOf P CombNet R.comb
+  pub rest : (p : ℕ) → p < lines P.k → has R.rests p ≡ true → Rests P p (proc_of R p)
 
 -- the levels of requests and of replies before the first cycle, from the first one on
 abbrev pub first_requests : Project → Net → ℕ → List (Queues Request)
@@ -225,4 +234,5 @@ first_row P = record {
   words = first_words P (lines P.k);
   module_turns = 0;
   served = 0;
+  rests = 0;
 }

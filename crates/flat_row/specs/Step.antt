@@ -1,12 +1,11 @@
 -- What the parts of a step leave of a network.
-use Rattle.std.specs.Prelude.{◌≡◌, ℕ, suc, ◌-◌, ◌<◌, true, if◌then◌else◌, List, length, Option, None, Some}
+use Rattle.std.specs.Prelude.{◌≡◌, ℕ, suc, ◌-◌, ◌<◌, true, if◌then◌else◌, List, length, None, Some}
 use Rattle.omega_net.specs.declared.component.Net.{Net}
 use Rattle.omega_net.specs.declared.component.Net.TheVariants.{Low as LowNet, Comb as CombNet}
 use Rattle.omega_net.specs.declared.message.Reply.{Reply}
 use Rattle.omega_net.specs.Numbers.{lines}
 use Rattle.omega_net.specs.Wires.{bit}
 use Rattle.omega_net.specs.Queues.{head, without_head, joined}
-use Rattle.omega_net.specs.Ports.{message_at}
 use Rattle.mem_module.specs.declared.words.Stored.{Stored}
 use Rattle.mem_module.specs.MemModule.{is_net, served_net, turn_from, answer_to, words_after}
 use Rattle.ref_proc.specs.declared.state.ProcState.{ProcState}
@@ -14,14 +13,15 @@ use Rattle.ref_proc.specs.RefProc.{net_for}
 use Rattle.project_book.specs.Project.{Project, depth_of}
 use Rattle.project_book.specs.declared.edit.Depths.TheVariants.{ModuleQueue}
 use Rattle.flat_row.specs.Masks.{has}
-use Rattle.flat_row.specs.Row.{Network, Buffers, Arrays, level_at, queue_of, module_of}
+use Rattle.flat_row.specs.Row.{Network, Buffers, Arrays, Rests, level_at, queue_of, module_of}
 use Rattle.flat_row.specs.Rows.{if_leaves}
 use Rattle.flat_row.specs.Moving.{SameShape, left_back}
 use Rattle.flat_row.specs.Combining.{splitting}
 use Rattle.flat_row.specs.Stages.{SameBuffers, buffers_in, returned_at}
-use Rattle.flat_row.specs.Ends.{reply_at, words_of, shown_with, acted, ShowsOne}
+use Rattle.flat_row.specs.Ends.{reply_at, got_at, words_of, shown_with, acted, ShowsOne}
 use Rattle.flat_row.specs.Leaving.{WaitForth, AllForth, AllBack, Enters, Receives}
 use Rattle.flat_row.specs.declared.leaving.Plan.{Plan}
+use Rattle.flat_row.specs.declared.acting.Replies.{Replies}
 
 -- which modules serve which network in the whole state of a row, and the turns one cycle later; where one serves, a request waits
 pub record Serves (P : Project) (R : Arrays) (low comb next : ℕ) : Type 0 where
@@ -50,14 +50,14 @@ pub record BothServed (k low comb : ℕ) (low_old low_new comb_old comb_new : Ne
       → Some (reply_at comb_answers m) ≡ answer_to (words_after (words_of words m) (if_leaves (has low m) (queue_of low_old.requests (suc k) m))) (head (queue_of comb_old.requests (suc k) m))
 
 -- processors have received the heads of a network's first level of replies
-pub record NetReceived (set : ℕ) (old new : Network) (got : List (Option Reply)) : Type 0 where
+pub record NetReceived (set : ℕ) (old new : Network) (got : Replies) : Type 0 where
   pub requests : new.requests ≡ old.requests
   pub turns : new.turns ≡ old.turns
   pub back_turns : new.back_turns ≡ old.back_turns
   pub shape : SameShape old.replies new.replies
   pub took : (z : ℕ) → z < 64 → queue_of new.replies 0 z ≡ without_head (has set z) (queue_of old.replies 0 z)
   pub rest : (l z : ℕ) → 0 < l → queue_of new.replies l z ≡ queue_of old.replies l z
-  pub messages : (p : ℕ) → p < 64 → message_at got p ≡ if_leaves (has set p) (queue_of old.replies 0 p)
+  pub messages : (p : ℕ) → p < 64 → got_at got p ≡ if_leaves (has set p) (queue_of old.replies 0 p)
 
 -- modules have answered on a network
 pub record NetAnswered (k modules : ℕ) (answers : List Reply) (old new : Network) : Type 0 where
@@ -81,8 +81,9 @@ pub record OnlyReplies (old new : Network) : Type 0 where
   pub back_turns : new.back_turns ≡ old.back_turns
   pub shape : SameShape old.replies new.replies
 
--- processors have acted: what they show on both networks, and nothing else, may be another
-pub record BothActed (P : Project) (low_got comb_got : List (Option Reply)) (low low_new comb comb_new : Network) (procs next : List ProcState) : Type 0 where
+-- processors have acted: what they show on both networks, and nothing else, may be another; those of a set have stayed as they were,
+-- and rest
+pub record BothActed (P : Project) (low_got comb_got : Replies) (rests : ℕ) (low low_new comb comb_new : Network) (procs next : List ProcState) : Type 0 where
   pub low_only : OnlyRequests low low_new
   pub comb_only : OnlyRequests comb comb_new
   pub many : length next ≡ length procs
@@ -90,17 +91,20 @@ pub record BothActed (P : Project) (low_got comb_got : List (Option Reply)) (low
   pub comb_others : (l z : ℕ) → 0 < l → queue_of comb_new.requests l z ≡ queue_of comb.requests l z
   pub one : (p : ℕ) → ShowsOne (level_at low_new.requests 0) (level_at comb_new.requests 0) p
   pub acts : (p : ℕ) → p < lines P.k → shown_with next (level_at low_new.requests 0) (level_at comb_new.requests 0) p
-      ≡ acted P p (message_at low_got p) (message_at comb_got p) (shown_with procs (level_at low.requests 0) (level_at comb.requests 0) p)
+      ≡ acted P p (got_at low_got p) (got_at comb_got p) (shown_with procs (level_at low.requests 0) (level_at comb.requests 0) p)
+  pub stay : (p : ℕ) → p < lines P.k → has rests p ≡ true
+      → shown_with next (level_at low_new.requests 0) (level_at comb_new.requests 0) p ≡ shown_with procs (level_at low.requests 0) (level_at comb.requests 0) p
+  pub rest : (p : ℕ) → p < lines P.k → has rests p ≡ true → Rests P p (shown_with next (level_at low_new.requests 0) (level_at comb_new.requests 0) p)
 
 -- requests have moved on a network, and processors have received what comes to them
-pub record Departed (set : ℕ) (old new : Network) (got : List (Option Reply)) : Type 0 where
+pub record Departed (set : ℕ) (old new : Network) (got : Replies) : Type 0 where
   pub turns : new.turns ≡ old.turns
   pub back_turns : new.back_turns ≡ old.back_turns
   pub requests_shape : SameShape old.requests new.requests
   pub replies_shape : SameShape old.replies new.replies
   pub took : (z : ℕ) → z < 64 → queue_of new.replies 0 z ≡ without_head (has set z) (queue_of old.replies 0 z)
   pub rest : (l z : ℕ) → 0 < l → queue_of new.replies l z ≡ queue_of old.replies l z
-  pub messages : (p : ℕ) → p < 64 → message_at got p ≡ if_leaves (has set p) (queue_of old.replies 0 p)
+  pub messages : (p : ℕ) → p < 64 → got_at got p ≡ if_leaves (has set p) (queue_of old.replies 0 p)
 
 -- replies have moved on a network, modules have answered, and the turns have gone on
 pub record Returned (k : ℕ) (back : List ℕ) (modules : ℕ) (answers : List Reply) (turns back_turns : List ℕ) (old new : Network) : Type 0 where

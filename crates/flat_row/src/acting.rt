@@ -1,5 +1,5 @@
 //! What processors do in a cycle.
-ghost use Rattle.std.specs.Prelude.{◌≡◌, ◌≢◌, ℕ, ◌<◌, if◌then◌else◌, length, IsSome, IfSome, Some, true, None};
+ghost use Rattle.std.specs.Prelude.{◌≡◌, ◌≢◌, ℕ, ◌<◌, if◌then◌else◌, length, IsSome, IfSome, Some, true, false, None};
 ghost use Rattle.omega_net.specs.Numbers.{lines};
 ghost use Rattle.omega_net.specs.Ports.{queue_at, message_at};
 ghost use Rattle.omega_net.specs.Queues.{head};
@@ -8,10 +8,12 @@ ghost use Rattle.project_book.specs.Project.{place_for};
 ghost use Rattle.project_book.specs.Scripts.{IsEntry};
 ghost use Rattle.flat_row.specs.Masks.{has};
 ghost use Rattle.flat_row.specs.Combining.{SameLevel};
-ghost use Rattle.flat_row.specs.Ends.{AllReceived, HasIssued, shown_with, acted, ShowsOne, proc_at};
-ghost use Rattle.flat_row.specs.Row.{out_from};
+ghost use Rattle.flat_row.specs.Ends.{AllReceived, HasIssued, Stays, got_at, shown_with, acted, ShowsOne, proc_at};
+ghost use Rattle.flat_row.specs.Row.{out_from, Rests};
 
+use crate::bits::{has, not_in};
 use crate::level::Level;
+use crate::marks::with_mark;
 use crate::moving::first_from;
 use crate::read::out_from;
 use omega_net::{Net, Reply, Request, ScriptEntry};
@@ -19,48 +21,91 @@ use page_map::Place;
 use project_book::Project;
 use ref_proc::{Outgoing, ProcSettings, ProcState, ProcTraffic};
 
-/// Processors receive the heads of the replies before them on a network.
-pub(crate) fn receive(level: &mut Level<Reply>, set: u64) -> [Option<Reply>; 64]
-    requires { (p : ℕ) → p < 64 → has set p ≡ true → IsSome (head (queue_at level.old.queues p)) }
-    ensures shape { SameLevel level.old level.new }
-    ensures received { AllReceived set level.old level.new result }
-{
-    let mut got = [None; 64];
-    let mut next = 0;
-    while let Some(p) = first_from(set, next) {
-        got[p as usize] = Some(level.take(p));
-        next = p + 1;
-    }
-    got
+/// Replies of some labels. What stands at the others means nothing.
+#[derive(Clone, Copy, Debug)]
+pub(crate) struct Replies {
+    pub(crate) set: u64,
+    pub(crate) at: [Reply; 64],
 }
 
-/// All processors take their replies, and the entry of each acts. What leaves has left.
+impl Replies {
+    /// No replies.
+    pub(crate) fn none() -> Replies {
+        Replies {
+            set: 0,
+            at: [Reply::default(); 64],
+        }
+    }
+
+    /// The reply of a label, if there is one.
+    fn of(&self, p: u32) -> Option<Reply>
+        requires { p < 64 }
+        ensures { result ≡ got_at self.now p }
+    {
+        if has(self.set, p) {
+            Some(self.at[p as usize])
+        } else {
+            None
+        }
+    }
+}
+
+/// Processors receive the heads of the replies before them on a network.
+pub(crate) fn receive(level: &mut Level<Reply>, set: u64, at: &mut [Reply; 64])
+    requires { (p : ℕ) → p < 64 → has set p ≡ true → IsSome (head (queue_at level.old.queues p)) }
+    ensures shape { SameLevel level.old level.new }
+    ensures received { AllReceived set level.old level.new (record { set = set; at = at.new }) }
+{
+    let mut next = 0;
+    while let Some(p) = first_from(set, next) {
+        at[p as usize] = level.take(p);
+        next = p + 1;
+    }
+}
+
+/// The processors of a set take their replies, and the entry of each acts: which processors have stayed as they were, and rest. What
+/// leaves has left.
 pub(crate) fn act_all(
     project: &Project,
     procs: &mut Vec<ProcState>,
     low: &mut Level<Request>,
     comb: &mut Level<Request>,
-    low_got: &[Option<Reply>; 64],
-    comb_got: &[Option<Reply>; 64],
-)
+    low_got: &Replies,
+    comb_got: &Replies,
+    active: u64,
+) -> u64
     requires procs { length procs.old.items ≡ lines project.now.k }
     requires low { length low.old.queues ≡ lines project.now.k }
     requires comb { length comb.old.queues ≡ lines project.now.k }
     requires one { (p : ℕ) → ShowsOne low.old comb.old p }
+    requires others { (p : ℕ) → p < lines project.now.k → has active p ≡ false → Stays project.now low_got.now comb_got.now (shown_with procs.old.items low.old comb.old p) p }
     ensures many { length procs.new.items ≡ length procs.old.items }
     ensures low { SameLevel low.old low.new }
     ensures comb { SameLevel comb.old comb.new }
     ensures one { (p : ℕ) → ShowsOne low.new comb.new p }
-    ensures acted { (p : ℕ) → p < lines project.now.k → shown_with procs.new.items low.new comb.new p ≡ acted project.now p (message_at low_got.now p) (message_at comb_got.now p) (shown_with procs.old.items low.old comb.old p) }
+    ensures acted { (p : ℕ) → p < lines project.now.k → shown_with procs.new.items low.new comb.new p ≡ acted project.now p (got_at low_got.now p) (got_at comb_got.now p) (shown_with procs.old.items low.old comb.old p) }
+    ensures stay { (p : ℕ) → p < lines project.now.k → has result p ≡ true → shown_with procs.new.items low.new comb.new p ≡ shown_with procs.old.items low.old comb.old p }
+    ensures rest { (p : ℕ) → p < lines project.now.k → has result p ≡ true → Rests project.now p (shown_with procs.new.items low.new comb.new p) }
 {
+    project.is_project();
     let lines = project.shape().lines();
-    for p in 0..lines {
-        let replies = [low_got[p as usize], comb_got[p as usize]];
-        act(project, procs, low, comb, p, replies);
+    let mut rests = not_in(active);
+    let mut next = 0;
+    while let Some(p) = first_from(active, next) {
+        if p < lines {
+            let replies = [low_got.of(p), comb_got.of(p)];
+            let stays = act(project, procs, low, comb, p, replies);
+            rests = with_mark(rests, p, stays);
+        } else {
+            // No processor has this label, so it is never asked again.
+            rests = with_mark(rests, p, true);
+        }
+        next = p + 1;
     }
+    rests
 }
 
-/// A processor takes its replies, and its entry acts.
+/// A processor takes its replies, and its entry acts: whether it is as it was, and rests.
 fn act(
     project: &Project,
     procs: &mut Vec<ProcState>,
@@ -68,7 +113,7 @@ fn act(
     comb: &mut Level<Request>,
     p: u32,
     replies: [Option<Reply>; 2],
-)
+) -> bool
     requires there { p < lines project.now.k }
     requires procs { length procs.old.items ≡ lines project.now.k }
     requires low { length low.old.queues ≡ lines project.now.k }
@@ -79,6 +124,8 @@ fn act(
     ensures comb { SameLevel comb.old comb.new }
     ensures one { ShowsOne low.new comb.new p }
     ensures acted { shown_with procs.new.items low.new comb.new p ≡ acted project.now p (message_at replies 0) (message_at replies 1) (shown_with procs.old.items low.old comb.old p) }
+    ensures stay { result ≡ true → shown_with procs.new.items low.new comb.new p ≡ shown_with procs.old.items low.old comb.old p }
+    ensures rest { result ≡ true → Rests project.now p (shown_with procs.new.items low.new comb.new p) }
     ensures others { (q : ℕ) → q ≢ p → proc_at procs.new.items q ≡ proc_at procs.old.items q }
     ensures low_others { (q : ℕ) → q ≢ p → queue_at low.new.queues q ≡ queue_at low.old.queues q }
     ensures comb_others { (q : ℕ) → q ≢ p → queue_at comb.new.queues q ≡ queue_at comb.old.queues q }
@@ -88,8 +135,19 @@ fn act(
         ..procs[p as usize]
     };
     let next = acted(project, p, own, replies);
+    let stays = stays(&own, &replies, &next);
     show(low, comb, p, &next);
     procs[p as usize] = next;
+    stays
+}
+
+/// Whether a processor got no reply, and is as it was.
+fn stays(own: &ProcState, replies: &[Option<Reply>; 2], next: &ProcState) -> bool
+    ensures low { result ≡ true → message_at replies.now 0 ≡ None }
+    ensures comb { result ≡ true → message_at replies.now 1 ≡ None }
+    ensures same { result ≡ true → next.now ≡ own.now }
+{
+    replies[0].is_none() && replies[1].is_none() && next.same(own)
 }
 
 /// What a processor shows.

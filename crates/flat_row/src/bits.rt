@@ -1,7 +1,7 @@
 //! Labels of a set.
-ghost use Rattle.std.specs.Prelude.{◌≡◌, ◌<◌};
+ghost use Rattle.std.specs.Prelude.{◌≡◌, ◌<◌, ◌||◌, not};
 ghost use Rattle.omega_net.specs.Wires.{bit};
-ghost use Rattle.flat_row.specs.Masks.{has};
+ghost use Rattle.flat_row.specs.Masks.{has, IsSetOf};
 
 /// A label's bit in a set.
 pub(crate) fn bit_in(set: u64, x: u32) -> u8
@@ -17,4 +17,20 @@ pub(crate) fn has(set: u64, x: u32) -> bool
     ensures { result ≡ has set x }
 {
     bit_in(set, x) == 1
+}
+
+/// The labels that aren't in a set.
+#[tactic(auto, using(crate::proofs::Masking::has_not))]
+pub(crate) fn not_in(set: u64) -> u64
+    ensures { IsSetOf (λ x. not (has set x)) result }
+{
+    !set
+}
+
+/// The labels of either set.
+#[tactic(auto, using(crate::proofs::Masking::has_or))]
+pub(crate) fn either(first: u64, second: u64) -> u64
+    ensures { IsSetOf (λ x. has first x || has second x) result }
+{
+    first | second
 }

@@ -37,6 +37,9 @@ pub fn decided_apart(by: u32, heads: Heads, room: Room, turn: u64) -> Decided
     ensures leave { IsSetOf (leaves by heads room turn) result.leave }
     ensures turn { TurnsAfter turn (comes by heads room turn 0) (comes by heads room turn 1) result.turn }
 {
+    if heads.any == 0 {
+        return none_apart(by, heads, room, turn);
+    }
     let from_first = from_first(by, heads, room, turn);
     let from_second = from_second(by, heads, room, turn);
     Decided {
@@ -52,6 +55,9 @@ pub fn decided_together(by: u32, any: u64, room: Room, turn: u64) -> Decided
     ensures leave { IsSetOf (leaves_both by any room turn) result.leave }
     ensures turn { TurnsAfter turn (comes_both by any room turn 0) (comes_both by any room turn 1) result.turn }
 {
+    if any == 0 {
+        return none_together(by, any, room, turn);
+    }
     let two = both(by, room.two);
     let one = both(by, room.one);
     let from_first = at_first(by, any) & (two | (one & !turn));
@@ -60,6 +66,26 @@ pub fn decided_together(by: u32, any: u64, room: Room, turn: u64) -> Decided
         leave: from_first | to_second(by, from_second),
         turn: turns(turn, from_first, from_second),
     }
+}
+
+/// What is decided where nothing waits: nothing leaves, and the turns stay.
+fn none_apart(by: u32, heads: Heads, room: Room, turn: u64) -> Decided
+    requires { heads.any ≡ 0 }
+    ensures leave { IsSetOf (leaves by heads room turn) result.leave }
+    ensures turn { TurnsAfter turn (comes by heads room turn 0) (comes by heads room turn 1) result.turn }
+{
+    let _ = (by, heads, room);
+    Decided { leave: 0, turn }
+}
+
+/// The same where what comes may go to both queues.
+fn none_together(by: u32, any: u64, room: Room, turn: u64) -> Decided
+    requires { any ≡ 0 }
+    ensures leave { IsSetOf (leaves_both by any room turn) result.leave }
+    ensures turn { TurnsAfter turn (comes_both by any room turn 0) (comes_both by any room turn 1) result.turn }
+{
+    let _ = (by, any, room);
+    Decided { leave: 0, turn }
 }
 
 /// The labels of port 0 of the switches that have both labels in a set.

@@ -17,6 +17,7 @@
 //! - A [`Row`] is a whole state of a project's machine by levels, labels and sets of labels (`states_of`, `IsRowOf`,
 //!   `specs/Row.antt`). [`Row::start`] is the first states, [`Row::read`] gives a component's state, and [`Row::step`] makes of it the
 //!   row whose states are `cycle` of those before: a third way to say the machine, beside the definition and the components that pull.
+//! - A step passes over the processors that rest: those that stay as they are until a reply comes or what they show leaves (`Rests`).
 //!
 //! A step takes no memory but where a module keeps a word more. Where that was refused the row is no state of its machine any more.
 #![tactic(auto)]

@@ -5,12 +5,13 @@ ghost use Rattle.ref_proc.specs.RefProc.{proc_start};
 ghost use Rattle.machine_cells.specs.Run.{first_states};
 ghost use Rattle.flat_row.specs.Row.{first_buffers};
 
+use crate::acting::Replies;
 use crate::side::Side;
 use crate::waits::Waits;
 use crate::words::first_words;
 use grid_law::NoMemory;
 use mem_module::Words;
-use omega_net::{Net, Shape};
+use omega_net::{Net, Reply, Shape};
 use project_book::Project;
 use ref_proc::ProcState;
 use std::alloc::Global;
@@ -28,6 +29,13 @@ pub struct Row {
     pub(crate) words: Vec<Words>,
     pub(crate) module_turns: u64,
     pub(crate) served: u64,
+    /// The processors that stay as they are until a reply comes or what they show leaves.
+    pub(crate) rests: u64,
+    /// What modules answer in a step and what processors receive in it. Between two steps it means nothing.
+    pub(crate) low_answers: [Reply; 64],
+    pub(crate) comb_answers: [Reply; 64],
+    pub(crate) low_got: Replies,
+    pub(crate) comb_got: Replies,
 }
 
 impl Model for Row {
@@ -35,9 +43,9 @@ impl Model for Row {
 
     ghost Value = { Arrays };
 
-    ghost view = { λ r. record { k = r.shape; low = r.low; comb = r.comb; buffers = r.waits.items; procs = r.procs.items; words = r.words.items; module_turns = r.module_turns; served = r.served } };
+    ghost view = { λ r. record { k = r.shape; low = r.low; comb = r.comb; buffers = r.waits.items; procs = r.procs.items; words = r.words.items; module_turns = r.module_turns; served = r.served; rests = r.rests } };
 
-    ghost invariant = { λ r. IsRow (record { k = r.shape; low = r.low; comb = r.comb; buffers = r.waits.items; procs = r.procs.items; words = r.words.items; module_turns = r.module_turns; served = r.served }) };
+    ghost invariant = { λ r. IsRow (record { k = r.shape; low = r.low; comb = r.comb; buffers = r.waits.items; procs = r.procs.items; words = r.words.items; module_turns = r.module_turns; served = r.served; rests = r.rests }) };
 }
 
 impl Row {
@@ -82,6 +90,11 @@ impl Row {
             words,
             module_turns: 0,
             served: 0,
+            rests: 0,
+            low_answers: [Reply::default(); 64],
+            comb_answers: [Reply::default(); 64],
+            low_got: Replies::none(),
+            comb_got: Replies::none(),
         })
     }
 }

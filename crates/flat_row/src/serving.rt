@@ -13,7 +13,7 @@ use grid_law::NoMemory;
 use mem_module::Words;
 use omega_net::{Reply, Request};
 
-/// Modules serve the heads of their requests on a network: their answers, which wait nowhere yet.
+/// Modules serve the heads of their requests on a network. Their answers wait nowhere yet.
 ///
 /// # Errors
 ///
@@ -22,14 +22,14 @@ pub(crate) fn serve(
     level: &mut Level<Request>,
     words: &mut Vec<Words>,
     modules: u64,
-) -> Result<[Reply; 64], NoMemory>
+    answers: &mut [Reply; 64],
+) -> Result<(), NoMemory>
     requires some { (m : ℕ) → m < 64 → has modules m ≡ true → IsSome (head (queue_at level.old.queues m)) }
     requires there { length level.old.queues ≤ length words.old.items }
     ensures shape { SameLevel level.old level.new }
     ensures many { length words.new.items ≡ length words.old.items }
-    ensures served { IfOk result (λ answers. AllServed modules level.old level.new words.old.items words.new.items answers) }
+    ensures served { OnOk result (AllServed modules level.old level.new words.old.items words.new.items answers.new) }
 {
-    let mut answers = [Reply::default(); 64];
     let mut next = 0;
     while let Some(m) = first_from(modules, next) {
         let request = level.take(m);
@@ -38,7 +38,7 @@ pub(crate) fn serve(
         answers[m as usize] = reply;
         next = m + 1;
     }
-    Ok(answers)
+    Ok(())
 }
 
 /// A module does a request: the word that it leaves, and the reply, which is the word before.

@@ -1,15 +1,15 @@
 //! One network in a step.
-ghost use Rattle.std.specs.Prelude.{◌≡◌, ℕ, suc, ◌+◌, ◌<◌, ◌≤◌, length, IsSome, true, IfOk};
+ghost use Rattle.std.specs.Prelude.{◌≡◌, ℕ, suc, ◌+◌, ◌<◌, ◌≤◌, length, IsSome, true, false, OnOk};
 ghost use Rattle.omega_net.specs.Numbers.{lines};
 ghost use Rattle.omega_net.specs.Queues.{head};
 ghost use Rattle.flat_row.specs.Masks.{has};
 ghost use Rattle.flat_row.specs.Row.{HasLevels, level_at, queue_of};
 ghost use Rattle.flat_row.specs.Moving.{AllWait, AllWaitBack, forth_after, back_after};
 ghost use Rattle.flat_row.specs.Stages.{HasBuffers, CombForth, CombBack};
-ghost use Rattle.flat_row.specs.Ends.{AllServed, ShowsOne};
+ghost use Rattle.flat_row.specs.Ends.{AllServed, ShowsOne, Stays, shown_with};
 ghost use Rattle.flat_row.specs.Step.{OnlyModules, NetReceived, NetAnswered, OnlyRequests, OnlyReplies, BothActed, BothServed, Departed, Returned, CombsReturned};
 
-use crate::acting::{act_all, receive};
+use crate::acting::{Replies, act_all, receive};
 use crate::decide::Served;
 use crate::leaving::Plan;
 use crate::moving::{move_back, move_forth};
@@ -24,7 +24,7 @@ use project_book::Project;
 use ref_proc::ProcState;
 
 impl Side {
-    /// Modules serve the heads of their requests: their answers.
+    /// Modules serve the heads of their requests.
     ///
     /// # Errors
     ///
@@ -34,29 +34,30 @@ impl Side {
         shape: Shape,
         words: &mut Vec<Words>,
         modules: u64,
-    ) -> Result<[Reply; 64], NoMemory>
+        answers: &mut [Reply; 64],
+    ) -> Result<(), NoMemory>
         requires levels { HasLevels (shape + 2) (lines shape) self.old.requests }
         requires some { (m : ℕ) → m < 64 → has modules m ≡ true → IsSome (head (queue_of self.old.requests (suc shape) m)) }
         requires there { lines shape ≤ length words.old.items }
         ensures only { OnlyModules shape self.old self.new }
         ensures many { length words.new.items ≡ length words.old.items }
-        ensures served { IfOk result (λ answers. AllServed modules (level_at self.old.requests (suc shape)) (level_at self.new.requests (suc shape)) words.old.items words.new.items answers) }
+        ensures served { OnOk result (AllServed modules (level_at self.old.requests (suc shape)) (level_at self.new.requests (suc shape)) words.old.items words.new.items answers.new) }
     {
         let last = shape.k() as usize + 1;
         let level = &mut self.requests[last];
-        let answers = serve(level, words, modules)?;
-        Ok(answers)
+        serve(level, words, modules, answers)
     }
 
     /// Processors receive the heads of the replies before them.
-    pub(crate) fn receive(&mut self, set: u64) -> [Option<Reply>; 64]
+    pub(crate) fn receive(&mut self, set: u64, got: &mut Replies)
         requires there { 0 < length self.old.replies }
         requires some { (p : ℕ) → p < 64 → has set p ≡ true → IsSome (head (queue_of self.old.replies 0 p)) }
-        ensures { NetReceived set self.old self.new result }
+        ensures received { NetReceived set self.old self.new got.new }
+        ensures set { got.new.set ≡ set }
     {
+        got.set = set;
         let level = &mut self.replies[0];
-        let got = receive(level, set);
-        got
+        receive(level, set, &mut got.at);
     }
 
     /// The answers of modules go last into their replies.
@@ -132,16 +133,17 @@ impl Side {
 
 impl Side {
     /// Requests move on the low network, and processors receive what comes to them.
-    pub(crate) fn depart(&mut self, shape: Shape, plan: &Plan) -> [Option<Reply>; 64]
+    pub(crate) fn depart(&mut self, shape: Shape, plan: &Plan, got: &mut Replies)
         requires requests { HasLevels (shape + 2) (lines shape) self.old.requests }
         requires replies { HasLevels (shape + 1) (lines shape) self.old.replies }
         requires some { AllWait shape plan.now.forth.leave plan.now.enter self.old.requests }
         requires comes { (p : ℕ) → p < 64 → has plan.now.receive p ≡ true → IsSome (head (queue_of self.old.replies 0 p)) }
-        ensures departed { Departed plan.now.receive self.old self.new result }
+        ensures departed { Departed plan.now.receive self.old self.new got.new }
+        ensures set { got.new.set ≡ plan.now.receive }
         ensures queues { (l z : ℕ) → l < shape + 2 → z < 64 → queue_of self.new.requests l z ≡ forth_after (λ r. r.place.«module») shape plan.now.forth.leave plan.now.enter self.old.requests l z }
     {
         self.forth(shape, &plan.forth.leave, plan.enter);
-        self.receive(plan.receive)
+        self.receive(plan.receive, got);
     }
 
     /// The same on the combining network.
@@ -150,17 +152,19 @@ impl Side {
         waits: &mut Vec<Waits>,
         project: &Project,
         plan: &Plan,
-    ) -> [Option<Reply>; 64]
+        got: &mut Replies,
+    )
         requires requests { HasLevels (project.now.k + 2) (lines project.now.k) self.old.requests }
         requires replies { HasLevels (project.now.k + 1) (lines project.now.k) self.old.replies }
         requires buffers { HasBuffers project.now.k (lines project.now.k) waits.old.items }
         requires some { AllWait project.now.k plan.now.forth.leave plan.now.enter self.old.requests }
         requires comes { (p : ℕ) → p < 64 → has plan.now.receive p ≡ true → IsSome (head (queue_of self.old.replies 0 p)) }
-        ensures departed { Departed plan.now.receive self.old self.new result }
+        ensures departed { Departed plan.now.receive self.old self.new got.new }
+        ensures set { got.new.set ≡ plan.now.receive }
         ensures crossed { CombForth project.now plan.now.forth.leave plan.now.enter self.old.requests self.new.requests waits.old.items waits.new.items }
     {
         self.combs_forth(waits, project, &plan.forth.leave, plan.enter);
-        self.receive(plan.receive)
+        self.receive(plan.receive, got);
     }
 
     /// Replies move on the low network, modules answer, and the turns go on.
@@ -217,7 +221,9 @@ pub(crate) fn serve_both(
     comb: &mut Side,
     words: &mut Vec<Words>,
     served: &Served,
-) -> Result<([Reply; 64], [Reply; 64]), NoMemory>
+    low_answers: &mut [Reply; 64],
+    comb_answers: &mut [Reply; 64],
+) -> Result<(), NoMemory>
     requires low { HasLevels (shape + 2) (lines shape) low.old.requests }
     requires comb { HasLevels (shape + 2) (lines shape) comb.old.requests }
     requires low_some { (m : ℕ) → m < 64 → has served.now.low m ≡ true → IsSome (head (queue_of low.old.requests (suc shape) m)) }
@@ -226,28 +232,32 @@ pub(crate) fn serve_both(
     ensures low { OnlyModules shape low.old low.new }
     ensures comb { OnlyModules shape comb.old comb.new }
     ensures many { length words.new.items ≡ length words.old.items }
-    ensures both { IfOk result (λ answers. BothServed shape served.now.low served.now.comb low.old low.new comb.old comb.new words.old.items words.new.items answers.0 answers.1) }
+    ensures both { OnOk result (BothServed shape served.now.low served.now.comb low.old low.new comb.old comb.new words.old.items words.new.items low_answers.new comb_answers.new) }
 {
-    let low_answers = low.serve(shape, words, served.low)?;
-    let comb_answers = comb.serve(shape, words, served.comb)?;
-    Ok((low_answers, comb_answers))
+    low.serve(shape, words, served.low, low_answers)?;
+    comb.serve(shape, words, served.comb, comb_answers)
 }
 
-/// All processors act, and show on both networks.
+/// The processors that may act do, and show on both networks: which processors have stayed as they were, and rest.
 pub(crate) fn act_on(
     project: &Project,
     procs: &mut Vec<ProcState>,
     low: &mut Side,
     comb: &mut Side,
-    got: &([Option<Reply>; 64], [Option<Reply>; 64]),
-)
+    low_got: &Replies,
+    comb_got: &Replies,
+    active: u64,
+) -> u64
     requires procs { length procs.old.items ≡ lines project.now.k }
     requires low { HasLevels (project.now.k + 2) (lines project.now.k) low.old.requests }
     requires comb { HasLevels (project.now.k + 2) (lines project.now.k) comb.old.requests }
     requires one { (p : ℕ) → ShowsOne (level_at low.old.requests 0) (level_at comb.old.requests 0) p }
-    ensures { BothActed project.now got.now.0 got.now.1 low.old low.new comb.old comb.new procs.old.items procs.new.items }
+    requires others { (p : ℕ) → p < lines project.now.k → has active p ≡ false → Stays project.now low_got.now comb_got.now (shown_with procs.old.items (level_at low.old.requests 0) (level_at comb.old.requests 0) p) p }
+    ensures { BothActed project.now low_got.now comb_got.now result low.old low.new comb.old comb.new procs.old.items procs.new.items }
 {
     let low_level = &mut low.requests[0];
     let comb_level = &mut comb.requests[0];
-    act_all(project, procs, low_level, comb_level, &got.0, &got.1);
+    act_all(
+        project, procs, low_level, comb_level, low_got, comb_got, active,
+    )
 }

@@ -1,11 +1,15 @@
 //! The row one cycle later.
-ghost use Rattle.std.specs.Prelude.{◌≡◌, OnOk};
+ghost use Rattle.std.specs.Prelude.{◌≡◌, ℕ, ◌<◌, true, false, OnOk};
 ghost use Rattle.machine_cells.specs.Cycle.{cycle};
+ghost use Rattle.flat_row.specs.Masks.{has};
+ghost use Rattle.flat_row.specs.Moving.{leaves_forth};
 
+use crate::bits::{either, not_in};
+use crate::leaving::Plan;
 use crate::row::Row;
 use crate::sides::{act_on, serve_both};
 use grid_law::NoMemory;
-use omega_net::Net;
+use omega_net::{Net, Shape};
 use project_book::Project;
 
 impl Row {
@@ -28,28 +32,68 @@ impl Row {
         let low = self.plan(project, Net::Low);
         let comb = self.plan(project, Net::Comb);
         let shape = self.shape;
-        let answers = serve_both(
+        serve_both(
             shape,
             &mut self.low,
             &mut self.comb,
             &mut self.words,
             &served,
+            &mut self.low_answers,
+            &mut self.comb_answers,
         )?;
-        let low_got = self.low.depart(shape, &low);
-        let comb_got = self.comb.combs_depart(&mut self.waits, project, &comb);
-        let got = (low_got, comb_got);
-        act_on(
+        self.low.depart(shape, &low, &mut self.low_got);
+        self.comb
+            .combs_depart(&mut self.waits, project, &comb, &mut self.comb_got);
+        let active = active(shape, self.rests, &low, &comb);
+        let rests = act_on(
             project,
             &mut self.procs,
             &mut self.low,
             &mut self.comb,
-            &got,
+            &self.low_got,
+            &self.comb_got,
+            active,
         );
-        self.low.come_back(shape, &low, served.low, &answers.0);
-        self.comb
-            .combs_come_back(&mut self.waits, project, &comb, served.comb, &answers.1);
+        self.low
+            .come_back(shape, &low, served.low, &self.low_answers);
+        self.comb.combs_come_back(
+            &mut self.waits,
+            project,
+            &comb,
+            served.comb,
+            &self.comb_answers,
+        );
         self.module_turns = served.turn;
         self.served = served.low | served.comb;
+        self.rests = rests;
         Ok(())
+    }
+}
+
+/// The processors that may act: those that don't rest, and those to which a reply comes, or whose request leaves.
+fn active(shape: Shape, rests: u64, low: &Plan, comb: &Plan) -> u64
+    ensures rests { (p : ℕ) → p < 64 → has result p ≡ false → has rests p ≡ true }
+    ensures low { (p : ℕ) → p < 64 → has result p ≡ false → has low.now.receive p ≡ false }
+    ensures comb { (p : ℕ) → p < 64 → has result p ≡ false → has comb.now.receive p ≡ false }
+    ensures low_leave { (p : ℕ) → p < 64 → has result p ≡ false → leaves_forth shape low.now.forth.leave low.now.enter 0 p ≡ false }
+    ensures comb_leave { (p : ℕ) → p < 64 → has result p ≡ false → leaves_forth shape comb.now.forth.leave comb.now.enter 0 p ≡ false }
+{
+    let low_leave = leaving_first(shape, low);
+    let comb_leave = leaving_first(shape, comb);
+    let leave = either(low_leave, comb_leave);
+    let asked = either(low.receive, comb.receive);
+    let woken = either(asked, leave);
+    let awake = not_in(rests);
+    either(awake, woken)
+}
+
+/// The processors whose requests leave on a network.
+fn leaving_first(shape: Shape, plan: &Plan) -> u64
+    ensures { (p : ℕ) → has result p ≡ leaves_forth shape plan.now.forth.leave plan.now.enter 0 p }
+{
+    if shape.k() == 0 {
+        plan.enter
+    } else {
+        plan.forth.leave[0]
     }
 }

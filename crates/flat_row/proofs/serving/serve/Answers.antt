@@ -6,7 +6,7 @@ use Rattle.flat_row.proofs.Ending.{none_served, some_served, within_now, within_
 use Rattle.flat_row.proofs.serving.serve.Goals as goal
 
 pub loop-m-init : goal.loop-m-init
-loop-m-init c = record { within = omega arith; partly = none_served c.args.modules c.args.level.now c.args.words.now.items _ refl }
+loop-m-init c = record { within = omega arith; partly = none_served c.args.modules c.args.level.now c.args.words.now.items _ c.told-answers }
 
 pub take-request-requires-clause-there : goal.take-request-requires-clause-there
 take-request-requires-clause-there c = within_now c.args.modules c.args.level.now c.args.words.now.items c.loop-m.next c.loop-m.level c.loop-m.words.items c.loop-m.answers c.loop-m.invariant.partly c.in-Some.m c.in-Some.ensures.there.1 c.in-Some.ensures.there.0 c.in-Some.ensures.passed c.in-Some.ensures.there.2 c.requires.some

@@ -13,8 +13,8 @@ pub receive-requires-clause-some : goal.receive-requires-clause-some
 receive-requires-clause-some c = λ p small has_it. subst (λ rs. IsSome (head (queue_of rs 0 p))) (sym c.combs_forth.ensures.only.replies) (c.requires.comes p small has_it)
 
 pub returns-clause-departed : goal.returns-clause-departed
-returns-clause-departed c = departed_by c.args.plan.now.receive c.args.self.now c.combs_forth.new.self c.receive.new.self c.receive.result c.combs_forth.ensures.only c.receive.ensures
+returns-clause-departed c = departed_by c.args.plan.now.receive c.args.self.now c.combs_forth.new.self c.receive.new.self c.receive.new.got c.combs_forth.ensures.only c.receive.ensures.received
 
 pub returns-clause-crossed : goal.returns-clause-crossed
 returns-clause-crossed c =
-    subst (λ rs. CombForth c.args.project.now c.args.plan.now.forth.leave c.args.plan.now.enter c.args.self.now.requests rs c.args.waits.now.items c.combs_forth.new.waits.items) (sym c.receive.ensures.requests) c.combs_forth.ensures.crossed
+    subst (λ rs. CombForth c.args.project.now c.args.plan.now.forth.leave c.args.plan.now.enter c.args.self.now.requests rs c.args.waits.now.items c.combs_forth.new.waits.items) (sym c.receive.ensures.received.requests) c.combs_forth.ensures.crossed

@@ -12,7 +12,7 @@ pub receive-requires-clause-some : goal.receive-requires-clause-some
 receive-requires-clause-some c = λ p small has_it. subst (λ rs. IsSome (head (queue_of rs 0 p))) (sym c.forth.ensures.only.replies) (c.requires.comes p small has_it)
 
 pub returns-clause-departed : goal.returns-clause-departed
-returns-clause-departed c = departed_by c.args.plan.now.receive c.args.self.now c.forth.new.self c.receive.new.self c.receive.result c.forth.ensures.only c.receive.ensures
+returns-clause-departed c = departed_by c.args.plan.now.receive c.args.self.now c.forth.new.self c.receive.new.self c.receive.new.got c.forth.ensures.only c.receive.ensures.received
 
 pub returns-clause-queues : goal.returns-clause-queues
-returns-clause-queues c = λ l z within small. ap (λ rs. queue_of rs l z) c.receive.ensures.requests ∙ c.forth.ensures.queues l z within small
+returns-clause-queues c = λ l z within small. ap (λ rs. queue_of rs l z) c.receive.ensures.received.requests ∙ c.forth.ensures.queues l z within small

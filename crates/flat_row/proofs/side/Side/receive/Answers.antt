@@ -12,16 +12,16 @@ index_mut-level-requires c =
     let there : 0 < length c.self.inside.replies.items = omega (arith, many, c.requires.there) in
     omega (arith, there)
 
-pub receive-got-requires : goal.receive-got-requires
-receive-got-requires c = λ p small has_it.
+pub receive-requires : goal.receive-requires
+receive-requires c = λ p small has_it.
     let many = ap (λ (n : Network). length n.replies) c.self.view_is in
     let there : 0 < length c.self.inside.replies.items = omega (arith, many, c.requires.there) in
     let found = level_is c.self.inside.replies.items 0 c.index_mut-level.result.now c.index_mut-level.result.now there c.index_mut-level.ensures.value in
     let was = ap (λ (n : Network). level_at n.replies 0) c.self.view_is in
     subst (λ v. IsSome (head (queue_at v.queues p))) (sym (found ∙ was)) (c.requires.some p small has_it)
 
-pub returns : goal.returns
-returns c =
+pub returns-clause-received : goal.returns-clause-received
+returns-clause-received c =
     let many = ap (λ (n : Network). length n.replies) c.self.view_is in
     let there : 0 < length c.self.inside.replies.items = omega (arith, many, c.requires.there) in
-    received_in c.args.self.now c.self.inside.requests.items c.self.inside.replies.items c.self.inside.turns c.self.inside.back_turns c.self.view_is c.args.set c.receive-got.result c.index_mut-level.result.now c.receive-got.new.level there c.index_mut-level.ensures.value c.receive-got.ensures.shape c.receive-got.ensures.received
+    received_in c.args.self.now c.self.inside.requests.items c.self.inside.replies.items c.self.inside.turns c.self.inside.back_turns c.self.view_is c.args.set (record { set = c.args.set; at = c.receive.new.at }) c.index_mut-level.result.now c.receive.new.level there c.index_mut-level.ensures.value c.receive.ensures.shape c.receive.ensures.received

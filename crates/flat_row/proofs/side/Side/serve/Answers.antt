@@ -1,4 +1,5 @@
 use Rattle.std.proofs.Common.{◌≡◌, suc, ◌+◌, ◌<◌, ◌∙◌, ap, sym, subst, length, arith}
+use Rattle.std.proofs.lemmas.Result.{on_ok_weaker}
 use Rattle.std.specs.Prelude.{IsSome}
 use Rattle.omega_net.specs.Queues.{head}
 use Rattle.omega_net.specs.Ports.{queue_at}
@@ -32,29 +33,19 @@ serve-requires-clause-there c =
     let wide : length c.index_mut-level.result.now.queues ≡ _ = ap (λ v. length v.queues) (found ∙ was) ∙ c.requires.levels.each (suc c.args.shape) (omega arith) in
     omega (arith, wide, c.requires.there)
 
-pub returns-in_err-answers-clause-only : goal.returns-in_err-answers-clause-only
-returns-in_err-answers-clause-only c =
-    let many = ap (λ (n : Network). length n.requests) c.self.view_is in
-    let there : c.k.result + 1 < length c.self.inside.requests.items = omega (arith, many, c.requires.levels.many, c.k.ensures.value) in
-    let at : c.k.result + 1 ≡ suc c.args.shape = omega (arith, c.k.ensures.value) in
-    served_only c.args.self.now c.self.inside.requests.items c.self.inside.replies.items c.self.inside.turns c.self.inside.back_turns c.self.view_is c.args.shape (c.k.result + 1) c.index_mut-level.result.now c.serve.new.level at there c.index_mut-level.ensures.value c.in_err-answers.ensures.shape
-
-pub returns-in_err-answers-clause-many : goal.returns-in_err-answers-clause-many
-returns-in_err-answers-clause-many c = c.in_err-answers.ensures.many
-
 pub returns-clause-only : goal.returns-clause-only
 returns-clause-only c =
     let many = ap (λ (n : Network). length n.requests) c.self.view_is in
     let there : c.k.result + 1 < length c.self.inside.requests.items = omega (arith, many, c.requires.levels.many, c.k.ensures.value) in
     let at : c.k.result + 1 ≡ suc c.args.shape = omega (arith, c.k.ensures.value) in
-    served_only c.args.self.now c.self.inside.requests.items c.self.inside.replies.items c.self.inside.turns c.self.inside.back_turns c.self.view_is c.args.shape (c.k.result + 1) c.index_mut-level.result.now c.serve.new.level at there c.index_mut-level.ensures.value c.in_ok-answers.ensures.shape
+    served_only c.args.self.now c.self.inside.requests.items c.self.inside.replies.items c.self.inside.turns c.self.inside.back_turns c.self.view_is c.args.shape (c.k.result + 1) c.index_mut-level.result.now c.serve.new.level at there c.index_mut-level.ensures.value c.serve.ensures.shape
 
 pub returns-clause-many : goal.returns-clause-many
-returns-clause-many c = c.in_ok-answers.ensures.many
+returns-clause-many c = c.serve.ensures.many
 
 pub returns-clause-served : goal.returns-clause-served
 returns-clause-served c =
     let many = ap (λ (n : Network). length n.requests) c.self.view_is in
     let there : c.k.result + 1 < length c.self.inside.requests.items = omega (arith, many, c.requires.levels.many, c.k.ensures.value) in
     let at : c.k.result + 1 ≡ suc c.args.shape = omega (arith, c.k.ensures.value) in
-    served_in c.args.self.now c.self.inside.requests.items c.self.inside.replies.items c.self.inside.turns c.self.inside.back_turns c.self.view_is c.args.shape (c.k.result + 1) c.args.modules c.index_mut-level.result.now c.serve.new.level c.args.words.now.items c.serve.new.words.items _ at there c.index_mut-level.ensures.value c.in_ok-answers.ensures.served
+    on_ok_weaker c.serve.result (λ done. served_in c.args.self.now c.self.inside.requests.items c.self.inside.replies.items c.self.inside.turns c.self.inside.back_turns c.self.view_is c.args.shape (c.k.result + 1) c.args.modules c.index_mut-level.result.now c.serve.new.level c.args.words.now.items c.serve.new.words.items c.serve.new.answers at there c.index_mut-level.ensures.value done) c.serve.ensures.served
