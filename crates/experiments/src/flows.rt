@@ -10,23 +10,13 @@ ghost use Rattle.monitor_sums.specs.Counts.{count};
 ghost use Rattle.monitor_sums.specs.declared.counter.Counter.TheVariants.{Answered, Served};
 ghost use Rattle.experiments.specs.Flows.{counted_at, counter_of, AreFlows, IsFlow};
 
-use crate::queues::state_at;
+use crate::runner::Runner;
 use crate::{Fault, Load, project_of};
 use grid_law::NoMemory;
-use machine_cells::{MachineState, from_scratch};
+use omega_net::Reply;
 use page_map::MAX_K;
 use project_book::{MAX_HORIZON, Project};
 use std::alloc::{AllocError, Global};
-use std::sync::Arc;
-
-/// What is counted of a run.
-#[derive(Clone, Copy, PartialEq, Eq, Debug)]
-pub enum Measure {
-    /// References that were answered.
-    Answered,
-    /// Requests that modules served; requests that combined on their way are served as one.
-    Served,
-}
 
 /// For each cycle of a run, from 0 on, how many references were answered, and how many requests served, in the step to it.
 #[derive(Drop)]
@@ -35,51 +25,47 @@ pub struct Flows {
     pub served: Vec<u16>,
 }
 
-/// What a state counts.
-fn count_in(measure: Measure, state: Option<&MachineState>) -> u16
-    ensures count { result ≡ count (counter_of measure) (option_copied state.entry) }
+/// How many replies a processor received.
+fn replies_in(got: [Option<Reply>; 2]) -> u16
+    ensures count { result ≡ replies_in got }
     ensures few { result ≤ 2 }
 {
-    match (measure, state) {
-        (Measure::Answered, Some(MachineState::Proc(state))) => {
-            let [low, comb] = state.got;
-            u16::from(low.is_some()) + u16::from(comb.is_some())
-        }
-        (Measure::Served, Some(MachineState::Module(state))) => u16::from(state.served),
-        _ => 0,
-    }
+    let [low, comb] = got;
+    u16::from(low.is_some()) + u16::from(comb.is_some())
 }
 
-/// What the first components count at a cycle.
-#[tactic(auto, using(crate::proofs::Adding::sum_next))]
-fn counted_at(rows: &[Vec<Arc<MachineState>>], measure: Measure, cycle: u32, count: u32) -> u16
-    requires { count < 10000 }
-    ensures { result ≡ counted_at (counter_of measure) (state_in (map (λ row. map arc_value row.items) rows.now)) count cycle }
+/// How many references were answered in the step to the present cycle.
+fn answered_now(project: &Project, runner: &Runner) -> u16
+    requires { IsAt project.now runner.now.cycle runner.now }
+    ensures { result ≡ counted_at Answered (state_in (run project.now)) (components project.now.k) runner.now.cycle }
 {
     let mut sum: u16 = 0;
-    for component in 0..count {
-        sum += count_in(measure, state_at(rows, cycle, component));
+    for p in 0..project.processors() {
+        sum += replies_in(runner.row.got(p));
     }
     sum
 }
 
-/// What they count at each cycle up to the last.
-fn flow(
-    alloc: Global,
-    rows: &[Vec<Arc<MachineState>>],
-    measure: Measure,
-    count: u32,
-    last: u32,
-) -> Result<Vec<u16>, AllocError>
-    requires count { count < 10000 }
-    requires short { last < 1000000 }
-    ensures { IfOk result (λ v. v.items ≡ map (counted_at (counter_of measure) (state_in (map (λ row. map arc_value row.items) rows.now)) count) (below (last + 1))) }
+/// How many requests modules served in the step to the present cycle.
+fn served_now(project: &Project, runner: &Runner) -> u16
+    requires { IsAt project.now runner.now.cycle runner.now }
+    ensures { result ≡ counted_at Served (state_in (run project.now)) (components project.now.k) runner.now.cycle }
 {
-    let mut flow = Vec::new(alloc);
-    for cycle in 0..last + 1 {
-        flow.push(counted_at(rows, measure, cycle, count))?;
+    let mut sum: u16 = 0;
+    for m in 0..project.processors() {
+        sum += u16::from(runner.row.served(m));
     }
-    Ok(flow)
+    sum
+}
+
+impl Flows {
+    /// Adds what came of the step to the present cycle.
+    fn add(&mut self, project: &Project, runner: &Runner) -> Result<(), AllocError>
+    {
+        self.answered.push(answered_now(project, runner))?;
+        self.served.push(served_now(project, runner))?;
+        Ok(())
+    }
 }
 
 /// What came of each cycle of the run of the project. It simulates the project from cycle 0.
@@ -92,14 +78,17 @@ pub fn flows_of(alloc: Global, project: &Project) -> Result<Flows, NoMemory>
     ensures served { IfOk result (λ f. IsFlow project.now Served f.served.items) }
 {
     project.is_project();
-    let rows = from_scratch(alloc, project)?;
-    let rows = rows.as_slice();
-    let count = project.shape().components();
-    let last = project.horizon();
-    Ok(Flows {
-        answered: flow(alloc, rows, Measure::Answered, count, last)?,
-        served: flow(alloc, rows, Measure::Served, count, last)?,
-    })
+    let mut runner = Runner::start(alloc, project)?;
+    let mut flows = Flows {
+        answered: Vec::new(alloc),
+        served: Vec::new(alloc),
+    };
+    flows.add(project, &runner)?;
+    for _cycle in 0..project.horizon() {
+        runner.step(project)?;
+        flows.add(project, &runner)?;
+    }
+    Ok(flows)
 }
 
 /// What came of each cycle of the run of a load's project.

@@ -31,6 +31,7 @@ mod labels;
 mod laws;
 mod leaving;
 mod level;
+mod looks;
 mod marks;
 mod moving;
 mod pairs;
