@@ -1,0 +1,3 @@
+pub mod Queueing
+pub mod Telling
+pub mod Stating
