@@ -1,3 +1,4 @@
 pub mod Queueing
 pub mod Telling
 pub mod Stating
+pub mod Saying

@@ -3,6 +3,7 @@
 
 mod components;
 mod fields;
+mod fits;
 mod heads;
 mod laws;
 mod message;

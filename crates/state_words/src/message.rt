@@ -1,7 +1,9 @@
 //! Messages as two words each.
 ghost use Rattle.std.specs.Prelude.{◌≡◌, ℕ};
+ghost use Rattle.state_words.specs.Fits.{IsRequest, IsOutgoing, IsReply, IsWaiting};
 ghost use Rattle.state_words.specs.Messages.{request_first, request_second, request_from, out_first, out_second, out_from, reply_first, reply_second, reply_from, wait_first, wait_second, wait_from};
 
+use crate::fits::{is_byte, is_short, is_tag, is_word};
 use crate::fields::{byte, high, kind_from, kind_number, low, net_from, net_number, short};
 use comb_switch::Waiting;
 use omega_net::{Reply, Request, Tag};
@@ -19,6 +21,8 @@ pub trait TwoWords: Copy {
 
     ghost from: { ℕ → ℕ → Self };
 
+    ghost fits: { Self → Type 0 };
+
     /// The first word.
     fn first(&self) -> u64
         ensures { result ≡ first self.now };
@@ -30,6 +34,10 @@ pub trait TwoWords: Copy {
     /// What has these words. Where nothing has them, something all the same.
     fn from_words(word: u64, next: u64) -> Self
         ensures { result ≡ from word next };
+
+    /// Its numbers fit their types.
+    fn fits(&self)
+        ensures { fits self.now };
 }
 
 impl TwoWords for Request {
@@ -38,6 +46,8 @@ impl TwoWords for Request {
     ghost second = { request_second };
 
     ghost from = { request_from };
+
+    ghost fits = { IsRequest };
 
     fn first(&self) -> u64 {
         let Request { tag, place, op } = *self;
@@ -67,6 +77,14 @@ impl TwoWords for Request {
             },
         }
     }
+
+    fn fits(&self) {
+        let Request { tag, place, op } = *self;
+        is_tag(tag);
+        is_byte(place.module);
+        is_short(place.row);
+        is_word(op.operand);
+    }
 }
 
 impl TwoWords for Reply {
@@ -75,6 +93,8 @@ impl TwoWords for Reply {
     ghost second = { reply_second };
 
     ghost from = { reply_from };
+
+    ghost fits = { IsReply };
 
     fn first(&self) -> u64 {
         self.tag.issue as u64 + ((self.word as u64) << 32)
@@ -93,6 +113,12 @@ impl TwoWords for Reply {
             word: high(word),
         }
     }
+
+    fn fits(&self) {
+        let Reply { tag, word } = *self;
+        is_tag(tag);
+        is_word(word);
+    }
 }
 
 impl TwoWords for Outgoing {
@@ -101,6 +127,8 @@ impl TwoWords for Outgoing {
     ghost second = { out_second };
 
     ghost from = { out_from };
+
+    ghost fits = { IsOutgoing };
 
     fn first(&self) -> u64 {
         self.request.first()
@@ -117,6 +145,10 @@ impl TwoWords for Outgoing {
             request: Request::from_words(word, next),
         }
     }
+
+    fn fits(&self) {
+        self.request.fits();
+    }
 }
 
 impl TwoWords for Waiting {
@@ -125,6 +157,8 @@ impl TwoWords for Waiting {
     ghost second = { wait_second };
 
     ghost from = { wait_from };
+
+    ghost fits = { IsWaiting };
 
     fn first(&self) -> u64 {
         self.first.issue as u64 + ((self.op.operand as u64) << 32)
@@ -153,5 +187,12 @@ impl TwoWords for Waiting {
                 issue: low(next),
             },
         }
+    }
+
+    fn fits(&self) {
+        let Waiting { first, op, second } = *self;
+        is_tag(first);
+        is_word(op.operand);
+        is_tag(second);
     }
 }

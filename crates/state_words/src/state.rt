@@ -4,6 +4,7 @@ ghost use Rattle.machine_cells.specs.declared.state.MachineState.{MachineState a
 ghost use Rattle.state_words.specs.States.{words_of, with_memory, state_from, IsState};
 
 use crate::components::{read_comb, read_low, read_module, read_proc};
+use crate::fits::{is_comb, is_low, is_module, is_proc};
 use crate::parts::{write_comb, write_low, write_module, write_proc};
 use crate::reading::split_first;
 use grid_law::NoMemory;
@@ -56,7 +57,14 @@ fn read_state(alloc: Global, words: &[u64], memory: Words) -> Result<MachineStat
     }
 }
 
-/// A state of the types is one that words tell.
+/// Every state is one of those that their words tell.
 pub fn is_state(state: &MachineState)
     ensures { IsState state.now }
-{}
+{
+    match state {
+        MachineState::Proc(s) => is_proc(s),
+        MachineState::Module(s) => is_module(s),
+        MachineState::Low(s) => is_low(s),
+        MachineState::Comb(s) => is_comb(s),
+    }
+}
