@@ -2,3 +2,4 @@ pub mod Queueing
 pub mod Telling
 pub mod Stating
 pub mod Saying
+pub mod Measuring

@@ -23,6 +23,7 @@ use Rattle.state_words.specs.Fits.{IsRequest, IsReply, IsOutgoing, IsWaiting, Is
 use Rattle.state_words.specs.States.{head_of, body_of, words_of, memory_of, with_memory, state_from, IsState}
 use Rattle.state_words.specs.Laws.{WordsTell, WordsAreStates, WordsAreWords, HasLength, HeadsTellLengths}
 use Rattle.state_words.proofs.Telling.{IsHead, IsProcHead, kind_small, net_small, one_small}
+use Rattle.state_words.proofs.Measuring.{proc_long, module_long, low_long, comb_long}
 use Rattle.state_words.proofs.Stating.{state_back, module_head_is, low_head_is, comb_head_is, proc_head_is}
 
 -- a state with its own memory is itself, and memory is in no word
@@ -85,7 +86,7 @@ messages_fit first second Is one two (m ∷ ms) rest h k =
     let is : Is m = All-head Is m ms h in
     let others = message_words first second ms rest in
     All-cons IsWord (first m) (second m ∷ others) (one m is)
-      (All-cons IsWord (second m) others (two m is) (messages_fit first second Is one two ms rest (All-tail Is m ms h) k))
+    (All-cons IsWord (second m) others (two m is) (messages_fit first second Is one two ms rest (All-tail Is m ms h) k))
 
 option_fits : {T : Type 0} (first second : T → ℕ) (Is : T → Type 0) → ((m : T) → Is m → first m < 2 ^ 64) → ((m : T) → Is m → second m < 2 ^ 64)
     → (o : Option T) (rest : List ℕ) → IfThere Is o → All IsWord rest → All IsWord (option_words first second o rest)
@@ -118,61 +119,29 @@ bits_fit a b ha hb = omega (arith, ha, hb)
 pub words_are_words : WordsAreWords
 words_are_words (Proc s) h =
     All-cons IsWord (proc_head s) (proc_body s)
-      (proc_fits _ _ _ _ s.index s.pending (one_small (is_some s.out)) (one_small (is_some (message_at s.got 0))) (one_small (is_some (message_at s.got 1))) (one_small s.sent) h.index h.pending)
-      (All-cons IsWord (s.spent + 2 ^ 32 * s.issued) _ (halves_fit s.spent s.issued h.spent h.issued)
-        (option_fits out_first out_second IsOutgoing (λ o is. request_first_fits o.request is.request) out_second_fits s.out _ h.out
-        (option_fits reply_first reply_second IsReply reply_first_fits reply_second_fits (message_at s.got 0) _ h.first
-        (option_fits reply_first reply_second IsReply reply_first_fits reply_second_fits (message_at s.got 1) [] h.second (All-nil IsWord)))))
+    (proc_fits _ _ _ _ s.index s.pending (one_small (is_some s.out)) (one_small (is_some (message_at s.got 0))) (one_small (is_some (message_at s.got 1))) (one_small s.sent) h.index h.pending)
+    (All-cons IsWord (s.spent + 2 ^ 32 * s.issued) _ (halves_fit s.spent s.issued h.spent h.issued)
+    (option_fits out_first out_second IsOutgoing (λ o is. request_first_fits o.request is.request) out_second_fits s.out _ h.out
+    (option_fits reply_first reply_second IsReply reply_first_fits reply_second_fits (message_at s.got 0) _ h.first
+    (option_fits reply_first reply_second IsReply reply_first_fits reply_second_fits (message_at s.got 1) [] h.second (All-nil IsWord)))))
 words_are_words (Module s) h =
     All-cons IsWord (module_head s) (module_body s)
-      (head_fits 1 _ _ _ _ 0 _ (omega arith) h.requests.first.fits h.requests.second.fits h.replies.first.fits h.replies.second.fits (omega arith)
-        (bits_fit (net_number s.turn) (one_if s.served) (net_small s.turn) (one_small s.served)))
-      (queues_fit s.requests s.replies [] h.requests h.replies (All-nil IsWord))
+    (head_fits 1 _ _ _ _ 0 _ (omega arith) h.requests.first.fits h.requests.second.fits h.replies.first.fits h.replies.second.fits (omega arith)
+    (bits_fit (net_number s.turn) (one_if s.served) (net_small s.turn) (one_small s.served)))
+    (queues_fit s.requests s.replies [] h.requests h.replies (All-nil IsWord))
 words_are_words (Low s) h =
     All-cons IsWord (low_head s) (low_body s)
-      (head_fits 2 _ _ _ _ 0 _ (omega arith) h.fwd.first.fits h.fwd.second.fits h.rev.first.fits h.rev.second.fits (omega arith)
-        (bytes_fit _ _ _ _ h.turn.first h.turn.second h.rturn.first h.rturn.second))
-      (queues_fit s.fwd s.rev [] h.fwd h.rev (All-nil IsWord))
+    (head_fits 2 _ _ _ _ 0 _ (omega arith) h.fwd.first.fits h.fwd.second.fits h.rev.first.fits h.rev.second.fits (omega arith)
+    (bytes_fit _ _ _ _ h.turn.first h.turn.second h.rturn.first h.rturn.second))
+    (queues_fit s.fwd s.rev [] h.fwd h.rev (All-nil IsWord))
 words_are_words (Comb s) h =
     All-cons IsWord (comb_head s) (comb_body s)
-      (head_fits 3 _ _ _ _ _ _ (omega arith) h.fwd.first.fits h.fwd.second.fits h.rev.first.fits h.rev.second.fits h.wait.fits
-        (bytes_fit _ _ _ _ h.turn.first h.turn.second h.rturn h.combined))
-      (queues_fit s.fwd s.rev _ h.fwd h.rev
-        (messages_fit wait_first wait_second IsWaiting wait_first_fits wait_second_fits s.wait.items [] h.wait.each (All-nil IsWord)))
+    (head_fits 3 _ _ _ _ _ _ (omega arith) h.fwd.first.fits h.fwd.second.fits h.rev.first.fits h.rev.second.fits h.wait.fits
+    (bytes_fit _ _ _ _ h.turn.first h.turn.second h.rturn h.combined))
+    (queues_fit s.fwd s.rev _ h.fwd h.rev
+    (messages_fit wait_first wait_second IsWaiting wait_first_fits wait_second_fits s.wait.items [] h.wait.each (All-nil IsWord)))
 
 -- lengths
-messages_long : {T : Type 0} (first second : T → ℕ) (ms : List T) (rest : List ℕ) → length (message_words first second ms rest) ≡ 2 * length ms + length rest
-messages_long first second [] rest = plain (length rest)
-  where
-    plain : (n : ℕ) → n ≡ 2 * 0 + n
-    plain n = omega arith
-messages_long first second (m ∷ ms) rest = ap (λ n. suc (suc n)) (messages_long first second ms rest) ∙ more (length ms) (length rest)
-  where
-    more : (n r : ℕ) → suc (suc (2 * n + r)) ≡ 2 * suc n + r
-    more n r = omega arith
-
-option_long : {T : Type 0} (first second : T → ℕ) (o : Option T) (rest : List ℕ) → length (option_words first second o rest) ≡ 2 * one_if (is_some o) + length rest
-option_long first second None rest = plain (length rest)
-  where
-    plain : (n : ℕ) → n ≡ 2 * 0 + n
-    plain n = omega arith
-option_long first second (Some m) rest = plain (length rest)
-  where
-    plain : (n : ℕ) → suc (suc n) ≡ 2 * 1 + n
-    plain n = omega arith
-
-queues_long : (xs : List (ArrayVec Request)) (ys : List (ArrayVec Reply)) (rest : List ℕ)
-    → length (queues_words xs ys rest) ≡ 2 * (size_at xs 0 + size_at xs 1 + size_at ys 0 + size_at ys 1) + length rest
-queues_long xs ys rest =
-    let d = message_words reply_first reply_second (queue_at ys 1).items rest in
-    let c = message_words reply_first reply_second (queue_at ys 0).items d in
-    let b = message_words request_first request_second (queue_at xs 1).items c in
-    let first : length (queues_words xs ys rest) ≡ 2 * size_at xs 0 + length b = messages_long request_first request_second (queue_at xs 0).items b in
-    let second : length b ≡ 2 * size_at xs 1 + length c = messages_long request_first request_second (queue_at xs 1).items c in
-    let third : length c ≡ 2 * size_at ys 0 + length d = messages_long reply_first reply_second (queue_at ys 0).items d in
-    let fourth : length d ≡ 2 * size_at ys 1 + length rest = messages_long reply_first reply_second (queue_at ys 1).items rest in
-    omega (arith, first, second, third, fourth)
-
 -- what a head says, where its kind isn't 0, and where it is
 head_long : (h k a b c d e s : ℕ) → nat_eq k 0 ≡ false → IsHead h k a b c d e s → length_of h ≡ 1 + 2 * (a + b + c + d + e)
 head_long h k a b c d e s other is =
@@ -184,37 +153,29 @@ head_long h k a b c d e s other is =
     sums : (v w x y z p q r t u : ℕ) → v ≡ p → w ≡ q → x ≡ r → y ≡ t → z ≡ u → 1 + 2 * (v + w + x + y + z) ≡ 1 + 2 * (p + q + r + t + u)
     sums v w x y z p q r t u h1 h2 h3 h4 h5 = omega (arith, h1, h2, h3, h4, h5)
 
-proc_long : (h o f g t i p : ℕ) → IsProcHead h o f g t i p → length_of h ≡ 2 + 2 * (o + f + g)
-proc_long h o f g t i p is =
-    ap (λ n. cond (nat_eq n 0) (2 + 2 * (h / 2 ^ 2 % 2 + h / 2 ^ 3 % 2 + h / 2 ^ 4 % 2)) (1 + 2 * (h / 2 ^ 2 % 2 ^ 5 + h / 2 ^ 7 % 2 ^ 5 + h / 2 ^ 12 % 2 ^ 5 + h / 2 ^ 17 % 2 ^ 5 + h / 2 ^ 22 % 2 ^ 5))) is.kind
-    ∙ omega (arith, is.out, is.first, is.second)
+proc_head_long : (h o f g t i p : ℕ) → IsProcHead h o f g t i p → length_of h ≡ 2 + 2 * (o + f + g)
+proc_head_long h o f g t i p is =
+    let some : ℕ = 2 + 2 * (h / 2 ^ 2 % 2 + h / 2 ^ 3 % 2 + h / 2 ^ 4 % 2) in
+    ap (λ n. cond (nat_eq n 0) some (1 + 2 * (h / 2 ^ 2 % 2 ^ 5 + h / 2 ^ 7 % 2 ^ 5 + h / 2 ^ 12 % 2 ^ 5 + h / 2 ^ 17 % 2 ^ 5 + h / 2 ^ 22 % 2 ^ 5))) is.kind
+    ∙ sums _ _ _ o f g is.out is.first is.second
+  where
+    sums : (v w x p q r : ℕ) → v ≡ p → w ≡ q → x ≡ r → 2 + 2 * (v + w + x) ≡ 2 + 2 * (p + q + r)
+    sums v w x p q r h1 h2 h3 = omega (arith, h1, h2, h3)
+
+one_more : (n m a : ℕ) → n ≡ 1 + a → m ≡ 2 + a → suc n ≡ m
+one_more n m a x y = omega (arith, x, y)
+
+head_more : (n m a : ℕ) → n ≡ a → m ≡ 1 + a → suc n ≡ m
+head_more n m a x y = omega (arith, x, y)
+
+no_waits : (m a : ℕ) → m ≡ 1 + 2 * (a + 0) → m ≡ 1 + 2 * a
+no_waits m a h = omega (arith, h)
 
 exact : (s : MachineState) → IsState s → length (words_of s) ≡ length_of (head_of s)
-exact (Proc s) h =
-    let second = option_words reply_first reply_second (message_at s.got 1) [] in
-    let first = option_words reply_first reply_second (message_at s.got 0) second in
-    let a : length (option_words out_first out_second s.out first) ≡ 2 * one_if (is_some s.out) + length first = option_long out_first out_second s.out first in
-    let b : length first ≡ 2 * one_if (is_some (message_at s.got 0)) + length second = option_long reply_first reply_second (message_at s.got 0) second in
-    let c : length second ≡ 2 * one_if (is_some (message_at s.got 1)) + 0 = option_long reply_first reply_second (message_at s.got 1) [] in
-    let d : length_of (proc_head s) ≡ 2 + 2 * (one_if (is_some s.out) + one_if (is_some (message_at s.got 0)) + one_if (is_some (message_at s.got 1))) = proc_long (proc_head s) _ _ _ _ _ _ (proc_head_is s h) in
-    sums _ _ _ _ _ _ _ a b c d
-  where
-    sums : (n m k l o f g : ℕ) → n ≡ 2 * o + m → m ≡ 2 * f + k → k ≡ 2 * g + 0 → l ≡ 2 + 2 * (o + f + g) → suc (suc n) ≡ l
-    sums n m k l o f g x y z w = omega (arith, x, y, z, w)
-exact (Module s) h = sums _ _ _ _ _ _ (queues_long s.requests s.replies []) (head_long (module_head s) 1 _ _ _ _ _ _ refl (module_head_is s h))
-  where
-    sums : (n l a b c d : ℕ) → n ≡ 2 * (a + b + c + d) + 0 → l ≡ 1 + 2 * (a + b + c + d + 0) → suc n ≡ l
-    sums n l a b c d x y = omega (arith, x, y)
-exact (Low s) h = sums _ _ _ _ _ _ (queues_long s.fwd s.rev []) (head_long (low_head s) 2 _ _ _ _ _ _ refl (low_head_is s h))
-  where
-    sums : (n l a b c d : ℕ) → n ≡ 2 * (a + b + c + d) + 0 → l ≡ 1 + 2 * (a + b + c + d + 0) → suc n ≡ l
-    sums n l a b c d x y = omega (arith, x, y)
-exact (Comb s) h =
-    let waits = message_words wait_first wait_second s.wait.items [] in
-    sums _ _ _ _ _ _ _ _ (queues_long s.fwd s.rev waits) (messages_long wait_first wait_second s.wait.items []) (head_long (comb_head s) 3 _ _ _ _ _ _ refl (comb_head_is s h))
-  where
-    sums : (n m l a b c d e : ℕ) → n ≡ 2 * (a + b + c + d) + m → m ≡ 2 * e + 0 → l ≡ 1 + 2 * (a + b + c + d + e) → suc n ≡ l
-    sums n m l a b c d e x y z = omega (arith, x, y, z)
+exact (Proc s) h = one_more _ _ _ (proc_long s) (proc_head_long (proc_head s) _ _ _ _ _ _ (proc_head_is s h))
+exact (Module s) h = head_more _ _ _ (module_long s) (no_waits _ _ (head_long (module_head s) 1 _ _ _ _ _ _ refl (module_head_is s h)))
+exact (Low s) h = head_more _ _ _ (low_long s) (no_waits _ _ (head_long (low_head s) 2 _ _ _ _ _ _ refl (low_head_is s h)))
+exact (Comb s) h = head_more _ _ _ (comb_long s) (head_long (comb_head s) 3 _ _ _ _ _ _ refl (comb_head_is s h))
 
 pub heads_tell_lengths : HeadsTellLengths
 heads_tell_lengths s h = record { exact = exact s h; some = omega arith }

@@ -120,8 +120,8 @@ pub module_with : (h : ℕ) (s : ModuleState) (memory : List Stored)
 module_with h s memory head is =
     let q = tells_queues h 1 0 (net_number s.turn + 2 * one_if s.served) s.requests s.replies [] head is.requests is.replies in
     module_is memory _ s.requests _ s.replies _ s.turn _ s.served q.requests q.replies
-      (ap net_from (turn_bit h (net_number s.turn) (one_if s.served) head.small (net_small s.turn)) ∙ net_back s.turn)
-      (one_back s.served (h / 2 ^ 28) (served_bit h (net_number s.turn) (one_if s.served) head.small (net_small s.turn) (one_small s.served)))
+    (ap net_from (turn_bit h (net_number s.turn) (one_if s.served) head.small (net_small s.turn)) ∙ net_back s.turn)
+    (one_back s.served (h / 2 ^ 28) (served_bit h (net_number s.turn) (one_if s.served) head.small (net_small s.turn) (one_small s.served)))
 
 pub module_head_is : (s : ModuleState) → IsModule s
     → IsHead (module_head s) 1 (size_at s.requests 0) (size_at s.requests 1) (size_at s.replies 0) (size_at s.replies 1) 0 (net_number s.turn + 2 * one_if s.served)
@@ -164,9 +164,9 @@ comb_with h s head is =
     let q = tells_queues h 3 (length s.wait.items) _ s.fwd s.rev waits head is.fwd is.rev in
     let b = bytes_back h _ _ _ _ head.small is.turn.first is.turn.second is.rturn is.combined in
     comb_is _ s.fwd _ s.rev _ s.wait _ s.turn _ s.rturn _ s.combined q.requests q.replies
-      (ap (queue_from wait_from (count_in (h / 2 ^ 22))) q.rest
-       ∙ queue_back wait_first wait_second wait_from IsWaiting wait_back s.wait [] (count_in (h / 2 ^ 22)) (counted (h / 2 ^ 22) (length s.wait.items) is.wait.fits head.fifth) is.wait)
-      (turns_are _ _ s.turn b.first b.second is.turn.two) b.third b.fourth
+    (ap (queue_from wait_from (count_in (h / 2 ^ 22))) q.rest
+    ∙ queue_back wait_first wait_second wait_from IsWaiting wait_back s.wait [] (count_in (h / 2 ^ 22)) (counted (h / 2 ^ 22) (length s.wait.items) is.wait.fits head.fifth) is.wait)
+    (turns_are _ _ s.turn b.first b.second is.turn.two) b.third b.fourth
 
 pub comb_head_is : (s : CombState) → IsComb s
     → IsHead (comb_head s) 3 (size_at s.fwd 0) (size_at s.fwd 1) (size_at s.rev 0) (size_at s.rev 1) (length s.wait.items) (bytes (slice_index s.turn 0) (slice_index s.turn 1) s.rturn s.combined)
@@ -199,20 +199,20 @@ proc_with h s head is =
     let passed : after_option (mark_in (h / 2 ^ 2)) (option_words out_first out_second s.out replies) ≡ replies = after_one out_first out_second s.out replies (mark_in (h / 2 ^ 2)) out in
     let past : after_option (mark_in (h / 2 ^ 3)) replies ≡ rest = after_one reply_first reply_second first rest (mark_in (h / 2 ^ 3)) low in
     let got_first : option_from reply_from (mark_in (h / 2 ^ 3)) (after_option (mark_in (h / 2 ^ 2)) (option_words out_first out_second s.out replies)) ≡ first =
-        ap (option_from reply_from (mark_in (h / 2 ^ 3))) passed ∙ option_back reply_first reply_second reply_from IsReply reply_back first rest (mark_in (h / 2 ^ 3)) low is.first in
+    ap (option_from reply_from (mark_in (h / 2 ^ 3))) passed ∙ option_back reply_first reply_second reply_from IsReply reply_back first rest (mark_in (h / 2 ^ 3)) low is.first in
     let got_second : option_from reply_from (mark_in (h / 2 ^ 4)) (after_option (mark_in (h / 2 ^ 3)) (after_option (mark_in (h / 2 ^ 2)) (option_words out_first out_second s.out replies))) ≡ second =
-        ap (λ ws. option_from reply_from (mark_in (h / 2 ^ 4)) (after_option (mark_in (h / 2 ^ 3)) ws)) passed
-        ∙ ap (option_from reply_from (mark_in (h / 2 ^ 4))) past
-        ∙ option_back reply_first reply_second reply_from IsReply reply_back second [] (mark_in (h / 2 ^ 4)) comb is.second in
+    ap (λ ws. option_from reply_from (mark_in (h / 2 ^ 4)) (after_option (mark_in (h / 2 ^ 3)) ws)) passed
+    ∙ ap (option_from reply_from (mark_in (h / 2 ^ 4))) past
+    ∙ option_back reply_first reply_second reply_from IsReply reply_back second [] (mark_in (h / 2 ^ 4)) comb is.second in
     proc_is _ s.index _ s.spent _ s.issued _ s.pending _ s.out _ s.got _ s.sent
-      head.index
-      (low_half s.spent s.issued is.spent)
-      (high_half s.spent s.issued is.spent)
-      head.pending
-      (option_back out_first out_second out_from IsOutgoing out_back s.out replies (mark_in (h / 2 ^ 2)) out is.out)
-      (ap (λ x. x ∷ option_from reply_from (mark_in (h / 2 ^ 4)) (after_option (mark_in (h / 2 ^ 3)) (after_option (mark_in (h / 2 ^ 2)) (option_words out_first out_second s.out replies))) ∷ []) got_first
-       ∙ ap (λ y. first ∷ y ∷ []) got_second ∙ two_of None s.got is.two)
-      (one_back s.sent (h / 2 ^ 5) head.sent)
+    head.index
+    (low_half s.spent s.issued is.spent)
+    (high_half s.spent s.issued is.spent)
+    head.pending
+    (option_back out_first out_second out_from IsOutgoing out_back s.out replies (mark_in (h / 2 ^ 2)) out is.out)
+    (ap (λ x. x ∷ option_from reply_from (mark_in (h / 2 ^ 4)) (after_option (mark_in (h / 2 ^ 3)) (after_option (mark_in (h / 2 ^ 2)) (option_words out_first out_second s.out replies))) ∷ []) got_first
+    ∙ ap (λ y. first ∷ y ∷ []) got_second ∙ two_of None s.got is.two)
+    (one_back s.sent (h / 2 ^ 5) head.sent)
 
 pub proc_head_is : (s : ProcState) → IsProc s
     → IsProcHead (proc_head s) (one_if (is_some s.out)) (one_if (is_some (message_at s.got 0))) (one_if (is_some (message_at s.got 1))) (one_if s.sent) s.index s.pending

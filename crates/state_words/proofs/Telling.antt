@@ -105,7 +105,8 @@ with_top r n h =
       quarter_d r.tag.proc p.«module» p.row r.op.operand h.tag.proc h.«module» h.row,
       second_a r.tag.issue (kind_number r.op.kind) n h.tag.issue,
       second_b r.tag.issue (kind_number r.op.kind) n h.tag.issue (kind_small r.op.kind),
-      kind_back r.op.kind) refl
+      kind_back r.op.kind,
+    ) refl
 
 pub request_back : (r : Request) → IsRequest r → request_from (request_first r) (request_second r) ≡ r
 request_back r h = ap (request_from (request_first r)) (plain (request_second r)) ∙ with_top r 0 h
@@ -119,7 +120,8 @@ out_back o h =
     rw (
       second_c r.tag.issue (kind_number r.op.kind) (net_number o.net) h.request.tag.issue (kind_small r.op.kind) (net_small o.net),
       net_back o.net,
-      with_top r (net_number o.net) h.request) refl
+      with_top r (net_number o.net) h.request,
+    ) refl
 
 pub reply_back : (r : Reply) → IsReply r → reply_from (reply_first r) (reply_second r) ≡ r
 reply_back r h = rw (byte r.tag.proc h.tag.proc, half_a r.tag.issue r.word h.tag.issue, half_b r.tag.issue r.word h.tag.issue) refl
@@ -137,7 +139,8 @@ wait_back w h =
       fourth_b w.second.issue w.first.proc w.second.proc k h.second.issue h.first.proc,
       fourth_c w.second.issue w.first.proc w.second.proc k h.second.issue h.first.proc h.second.proc,
       fourth_d w.second.issue w.first.proc w.second.proc k h.second.issue h.first.proc h.second.proc (kind_small w.op.kind),
-      kind_back w.op.kind) refl
+      kind_back w.op.kind,
+    ) refl
 
 -- the fields of a head with lengths
 pub record IsHead (h k a b c d e s : ℕ) : Type 0 where

@@ -1,4 +1,5 @@
--- The two words of a message, and the message that two words are.
+-- The two words of a message, and the message that two words are. A field that begins at bit a is 2 ^ a times its number; so of a word w
+-- it is w / 2 ^ a % 2 ^ b, where it has b bits.
 use Rattle.std.specs.Prelude.{ℕ, ◌+◌, ◌*◌, ◌/◌, ◌%◌, ◌^◌, ◌==◌, if◌then◌else◌, List, [], ◌∷◌}
 use Rattle.word_ops.specs.declared.kind.Kind.{Kind}
 use Rattle.word_ops.specs.declared.kind.Kind.TheVariants.{Load, Add, And, Or, Min, Max, Store, StoreIfZero}

@@ -12,6 +12,7 @@ use Rattle.low_switch.specs.declared.state.LowState.{LowState}
 use Rattle.comb_switch.specs.declared.state.CombState.{CombState}
 use Rattle.state_words.specs.Messages.{request_first, request_second, out_first, out_second, reply_first, reply_second, wait_first, wait_second, message_words}
 
+-- a mark as a number
 abbrev pub one_if : Bool → ℕ
 one_if b = if b then 1 else 0
 
@@ -27,6 +28,7 @@ queues_head kind a b c d e small = kind + 2 ^ 2 * a + 2 ^ 7 * b + 2 ^ 12 * c + 2
 abbrev pub bytes : ℕ → ℕ → ℕ → ℕ → ℕ
 bytes a b c d = a + 2 ^ 8 * b + 2 ^ 16 * c + 2 ^ 24 * d
 
+-- the heads of the four kinds: 0 a processor, 1 a module, 2 a low switch, 3 a combining one
 abbrev pub proc_head : ProcState → ℕ
 proc_head s =
     2 ^ 2 * one_if (is_some s.out) + 2 ^ 3 * one_if (is_some (message_at s.got 0)) + 2 ^ 4 * one_if (is_some (message_at s.got 1))
@@ -39,12 +41,12 @@ module_head s =
 abbrev pub low_head : LowState → ℕ
 low_head s =
     queues_head 2 (size_at s.fwd 0) (size_at s.fwd 1) (size_at s.rev 0) (size_at s.rev 1) 0
-        (bytes (slice_index s.turn 0) (slice_index s.turn 1) (slice_index s.rturn 0) (slice_index s.rturn 1))
+    (bytes (slice_index s.turn 0) (slice_index s.turn 1) (slice_index s.rturn 0) (slice_index s.rturn 1))
 
 abbrev pub comb_head : CombState → ℕ
 comb_head s =
     queues_head 3 (size_at s.fwd 0) (size_at s.fwd 1) (size_at s.rev 0) (size_at s.rev 1) (length s.wait.items)
-        (bytes (slice_index s.turn 0) (slice_index s.turn 1) s.rturn s.combined)
+    (bytes (slice_index s.turn 0) (slice_index s.turn 1) s.rturn s.combined)
 
 -- the words of the messages at two ports, and what follows them
 abbrev pub ports_words : {T : Type 0} → (T → ℕ) → (T → ℕ) → List (ArrayVec T) → List ℕ → List ℕ
@@ -63,7 +65,7 @@ abbrev pub proc_body : ProcState → List ℕ
 proc_body s =
     (s.spent + 2 ^ 32 * s.issued)
     ∷ option_words out_first out_second s.out
-        (option_words reply_first reply_second (message_at s.got 0) (option_words reply_first reply_second (message_at s.got 1) []))
+    (option_words reply_first reply_second (message_at s.got 0) (option_words reply_first reply_second (message_at s.got 1) []))
 
 abbrev pub module_body : ModuleState → List ℕ
 module_body s = queues_words s.requests s.replies []

@@ -1,4 +1,4 @@
-//! What is true of every component. Nothing of it is done when it runs.
+//! What is true of every component: its numbers fit their types. Nothing of it is done when it runs.
 ghost use Rattle.std.specs.Prelude.{◌<◌, ◌^◌, All};
 ghost use Rattle.state_words.specs.Fits.{IsTag, IsQueue, AreQueues, AreTurns, IfThere, IsProc, IsModule, IsLow, IsComb};
 
@@ -28,7 +28,7 @@ pub(crate) fn is_tag(tag: Tag)
     is_word(tag.issue);
 }
 
-/// Messages fit.
+/// The numbers of messages fit.
 fn all_fit<T: TwoWords>(messages: &[T])
     ensures { All T.fits messages.now }
 {
@@ -37,7 +37,7 @@ fn all_fit<T: TwoWords>(messages: &[T])
     }
 }
 
-/// A queue is one of messages that fit.
+/// A queue holds such messages, at most 16.
 fn is_queue<T: TwoWords>(queue: &Queue<T>)
     ensures { IsQueue T.fits queue.now }
 {

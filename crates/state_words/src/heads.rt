@@ -8,7 +8,7 @@ use crate::fields::net_number;
 use comb_switch::CombState;
 use low_switch::LowState;
 use mem_module::ModuleState;
-use omega_net::Queue;
+use omega_net::{QUEUE_PLACES, Queue};
 use ref_proc::ProcState;
 
 /// 1 where it is so.
@@ -31,7 +31,7 @@ pub(crate) fn count_in(part: u64) -> usize
     ensures value { result ≡ count_in part }
     ensures fits { result ≤ queue_places }
 {
-    ((part % 32) as usize).min(16)
+    ((part % 32) as usize).min(QUEUE_PLACES)
 }
 
 /// How many messages wait at two ports.
@@ -43,8 +43,10 @@ pub(crate) fn sizes<T>(queues: &[Queue<T>; 2]) -> (usize, usize)
     (queues[0].len(), queues[1].len())
 }
 
-/// The head of what has queues of these lengths.
-fn queues_head(
+/// The head of a module or a switch: its kind (a module's is 1, a low switch's 2, a combining one's 3), how many requests and replies
+/// wait at its two ports, how many entries its wait buffer has, and what is small: of a module its turn (0 low, 1 combining) and then
+/// whether it served, of a switch four [`bytes`].
+pub fn queues_head(
     kind: u64,
     requests: (usize, usize),
     replies: (usize, usize),
@@ -66,16 +68,17 @@ fn queues_head(
         + (small << 27)
 }
 
-/// Four bytes, the lowest first.
-fn bytes(a: u8, b: u8, c: u8, d: u8) -> u64
+/// Four bytes, the lowest first. Those of a low switch are its turns and its turns back; those of a combining one are its two turns, its
+/// turn back and how many requests it has combined.
+pub fn bytes(a: u8, b: u8, c: u8, d: u8) -> u64
     ensures value { result ≡ bytes a b c d }
     ensures fits { result < 2 ^ 32 }
 {
     a as u64 + ((b as u64) << 8) + ((c as u64) << 16) + ((d as u64) << 24)
 }
 
-/// The head of a processor.
-pub(crate) fn proc_head(s: &ProcState) -> u64
+/// The head of a processor: kind 0, which messages are there, whether it sent one, its index and what is pending.
+pub fn proc_head(s: &ProcState) -> u64
     ensures { result ≡ proc_head s.now }
 {
     (one_if(s.out.is_some()) << 2)

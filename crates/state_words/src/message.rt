@@ -3,15 +3,15 @@ ghost use Rattle.std.specs.Prelude.{◌≡◌, ℕ};
 ghost use Rattle.state_words.specs.Fits.{IsRequest, IsOutgoing, IsReply, IsWaiting};
 ghost use Rattle.state_words.specs.Messages.{request_first, request_second, request_from, out_first, out_second, out_from, reply_first, reply_second, reply_from, wait_first, wait_second, wait_from};
 
-use crate::fits::{is_byte, is_short, is_tag, is_word};
 use crate::fields::{byte, high, kind_from, kind_number, low, net_from, net_number, short};
+use crate::fits::{is_byte, is_short, is_tag, is_word};
 use comb_switch::Waiting;
 use omega_net::{Reply, Request, Tag};
 use page_map::Place;
 use ref_proc::Outgoing;
 use word_ops::Op;
 
-/// What two words tell.
+/// A message that two words tell: where in them its numbers stand is said in `specs/Messages.antt`.
 pub trait TwoWords: Copy {
     ghost use Rattle.std.specs.Prelude.{ℕ};
 
@@ -31,11 +31,11 @@ pub trait TwoWords: Copy {
     fn second(&self) -> u64
         ensures { result ≡ second self.now };
 
-    /// What has these words. Where nothing has them, something all the same.
+    /// The message that has these words. Where none has them, some message.
     fn from_words(word: u64, next: u64) -> Self
         ensures { result ≡ from word next };
 
-    /// Its numbers fit their types.
+    /// Its numbers fit their types. Nothing is done when it runs.
     fn fits(&self)
         ensures { fits self.now };
 }
@@ -136,7 +136,9 @@ impl TwoWords for Outgoing {
 
     fn second(&self) -> u64 {
         let request = self.request;
-        request.tag.issue as u64 + (kind_number(request.op.kind) << 32) + (net_number(self.net) << 35)
+        request.tag.issue as u64
+            + (kind_number(request.op.kind) << 32)
+            + (net_number(self.net) << 35)
     }
 
     fn from_words(word: u64, next: u64) -> Outgoing {

@@ -1,18 +1,18 @@
 //! States as words, and words as states.
-ghost use Rattle.std.specs.Prelude.{◌≡◌, ◌++◌, OnOk, OnErr, IfOk};
+ghost use Rattle.std.specs.Prelude.{◌≡◌, ◌≤◌, ◌+◌, ◌++◌, OnOk, OnErr, IfOk, IsOk, length, vec_len, vec_capacity};
 ghost use Rattle.machine_cells.specs.declared.state.MachineState.{MachineState as State};
 ghost use Rattle.state_words.specs.States.{words_of, with_memory, state_from, IsState};
 
-use crate::components::{read_comb, read_low, read_module, read_proc};
+use crate::decoding::{read_comb, read_low, read_module, read_proc};
+use crate::encoding::{write_comb, write_low, write_module, write_proc};
 use crate::fits::{is_comb, is_low, is_module, is_proc};
-use crate::parts::{write_comb, write_low, write_module, write_proc};
 use crate::reading::split_first;
 use grid_law::NoMemory;
 use machine_cells::MachineState;
 use mem_module::Words;
 use std::alloc::{AllocError, Global};
 
-/// Appends a state's words.
+/// Appends a state's words. It takes memory only where there is no room for them.
 ///
 /// # Errors
 ///
@@ -20,6 +20,7 @@ use std::alloc::{AllocError, Global};
 pub fn encode(state: &MachineState, words: &mut Vec<u64>) -> Result<(), AllocError>
     ensures ok { OnOk result (words.new.items ≡ words.old.items ++ words_of state.now) }
     ensures err { OnErr result (words.new.items ≡ words.old.items) }
+    ensures room { vec_len words.old + length (words_of state.now) ≤ vec_capacity words.old → IsOk result }
 {
     match state {
         MachineState::Proc(s) => write_proc(words, s),
@@ -29,7 +30,8 @@ pub fn encode(state: &MachineState, words: &mut Vec<u64>) -> Result<(), AllocErr
     }
 }
 
-/// The state that has these words, where it is a module with this memory. Where no state has them, some state.
+/// The state that has these words; where it is a module, with this memory. Where no state has them, some state. A processor takes no
+/// memory, and a module or a switch takes it for each queue in which messages wait.
 ///
 /// # Errors
 ///
@@ -57,7 +59,7 @@ fn read_state(alloc: Global, words: &[u64], memory: Words) -> Result<MachineStat
     }
 }
 
-/// Every state is one of those that their words tell.
+/// Every state is one that its words tell. Nothing is done when it runs.
 pub fn is_state(state: &MachineState)
     ensures { IsState state.now }
 {

@@ -1,6 +1,6 @@
 use Rattle.std.proofs.Common.{◌≡◌, ℕ, ◌+◌, ◌*◌, ◌++◌, List, drop, vec_len, vec_capacity}
 use Rattle.state_words.specs.Messages.{message_words}
-use Rattle.state_words.proofs.writing.write_all.Given as goal
+use Rattle.state_words.proofs.writing.write_messages.Given as goal
 
 -- what is written and what is left are all
 abbrev pub invariant-loop-i : goal.invariant-loop-i
