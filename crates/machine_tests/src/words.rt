@@ -16,29 +16,34 @@ use std::alloc::Global;
 use std::test::Fail;
 use word_ops::{Kind, Op};
 
-/// The greatest tag, request and reply.
+/// The greatest tag, operation, request, reply and entry of a wait buffer.
 const TAG: Tag = Tag {
     proc: 255,
     issue: 4_294_967_295,
 };
+
+const OP: Op = Op {
+    kind: Kind::StoreIfZero,
+    operand: 4_294_967_295,
+};
+
 const REQUEST: Request = Request {
     tag: TAG,
     place: Place {
         module: 255,
         row: 65_535,
     },
-    op: Op {
-        kind: Kind::StoreIfZero,
-        operand: 4_294_967_295,
-    },
+    op: OP,
 };
+
 const REPLY: Reply = Reply {
     tag: TAG,
     word: 4_294_967_295,
 };
+
 const WAITING: Waiting = Waiting {
     first: TAG,
-    op: REQUEST.op,
+    op: OP,
     second: TAG,
 };
 
@@ -55,6 +60,7 @@ const PROC: ProcState = ProcState {
     got: [Some(REPLY), Some(REPLY)],
     sent: true,
 };
+
 const PROC_WORDS: [u64; 8] = [
     18_014_398_509_481_980,
     18_446_744_073_709_551_615,
@@ -64,6 +70,13 @@ const PROC_WORDS: [u64; 8] = [
     255,
     18_446_744_073_709_551_615,
     255,
+];
+
+/// The heads of the three states, and how many words they have.
+const HEADS: [(u64, usize); 3] = [
+    (404_817_985, 129),
+    (576_443_125_625_587_778, 129),
+    (576_443_125_692_696_643, 161),
 ];
 
 /// A full queue of a message.
@@ -126,7 +139,7 @@ fn greatest_states_are_told(rt: HostRuntime) -> Result<(), Fail> {
     let alloc = rt.alloc();
     let mut words = Vec::new(alloc);
     assert!(rt; told(alloc, &mut words, &MachineState::Proc(PROC))?);
-    assert!(rt; words.as_slice() == &PROC_WORDS);
+    assert!(rt; words.as_slice() == PROC_WORDS.as_slice());
     for (state, (head, length)) in full_states(alloc)?.iter().zip(HEADS) {
         words.clear();
         assert!(rt; told(alloc, &mut words, state)?);
@@ -135,13 +148,6 @@ fn greatest_states_are_told(rt: HostRuntime) -> Result<(), Fail> {
     }
     Ok(())
 }
-
-/// The heads of the three states, and how many words they have.
-const HEADS: [(u64, usize); 3] = [
-    (404_817_985, 129),
-    (576_443_125_625_587_778, 129),
-    (576_443_125_692_696_643, 161),
-];
 
 /// Four processors that ask for word 0 through the network that combines, and one of them through the other too.
 fn four(alloc: Global) -> Result<Project, Fail> {
