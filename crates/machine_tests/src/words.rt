@@ -1,6 +1,4 @@
 //! States as words: each kind with full queues and the greatest numbers, and all states of a run.
-ghost use Rattle.std.specs.Prelude.{◌≤◌, length};
-ghost use Rattle.omega_net.specs.Limits.{queue_places};
 
 use comb_switch::{CombState, Waiting};
 use expect::{equal, equal_at};
@@ -81,7 +79,11 @@ const HEADS: [(u64, usize); 3] = [
 
 /// A full queue of a message.
 fn full<T: Copy>(alloc: Global, message: T) -> Result<Queue<T>, Fail> {
-    Ok(Queue::holding(alloc, &[message; 16], 0)?)
+    let mut queue = Queue::new(alloc);
+    for _ in 0..16 {
+        queue.push(message)?;
+    }
+    Ok(queue)
 }
 
 /// A copy of a module's words of memory; of other states none.
