@@ -1,5 +1,5 @@
-//! Tests of `omega_net`, `machine_cells`, `flat_row`, `monitor_sums` and `saturation`: wires, cells and rows of the machine, and
-//! what is counted and reported of them. A crate with tests is proved twice by the gate, so those of a crate whose proofs take minutes stand
+//! Tests of `omega_net`, `machine_cells`, `state_words`, `flat_row`, `monitor_sums` and `saturation`: wires, cells, words and rows of
+//! the machine, and what is counted and reported of them. A crate with tests is proved twice by the gate, so those of a crate whose proofs take minutes stand
 //! beside it. Nothing stands on this crate.
 #![tactic(auto)]
 
@@ -13,3 +13,5 @@ mod sums;
 mod trees;
 #[cfg(test)]
 mod wires;
+#[cfg(test)]
+mod words;

@@ -1,0 +1,5 @@
+pub mod Queueing
+pub mod Telling
+pub mod Stating
+pub mod Saying
+pub mod Measuring
