@@ -1,0 +1,125 @@
+//! Rows: the flat row of the machine, the words of its states, and rows of what changes.
+use crate::again::again;
+use crate::projects::project;
+use change_rows::{Cells, Rows};
+use flat_row::Row;
+use grid_law::NoMemory;
+use machine_cells::{MachineState, from_scratch};
+use mem_module::{Stored, Words};
+use project_book::Project;
+use state_words::{decode, encode};
+use std::alloc::{AllocError, Global};
+use std::sync::Arc;
+
+/// The words of the states after a run of flat rows, one after another. Where a step was refused its row is let go.
+fn run_words(alloc: Global, project: &Project) -> Result<Vec<u64>, NoMemory> {
+    let mut row = Row::start(alloc, project)?;
+    for _ in 0..project.horizon() {
+        row.step(project)?;
+    }
+    let mut words = Vec::new(alloc);
+    let shape = project.shape();
+    for c in 0..shape.components() {
+        if let Some(component) = shape.component(c) {
+            encode(&row.read(alloc, component)?, &mut words)?;
+        }
+    }
+    Ok(words)
+}
+
+/// The words of these states.
+fn words_of(alloc: Global, states: &[Arc<MachineState>]) -> Result<Vec<u64>, AllocError> {
+    let mut words = Vec::new(alloc);
+    for state in states {
+        encode(state, &mut words)?;
+    }
+    Ok(words)
+}
+
+/// Whether a run of flat rows ends with the states of the plain simulation.
+pub(crate) fn stepped(alloc: Global) -> bool {
+    let Some(project) = project(alloc) else {
+        return false;
+    };
+    let Some(states) = again!(from_scratch(alloc, &project)) else {
+        return false;
+    };
+    let (Some(own), Some(last)) = (again!(run_words(alloc, &project)), states.last()) else {
+        return false;
+    };
+    match again!(words_of(alloc, last.as_slice())) {
+        Some(words) => own.as_slice() == words.as_slice(),
+        None => false,
+    }
+}
+
+/// A copy of a module's words of memory; of other states none.
+fn memory_of(alloc: Global, state: &MachineState) -> Result<Words, NoMemory> {
+    let mut memory = Words::new(alloc);
+    if let MachineState::Module(module) = state {
+        for Stored { row, word } in module.words.as_slice() {
+            memory.put(*row, *word)?;
+        }
+    }
+    Ok(memory)
+}
+
+/// The state that has the words of another one, with the same memory.
+fn copied(alloc: Global, state: &MachineState) -> Result<MachineState, NoMemory> {
+    let mut words = Vec::new(alloc);
+    encode(state, &mut words)?;
+    decode(alloc, &words, memory_of(alloc, state)?)
+}
+
+/// Whether each state of a run is told by its words.
+pub(crate) fn told(alloc: Global) -> bool {
+    let Some(project) = project(alloc) else {
+        return false;
+    };
+    let Some(rows) = again!(from_scratch(alloc, &project)) else {
+        return false;
+    };
+    for row in &rows {
+        for state in row {
+            match again!(copied(alloc, state)) {
+                Some(copy) if copy.same(state) => {}
+                _ => return false,
+            }
+        }
+    }
+    true
+}
+
+/// Two cells of a row in the making.
+fn draft(alloc: Global) -> Result<Cells, AllocError> {
+    let mut cells = Cells::new(alloc);
+    cells.push(0, &[1, 2])?;
+    cells.push(2, &[3])?;
+    Ok(cells)
+}
+
+/// Five rows of three cells, in two of which words are put.
+fn rows(alloc: Global) -> Result<Rows, AllocError> {
+    let mut rows = Rows::new(alloc, 3)?;
+    rows.grow(alloc, 5)?;
+    Ok(rows)
+}
+
+/// Whether a row is put as a whole or not at all, and the cells around it stay.
+pub(crate) fn put(alloc: Global) -> bool {
+    let (Some(cells), Some(mut rows)) = (again!(draft(alloc)), again!(rows(alloc))) else {
+        return false;
+    };
+    if rows.len() != 5 || rows.width() != 3 || cells.is_empty() {
+        return false;
+    }
+    if rows.put_row(alloc, 1, &cells).is_err() {
+        if !rows.words(1, 0).is_empty() || !rows.words(1, 2).is_empty() {
+            return false;
+        }
+        if rows.put_row(alloc, 1, &cells).is_err() {
+            return false;
+        }
+    }
+    rows.words(1, 0) == [1, 2] && rows.words(1, 2) == [3] && rows.words(2, 0).is_empty()
+}
