@@ -6,7 +6,6 @@ use Rattle.std.proofs.lemmas.List.{length-map}
 use Rattle.std.proofs.lemmas.Option.{slice_get-map, slice_get-get_or}
 use Rattle.omega_net.specs.Numbers.{components}
 use Rattle.omega_net.specs.Wires.{below}
-use Rattle.machine_cells.specs.declared.state.MachineState.{MachineState}
 use Rattle.machine_cells.specs.Run.{run}
 use Rattle.machine_cells.specs.Runs.{state_in}
 use Rattle.machine_cells.proofs.Runs.{length-below, below-get}

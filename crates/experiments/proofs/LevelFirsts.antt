@@ -1,5 +1,5 @@
 -- The first cycles of a run, from the levels of all its cycles.
-use Rattle.std.proofs.Common.{◌≡◌, ℕ, ◌+◌, List, Option, map, find, ap, sym, ◌∙◌, add-one}
+use Rattle.std.proofs.Common.{◌≡◌, ℕ, ◌+◌, List, Option, map, find, ap, ◌∙◌, add-one}
 use Rattle.std.specs.Prelude.{nat_le, slice_index}
 use Rattle.omega_net.specs.declared.component.Net.{Net}
 use Rattle.omega_net.specs.Wires.{below}

@@ -1,5 +1,5 @@
 -- Where a rate begins to be steady, one candidate after another.
-use Rattle.std.proofs.Common.{◌≡◌, ℕ, zero, suc, ◌+◌, ◌-◌, ◌*◌, ◌<◌, Bool, true, false, List, sym, ap, ap₂, ◌∙◌, arith, refl}
+use Rattle.std.proofs.Common.{◌≡◌, ℕ, suc, ◌+◌, ◌-◌, ◌*◌, ◌<◌, true, false, List, sym, ap, ◌∙◌, arith, refl}
 use Rattle.experiments.specs.Steady.{first_steady, is_steady}
 
 one_step : (flow : List ℕ) (cycles last n left : ℕ) → is_steady flow cycles left ≡ false

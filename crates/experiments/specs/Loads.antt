@@ -1,5 +1,5 @@
 -- Scripts in which a share of the references is hot.
-use Rattle.std.specs.Prelude.{◌≡◌, ℕ, zero, suc, ◌≤◌, ◌+◌, ◌%◌, ◌^◌, nat_lt, Bool, if◌then◌else◌, List, [], ◌∷◌, map, replicate}
+use Rattle.std.specs.Prelude.{ℕ, zero, suc, ◌≤◌, ◌+◌, ◌%◌, ◌^◌, nat_lt, Bool, if◌then◌else◌, List, [], ◌∷◌, map, replicate}
 use Rattle.rand_pcg.specs.Lcg.{Lcg, started, increment_of}
 use Rattle.rand_pcg.specs.Pcg.{multiplier_64, pcg32}
 use Rattle.word_ops.specs.declared.kind.Kind.TheVariants.{Load as LoadOf, Add as AddOf}

@@ -7,14 +7,17 @@ ghost use Rattle.machine_cells.specs.Run.{run};
 ghost use Rattle.machine_cells.specs.Runs.{state_in};
 ghost use Rattle.experiments.specs.Delays.{entry_of, is_cold, issue_at, issues, since, waited, waits_in, waits_of, waits, IsWaitedBy};
 
-use crate::runner::Runner;
+use crate::queues::state_at;
 use crate::{Fault, HOT_ADDRESS, Load, Window, project_of};
 use grid_law::NoMemory;
+use machine_cells::{MachineState, from_scratch};
 use omega_net::{Reply, ScriptEntry};
 use page_map::MAX_K;
 use project_book::{MAX_HORIZON, Project};
 use rayon::prelude::*;
+use run_queries::has_sent;
 use std::alloc::{AllocError, Global};
+use std::sync::Arc;
 use std::thread::Threads;
 
 /// How many replies came to references that aren't hot, and how many cycles they took in all.
@@ -45,82 +48,60 @@ fn is_cold(entry: Option<ScriptEntry>) -> bool
     }
 }
 
-/// A reply that a processor received.
-#[derive(Clone, Copy)]
-struct Came {
-    /// The cycle whose state shows it.
+/// The entry of its script that a processor in this state has come to.
+fn entry_of(project: &Project, proc: u32, state: Option<&MachineState>) -> Option<ScriptEntry>
+    ensures { result ≡ entry_of project.now proc (option_copied state.entry) }
+{
+    match state {
+        Some(MachineState::Proc(state)) => project.entry(proc, u32::from(state.index)),
+        _ => None,
+    }
+}
+
+/// The reference that a processor issued in the step to a cycle, if it did.
+fn issue_at(
+    project: &Project,
+    rows: &[Vec<Arc<MachineState>>],
+    proc: u32,
     cycle: u32,
-    /// The number of the reference's issue.
-    issue: u32,
+) -> Option<Issue>
+    ensures { result ≡ issue_at project.now (state_in (map (λ row. map arc_value row.items) rows.now)) proc cycle }
+{
+    if !has_sent(state_at(rows, cycle, proc)) {
+        return None;
+    }
+    let before = state_at(rows, cycle.saturating_sub(1), proc);
+    Some(Issue {
+        cycle,
+        cold: is_cold(entry_of(project, proc, before)),
+    })
 }
 
-/// What a processor issued and received in the cycles so far.
-#[derive(Drop)]
-struct Log {
-    /// The entry that it had come to at the last of these cycles.
-    index: u16,
-    /// The references that it issued.
-    issues: Vec<Issue>,
-    /// The replies that it received from the first cycle of a window on.
-    replies: Vec<Came>,
+/// Adds a reference, if one was issued.
+fn add_issue(issues: &mut Vec<Issue>, issue: Option<Issue>) -> Result<(), AllocError>
+    ensures { OnOk result (issues.new.items ≡ issues.old.items ++ option_to_list issue) }
+{
+    if let Some(issue) = issue {
+        issues.push(issue)?;
+    }
+    Ok(())
 }
 
-impl Log {
-    /// Before the first cycle.
-    fn new(alloc: Global, runner: &Runner, proc: u32) -> Log
-    {
-        Log {
-            index: runner.row.index(proc),
-            issues: Vec::new(alloc),
-            replies: Vec::new(alloc),
-        }
+/// The references that a processor issued before a cycle, in order of their issue.
+fn issues(
+    alloc: Global,
+    project: &Project,
+    rows: &[Vec<Arc<MachineState>>],
+    proc: u32,
+    before: u32,
+) -> Result<Vec<Issue>, AllocError>
+    ensures { IfOk result (λ v. v.items ≡ issues project.now (state_in (map (λ row. map arc_value row.items) rows.now)) proc before) }
+{
+    let mut issues = Vec::new(alloc);
+    for cycle in 0..before {
+        add_issue(&mut issues, issue_at(project, rows, proc, cycle))?;
     }
-
-    /// Adds the reference that the processor issued in the step to the present cycle, if it did.
-    fn add_issue(&mut self, project: &Project, runner: &Runner, proc: u32) -> Result<(), AllocError>
-    {
-        if runner.row.sent(proc) {
-            let entry = project.entry(proc, u32::from(self.index));
-            self.issues.push(Issue {
-                cycle: runner.cycle,
-                cold: is_cold(entry),
-            })?;
-        }
-        self.index = runner.row.index(proc);
-        Ok(())
-    }
-
-    /// Adds a reply, if there is one.
-    fn add_reply(&mut self, cycle: u32, reply: Option<Reply>) -> Result<(), AllocError>
-    {
-        if let Some(reply) = reply {
-            self.replies.push(Came {
-                cycle,
-                issue: reply.tag.issue,
-            })?;
-        }
-        Ok(())
-    }
-
-    /// Adds the replies that the processor received in the step to the present cycle.
-    fn add_replies(&mut self, runner: &Runner, proc: u32) -> Result<(), AllocError>
-    {
-        let [low, comb] = runner.row.got(proc);
-        self.add_reply(runner.cycle, low)?;
-        self.add_reply(runner.cycle, comb)?;
-        Ok(())
-    }
-
-    /// How many cycles each of the replies took that came to references that aren't hot.
-    fn waits(&self, alloc: Global) -> Result<Vec<u32>, AllocError>
-    {
-        let mut numbers = Vec::new(alloc);
-        for came in self.replies.as_slice() {
-            let issue = self.issues.get(came.issue as usize);
-            add(&mut numbers, since(came.cycle, issue))?;
-        }
-        Ok(numbers)
-    }
+    Ok(issues)
 }
 
 /// The cycles from the issue of a reference that isn't hot.
@@ -130,6 +111,16 @@ fn since(cycle: u32, issue: Option<&Issue>) -> Option<u32>
     match issue {
         Some(issue) if issue.cold => Some(cycle.saturating_sub(issue.cycle)),
         _ => None,
+    }
+}
+
+/// The cycles that a reply took, where it is to a reference that isn't hot.
+fn waited(issued: &[Issue], cycle: u32, reply: Option<Reply>) -> Option<u32>
+    ensures { result ≡ waited issued.now cycle reply }
+{
+    match reply {
+        Some(reply) => since(cycle, issued.get(reply.tag.issue as usize)),
+        None => None,
     }
 }
 
@@ -143,58 +134,46 @@ fn add(numbers: &mut Vec<u32>, number: Option<u32>) -> Result<(), AllocError>
     Ok(())
 }
 
-/// The logs of all processors before the first cycle.
-fn first_logs(alloc: Global, project: &Project, runner: &Runner) -> Result<Vec<Log>, AllocError>
-{
-    let mut logs = Vec::new(alloc);
-    for proc in 0..project.processors() {
-        match logs.push(Log::new(alloc, runner, proc)) {
-            Ok(()) => {}
-            Err(_) => return Err(AllocError),
-        }
-    }
-    Ok(logs)
-}
-
-/// Adds what the processors issued in the step to the present cycle.
-fn add_issues(project: &Project, runner: &Runner, logs: &mut Vec<Log>) -> Result<(), AllocError>
-{
-    for proc in 0..project.processors() {
-        logs[proc as usize].add_issue(project, runner, proc)?;
-    }
-    Ok(())
-}
-
-/// Adds what they received in it, from the first cycle of a window on.
-fn add_replies(
-    project: &Project,
-    runner: &Runner,
-    from: u32,
-    logs: &mut Vec<Log>,
+/// Adds those of the replies that a state shows to have come.
+fn add_waits(
+    numbers: &mut Vec<u32>,
+    issued: &[Issue],
+    cycle: u32,
+    state: Option<&MachineState>,
 ) -> Result<(), AllocError>
+    ensures { OnOk result (numbers.new.items ≡ numbers.old.items ++ waits_in issued.now cycle (option_copied state.entry)) }
 {
-    if runner.cycle < from {
-        return Ok(());
+    match state {
+        Some(MachineState::Proc(state)) => {
+            let [low, comb] = state.got;
+            add(numbers, waited(issued, cycle, low))?;
+            add(numbers, waited(issued, cycle, comb))?;
+            Ok(())
+        }
+        _ => Ok(()),
     }
-    for proc in 0..project.processors() {
-        logs[proc as usize].add_replies(runner, proc)?;
-    }
-    Ok(())
 }
 
-/// The logs of a run up to the end of a window.
-fn logs_of(alloc: Global, project: &Project, window: Window) -> Result<Vec<Log>, NoMemory>
+/// Those of a processor's replies in a window.
+fn waits_of(
+    alloc: Global,
+    project: &Project,
+    rows: &[Vec<Arc<MachineState>>],
+    proc: u32,
+    window: Window,
+) -> Result<Vec<u32>, AllocError>
+    requires window { window.from ≤ window.to }
+    requires short { window.to < 1000000 }
+    ensures { IfOk result (λ v. v.items ≡ waits_of project.now (state_in (map (λ row. map arc_value row.items) rows.now)) window.from window.to proc) }
 {
-    project.is_project();
-    let mut runner = Runner::start(alloc, project)?;
-    let mut logs = first_logs(alloc, project, &runner)?;
-    for _cycle in 0..window.to {
-        add_issues(project, &runner, &mut logs)?;
-        add_replies(project, &runner, window.from, &mut logs)?;
-        runner.step(project)?;
+    let issued = issues(alloc, project, rows, proc, window.to)?;
+    let mut numbers = Vec::new(alloc);
+    for i in 0..window.to + 1 - window.from {
+        let cycle = i + window.from;
+        let state = state_at(rows, cycle, proc);
+        add_waits(&mut numbers, &issued, cycle, state)?;
     }
-    add_replies(project, &runner, window.from, &mut logs)?;
-    Ok(logs)
+    Ok(numbers)
 }
 
 /// How many cycles each reply took that came in a window to a reference that isn't hot, in the run of the project: by
@@ -209,10 +188,11 @@ pub fn cold_waits(alloc: Global, project: &Project, window: Window) -> Result<Ve
     requires within { window.to ≤ project.now.horizon }
     ensures { IfOk result (λ v. v.items ≡ waits project.now (state_in (run project.now)) window.from window.to) }
 {
-    let logs = logs_of(alloc, project, window)?;
+    project.is_project();
+    let rows = from_scratch(alloc, project)?;
     let mut numbers = Vec::new(alloc);
-    for log in logs.as_slice() {
-        let more = log.waits(alloc)?;
+    for proc in 0..project.processors() {
+        let more = waits_of(alloc, project, rows.as_slice(), proc, window)?;
         numbers.extend_from_slice(more.as_slice())?;
     }
     Ok(numbers)

@@ -1,14 +1,13 @@
 //! What came of each cycle of a run.
-ghost use Rattle.std.specs.Prelude.{◌≡◌, ◌<◌, ◌≤◌, ◌+◌, IfOk, length, map};
-ghost use Rattle.std.specs.Arc.{arc_value};
-ghost use Rattle.std.specs.Option.{option_copied};
-ghost use Rattle.omega_net.specs.Wires.{below};
+ghost use Rattle.std.specs.Prelude.{◌≡◌, ◌≤◌, ◌+◌, ◌++◌, [], ◌∷◌, IfOk, OnOk, is_some};
+ghost use Rattle.omega_net.specs.Numbers.{components};
+ghost use Rattle.omega_net.specs.Ports.{message_at};
 ghost use Rattle.machine_cells.specs.Run.{run};
 ghost use Rattle.machine_cells.specs.Runs.{state_in};
-ghost use Rattle.monitor_sums.specs.Adding.{sum_below};
-ghost use Rattle.monitor_sums.specs.Counts.{count};
+ghost use Rattle.monitor_sums.specs.Counts.{one};
 ghost use Rattle.monitor_sums.specs.declared.counter.Counter.TheVariants.{Answered, Served};
-ghost use Rattle.experiments.specs.Flows.{counted_at, counter_of, AreFlows, IsFlow};
+ghost use Rattle.experiments.specs.Flows.{counted_at, AreFlows, IsFlow};
+ghost use Rattle.experiments.specs.Runners.{IsAt};
 
 use crate::runner::Runner;
 use crate::{Fault, Load, project_of};
@@ -25,22 +24,30 @@ pub struct Flows {
     pub served: Vec<u16>,
 }
 
+/// 1 for what is so.
+fn one(so: bool) -> u16
+    ensures one { result ≡ one so }
+    ensures few { result ≤ 1 }
+{
+    u16::from(so)
+}
+
 /// How many replies a processor received.
 fn replies_in(got: [Option<Reply>; 2]) -> u16
-    ensures count { result ≡ replies_in got }
+    ensures count { result ≡ one (is_some (message_at got 0)) + one (is_some (message_at got 1)) }
     ensures few { result ≤ 2 }
 {
     let [low, comb] = got;
-    u16::from(low.is_some()) + u16::from(comb.is_some())
+    one(low.is_some()) + one(comb.is_some())
 }
 
 /// How many references were answered in the step to the present cycle.
 fn answered_now(project: &Project, runner: &Runner) -> u16
-    requires { IsAt project.now runner.now.cycle runner.now }
+    requires { IsAt project.now runner.now }
     ensures { result ≡ counted_at Answered (state_in (run project.now)) (components project.now.k) runner.now.cycle }
 {
     let mut sum: u16 = 0;
-    for p in 0..project.processors() {
+    for p in 0..project.shape().lines() {
         sum += replies_in(runner.row.got(p));
     }
     sum
@@ -48,12 +55,12 @@ fn answered_now(project: &Project, runner: &Runner) -> u16
 
 /// How many requests modules served in the step to the present cycle.
 fn served_now(project: &Project, runner: &Runner) -> u16
-    requires { IsAt project.now runner.now.cycle runner.now }
+    requires { IsAt project.now runner.now }
     ensures { result ≡ counted_at Served (state_in (run project.now)) (components project.now.k) runner.now.cycle }
 {
     let mut sum: u16 = 0;
-    for m in 0..project.processors() {
-        sum += u16::from(runner.row.served(m));
+    for m in 0..project.shape().lines() {
+        sum += one(runner.row.served(m));
     }
     sum
 }
@@ -61,6 +68,9 @@ fn served_now(project: &Project, runner: &Runner) -> u16
 impl Flows {
     /// Adds what came of the step to the present cycle.
     fn add(&mut self, project: &Project, runner: &Runner) -> Result<(), AllocError>
+        requires { IsAt project.now runner.now }
+        ensures answered { OnOk result (self.new.answered.items ≡ self.old.answered.items ++ counted_at Answered (state_in (run project.now)) (components project.now.k) runner.now.cycle ∷ []) }
+        ensures served { OnOk result (self.new.served.items ≡ self.old.served.items ++ counted_at Served (state_in (run project.now)) (components project.now.k) runner.now.cycle ∷ []) }
     {
         self.answered.push(answered_now(project, runner))?;
         self.served.push(served_now(project, runner))?;

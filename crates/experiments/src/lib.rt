@@ -11,7 +11,8 @@
 //!   [`lane_counts`], [`lane_of`]: where their bars stand in a space-time diagram.
 //! - [`told`], [`told_each`], [`sweep_row`]: what a bench is told after one edit more.
 //!
-//! The crate stands on `machine_cells` for runs, on `serial_order` and `memory_order` for the one order, on `bench_core` and
+//! The crate stands on `machine_cells` for runs, on `flat_row` for those that are counted cycle by cycle and not kept, on
+//! `serial_order` and `memory_order` for the one order, on `bench_core` and
 //! `run_queries` for questions and their answers, on `saturation` for levels, on `project_book` for projects, on `rand_pcg`
 //! for drawing, and on `rayon` for threads. It promises that each figure is that of the run of the project from cycle 0
 //! (`specs/Maps.antt`, `specs/Delays.antt`, `specs/Flows.antt`, `specs/Steady.antt`, `specs/Orders.antt`, and `answer` of

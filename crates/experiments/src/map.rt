@@ -9,13 +9,15 @@ ghost use Rattle.machine_cells.specs.Runs.{state_in};
 ghost use Rattle.saturation.specs.Levels.{level, first_cycles};
 ghost use Rattle.experiments.specs.Maps.{length_in, has_served, queues_at, line_towards, lengths_towards, queue_lengths, stage_lengths, stages_lengths, levels_over, served_over};
 
-use crate::queues::{has_served, line_towards, queues_at};
-use crate::runner::Runner;
+use crate::queues::{has_served, length_in, line_towards, queues_at, state_at, switch_number};
 use crate::series::{QueueLengths, Queues, Series};
 use grid_law::NoMemory;
+use machine_cells::{MachineState, from_scratch};
 use omega_net::Net;
-use project_book::{Depths, Project};
+use project_book::Project;
+use saturation::level;
 use std::alloc::{AllocError, Global};
+use std::sync::Arc;
 
 /// The cycles from one to another, both included.
 #[derive(Clone, Copy, PartialEq, Eq, Debug)]
@@ -44,91 +46,22 @@ pub struct SaturationMap {
     pub served: Vec<bool>,
 }
 
-/// What a run shows of the queues towards a module, cycle by cycle from 0 on.
-#[derive(Drop)]
-struct Kept {
-    /// For each cycle the length of each queue: those of the last stage first, and of a stage by their places.
-    lengths: Vec<u8>,
-    /// Whether the module served a request of the network in the step to each cycle.
-    served: Vec<bool>,
-}
-
-/// The queues of a network that lead to a module.
-#[derive(Clone, Copy)]
-struct Towards {
-    net: Net,
-    module: u32,
-}
-
-impl Kept {
-    /// Adds the lengths of the queues of a stage at the present cycle.
-    fn add_stage(&mut self, project: &Project, runner: &Runner, to: Towards, stage: u32) -> Result<(), AllocError>
-    {
-        let k = project.k();
-        for place in 0..queues_at(k, stage) {
-            let line = line_towards(k, to.module, stage, place);
-            self.lengths.push(runner.row.length_forward(to.net, stage, line / 2, line % 2))?;
-        }
-        Ok(())
-    }
-
-    /// Adds the lengths of all queues at the present cycle.
-    fn add_lengths(&mut self, project: &Project, runner: &Runner, to: Towards) -> Result<(), AllocError>
-    {
-        let k = project.k();
-        for back in 0..k {
-            self.add_stage(project, runner, to, k - 1 - back)?;
-        }
-        Ok(())
-    }
-
-    /// Adds what the present cycle shows.
-    fn add(&mut self, project: &Project, runner: &Runner, to: Towards) -> Result<(), AllocError>
-    {
-        self.add_lengths(project, runner, to)?;
-        self.served.push(has_served(&runner.row, to.net, to.module))?;
-        Ok(())
-    }
-
-    /// What the run of a project shows.
-    fn of_run(alloc: Global, project: &Project, to: Towards) -> Result<Kept, NoMemory>
-    {
-        project.is_project();
-        let mut runner = Runner::start(alloc, project)?;
-        let mut kept = Kept {
-            lengths: Vec::new(alloc),
-            served: Vec::new(alloc),
-        };
-        kept.add(project, &runner, to)?;
-        for _cycle in 0..project.horizon() {
-            runner.step(project)?;
-            kept.add(project, &runner, to)?;
-        }
-        Ok(kept)
-    }
-
-    /// The length of the queue at a place of a stage at a cycle.
-    fn length(&self, k: u32, cycle: u32, stage: u32, place: u32) -> u8
-    {
-        let all = (1 << k) - 1;
-        let before = queues_at(k, stage) - 1;
-        self.lengths[(cycle * all + before + place) as usize]
-    }
-}
-
 /// The lengths of one queue, cycle by cycle.
 fn queue_lengths(
     alloc: Global,
-    project: &Project,
-    kept: &Kept,
-    stage: u32,
-    place: u32,
+    rows: &[Vec<Arc<MachineState>>],
+    switch: u32,
+    output: usize,
     window: Window,
 ) -> Result<Vec<u8>, AllocError>
+    requires output { output < 2 }
+    requires window { window.from ≤ window.to }
+    requires short { window.to < 1000000 }
+    ensures { IfOk result (λ v. v.items ≡ map (λ i. length_in output (state_in (map (λ row. map arc_value row.items) rows.now) (i + window.from) switch)) (below (window.to + 1 - window.from))) }
 {
     let mut lengths = Vec::new(alloc);
     for i in 0..window.to + 1 - window.from {
-        lengths.push(kept.length(project.k(), i + window.from, stage, place))?;
+        lengths.push(length_in(state_at(rows, i + window.from, switch), output))?;
     }
     Ok(lengths)
 }
@@ -137,16 +70,25 @@ fn queue_lengths(
 fn lengths_towards(
     alloc: Global,
     project: &Project,
-    kept: &Kept,
+    rows: &[Vec<Arc<MachineState>>],
+    net: Net,
     module: u32,
     stage: u32,
     place: u32,
     window: Window,
 ) -> Result<QueueLengths, AllocError>
+    requires there { «module» < lines project.now.k }
+    requires stage { stage < project.now.k }
+    requires place { place < queues_at project.now.k stage }
+    requires window { window.from ≤ window.to }
+    requires short { window.to < 1000000 }
+    ensures { IfOk result (λ q. q ≡ lengths_towards project.now.k net «module» (state_in (map (λ row. map arc_value row.items) rows.now)) window.from window.to stage place) }
 {
-    let lengths = queue_lengths(alloc, project, kept, stage, place, window)?;
+    let line = line_towards(project.k(), module, stage, place);
+    let switch = switch_number(project, net, stage, line);
+    let lengths = queue_lengths(alloc, rows, switch, (line % 2) as usize, window)?;
     Ok(QueueLengths {
-        line: line_towards(project.k(), module, stage, place),
+        line,
         lengths: Series::from_vec(lengths),
     })
 }
@@ -155,16 +97,22 @@ fn lengths_towards(
 fn stage_lengths(
     alloc: Global,
     project: &Project,
-    kept: &Kept,
+    rows: &[Vec<Arc<MachineState>>],
+    net: Net,
     module: u32,
     stage: u32,
     window: Window,
 ) -> Result<Vec<QueueLengths>, AllocError>
+    requires there { «module» < lines project.now.k }
+    requires stage { stage < project.now.k }
+    requires window { window.from ≤ window.to }
+    requires short { window.to < 1000000 }
+    ensures { IfOk result (λ v. v.items ≡ stage_lengths project.now.k net «module» (state_in (map (λ row. map arc_value row.items) rows.now)) window.from window.to stage) }
 {
     let k = project.k();
     let mut queues = Vec::new(alloc);
     for place in 0..queues_at(k, stage) {
-        queues.push(lengths_towards(alloc, project, kept, module, stage, place, window)?)?;
+        queues.push(lengths_towards(alloc, project, rows, net, module, stage, place, window)?)?;
     }
     Ok(queues)
 }
@@ -173,16 +121,21 @@ fn stage_lengths(
 fn stages_lengths(
     alloc: Global,
     project: &Project,
-    kept: &Kept,
+    rows: &[Vec<Arc<MachineState>>],
+    net: Net,
     module: u32,
     window: Window,
 ) -> Result<Vec<StageLengths>, AllocError>
+    requires there { «module» < lines project.now.k }
+    requires window { window.from ≤ window.to }
+    requires short { window.to < 1000000 }
+    ensures { IfOk result (λ v. v.items ≡ stages_lengths project.now.k net «module» (state_in (map (λ row. map arc_value row.items) rows.now)) window.from window.to) }
 {
     let k = project.k();
     let mut stages = Vec::new(alloc);
     for back in 0..k {
         let stage = k - 1 - back;
-        let queues = stage_lengths(alloc, project, kept, module, stage, window)?;
+        let queues = stage_lengths(alloc, project, rows, net, module, stage, window)?;
         stages.push(StageLengths {
             stage,
             queues: Queues::from_vec(queues),
@@ -191,60 +144,75 @@ fn stages_lengths(
     Ok(stages)
 }
 
-/// Whether a queue of that length has fewer than two free places.
-fn is_full(project: &Project, net: Net, length: u8) -> bool
+/// The states of a cycle, lent.
+fn lent(alloc: Global, row: &[Arc<MachineState>]) -> Result<Vec<&MachineState>, AllocError>
+    ensures { IfOk result (λ v. map (λ r. r.now) v.items ≡ map arc_value row.now) }
 {
-    project.depth(Depths::forward(net)).saturating_sub(u32::from(length)) < 2
-}
-
-/// Whether all queues of a stage are full at a cycle.
-fn is_full_stage(project: &Project, kept: &Kept, net: Net, cycle: u32, stage: u32) -> bool
-{
-    let k = project.k();
-    for place in 0..queues_at(k, stage) {
-        if !is_full(project, net, kept.length(k, cycle, stage, place)) {
-            return false;
-        }
+    let mut lent = Vec::new(alloc);
+    for state in row {
+        lent.push(&**state)?;
     }
-    true
+    Ok(lent)
 }
 
 /// The level of one cycle.
-fn level_at(project: &Project, kept: &Kept, net: Net, cycle: u32) -> u8
+#[tactic(auto, using(crate::proofs::Rows::states_of))]
+fn level_at(
+    alloc: Global,
+    project: &Project,
+    rows: &[Vec<Arc<MachineState>>],
+    net: Net,
+    module: u32,
+    cycle: u32,
+) -> Result<u8, AllocError>
+    requires there { «module» < lines project.now.k }
+    requires within { cycle < length rows.now }
+    ensures { IfOk result (λ n. n ≡ level project.now net «module» (state_in (map (λ row. map arc_value row.items) rows.now) cycle)) }
 {
-    let k = project.k();
-    for level in 0..k {
-        if !is_full_stage(project, kept, net, cycle, k - 1 - level) {
-            return level as u8;
-        }
+    let row = lent(alloc, &rows[cycle as usize])?;
+    Ok(level(project, row.as_slice(), net, module))
+}
+
+/// The level of each cycle.
+fn levels_over(
+    alloc: Global,
+    project: &Project,
+    rows: &[Vec<Arc<MachineState>>],
+    net: Net,
+    module: u32,
+    window: Window,
+) -> Result<Vec<u8>, AllocError>
+    requires there { «module» < lines project.now.k }
+    requires window { window.from ≤ window.to }
+    requires within { window.to < length rows.now }
+    requires short { window.to < 1000000 }
+    ensures { IfOk result (λ v. v.items ≡ levels_over project.now net «module» (state_in (map (λ row. map arc_value row.items) rows.now)) window.from window.to) }
+{
+    let mut levels = Vec::new(alloc);
+    for i in 0..window.to + 1 - window.from {
+        levels.push(level_at(alloc, project, rows, net, module, i + window.from)?)?;
     }
-    k as u8
+    Ok(levels)
 }
 
 /// The level of each cycle up to the horizon.
 fn all_levels(
     alloc: Global,
     project: &Project,
-    kept: &Kept,
+    rows: &[Vec<Arc<MachineState>>],
     net: Net,
+    module: u32,
 ) -> Result<Vec<u8>, AllocError>
+    requires there { «module» < lines project.now.k }
+    requires within { project.now.horizon < length rows.now }
+    ensures { IfOk result (λ v. v.items ≡ map (λ t. level project.now net «module» (state_in (map (λ row. map arc_value row.items) rows.now) t)) (below (project.now.horizon + 1))) }
 {
     project.is_project();
     let mut levels = Vec::new(alloc);
     for cycle in 0..project.horizon() + 1 {
-        levels.push(level_at(project, kept, net, cycle))?;
+        levels.push(level_at(alloc, project, rows, net, module, cycle)?)?;
     }
     Ok(levels)
-}
-
-/// Those of the numbers of all cycles that stand at the cycles of a window.
-fn in_window<T: Copy>(alloc: Global, all: &[T], window: Window) -> Result<Vec<T>, AllocError>
-{
-    let mut some = Vec::new(alloc);
-    for i in 0..window.to + 1 - window.from {
-        some.push(all[(i + window.from) as usize])?;
-    }
-    Ok(some)
 }
 
 /// Whether a cycle has this level or a higher one.
@@ -286,6 +254,25 @@ fn first_cycles(
     Ok(firsts)
 }
 
+/// Whether the module of that component number served a request of a network, cycle by cycle.
+fn served_over(
+    alloc: Global,
+    rows: &[Vec<Arc<MachineState>>],
+    net: Net,
+    component: u32,
+    window: Window,
+) -> Result<Vec<bool>, AllocError>
+    requires window { window.from ≤ window.to }
+    requires short { window.to < 1000000 }
+    ensures { IfOk result (λ v. v.items ≡ served_over net (state_in (map (λ row. map arc_value row.items) rows.now)) component window.from window.to) }
+{
+    let mut served = Vec::new(alloc);
+    for i in 0..window.to + 1 - window.from {
+        served.push(has_served(net, state_at(rows, i + window.from, component)))?;
+    }
+    Ok(served)
+}
+
 /// The lengths of the queues of a network that lead to a module, the level, and the requests of the network that the module
 /// served, at each cycle of a window, in the run of the project; and the first cycle of each level in the whole run. It simulates the project from cycle 0. The conditions are that the module
 /// exists, and that the window isn't empty and is within the horizon.
@@ -309,13 +296,15 @@ pub fn saturation_map(
     ensures served { IfOk result (λ m. m.served.items ≡ served_over net (state_in (run project.now)) (lines project.now.k + «module») window.from window.to) }
 {
     project.is_project();
-    let kept = Kept::of_run(alloc, project, Towards { net, module })?;
-    let stages = stages_lengths(alloc, project, &kept, module, window)?;
-    let whole = all_levels(alloc, project, &kept, net)?;
-    let levels = in_window(alloc, whole.as_slice(), window)?;
+    let rows = from_scratch(alloc, project)?;
+    let rows = rows.as_slice();
+    let stages = stages_lengths(alloc, project, rows, net, module, window)?;
+    let levels = levels_over(alloc, project, rows, net, module, window)?;
+    let whole = all_levels(alloc, project, rows, net, module)?;
     let cycles = project.horizon() + 1;
     let firsts = first_cycles(alloc, whole.as_slice(), cycles, project.k())?;
-    let served = in_window(alloc, kept.served.as_slice(), window)?;
+    let component = project.shape().lines() + module;
+    let served = served_over(alloc, rows, net, component, window)?;
     Ok(SaturationMap {
         stages,
         levels: Series::from_vec(levels),

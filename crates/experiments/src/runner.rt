@@ -21,7 +21,8 @@ impl Runner {
     ///
     /// Where a growth was refused. What was taken is given back.
     pub(crate) fn start(alloc: Global, project: &Project) -> Result<Runner, NoMemory>
-        ensures { IfOk result (IsAt project.now 0) }
+        ensures at { IfOk result (IsAt project.now) }
+        ensures first { IfOk result (λ r. r.cycle ≡ 0) }
     {
         let row = Row::start(alloc, project)?;
         Ok(Runner { row, cycle: 0 })
@@ -33,9 +34,10 @@ impl Runner {
     ///
     /// Where a growth was refused. Then it is to be let go.
     pub(crate) fn step(&mut self, project: &Project) -> Result<(), NoMemory>
-        requires at { IsAt project.now self.old.cycle self.old }
+        requires at { IsAt project.now self.old }
         requires within { self.old.cycle < project.now.horizon }
-        ensures { OnOk result (IsAt project.now (self.old.cycle + 1) self.new) }
+        ensures at { OnOk result (IsAt project.now self.new) }
+        ensures next { OnOk result (self.new.cycle ≡ self.old.cycle + 1) }
     {
         project.is_project();
         match self.row.step(project) {
