@@ -53,7 +53,6 @@ fn main(rt: HostRuntime) -> ExitCode {
     held &= tell(&rt, "Rp3::readers", cells::listed(alloc));
     held &= tell(&rt, "Row::start, step, read", rows::stepped(alloc));
     held &= tell(&rt, "encode, decode", rows::told(alloc));
-    held &= tell(&rt, "Cells::push, Rows::put_row", rows::put(alloc));
     held &= tell(&rt, "tree", cells::reported(&rt, alloc));
     held &= tell(&rt, "Bench::new", benches::made(alloc));
     held &= tell(&rt, "Bench::edit", benches::edited(alloc));

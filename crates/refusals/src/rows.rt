@@ -1,7 +1,6 @@
-//! Rows: the flat row of the machine, the words of its states, and rows of what changes.
+//! The flat row of the machine, and states as words.
 use crate::again::again;
 use crate::projects::project;
-use change_rows::{Cells, Rows};
 use flat_row::Row;
 use grid_law::NoMemory;
 use machine_cells::{MachineState, from_scratch};
@@ -88,38 +87,4 @@ pub(crate) fn told(alloc: Global) -> bool {
         }
     }
     true
-}
-
-/// Two cells of a row in the making.
-fn draft(alloc: Global) -> Result<Cells, AllocError> {
-    let mut cells = Cells::new(alloc);
-    cells.push(0, &[1, 2])?;
-    cells.push(2, &[3])?;
-    Ok(cells)
-}
-
-/// Five rows of three cells, in two of which words are put.
-fn rows(alloc: Global) -> Result<Rows, AllocError> {
-    let mut rows = Rows::new(alloc, 3)?;
-    rows.grow(alloc, 5)?;
-    Ok(rows)
-}
-
-/// Whether a row is put as a whole or not at all, and the cells around it stay.
-pub(crate) fn put(alloc: Global) -> bool {
-    let (Some(cells), Some(mut rows)) = (again!(draft(alloc)), again!(rows(alloc))) else {
-        return false;
-    };
-    if rows.len() != 5 || rows.width() != 3 || cells.is_empty() {
-        return false;
-    }
-    if rows.put_row(alloc, 1, &cells).is_err() {
-        if !rows.words(1, 0).is_empty() || !rows.words(1, 2).is_empty() {
-            return false;
-        }
-        if rows.put_row(alloc, 1, &cells).is_err() {
-            return false;
-        }
-    }
-    rows.words(1, 0) == [1, 2] && rows.words(1, 2) == [3] && rows.words(2, 0).is_empty()
 }
