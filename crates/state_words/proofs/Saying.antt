@@ -1,5 +1,5 @@
 -- What words say of states.
-use Rattle.std.proofs.Common.{◌≡◌, ◌≢◌, ℕ, zero, suc, ◌+◌, ◌-◌, ◌*◌, ◌/◌, ◌%◌, ◌^◌, ◌<◌, ◌≤◌, ◌↔◌, Bool, true, false, cond, List, [], ◌∷◌, length, refl, sym, ap, ◌∙◌, Option, Some, None, is_some, option_to_list, arith, nat_eq, ◌==◌, All, if◌then◌else◌}
+use Rattle.std.proofs.Common.{◌≡◌, ℕ, suc, ◌+◌, ◌*◌, ◌/◌, ◌%◌, ◌^◌, ◌<◌, ◌≤◌, false, cond, List, [], ◌∷◌, length, refl, sym, ap, ◌∙◌, Option, Some, None, is_some, arith, nat_eq, All}
 use Rattle.std.proofs.lemmas.List.Elements.{All-nil, All-cons, All-head, All-tail}
 use Rattle.arrayvec.specs.ArrayVec.{ArrayVec}
 use Rattle.omega_net.specs.declared.message.Request.{Request}
@@ -8,20 +8,15 @@ use Rattle.omega_net.specs.Wires.{net_number}
 use Rattle.omega_net.specs.Limits.{queue_places}
 use Rattle.omega_net.specs.Ports.{queue_at, message_at}
 use Rattle.ref_proc.specs.declared.state.Outgoing.{Outgoing}
-use Rattle.ref_proc.specs.declared.state.ProcState.{ProcState}
 use Rattle.mem_module.specs.declared.words.Stored.{Stored}
-use Rattle.mem_module.specs.declared.state.ModuleState.{ModuleState}
-use Rattle.low_switch.specs.declared.state.LowState.{LowState}
 use Rattle.comb_switch.specs.declared.waiting.Waiting.{Waiting}
-use Rattle.comb_switch.specs.declared.state.CombState.{CombState}
 use Rattle.machine_cells.specs.declared.state.MachineState.{MachineState}
 use Rattle.machine_cells.specs.declared.state.MachineState.TheVariants.{Proc, Module, Low, Comb}
-use Rattle.word_ops.specs.Words.{kind_number}
 use Rattle.state_words.specs.Messages.{request_first, request_second, out_first, out_second, reply_first, reply_second, wait_first, wait_second, message_words}
-use Rattle.state_words.specs.Words.{one_if, size_at, queues_head, bytes, ports_words, queues_words, option_words, proc_head, proc_body, module_head, module_body, low_head, low_body, comb_head, comb_body, length_of}
-use Rattle.state_words.specs.Fits.{IsRequest, IsReply, IsOutgoing, IsWaiting, IsQueue, AreQueues, AreTurns, IfThere, IsProc, IsModule, IsLow, IsComb}
-use Rattle.state_words.specs.States.{head_of, body_of, words_of, memory_of, with_memory, state_from, IsState}
-use Rattle.state_words.specs.Laws.{WordsTell, WordsAreStates, WordsAreWords, HasLength, HeadsTellLengths}
+use Rattle.state_words.specs.Words.{one_if, queues_head, bytes, queues_words, option_words, proc_head, proc_body, module_head, module_body, low_head, low_body, comb_head, comb_body, length_of}
+use Rattle.state_words.specs.Fits.{IsRequest, IsReply, IsOutgoing, IsWaiting, AreQueues, IfThere}
+use Rattle.state_words.specs.States.{head_of, words_of, memory_of, with_memory, state_from, IsState}
+use Rattle.state_words.specs.Laws.{WordsTell, WordsAreStates, WordsAreWords, HeadsTellLengths}
 use Rattle.state_words.proofs.Telling.{IsHead, IsProcHead, kind_small, net_small, one_small}
 use Rattle.state_words.proofs.Measuring.{proc_long, module_long, low_long, comb_long}
 use Rattle.state_words.proofs.Stating.{state_back, module_head_is, low_head_is, comb_head_is, proc_head_is}

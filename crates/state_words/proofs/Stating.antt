@@ -1,12 +1,11 @@
 -- Components are told by their words.
-use Rattle.std.proofs.Common.{◌≡◌, ℕ, zero, suc, ◌+◌, ◌-◌, ◌*◌, ◌/◌, ◌%◌, ◌^◌, ◌<◌, ◌≤◌, min, Bool, true, false, cond, List, [], ◌∷◌, ◌++◌, length, drop, slice_index, slice_index_or, ◌≢◌, refl, sym, ap, ◌∙◌, Option, Some, None, is_some, option_to_list, arith, nat_eq, ◌==◌, All, if◌then◌else◌, Result, Ok, Err, IfOk}
+use Rattle.std.proofs.Common.{◌≡◌, ℕ, suc, ◌+◌, ◌*◌, ◌/◌, ◌%◌, ◌^◌, ◌<◌, Bool, List, [], ◌∷◌, length, drop, slice_index, slice_index_or, ◌≢◌, refl, sym, ap, ◌∙◌, Option, Some, None, is_some, arith, ◌==◌, All, if◌then◌else◌, Result, Ok, Err, IfOk}
 use Rattle.std.proofs.lemmas.List.Elements.{All-head, All-tail}
 use Rattle.arrayvec.specs.ArrayVec.{ArrayVec}
 use Rattle.omega_net.specs.declared.component.Net.{Net}
 use Rattle.omega_net.specs.declared.message.Request.{Request}
 use Rattle.omega_net.specs.declared.message.Reply.{Reply}
 use Rattle.omega_net.specs.Wires.{net_number}
-use Rattle.omega_net.specs.Limits.{queue_places}
 use Rattle.omega_net.specs.Ports.{empty, queue_at, message_at}
 use Rattle.ref_proc.specs.declared.state.Outgoing.{Outgoing}
 use Rattle.ref_proc.specs.declared.state.ProcState.{ProcState}
@@ -18,11 +17,11 @@ use Rattle.comb_switch.specs.declared.state.CombState.{CombState}
 use Rattle.machine_cells.specs.declared.state.MachineState.{MachineState}
 use Rattle.machine_cells.specs.declared.state.MachineState.TheVariants.{Proc, Module, Low, Comb}
 use Rattle.state_words.specs.Messages.{request_first, request_second, request_from, out_first, out_second, out_from, reply_first, reply_second, reply_from, wait_first, wait_second, wait_from, net_from, message_words}
-use Rattle.state_words.specs.Words.{one_if, size_at, queues_head, bytes, ports_words, queues_words, option_words, proc_head, proc_body, module_head, module_body, low_head, low_body, comb_head, comb_body}
+use Rattle.state_words.specs.Words.{one_if, size_at, bytes, ports_words, queues_words, option_words, proc_head, proc_body, module_head, module_body, low_head, low_body, comb_head, comb_body}
 use Rattle.state_words.specs.Reading.{messages_from, after, queue_from, queues_from, option_from, after_option, count_in, mark_in, proc_from, module_from, low_from, comb_from, after_requests, after_replies}
-use Rattle.state_words.specs.Fits.{IsRequest, IsReply, IsOutgoing, IsWaiting, IsQueue, AreQueues, AreTurns, IfThere, IsProc, IsModule, IsLow, IsComb}
-use Rattle.state_words.specs.States.{head_of, body_of, words_of, with_memory, state_with, state_from, IsState}
-use Rattle.state_words.proofs.Telling.{request_back, out_back, reply_back, wait_back, IsHead, head_parts, IsProcHead, proc_parts, HasBytes, bytes_back, turn_bit, served_bit, one_back, one_small, net_back, net_small, counted}
+use Rattle.state_words.specs.Fits.{IsRequest, IsReply, IsOutgoing, IsWaiting, IsQueue, AreQueues, IfThere, IsProc, IsModule, IsLow, IsComb}
+use Rattle.state_words.specs.States.{words_of, with_memory, state_with, state_from, IsState}
+use Rattle.state_words.proofs.Telling.{request_back, out_back, reply_back, wait_back, IsHead, head_parts, IsProcHead, proc_parts, bytes_back, turn_bit, served_bit, one_back, one_small, net_back, net_small, counted}
 
 -- messages
 pub messages_back : {T : Type 0} (first second : T → ℕ) (from : ℕ → ℕ → T) (Is : T → Type 0) → ((m : T) → Is m → from (first m) (second m) ≡ m)

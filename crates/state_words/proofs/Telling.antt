@@ -1,5 +1,5 @@
 -- Fields are read out of the words that they were written in.
-use Rattle.std.proofs.Common.{◌≡◌, ℕ, zero, suc, ◌+◌, ◌-◌, ◌*◌, ◌/◌, ◌%◌, ◌^◌, ◌<◌, ◌≤◌, min, Bool, true, false, cond, List, [], ◌∷◌, ◌++◌, length, drop, slice_index, refl, sym, ap, ◌∙◌, Option, Some, None, arith, nat_eq, ◌==◌, if◌then◌else◌}
+use Rattle.std.proofs.Common.{◌≡◌, ℕ, ◌+◌, ◌*◌, ◌/◌, ◌%◌, ◌^◌, ◌<◌, ◌≤◌, min, Bool, true, false, refl, ap, ◌∙◌, arith, nat_eq}
 use Rattle.word_ops.specs.declared.kind.Kind.{Kind}
 use Rattle.word_ops.specs.declared.kind.Kind.TheVariants.{Load, Add, And, Or, Min, Max, Store, StoreIfZero}
 use Rattle.word_ops.specs.Words.{kind_number}
@@ -14,7 +14,7 @@ use Rattle.comb_switch.specs.declared.waiting.Waiting.{Waiting}
 use Rattle.state_words.specs.Messages.{request_first, request_second, request_from, out_first, out_second, out_from, reply_first, reply_second, reply_from, wait_first, wait_second, wait_from, kind_from, net_from}
 use Rattle.state_words.specs.Words.{one_if, queues_head, bytes}
 use Rattle.state_words.specs.Reading.{count_in, mark_in}
-use Rattle.state_words.specs.Fits.{IsTag, IsRequest, IsReply, IsOutgoing, IsWaiting}
+use Rattle.state_words.specs.Fits.{IsRequest, IsReply, IsOutgoing, IsWaiting}
 
 pub kind_back : (k : Kind) → kind_from (kind_number k) ≡ k
 kind_back Load = refl

@@ -1,5 +1,5 @@
 -- What words say of states.
-use Rattle.std.specs.Prelude.{◌≡◌, ℕ, ◌^◌, ◌<◌, ◌↔◌, List, length, All}
+use Rattle.std.specs.Prelude.{◌≡◌, ◌^◌, ◌<◌, ◌↔◌, length, All}
 use Rattle.machine_cells.specs.declared.state.MachineState.{MachineState}
 use Rattle.state_words.specs.Words.{length_of}
 use Rattle.state_words.specs.States.{head_of, words_of, memory_of, with_memory, IsState}

@@ -1,5 +1,5 @@
 -- The component that a head and the words after it are: whatever they are, there is one, and that of a component's words is that one.
-use Rattle.std.specs.Prelude.{ℕ, zero, suc, ◌+◌, ◌*◌, ◌/◌, ◌%◌, ◌^◌, ◌==◌, Bool, if◌then◌else◌, min, List, [], ◌∷◌, drop, Option, None, Some, slice_index}
+use Rattle.std.specs.Prelude.{ℕ, zero, suc, ◌*◌, ◌/◌, ◌%◌, ◌^◌, ◌==◌, Bool, if◌then◌else◌, min, List, [], ◌∷◌, drop, Option, None, Some, slice_index}
 use Rattle.arrayvec.specs.ArrayVec.{ArrayVec}
 use Rattle.omega_net.specs.Limits.{queue_places}
 use Rattle.ref_proc.specs.declared.state.ProcState.{ProcState}
@@ -8,7 +8,6 @@ use Rattle.mem_module.specs.declared.state.ModuleState.{ModuleState}
 use Rattle.low_switch.specs.declared.state.LowState.{LowState}
 use Rattle.comb_switch.specs.declared.state.CombState.{CombState}
 use Rattle.state_words.specs.Messages.{net_from, request_from, out_from, reply_from, wait_from}
-use Rattle.state_words.specs.Words.{one_if}
 
 -- the messages that so many pairs of words are, and the words after them
 abbrev pub messages_from : {T : Type 0} → (ℕ → ℕ → T) → ℕ → List ℕ → List T
