@@ -1,0 +1,6 @@
+//! The words of a table's cells over time, kept as rows of changes.
+#![tactic(auto)]
+
+mod cells;
+
+pub use cells::Cells;
