@@ -125,11 +125,12 @@ impl Cells {
             (λ _. (front : List Held) (cell : Held) → self.old ≡ front ++ cell ∷ [] → self.new ≡ front ++ record { component = cell.component; words = cell.words ++ words.now } ∷ [])
             (λ _. self.new ≡ self.old) }
     {
-        let _cells = &self.heads;
-        if words.len() > MOST_WORDS - self.words.len() {
+        let from = self.words.len();
+        if words.len() > MOST_WORDS - from {
             return Err(AllocError);
         }
-        self.words.extend_from_slice(words)
+        self.words.extend_from_slice(words)?;
+        Ok(())
     }
 
     /// A cell more, behind all others.

@@ -2,5 +2,6 @@
 #![tactic(auto)]
 
 mod cells;
+mod marks;
 
 pub use cells::Cells;
