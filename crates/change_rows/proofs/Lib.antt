@@ -1,3 +1,4 @@
 pub mod Finding
 pub mod Packing
 pub mod Marking
+pub mod Merging

@@ -3,5 +3,6 @@
 
 mod cells;
 mod marks;
+mod merge;
 
 pub use cells::Cells;
