@@ -2,3 +2,5 @@ pub mod Finding
 pub mod Packing
 pub mod Marking
 pub mod Merging
+pub mod Standing
+pub mod Editing

@@ -96,6 +96,23 @@ impl Cells {
         find_in(self.heads.as_slice(), self.words.as_slice(), component)
     }
 
+    /// The words of a component; none where there is no cell of it.
+    pub fn words_of(&self, component: u32) -> &[u64]
+        ensures { result.now ≡ unwrap_or (found self.now component) [] }
+    {
+        match self.find(component) {
+            Some(words) => words,
+            None => &[],
+        }
+    }
+
+    /// Whether there is a cell of a component.
+    pub fn has(&self, component: u32) -> bool
+        ensures { result ≡ is_some (found self.now component) }
+    {
+        self.find(component).is_some()
+    }
+
     /// A cell with no words more, behind all others.
     ///
     /// # Errors

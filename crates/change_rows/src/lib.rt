@@ -2,6 +2,8 @@
 #![tactic(auto)]
 
 mod cells;
+mod changes;
+mod edit;
 mod marks;
 mod merge;
 
