@@ -1,14 +1,14 @@
 -- A row of changes is put.
-use Rattle.std.proofs.Common.{◌≡◌, ℕ, zero, suc, ◌+◌, ◌*◌, ◌<◌, ◌≤◌, ◌^◌, ◌∙◌, ◌⊎◌, inl, inr, sym, ap, refl, subst, arith, max, Bool, true, false, cond, eqb, is_some, unwrap_or, Option, Some, None, List, [], ◌∷◌, length, take, get_or}
+use Rattle.std.proofs.Common.{◌≡◌, ℕ, zero, suc, ◌+◌, ◌*◌, ◌<◌, ◌≤◌, ◌^◌, ◌∙◌, ◌⊎◌, inl, inr, sym, ap, refl, subst, arith, max, Bool, true, false, cond, eqb, is_some, unwrap_or, Option, Some, None, List, [], ◌∷◌, ◌++◌, length, take, get_or}
 use Rattle.std.specs.Option.{option_or}
 use Rattle.std.proofs.Math.ListN.{set, length-set}
-use Rattle.std.proofs.lemmas.Bool.{cases_eq, cases_lt, eq-eqb, ne_eqb}
+use Rattle.std.proofs.lemmas.Bool.{cases_eq, cases_lt, eq-eqb, ne_eqb, false≢true}
 use Rattle.std.proofs.lemmas.List.{get_or-set_same, get_or-set_other}
 use Rattle.change_rows.specs.Cells.{Held, no_cell, found, end_of, component_at, IsAscending}
 use Rattle.change_rows.specs.Marks.{is_marked}
 use Rattle.change_rows.specs.Standing.{standing, standing_before}
 use Rattle.change_rows.specs.Changes.{row_at, begins_at, IsChanges}
-use Rattle.change_rows.proofs.Finding.{found_past}
+use Rattle.change_rows.proofs.Finding.{found_past, found_append}
 use Rattle.change_rows.proofs.Merging.{taken_found, taken_end}
 
 -- a row is another one
@@ -109,3 +109,25 @@ module _ (draft out out1 : List Held) (i : ℕ) (asc : IsAscending draft) (h : i
 
 pub end_more : (draft out1 : List Held) (i : ℕ) → i < length draft → end_of out1 ≤ component_at draft i + 1 → end_of out1 ≤ end_of (take (i + 1) draft)
 end_more draft out1 i h e = omega (arith, taken_end draft i h, e)
+
+-- what a push leaves
+pub pushed_same : (out out1 : List Held) (c : ℕ) (w : List ℕ) → out1 ≡ out ++ record { component = c; words = w } ∷ [] → end_of out ≤ c → found out1 c ≡ Some w
+pushed_same out out1 c w e above =
+    ap (λ (v : List Held). found v c) e ∙ found_append out (record { component = c; words = w } ∷ []) c
+    ∙ ap (λ (o : Option (List ℕ)). option_or o (found (record { component = c; words = w } ∷ []) c)) (found_past out c above)
+    ∙ ap (λ (b : Bool). cond b (Some w) None) (eq-eqb c c refl)
+
+pub pushed_other : (out out1 : List Held) (c : ℕ) (w : List ℕ) → out1 ≡ out ++ record { component = c; words = w } ∷ [] → (d : ℕ) → (d ≡ c → ⊥) → found out1 d ≡ found out d
+pushed_other out out1 c w e d n =
+    ap (λ (v : List Held). found v d) e ∙ found_append out (record { component = c; words = w } ∷ []) d
+    ∙ ap (λ (b : Bool). option_or (found out d) (cond b (Some w) None)) (ne_eqb c d (λ q. n (sym q)))
+    ∙ or_none (found out d)
+
+pub absent : (out : List Held) (c : ℕ) (v w : List ℕ) → end_of out ≤ c → v ≡ w → unwrap_or (found out c) v ≡ w
+absent out c v w above e = ap (λ (o : Option (List ℕ)). unwrap_or o v) (found_past out c above) ∙ e
+
+pub present : (out : List Held) (c : ℕ) (v w x : List ℕ) → found out c ≡ Some w → w ≡ x → unwrap_or (found out c) v ≡ x
+present out c v w x e f = ap (λ (o : Option (List ℕ)). unwrap_or o v) e ∙ f
+
+pub not_marked : (o : Option (List ℕ)) (b : Bool) → b ≡ true → b ≡ is_some o → o ≡ None → ⊥
+not_marked o b t e n = false≢true (sym (ap is_some n) ∙ sym e ∙ t)

@@ -82,7 +82,8 @@ fn keep(
     if same_words(stood, words) {
         return Ok(());
     }
-    out.push(c, stood)
+    out.push(c, stood)?;
+    Ok(())
 }
 
 /// What the components of a draft held at row t, for row t + 1, where nothing else begins there.
@@ -150,7 +151,8 @@ fn begin(
     if same_words(words_before(s, t, c), words) {
         return Ok(());
     }
-    out.push(c, words)
+    out.push(c, words)?;
+    Ok(())
 }
 
 /// The cells of a draft for row t that don't just go on.
