@@ -4,3 +4,4 @@ pub mod Marking
 pub mod Merging
 pub mod Standing
 pub mod Editing
+pub mod Putting

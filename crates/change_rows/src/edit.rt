@@ -170,3 +170,77 @@ fn fresh_of(s: &Changes, t: usize, draft: &Cells, out: &mut Cells) -> Result<(),
     }
     Ok(())
 }
+
+/// The cells that begin in row t and of whose components a draft has none.
+fn others_of(
+    s: &Changes,
+    t: usize,
+    draft: &Cells,
+    of_row: &mut Cells,
+    of_seam: &mut Cells,
+    out: &mut Cells,
+) -> Result<(), AllocError>
+    requires changes { IsChanges s.now.width s.now.rows.items s.now.marks.items s.now.seam s.now.at }
+    requires row { t < length s.now.rows.items }
+    ensures found { OnOk result ((c : ℕ) → found out.new c ≡ cond (is_some (found draft.now c)) None (option_or (found (row_at s.now.rows.items t) c) (found s.now.seam c))) }
+    ensures end { OnOk result (end_of out.new ≤ s.now.width) }
+{
+    without(&s.rows[t], draft, of_row)?;
+    without(&s.seam, draft, of_seam)?;
+    unite(of_row, of_seam, out)?;
+    Ok(())
+}
+
+/// The row once a draft is put there.
+fn row_of(s: &Changes, t: usize, draft: &Cells, b: &mut Buffers) -> Result<(), AllocError>
+    requires changes { IsChanges s.now.width s.now.rows.items s.now.marks.items s.now.seam s.now.at }
+    requires row { t < length s.now.rows.items }
+    requires wide { end_of draft.now ≤ s.now.width }
+    ensures kept { OnOk result ((c : ℕ) (w : List ℕ) → found draft.now c ≡ Some w → unwrap_or (found b.new.row c) (standing_before (begins_at s.now.rows.items s.now.seam s.now.at c) t) ≡ w) }
+    ensures others { OnOk result ((c : ℕ) → found draft.now c ≡ None → found b.new.row c ≡ option_or (found (row_at s.now.rows.items t) c) (found s.now.seam c)) }
+    ensures end { OnOk result (end_of b.new.row ≤ s.now.width) }
+    ensures seam { b.new.seam ≡ b.old.seam }
+{
+    fresh_of(s, t, draft, &mut b.fresh)?;
+    others_of(
+        s,
+        t,
+        draft,
+        &mut b.of_row,
+        &mut b.of_seam,
+        &mut b.others,
+    )?;
+    unite(&b.fresh, &b.others, &mut b.row)?;
+    Ok(())
+}
+
+/// The cells of a draft hold its words at row t; all other cells of all rows hold what they held.
+///
+/// # Errors
+///
+/// Where a growth was refused. All cells hold what they held.
+pub(crate) fn put(
+    alloc: Global,
+    s: &mut Changes,
+    b: &mut Buffers,
+    t: usize,
+    draft: &Cells,
+) -> Result<(), AllocError>
+    requires changes { IsChanges s.old.width s.old.rows.items s.old.marks.items s.old.seam s.old.at }
+    requires row { t < length s.old.rows.items }
+    requires wide { end_of draft.now ≤ s.old.width }
+    ensures changes { IsChanges s.new.width s.new.rows.items s.new.marks.items s.new.seam s.new.at }
+    ensures width { s.new.width ≡ s.old.width }
+    ensures len { length s.new.rows.items ≡ length s.old.rows.items }
+    ensures put { OnOk result ((c u : ℕ) → u < length s.old.rows.items → standing (begins_at s.new.rows.items s.new.seam s.new.at c) u ≡ cond (nat_eq u t) (unwrap_or (found draft.now c) (standing (begins_at s.old.rows.items s.old.seam s.old.at c) u)) (standing (begins_at s.old.rows.items s.old.seam s.old.at c) u)) }
+    ensures err { OnErr result ((c u : ℕ) → begins_at s.new.rows.items s.new.seam s.new.at c u ≡ begins_at s.old.rows.items s.old.seam s.old.at c u) }
+{
+    settle(alloc, s, t, &mut b.row)?;
+    seam_of(s, t, draft, &mut b.seam)?;
+    row_of(s, t, draft, b)?;
+    let row = b.row.copy(alloc)?;
+    put_cells(&mut s.rows, &mut s.marks, t, row);
+    mem::swap(&mut s.seam, &mut b.seam);
+    s.at = t + 1;
+    Ok(())
+}
