@@ -25,15 +25,15 @@ module _ (width : ℕ) (rows : List (List Held)) (marks marks1 : List (List ℕ)
   row_is u (inl e) = subst (λ (r : List Held). end_of r ≤ width) (sym (ap (row_at (set rows t row)) e ∙ get_or-set_same rows t row [] here)) wide
   row_is u (inr n) = subst (λ (r : List Held). end_of r ≤ width) (sym (get_or-set_other rows t u row [] n)) (s.wide u)
 
-  mark_is : (u c : ℕ) → (u ≡ t) ⊎ (u ≡ t → ⊥) → u < length rows → c < width → is_marked marks1 u c ≡ is_some (found (row_at (set rows t row) u) c)
-  mark_is u c (inl e) l h =
+  mark_is : (u c : ℕ) → (u ≡ t) ⊎ (u ≡ t → ⊥) → c < width → is_marked marks1 u c ≡ is_some (found (row_at (set rows t row) u) c)
+  mark_is u c (inl e) h =
       marked u c (omega (arith, h, s.room))
       ∙ ap (λ (b : Bool). cond b (is_some (found row c)) (is_marked marks u c)) (eq-eqb u t e)
       ∙ sym (ap (λ (r : List Held). is_some (found r c)) (ap (row_at (set rows t row)) e ∙ get_or-set_same rows t row [] here))
-  mark_is u c (inr n) l h =
+  mark_is u c (inr n) h =
       marked u c (omega (arith, h, s.room))
       ∙ ap (λ (b : Bool). cond b (is_some (found row c)) (is_marked marks u c)) (ne_eqb u t n)
-      ∙ s.marked u c l h
+      ∙ s.marked u c h
       ∙ sym (ap (λ (r : List Held). is_some (found r c)) (get_or-set_other rows t u row [] n))
 
   pub changed : IsChanges width (set rows t row) marks1 seam1 at1
@@ -43,11 +43,11 @@ module _ (width : ℕ) (rows : List (List Held)) (marks marks1 : List (List ℕ)
     seam_there = λ n. there (λ l. n (omega (arith, l, length-set rows t row)));
     room = omega (arith, s.room, len);
     tall = λ w h. omega (arith, tall w, s.tall w (omega (arith, h, len)), length-set rows t row);
-    marked = λ u c l h. mark_is u c (cases_eq u t) (omega (arith, l, length-set rows t row)) h;
+    marked = λ u c h. mark_is u c (cases_eq u t) h;
     short = omega (arith, s.short, length-set rows t row);
   }
 
-or_none : (o : Option (List ℕ)) → option_or o None ≡ o
+pub or_none : (o : Option (List ℕ)) → option_or o None ≡ o
 or_none None = refl
 or_none (Some x) = refl
 

@@ -5,3 +5,5 @@ pub mod Merging
 pub mod Standing
 pub mod Editing
 pub mod Putting
+pub mod Tables
+pub mod Viewing

@@ -1,10 +1,10 @@
 -- Lines of marks.
-use Rattle.std.proofs.Common.{◌≡◌, ℕ, ◌+◌, ◌*◌, ◌/◌, ◌%◌, ◌<◌, ◌≤◌, ◌∙◌, ◌⊎◌, inl, inr, sym, ap, refl, subst, arith, Bool, true, false, cond, eqb, ◌&&◌, ◌||◌, is_some, Option, Some, None, List, [], ◌∷◌, length, take, get_or}
+use Rattle.std.proofs.Common.{◌≡◌, ℕ, ◌+◌, ◌*◌, ◌/◌, ◌%◌, ◌<◌, ◌≤◌, ◌∙◌, ◌⊎◌, inl, inr, sym, ap, refl, subst, arith, Bool, true, false, cond, eqb, ◌&&◌, ◌||◌, is_some, Option, Some, None, List, [], ◌∷◌, ◌++◌, ◌-◌, zero, suc, replicate, length, take, get_or}
 use Rattle.std.specs.Option.{option_or}
 use Rattle.std.proofs.Math.ListN.{set, length-set}
 use Rattle.std.proofs.lemmas.Nat.Bits.{bit_at-zero}
 use Rattle.std.proofs.lemmas.Bool.{cases_eq, eq-eqb, ne_eqb, cases_lt}
-use Rattle.std.proofs.lemmas.List.{get_or-set_same, get_or-set_other, take_more, get_or_past, set_past}
+use Rattle.std.proofs.lemmas.List.{get_or-set_same, get_or-set_other, take_more, get_or_past, get_or_append_left, get_or-append_right}
 use Rattle.change_rows.specs.Cells.{Held, no_cell, found, end_of, component_at}
 use Rattle.change_rows.specs.Marks.{is_one, is_set, is_marked}
 use Rattle.change_rows.proofs.Finding.{found_append, below_end}
@@ -114,3 +114,42 @@ marked_anew lines0 lines1 lines2 cells t tall cleared marks u c small = marks u 
         ∙ ap (λ (l : List ℕ). is_set l u (c % 64)) (cleared (c / 64))
         ∙ ap (λ (w : ℕ). is_one w (c % 64)) (get_or-set_other (get_or lines0 (c / 64) []) t u 0 0 n)
         ∙ sym (ap (λ (b : Bool). cond b (is_some (found cells c)) (is_marked lines0 u c)) (ne_eqb u t n))
+
+-- zeros more
+pub zeros_set : (xs ys zs : List ℕ) (m : ℕ) → xs ≡ ys ++ replicate m 0 → ys ≡ zs → (t k : ℕ) → is_set xs t k ≡ is_set zs t k
+zeros_set xs ys zs m e f t k = ap (λ (w : ℕ). is_one w k) (ap (λ (v : List ℕ). get_or v t 0) e ∙ by_place (cases_lt t (length ys)) ∙ ap (λ (v : List ℕ). get_or v t 0) f)
+  where
+    in_zeros : (n i z : ℕ) → get_or (replicate n z) i z ≡ z
+    in_zeros zero i z = refl
+    in_zeros (suc n) zero z = refl
+    in_zeros (suc n) (suc i) z = in_zeros n i z
+
+    by_place : (t < length ys) ⊎ (length ys ≤ t) → get_or (ys ++ replicate m 0) t 0 ≡ get_or ys t 0
+    by_place (inl h) = get_or_append_left ys (replicate m 0) 0 t h
+    by_place (inr h) = get_or-append_right ys (replicate m 0) (length ys) t 0 refl h ∙ in_zeros m (t - length ys) 0 ∙ sym (get_or_past ys t 0 h)
+
+-- a line is another one
+pub line_same : (lines0 lines : List (List ℕ)) (line : List ℕ) (w : ℕ) → w < length lines → ((t k : ℕ) → is_set line t k ≡ is_set (get_or lines w []) t k) → ((v t k : ℕ) → is_set (get_or lines v []) t k ≡ is_set (get_or lines0 v []) t k) → (v t k : ℕ) → is_set (get_or (set lines w line) v []) t k ≡ is_set (get_or lines0 v []) t k
+line_same lines0 lines line w there same before v t k = by_place (cases_eq v w)
+  where
+    by_place : (v ≡ w) ⊎ (v ≡ w → ⊥) → is_set (get_or (set lines w line) v []) t k ≡ is_set (get_or lines0 v []) t k
+    by_place (inl e) =
+        ap (λ (j : ℕ). is_set (get_or (set lines w line) j []) t k) e ∙ ap (λ (l : List ℕ). is_set l t k) (get_or-set_same lines w line [] there) ∙ same t k
+        ∙ ap (λ (j : ℕ). is_set (get_or lines j []) t k) (sym e) ∙ before v t k
+    by_place (inr n) = ap (λ (l : List ℕ). is_set l t k) (get_or-set_other lines w v line [] n) ∙ before v t k
+
+pub line_longer : (lines0 lines : List (List ℕ)) (line : List ℕ) (w : ℕ) → w < length lines → length (get_or lines w []) ≤ length line → ((v : ℕ) → length (get_or lines0 v []) ≤ length (get_or lines v [])) → (v : ℕ) → length (get_or lines0 v []) ≤ length (get_or (set lines w line) v [])
+line_longer lines0 lines line w there more before v = by_place (cases_eq v w)
+  where
+    by_place : (v ≡ w) ⊎ (v ≡ w → ⊥) → length (get_or lines0 v []) ≤ length (get_or (set lines w line) v [])
+    by_place (inl e) =
+        let same : length (get_or (set lines w line) v []) ≡ length line = ap (λ (j : ℕ). length (get_or (set lines w line) j [])) e ∙ ap length (get_or-set_same lines w line [] there) in
+        omega (arith, same, before v, more, ap (λ (j : ℕ). length (get_or lines j [])) e)
+    by_place (inr n) = omega (arith, before v, ap length (get_or-set_other lines w v line [] n))
+
+pub line_ok : (lines : List (List ℕ)) (line : List ℕ) (w n : ℕ) → w < length lines → n ≤ length line → ((v : ℕ) → v < w → n ≤ length (get_or lines v [])) → (v : ℕ) → v < w + 1 → n ≤ length (get_or (set lines w line) v [])
+line_ok lines line w n there ok before v h = by_place (cases_eq v w)
+  where
+    by_place : (v ≡ w) ⊎ (v ≡ w → ⊥) → n ≤ length (get_or (set lines w line) v [])
+    by_place (inl e) = omega (arith, ok, ap (λ (j : ℕ). length (get_or (set lines w line) j [])) e, ap length (get_or-set_same lines w line [] there))
+    by_place (inr ne) = omega (arith, before v (omega arith), ap length (get_or-set_other lines w v line [] ne))

@@ -51,7 +51,7 @@ begins_not rows seam at c u e h =
 
 module _ (width : ℕ) (rows : List (List Held)) (marks : List (List ℕ)) (seam : List Held) (at : ℕ) (s : IsChanges width rows marks seam at) (t c : ℕ) (here : t < length rows) (small : c < width) where
   pub unmarked : (u : ℕ) → u ≤ t → is_marked marks u c ≡ false → found (row_at rows u) c ≡ None
-  unmarked u h e = none_is _ (sym (s.marked u c (omega arith) small) ∙ e)
+  unmarked u h e = none_is _ (sym (s.marked u c small) ∙ e)
 
   pub marks_here : (c < 64 * length marks) × (t < length (get_or marks (c / 64) []))
   marks_here = (omega (arith, s.room), omega (arith, s.tall (c / 64) (omega (arith, s.room))))
@@ -66,7 +66,7 @@ module _ (width : ℕ) (rows : List (List Held)) (marks : List (List ℕ)) (seam
   pub row_stands : (b : ℕ) → b ≤ t → is_marked marks b c ≡ true → ((u : ℕ) → b < u → u ≤ t → is_marked marks u c ≡ false) → (at ≤ t → b < at → found seam c ≡ None) → standing (begins_at rows seam at c) t ≡ unwrap_or (found (row_at rows b) c) []
   row_stands b h set none other =
       carried (begins_at rows seam at c) b t h (λ u low high. begins_not rows seam at c u (unmarked u high (none u low high)) (λ q. other (omega (arith, q, high)) (omega (arith, q, low))))
-      ∙ at_once (begins_at rows seam at c) b _ (begins_row rows seam at c b _ (some_is _ (sym (s.marked b c (omega arith) small) ∙ set)))
+      ∙ at_once (begins_at rows seam at c) b _ (begins_row rows seam at c b _ (some_is _ (sym (s.marked b c small) ∙ set)))
 
   -- nothing has begun
   pub nothing_stands : ((u : ℕ) → u ≤ t → is_marked marks u c ≡ false) → (at ≤ t → found seam c ≡ None) → standing (begins_at rows seam at c) t ≡ []

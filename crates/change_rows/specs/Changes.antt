@@ -26,6 +26,6 @@ pub record IsChanges (width : ℕ) (rows : List (List Held)) (marks : List (List
   pub seam_wide : end_of seam ≤ width
   pub seam_there : (at < length rows → ⊥) → seam ≡ []
   pub room : width ≤ 64 * length marks
-  pub tall : (w : ℕ) → w < length marks → length (slice_index_or marks w []) ≡ length rows
-  pub marked : (t c : ℕ) → t < length rows → c < width → is_marked marks t c ≡ is_some (found (row_at rows t) c)
+  pub tall : (w : ℕ) → w < length marks → length rows ≤ length (slice_index_or marks w [])
+  pub marked : (t c : ℕ) → c < width → is_marked marks t c ≡ is_some (found (row_at rows t) c)
   pub short : length rows < 2 ^ 32

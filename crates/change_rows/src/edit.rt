@@ -24,6 +24,19 @@ pub(crate) struct Buffers {
     pub seam: Cells,
 }
 
+impl Buffers {
+    pub fn new(alloc: Global) -> Buffers {
+        Buffers {
+            fresh: Cells::new(alloc),
+            of_row: Cells::new(alloc),
+            of_seam: Cells::new(alloc),
+            others: Cells::new(alloc),
+            row: Cells::new(alloc),
+            seam: Cells::new(alloc),
+        }
+    }
+}
+
 fn same_words(one: &[u64], other: &[u64]) -> bool
     ensures { IsTrue result ↔ (one.now ≡ other.now) }
 {

@@ -6,5 +6,7 @@ mod changes;
 mod edit;
 mod marks;
 mod merge;
+mod rows;
 
 pub use cells::Cells;
+pub use rows::Rows;

@@ -1,5 +1,5 @@
 //! At which cycles the cells of components begin.
-ghost use Rattle.std.specs.Prelude.{◌≡◌, ℕ, ◌+◌, ◌*◌, ◌<◌, ◌≤◌, ◌++◌, ◌||◌, [], List, true, false, cond, nat_eq, MatchResult, MatchOption, length, take, replicate, is_some, slice_index_or, slice_set};
+ghost use Rattle.std.specs.Prelude.{◌≡◌, ℕ, ◌+◌, ◌*◌, ◌<◌, ◌≤◌, ◌++◌, ◌||◌, [], List, true, false, cond, nat_eq, MatchOption, OnOk, length, take, replicate, is_some, slice_index_or, slice_set};
 ghost use Rattle.change_rows.specs.Cells.{found, end_of};
 ghost use Rattle.change_rows.specs.Marks.{is_one, is_set, is_marked};
 
@@ -81,21 +81,21 @@ impl Marks {
         self.words[t] = word;
     }
 
-    /// Cycles more at which nothing is marked.
+    /// Room for n cycles; nothing is marked at those that come in addition.
     ///
     /// # Errors
     ///
     /// Where a growth was refused. Nothing is changed.
-    pub fn grow(&mut self, m: usize) -> Result<(), AllocError>
-        ensures { MatchResult result
-            (λ _. self.new ≡ self.old ++ replicate m 0)
-            (λ _. self.new ≡ self.old) }
+    pub fn grow_to(&mut self, n: usize) -> Result<(), AllocError>
+        ensures same { (t k : ℕ) → is_set self.new t k ≡ is_set self.old t k }
+        ensures longer { length self.old ≤ length self.new }
+        ensures ok { OnOk result (n ≤ length self.new) }
     {
-        self.words.reserve(m)?;
-        for _t in 0..m {
-            self.words.push_reserved(0);
+        let len = self.words.len();
+        if n <= len {
+            return Ok(());
         }
-        Ok(())
+        grow_by(&mut self.words, n - len)
     }
 
     /// The first n cycles stay.
@@ -103,6 +103,46 @@ impl Marks {
         ensures { self.new ≡ take n self.old }
     {
         self.words.truncate(n);
+    }
+}
+
+/// Words more, all 0.
+fn grow_by(words: &mut Vec<u64>, m: usize) -> Result<(), AllocError>
+    ensures same { (t k : ℕ) → is_set words.new.items t k ≡ is_set words.old.items t k }
+    ensures longer { length words.old.items ≤ length words.new.items }
+    ensures ok { OnOk result (length words.new.items ≡ length words.old.items + m) }
+{
+    words.reserve(m)?;
+    for _t in 0..m {
+        words.push_reserved(0);
+    }
+    Ok(())
+}
+
+/// Room for n cycles in all lines.
+///
+/// # Errors
+///
+/// Where a growth was refused. All marks stay.
+pub(crate) fn grow_lines(lines: &mut Vec<Marks>, n: usize) -> Result<(), AllocError>
+    ensures len { length lines.new.items ≡ length lines.old.items }
+    ensures same { (t c : ℕ) → is_marked lines.new.items t c ≡ is_marked lines.old.items t c }
+    ensures longer { (w : ℕ) → length (slice_index_or lines.old.items w []) ≤ length (slice_index_or lines.new.items w []) }
+    ensures ok { OnOk result ((w : ℕ) → w < length lines.old.items → n ≤ length (slice_index_or lines.new.items w [])) }
+{
+    for w in 0..lines.len() {
+        lines[w].grow_to(n)?;
+    }
+    Ok(())
+}
+
+/// The first n cycles stay.
+pub(crate) fn cut_lines(lines: &mut Vec<Marks>, n: usize)
+    ensures len { length lines.new.items ≡ length lines.old.items }
+    ensures lines { (w : ℕ) → slice_index_or lines.new.items w [] ≡ take n (slice_index_or lines.old.items w []) }
+{
+    for w in 0..lines.len() {
+        lines[w].truncate(n);
     }
 }
 

@@ -5,7 +5,7 @@ use Rattle.change_rows.proofs.Merging.{pushed_end}
 use Rattle.change_rows.proofs.edit.keep.Goals as goal
 
 pub returns-then-is_change-clause-kept : goal.returns-then-is_change-clause-kept
-returns-then-is_change-clause-kept c = λ none. absurd (not_marked _ c.is_change.result c.if-is_change.true (c.is_change.ensures ∙ c.requires.changes.marked (c.args.t + 1) c.args.c c.requires.row c.requires.component) none)
+returns-then-is_change-clause-kept c = λ none. absurd (not_marked _ c.is_change.result c.if-is_change.true (c.is_change.ensures ∙ c.requires.changes.marked (c.args.t + 1) c.args.c c.requires.component) none)
 
 pub returns-then-same_words-clause-kept : goal.returns-then-same_words-clause-kept
 returns-then-same_words-clause-kept c = λ _. absent c.args.out.now c.args.c c.args.words.now _ c.requires.ascending (sym (c.same_words.ensures.0 c.if-same_words.true) ∙ c.words_in-stood.ensures)

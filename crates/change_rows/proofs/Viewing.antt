@@ -1,0 +1,31 @@
+-- What a contract sees of rows of changes.
+use Rattle.std.proofs.Common.{◌≡◌, ℕ, ◌+◌, ◌<◌, ◌≤◌, ◌∙◌, ap, sym, refl, subst, arith, cond, eqb, unwrap_or, Option, List, [], length, get_or}
+use Rattle.std.proofs.Math.ListN.{set}
+use Rattle.change_rows.specs.Cells.{Held, found}
+use Rattle.change_rows.specs.Rows.{Table, words_at, overlaid, IsWhole}
+use Rattle.change_rows.specs.Standing.{standing}
+use Rattle.change_rows.specs.Changes.{row_at, begins_at, table, cells_in}
+use Rattle.change_rows.proofs.Tables.{table_same, table_put, length_table}
+use Rattle.change_rows.proofs.Putting.{alike}
+
+abbrev pub a_table : ℕ → List (List (List ℕ)) → Table
+a_table width rows = record { width = width; rows = rows }
+
+abbrev pub cells : List (List Held) → List Held → ℕ → ℕ → ℕ → List ℕ
+cells rows seam at t c = standing (begins_at rows seam at c) t
+
+-- a draft is put
+pub view_put : (rows0 rows1 : List (List Held)) (seam0 seam1 draft : List Held) (at0 at1 width0 width1 t : ℕ) (v : Table) → a_table width0 (cells_in rows0 seam0 at0 width0) ≡ v → width1 ≡ width0 → length rows1 ≡ length rows0 → t < length rows0 → ((c u : ℕ) → u < length rows0 → standing (begins_at rows1 seam1 at1 c) u ≡ cond (eqb u t) (unwrap_or (found draft c) (standing (begins_at rows0 seam0 at0 c) u)) (standing (begins_at rows0 seam0 at0 c) u)) → a_table width1 (cells_in rows1 seam1 at1 width1) ≡ a_table v.width (set v.rows t (overlaid (get_or v.rows t []) draft))
+view_put rows0 rows1 seam0 seam1 draft at0 at1 width0 width1 t v view w len here put =
+    ap (λ (k : ℕ). a_table k (cells_in rows1 seam1 at1 k)) w
+    ∙ ap (λ (n : ℕ). a_table width0 (table (cells rows1 seam1 at1) n width0)) len
+    ∙ ap (a_table width0) (table_put (cells rows0 seam0 at0) (cells rows1 seam1 at1) (length rows0) width0 t draft here (λ u c h _. put c u h))
+    ∙ ap (λ (x : Table). a_table x.width (set x.rows t (overlaid (get_or x.rows t []) draft))) view
+
+-- the same begins everywhere
+pub view_same : (rows0 rows1 : List (List Held)) (seam0 seam1 : List Held) (at0 at1 width0 width1 : ℕ) (v : Table) → a_table width0 (cells_in rows0 seam0 at0 width0) ≡ v → width1 ≡ width0 → length rows1 ≡ length rows0 → ((c u : ℕ) → begins_at rows1 seam1 at1 c u ≡ begins_at rows0 seam0 at0 c u) → a_table width1 (cells_in rows1 seam1 at1 width1) ≡ v
+view_same rows0 rows1 seam0 seam1 at0 at1 width0 width1 v view w len same =
+    ap (λ (k : ℕ). a_table k (cells_in rows1 seam1 at1 k)) w
+    ∙ ap (λ (n : ℕ). a_table width0 (table (cells rows1 seam1 at1) n width0)) len
+    ∙ ap (a_table width0) (table_same (cells rows1 seam1 at1) (cells rows0 seam0 at0) (length rows0) width0 (λ t c _ _. alike (begins_at rows0 seam0 at0 c) (begins_at rows1 seam1 at1 c) t (λ u _. same c u)))
+    ∙ view

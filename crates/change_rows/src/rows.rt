@@ -1,0 +1,117 @@
+//! The words of all cells of a table.
+ghost use Rattle.std.specs.Prelude.{◌≡◌, ℕ, ◌+◌, ◌-◌, ◌*◌, ◌<◌, ◌≤◌, ◌++◌, [], List, true, false, MatchResult, IfOk, OnOk, length, take, replicate, slice_index_or, slice_set};
+ghost use Rattle.change_rows.specs.Cells.{end_of};
+ghost use Rattle.change_rows.specs.Rows.{Table, words_at, overlaid, IsWhole};
+
+use crate::cells::Cells;
+use crate::changes::{Changes, is_change, words_in};
+use crate::edit::{Buffers, put};
+use crate::marks::Marks;
+use std::alloc::{AllocError, Global};
+use std::marker::Model;
+
+/// A list of words for each cell by cycle, then component, kept as what begins at each cycle.
+///
+/// A row that is put is one piece of memory written for its components and one for its words. What
+/// stood in the row behind it is held beside the rows, until another row than that one is put.
+#[derive(Drop)]
+pub struct Rows {
+    changes: Changes,
+    buffers: Buffers,
+}
+
+impl Model for Rows {
+    ghost use Rattle.change_rows.specs.Rows.{Table};
+    ghost use Rattle.change_rows.specs.Changes.{cells_in, IsChanges};
+
+    ghost Value = { Table };
+
+    ghost view = { λ r. record { width = r.changes.width; rows = cells_in r.changes.rows.items r.changes.seam r.changes.at r.changes.width } };
+
+    ghost invariant = { λ r. IsChanges r.changes.width r.changes.rows.items r.changes.marks.items r.changes.seam r.changes.at };
+}
+
+impl Rows {
+    /// No row yet, for that many components.
+    ///
+    /// # Errors
+    ///
+    /// Where a growth was refused.
+    pub fn new(alloc: Global, width: u32) -> Result<Rows, AllocError>
+        ensures { IfOk result (λ rows. rows ≡ record { width = width; rows = [] }) }
+    {
+        let marks = no_marks(alloc, width.div_ceil(64))?;
+        Ok(Rows {
+            changes: Changes {
+                width,
+                rows: Vec::new(alloc),
+                marks,
+                seam: Cells::new(alloc),
+                at: 0,
+            },
+            buffers: Buffers::new(alloc),
+        })
+    }
+
+    /// How many rows there are. Each has a cell for each component.
+    pub fn len(&self) -> u32
+        ensures count { result ≡ length self.now.rows }
+        ensures whole { IsWhole self.now }
+    {
+        self.changes.rows.len() as u32
+    }
+
+    /// How many components there are.
+    pub fn width(&self) -> u32
+        ensures { result ≡ self.now.width }
+    {
+        self.changes.width
+    }
+
+    /// The words of a cell; none where there is no such cell.
+    pub fn words(&self, t: u32, c: u32) -> &[u64]
+        ensures { result.now ≡ words_at self.now.rows t c }
+    {
+        if t as usize >= self.changes.rows.len() || c >= self.changes.width {
+            return &[];
+        }
+        words_in(&self.changes, t as usize, c)
+    }
+
+    /// The cells of a draft hold its words in row t, and all other cells of all rows hold what they held.
+    ///
+    /// # Errors
+    ///
+    /// Where a growth was refused. All cells hold what they held.
+    pub fn put_row(&mut self, alloc: Global, t: u32, draft: &Cells) -> Result<(), AllocError>
+        requires row { t < length self.old.rows }
+        requires components { end_of draft.now ≤ self.old.width }
+        ensures { MatchResult result
+            (λ _. self.new ≡ record { width = self.old.width; rows = slice_set self.old.rows t (overlaid (slice_index_or self.old.rows t []) draft.now) })
+            (λ _. self.new ≡ self.old) }
+    {
+        put(
+            alloc,
+            &mut self.changes,
+            &mut self.buffers,
+            t as usize,
+            draft,
+        )?;
+        Ok(())
+    }
+}
+
+/// Marks of no row, for that many times 64 components.
+fn no_marks(alloc: Global, lines: u32) -> Result<Vec<Marks>, AllocError>
+    ensures len { IfOk result (λ marks. length marks.items ≡ lines) }
+    ensures none { IfOk result (λ marks. (w : ℕ) → slice_index_or marks.items w [] ≡ []) }
+{
+    let mut marks = Vec::with_capacity(alloc, lines as usize)?;
+    for _w in 0..lines {
+        match marks.push(Marks::new(alloc)) {
+            Ok(()) => {}
+            Err(_) => return Err(AllocError),
+        }
+    }
+    Ok(marks)
+}
