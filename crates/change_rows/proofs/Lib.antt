@@ -7,3 +7,4 @@ pub mod Editing
 pub mod Putting
 pub mod Tables
 pub mod Viewing
+pub mod Growing

@@ -1,9 +1,9 @@
 -- The words of all cells.
-use Rattle.std.proofs.Common.{◌≡◌, ℕ, ◌+◌, ◌<◌, ◌≤◌, ◌∙◌, ◌⊎◌, inl, inr, sym, ap, refl, arith, Bool, cond, eqb, unwrap_or, List, [], ◌++◌, length, map, get_or, replicate, take}
+use Rattle.std.proofs.Common.{◌-◌, min, ◌≡◌, ℕ, ◌+◌, ◌<◌, ◌≤◌, ◌∙◌, ◌⊎◌, inl, inr, sym, ap, refl, arith, Bool, cond, eqb, unwrap_or, List, [], ◌++◌, length, map, get_or, replicate, take}
 use Rattle.std.specs.List.{range_with_len}
 use Rattle.std.proofs.Math.ListN.{set, length-set}
 use Rattle.std.proofs.lemmas.Bool.{cases_eq, cases_lt, eq-eqb, ne_eqb}
-use Rattle.std.proofs.lemmas.List.{get_or-set_same, get_or-set_other, get_or_past}
+use Rattle.std.proofs.lemmas.List.{get_or-set_same, get_or-set_other, get_or_past, get_or_append_left, get_or-append_right, get_or-replicate, get_or-take, length-take, length-append, length-replicate}
 use Rattle.std.proofs.lemmas.List.FromFn.{length-map-range_with_len, get_or-map-range_with_len, fill_by_all, take-map-range_with_len}
 use Rattle.change_rows.specs.Cells.{Held, found}
 use Rattle.change_rows.specs.Rows.{words_at, overlaid}
@@ -78,3 +78,33 @@ table_put f g n width t cells here same =
             get_or-set_other (table f n width) t u _ [] n1
             ∙ row_table f n width u h
             ∙ row_same f g width u (λ c l. sym (same u c h l ∙ ap (λ (b : Bool). cond b (unwrap_or (found cells c) (f u c)) (f u c)) (ne_eqb u t n1)))
+
+abbrev blanks : ℕ → List (List ℕ)
+blanks k = replicate k []
+
+pub table_grow : (f g : ℕ → ℕ → List ℕ) (n m width : ℕ) → ((u c : ℕ) → u < n → c < width → g u c ≡ f u c) → ((u c : ℕ) → n ≤ u → c < width → g u c ≡ []) → table g (n + m) width ≡ table f n width ++ replicate m (replicate width [])
+table_grow f g n m width same blank = sym (fill_by_all (row_of g width) (table f n width ++ replicate m (replicate width [])) (n + m) [] long each)
+  where
+    long : length (table f n width ++ replicate m (replicate width [])) ≡ n + m
+    long = length-append (table f n width) (replicate m (replicate width [])) ∙ omega (arith, length_table f n width, length-replicate m (blanks width))
+
+    blank_row : (u : ℕ) → n ≤ u → replicate width [] ≡ row_of g width u
+    blank_row u h = fill_by_all (g u) (replicate width []) width [] (length-replicate width _) (λ c l. get_or-replicate width c [] [] l ∙ sym (blank u c h l))
+
+    each : (u : ℕ) → u < n + m → get_or (table f n width ++ replicate m (replicate width [])) u [] ≡ row_of g width u
+    each u h = by_place (cases_lt u n)
+      where
+        by_place : (u < n) ⊎ (n ≤ u) → get_or (table f n width ++ replicate m (replicate width [])) u [] ≡ row_of g width u
+        by_place (inl l) =
+            get_or_append_left (table f n width) (replicate m (replicate width [])) [] u (omega (arith, l, length_table f n width))
+            ∙ row_table f n width u l ∙ row_same f g width u (λ c k. sym (same u c l k))
+        by_place (inr l) =
+            get_or-append_right (table f n width) (replicate m (replicate width [])) n u [] (length_table f n width) l
+            ∙ get_or-replicate m (u - n) (replicate width []) [] (omega (arith, h, l)) ∙ blank_row u l
+
+pub table_cut : (f g : ℕ → ℕ → List ℕ) (n k width : ℕ) → ((u c : ℕ) → u < n → c < width → g u c ≡ f u c) → table g (min n k) width ≡ take n (table f k width)
+table_cut f g n k width same =
+    sym (fill_by_all (row_of g width) (take n (table f k width)) (min n k) [] (length-take n (table f k width) ∙ ap (min n) (length_table f k width)) each)
+  where
+    each : (u : ℕ) → u < min n k → get_or (take n (table f k width)) u [] ≡ row_of g width u
+    each u h = get_or-take n (table f k width) u [] (omega arith) ∙ row_table f k width u (omega arith) ∙ row_same f g width u (λ c l. sym (same u c (omega arith) l))

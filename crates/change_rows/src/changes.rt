@@ -87,6 +87,19 @@ pub(crate) fn is_change(marks: &Vec<Marks>, t: usize, c: u32) -> bool
     marks[c as usize / 64].has(t, c % 64)
 }
 
+/// Whether something begins at a cell.
+pub(crate) fn begins_in(s: &Changes, t: usize, c: u32) -> bool
+    requires changes { IsChanges s.now.width s.now.rows.items s.now.marks.items s.now.seam s.now.at }
+    requires row { t < length s.now.rows.items }
+    requires component { c < s.now.width }
+    ensures { result ≡ false → begins_at s.now.rows.items s.now.seam s.now.at c t ≡ None }
+{
+    if is_change(&s.marks, t, c) {
+        return true;
+    }
+    t == s.at && s.seam.has(c)
+}
+
 /// Other cells for a row, with their marks.
 pub(crate) fn put_cells(rows: &mut Vec<Cells>, marks: &mut Vec<Marks>, t: usize, row: Cells)
     requires there { t < length rows.old.items }

@@ -4,6 +4,7 @@
 mod cells;
 mod changes;
 mod edit;
+mod grow;
 mod marks;
 mod merge;
 mod rows;

@@ -1,11 +1,12 @@
 //! The words of all cells of a table.
-ghost use Rattle.std.specs.Prelude.{◌≡◌, ℕ, ◌+◌, ◌-◌, ◌*◌, ◌<◌, ◌≤◌, ◌++◌, [], List, true, false, MatchResult, IfOk, OnOk, length, take, replicate, slice_index_or, slice_set};
+ghost use Rattle.std.specs.Prelude.{◌≡◌, ℕ, ◌+◌, ◌-◌, ◌*◌, ◌^◌, ◌<◌, ◌≤◌, ◌++◌, [], List, true, false, MatchResult, IfOk, OnOk, length, take, replicate, slice_index_or, slice_set};
 ghost use Rattle.change_rows.specs.Cells.{end_of};
 ghost use Rattle.change_rows.specs.Rows.{Table, words_at, overlaid, IsWhole};
 
 use crate::cells::Cells;
-use crate::changes::{Changes, is_change, words_in};
+use crate::changes::{Changes, begins_in, words_in};
 use crate::edit::{Buffers, put};
+use crate::grow::{cut, grow};
 use crate::marks::Marks;
 use std::alloc::{AllocError, Global};
 use std::marker::Model;
@@ -76,6 +77,47 @@ impl Rows {
             return &[];
         }
         words_in(&self.changes, t as usize, c)
+    }
+
+    /// Whether other words may begin at a cell than its component holds a cycle before. Where they
+    /// don't, it holds the same; there may be such cells besides.
+    pub fn begins(&self, t: u32, c: u32) -> bool
+        ensures { result ≡ false → (0 < t) × (words_at self.now.rows t c ≡ words_at self.now.rows (t - 1) c) }
+    {
+        if t == 0 || t as usize >= self.changes.rows.len() || c >= self.changes.width {
+            return true;
+        }
+        begins_in(&self.changes, t as usize, c)
+    }
+
+    /// Rows more, whose cells have no words.
+    ///
+    /// # Errors
+    ///
+    /// Where a growth was refused. There are as many rows as before.
+    pub fn grow(&mut self, alloc: Global, m: u32) -> Result<(), AllocError>
+        requires { length self.old.rows + m < 2 ^ 32 }
+        ensures { MatchResult result
+            (λ _. self.new ≡ record { width = self.old.width; rows = self.old.rows ++ replicate m (replicate self.old.width []) })
+            (λ _. self.new ≡ self.old) }
+    {
+        if m == 0 {
+            return Ok(());
+        }
+        grow(
+            alloc,
+            &mut self.changes,
+            &mut self.buffers.row,
+            m as usize,
+        )?;
+        Ok(())
+    }
+
+    /// The first n rows stay.
+    pub fn truncate(&mut self, n: u32)
+        ensures { self.new ≡ record { width = self.old.width; rows = take n self.old.rows } }
+    {
+        cut(&mut self.changes, n as usize);
     }
 
     /// The cells of a draft hold its words in row t, and all other cells of all rows hold what they held.
