@@ -138,3 +138,14 @@ module _ (width n : ℕ) (rows : List (List Held)) (marks marks1 : List (List �
           let ne : u ≡ at → ⊥ = λ q. absurd (omega (arith, q, h, l)) in
           ap (λ (b : Bool). option_or (found (row_at rows u) c) (cond b (found seam1 c) None)) (ne_eqb u at ne)
           ∙ sym (ap (λ (b : Bool). option_or (found (row_at rows u) c) (cond b (found seam c) None)) (ne_eqb u at ne))
+
+pub rows_are : (rows rows1 rows2 rows3 : List (List Held)) (row : List Held) (m k : ℕ) → rows3 ≡ set rows2 k row → rows2 ≡ rows1 ++ replicate m [] → rows1 ≡ rows → k ≡ length rows → rows3 ≡ set (rows ++ replicate m []) (length rows) row
+rows_are rows rows1 rows2 rows3 row m k e f g h =
+    e ∙ ap (λ (r : List (List Held)). set r k row) (f ∙ ap (λ (r : List (List Held)). r ++ replicate m []) g) ∙ ap (λ (j : ℕ). set (rows ++ replicate m []) j row) h
+
+pub grown_changes : (width : ℕ) (rows rows3 : List (List Held)) (marks marks1 marks2 : List (List ℕ)) (seam row : List Held) (at m n : ℕ) → IsChanges width rows marks seam at → length marks1 ≡ length marks → ((t c : ℕ) → is_marked marks1 t c ≡ is_marked marks t c) → ((w : ℕ) → length (get_or marks w []) ≤ length (get_or marks1 w [])) → ((w : ℕ) → w < length marks → n + m ≤ length (get_or marks1 w [])) → n ≡ length rows → 0 < m → length rows + m < 2 ^ 32 → end_of row ≤ width → length marks2 ≡ length marks1 → ((w : ℕ) → length (get_or marks2 w []) ≡ length (get_or marks1 w [])) → ((u c : ℕ) → c < 64 * length marks1 → is_marked marks2 u c ≡ cond (eqb u n) (is_some (found row c)) (is_marked marks1 u c)) → rows3 ≡ set (rows ++ replicate m []) (length rows) row → IsChanges width rows3 marks2 seam at
+grown_changes width rows rows3 marks marks1 marks2 seam row at m n s len same longer ok here some few wide len2 tall2 marked e =
+    let l : IsChanges width rows marks1 seam at = lined width rows marks marks1 seam at s len same longer in
+    let b : IsChanges width (rows ++ replicate m []) marks1 seam at = blank_rows width rows marks1 seam at m l (λ w h. omega (arith, ok w (omega (arith, h, len)), here)) few in
+    subst (λ (r : List (List Held)). IsChanges width r marks2 seam at) (ap (λ (k : ℕ). set (rows ++ replicate m []) k row) here ∙ sym e)
+    (changed width (rows ++ replicate m []) marks1 marks2 seam seam at at n row b (omega (arith, here, some, more_rows rows m)) wide len2 tall2 marked b.seam_wide b.seam_there)

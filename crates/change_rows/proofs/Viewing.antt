@@ -1,11 +1,12 @@
 -- What a contract sees of rows of changes.
-use Rattle.std.proofs.Common.{◌≡◌, ℕ, ◌+◌, ◌<◌, ◌≤◌, ◌∙◌, ap, sym, refl, subst, arith, cond, eqb, unwrap_or, Option, List, [], length, get_or}
+use Rattle.std.proofs.Common.{zero, suc, ◌-◌, ◌++◌, min, replicate, take, Some, None, ◌≡◌, ℕ, ◌+◌, ◌<◌, ◌≤◌, ◌∙◌, ap, sym, refl, subst, arith, cond, eqb, unwrap_or, Option, List, [], length, get_or}
 use Rattle.std.proofs.Math.ListN.{set}
+use Rattle.std.proofs.lemmas.List.{append-nil}
 use Rattle.change_rows.specs.Cells.{Held, found}
 use Rattle.change_rows.specs.Rows.{Table, words_at, overlaid, IsWhole}
 use Rattle.change_rows.specs.Standing.{standing}
 use Rattle.change_rows.specs.Changes.{row_at, begins_at, table, cells_in}
-use Rattle.change_rows.proofs.Tables.{table_same, table_put, length_table}
+use Rattle.change_rows.proofs.Tables.{table_same, table_put, table_grow, table_cut, length_table, at_table}
 use Rattle.change_rows.proofs.Putting.{alike}
 
 abbrev pub a_table : ℕ → List (List (List ℕ)) → Table
@@ -29,3 +30,37 @@ view_same rows0 rows1 seam0 seam1 at0 at1 width0 width1 v view w len same =
     ∙ ap (λ (n : ℕ). a_table width0 (table (cells rows1 seam1 at1) n width0)) len
     ∙ ap (a_table width0) (table_same (cells rows1 seam1 at1) (cells rows0 seam0 at0) (length rows0) width0 (λ t c _ _. alike (begins_at rows0 seam0 at0 c) (begins_at rows1 seam1 at1 c) t (λ u _. same c u)))
     ∙ view
+
+-- rows more, whose cells have no words
+pub view_grow : (rows0 rows1 : List (List Held)) (seam0 seam1 : List Held) (at0 at1 width0 width1 m : ℕ) (v : Table) → a_table width0 (cells_in rows0 seam0 at0 width0) ≡ v → width1 ≡ width0 → length rows1 ≡ length rows0 + m → ((c u : ℕ) → u < length rows0 → begins_at rows1 seam1 at1 c u ≡ begins_at rows0 seam0 at0 c u) → ((c u : ℕ) → c < width0 → length rows0 ≤ u → standing (begins_at rows1 seam1 at1 c) u ≡ []) → a_table width1 (cells_in rows1 seam1 at1 width1) ≡ a_table v.width (v.rows ++ replicate m (replicate v.width []))
+view_grow rows0 rows1 seam0 seam1 at0 at1 width0 width1 m v view w len same blank =
+    ap (λ (k : ℕ). a_table k (cells_in rows1 seam1 at1 k)) w
+    ∙ ap (λ (n : ℕ). a_table width0 (table (cells rows1 seam1 at1) n width0)) len
+    ∙ ap (a_table width0) (table_grow (cells rows0 seam0 at0) (cells rows1 seam1 at1) (length rows0) m width0 (λ u c h _. alike (begins_at rows0 seam0 at0 c) (begins_at rows1 seam1 at1 c) u (λ k l. same c k (omega (arith, l, h)))) (λ u c h l. blank c u l h))
+    ∙ ap (λ (x : Table). a_table x.width (x.rows ++ replicate m (replicate x.width []))) view
+
+pub grow_none : (v : Table) (m : ℕ) → m ≡ 0 → v ≡ a_table v.width (v.rows ++ replicate m (replicate v.width []))
+grow_none v m e = ap (a_table v.width) (sym (append-nil v.rows)) ∙ ap (λ (k : ℕ). a_table v.width (v.rows ++ replicate k (replicate v.width []))) (sym e)
+
+-- the first n rows
+pub view_cut : (rows0 rows1 : List (List Held)) (seam0 seam1 : List Held) (at0 at1 width0 width1 n : ℕ) (v : Table) → a_table width0 (cells_in rows0 seam0 at0 width0) ≡ v → width1 ≡ width0 → length rows1 ≡ min n (length rows0) → ((c u : ℕ) → u < n → begins_at rows1 seam1 at1 c u ≡ begins_at rows0 seam0 at0 c u) → a_table width1 (cells_in rows1 seam1 at1 width1) ≡ a_table v.width (take n v.rows)
+view_cut rows0 rows1 seam0 seam1 at0 at1 width0 width1 n v view w len same =
+    ap (λ (k : ℕ). a_table k (cells_in rows1 seam1 at1 k)) w
+    ∙ ap (λ (k : ℕ). a_table width0 (table (cells rows1 seam1 at1) k width0)) len
+    ∙ ap (a_table width0) (table_cut (cells rows0 seam0 at0) (cells rows1 seam1 at1) n (length rows0) width0 (λ u c h _. alike (begins_at rows0 seam0 at0 c) (begins_at rows1 seam1 at1 c) u (λ k l. same c k (omega (arith, l, h)))))
+    ∙ ap (λ (x : Table). a_table x.width (take n x.rows)) view
+
+-- where nothing begins
+steady : (begins : ℕ → Option (List ℕ)) (t : ℕ) → 0 < t → begins t ≡ None → standing begins t ≡ standing begins (t - 1)
+steady begins zero h e = absurd (omega arith)
+steady begins (suc t) h e =
+    let p : t ≡ suc t - 1 = omega arith in
+    ap (λ (o : Option (List ℕ)). unwrap_or o (standing begins t)) e ∙ ap (standing begins) p
+
+pub view_steady : (rows : List (List Held)) (seam : List Held) (at width t c : ℕ) (v : Table) → a_table width (cells_in rows seam at width) ≡ v → 0 < t → t < length rows → c < width → begins_at rows seam at c t ≡ None → words_at v.rows t c ≡ words_at v.rows (t - 1) c
+view_steady rows seam at width t c v view some here small none =
+    sym (ap (λ (x : Table). words_at x.rows t c) view)
+    ∙ at_table (cells rows seam at) (length rows) width t c here small
+    ∙ steady (begins_at rows seam at c) t some none
+    ∙ sym (at_table (cells rows seam at) (length rows) width (t - 1) c (omega (arith, here)) small)
+    ∙ ap (λ (x : Table). words_at x.rows (t - 1) c) view
