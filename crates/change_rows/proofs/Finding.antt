@@ -2,7 +2,7 @@
 use Rattle.std.proofs.Common.{◌≡◌, ℕ, zero, suc, ◌+◌, ◌<◌, ◌≤◌, ◌∙◌, ◌⊎◌, inl, inr, sym, ap, refl, subst, arith, max, Bool, true, false, cond, eqb, Option, Some, None, List, [], ◌∷◌, ◌++◌, length, take, get_or}
 use Rattle.std.specs.Option.{option_or}
 use Rattle.std.proofs.lemmas.Bool.{cond-false, ne_eqb, eq-eqb, cases_eq}
-use Rattle.std.proofs.lemmas.List.{get_or-take, length-take-le, take_at, take-append-le, get_or_append_left, get_or_push, length_push, take_all}
+use Rattle.std.proofs.lemmas.List.{get_or-take, length-take-le, take_at, take-append-le, get_or_append_left, get_or_push, length_push, take_all, take_more}
 use Rattle.change_rows.specs.Cells.{Held, no_cell, found, end_of, component_at, IsAscending}
 
 pub below_end : (cells : List Held) (i : ℕ) → i < length cells → component_at cells i < end_of cells
@@ -78,3 +78,10 @@ same_ascends xs ys e same asc = λ i l.
     taken : (i : ℕ) → i < length xs → (k : ℕ) → k < i → component_at (take i xs) k ≡ component_at (take i ys) k
     taken i m k h =
         ap (λ (x : Held). x.component) (get_or-take i xs k no_cell h) ∙ same k (omega arith) ∙ sym (ap (λ (x : Held). x.component) (get_or-take i ys k no_cell h))
+
+-- the last component is the largest
+pub end_last : (cells : List Held) (n : ℕ) → IsAscending cells → length cells ≡ n + 1 → end_of cells ≡ component_at cells n + 1
+end_last cells n asc e =
+    let whole : end_of (take (n + 1) cells) ≡ end_of cells = ap end_of (take_all (n + 1) cells (omega (arith, e))) in
+    let parts : end_of (take (n + 1) cells) ≡ max (end_of (take n cells)) (component_at cells n + 1) = ap end_of (take_more cells n no_cell (omega (arith, e))) ∙ end_push (take n cells) (get_or cells n no_cell) in
+    omega (arith, whole, parts, asc n (omega (arith, e)))

@@ -1,12 +1,14 @@
 -- Lines of marks.
-use Rattle.std.proofs.Common.{◌≡◌, ℕ, ◌+◌, ◌*◌, ◌/◌, ◌%◌, ◌<◌, ◌≤◌, ◌∙◌, ◌⊎◌, inl, inr, sym, ap, refl, subst, arith, Bool, true, false, cond, eqb, ◌&&◌, ◌||◌, is_some, Option, Some, None, List, [], ◌∷◌, ◌++◌, ◌-◌, zero, suc, replicate, length, take, get_or}
+use Rattle.std.proofs.Common.{◌≡◌, ℕ, ◌+◌, ◌*◌, ◌/◌, ◌%◌, ◌<◌, ◌≤◌, ◌∙◌, ◌⊎◌, inl, inr, sym, ap, refl, subst, arith, Bool, true, false, cond, eqb, ◌&&◌, ◌||◌, is_some, Option, Some, None, List, [], ◌∷◌, ◌++◌, ◌-◌, zero, suc, min, replicate, length, take, get_or}
 use Rattle.std.specs.Option.{option_or}
 use Rattle.std.proofs.Math.ListN.{set, length-set}
-use Rattle.std.proofs.lemmas.Nat.Bits.{bit_at-zero}
-use Rattle.std.proofs.lemmas.Bool.{cases_eq, eq-eqb, ne_eqb, cases_lt}
+use lib.Bits.{bit_and}
+use Rattle.std.specs.Int.{bit_at}
+use Rattle.std.proofs.lemmas.Nat.Bits.{bit_at-zero, bit_at_and}
+use Rattle.std.proofs.lemmas.Bool.{cases_eq, eq-eqb, ne_eqb, cases_lt, eqb-true}
 use Rattle.std.proofs.lemmas.List.{get_or-set_same, get_or-set_other, take_more, get_or_past, get_or_append_left, get_or-append_right}
 use Rattle.change_rows.specs.Cells.{Held, no_cell, found, end_of, component_at}
-use Rattle.change_rows.specs.Marks.{is_one, is_set, is_marked}
+use Rattle.change_rows.specs.Marks.{is_one, is_set, is_marked, is_in}
 use Rattle.change_rows.proofs.Finding.{found_append, below_end}
 
 pub below_lines : (cells : List Held) (i c n : ℕ) → i < length cells → c ≡ component_at cells i → end_of cells ≤ 64 * n → c / 64 < n
@@ -153,3 +155,13 @@ line_ok lines line w n there ok before v h = by_place (cases_eq v w)
     by_place : (v ≡ w) ⊎ (v ≡ w → ⊥) → n ≤ length (get_or (set lines w line) v [])
     by_place (inl e) = omega (arith, ok, ap (λ (j : ℕ). length (get_or (set lines w line) j [])) e, ap length (get_or-set_same lines w line [] there))
     by_place (inr ne) = omega (arith, before v (omega arith), ap length (get_or-set_other lines w v line [] ne))
+
+-- two words that have no bit in common
+pub apart : (a b k : ℕ) → bit_and a b ≡ 0 → is_one b k ≡ true → is_one a k ≡ false
+apart a b k e h =
+    let both : min (bit_at a k) (bit_at b k) ≡ 0 = sym (bit_at_and a b k) ∙ ap (λ (n : ℕ). bit_at n k) e ∙ bit_at-zero k in
+    ne_eqb (bit_at a k) 1 (λ q. absurd (omega (arith, q, both, eqb-true (bit_at b k) 1 h)))
+
+-- a set without the word of a component hasn't got it
+pub not_in : (set : List ℕ) (c : ℕ) → length set ≤ c / 64 → is_in set c ≡ false
+not_in set c h = ap (λ (w : ℕ). is_one w (c % 64)) (get_or_past set (c / 64) 0 h) ∙ ap (λ (b : ℕ). eqb b 1) (bit_at-zero (c % 64))

@@ -1,7 +1,8 @@
 -- What a contract sees of rows of changes.
-use Rattle.std.proofs.Common.{zero, suc, ◌-◌, ◌++◌, min, replicate, take, Some, None, ◌≡◌, ℕ, ◌+◌, ◌<◌, ◌≤◌, ◌∙◌, ap, sym, refl, subst, arith, cond, eqb, unwrap_or, Option, List, [], length, get_or}
+use Rattle.std.proofs.Common.{zero, suc, ◌-◌, ◌++◌, ◌⊎◌, inl, inr, min, replicate, take, Some, None, ◌≡◌, ℕ, ◌+◌, ◌<◌, ◌≤◌, ◌∙◌, ap, sym, refl, subst, arith, cond, eqb, unwrap_or, Option, List, [], length, get_or}
 use Rattle.std.proofs.Math.ListN.{set}
 use Rattle.std.proofs.lemmas.List.{append-nil}
+use Rattle.std.proofs.lemmas.Bool.{cases_lt}
 use Rattle.change_rows.specs.Cells.{Held, found}
 use Rattle.change_rows.specs.Rows.{Table, words_at, overlaid, IsWhole}
 use Rattle.change_rows.specs.Standing.{standing}
@@ -64,3 +65,10 @@ view_steady rows seam at width t c v view some here small none =
     ∙ steady (begins_at rows seam at c) t some none
     ∙ sym (at_table (cells rows seam at) (length rows) width (t - 1) c (omega (arith, here)) small)
     ∙ ap (λ (x : Table). words_at x.rows (t - 1) c) view
+
+pub steady_row : (t end r u n : ℕ) → t ≤ u → u < r → (t ≤ end → r ≤ end) → (end < t → r ≡ t) → end ≤ n → u < n
+steady_row t end r u n low high to past few = by_place (cases_lt end t)
+  where
+    by_place : (end < t) ⊎ (t ≤ end) → u < n
+    by_place (inl l) = absurd (omega (arith, past l, low, high))
+    by_place (inr l) = omega (arith, to l, few, high)

@@ -13,3 +13,7 @@ is_set line t k = is_one (slice_index_or line t 0) k
 -- whether component c is marked at cycle t
 abbrev pub is_marked : List (List ℕ) → ℕ → ℕ → Bool
 is_marked lines t c = is_set (slice_index_or lines (c / 64) []) t (c % 64)
+
+-- whether a set of components has component c; its words have the bits of 64 each
+abbrev pub is_in : List ℕ → ℕ → Bool
+is_in set c = is_one (slice_index_or set (c / 64) 0) (c % 64)

@@ -73,6 +73,13 @@ impl Cells {
         self.words.clear();
     }
 
+    /// The first component above those of all cells: from there on cells can be pushed.
+    pub fn end(&self) -> u64
+        ensures { result ≡ end_of self.now }
+    {
+        end_in(self.heads.as_slice(), self.words.as_slice())
+    }
+
     /// The component of the cell at a place.
     pub fn component(&self, i: usize) -> u32
         requires { i < length self.now }
@@ -190,6 +197,19 @@ impl Cells {
         let words = Vec::from_slice(alloc, &self.words)?;
         Ok(Cells { heads, words })
     }
+}
+
+/// The first component above those of all cells.
+fn end_in(heads: &[Head], words: &[u64]) -> u64
+    requires { IsPacked heads.now words.now }
+    ensures { result ≡ end_of (cells_of heads.now words.now) }
+{
+    let _ = words;
+    let count = heads.len();
+    if count == 0 {
+        return 0;
+    }
+    u64::from(heads[count - 1].component) + 1
 }
 
 /// Where the words of the cell at a place begin, or n behind the last cell.

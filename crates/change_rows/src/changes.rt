@@ -1,12 +1,12 @@
 //! Rows of changes, and where a cell's words are found in them.
 ghost use Rattle.std.specs.Prelude.{◌≡◌, ℕ, ◌+◌, ◌*◌, ◌/◌, ◌%◌, ◌<◌, ◌≤◌, [], None, Some, true, false, cond, nat_eq, MatchOption, IfSome, OnOk, length, is_some, unwrap_or, slice_index_or, slice_set};
 ghost use Rattle.change_rows.specs.Cells.{found, end_of};
-ghost use Rattle.change_rows.specs.Marks.{is_set, is_marked};
+ghost use Rattle.change_rows.specs.Marks.{is_set, is_marked, is_in};
 ghost use Rattle.change_rows.specs.Standing.{standing};
 ghost use Rattle.change_rows.specs.Changes.{row_at, begins_at, IsChanges};
 
 use crate::cells::Cells;
-use crate::marks::{Marks, mark_row};
+use crate::marks::{Marks, has_any, mark_row};
 use std::alloc::{AllocError, Global};
 
 /// For each row the cells at which other words begin than a cycle before; all others go on.
@@ -98,6 +98,37 @@ pub(crate) fn begins_in(s: &Changes, t: usize, c: u32) -> bool
         return true;
     }
     t == s.at && s.seam.has(c)
+}
+
+/// Whether something may begin at a cell of a set of components; one word tells it of 64 of them.
+fn may_begin(s: &Changes, t: usize, set: &[u64]) -> bool
+    requires changes { IsChanges s.now.width s.now.rows.items s.now.marks.items s.now.seam s.now.at }
+    requires row { t < length s.now.rows.items }
+    ensures { result ≡ false → (c : ℕ) → c < s.now.width → is_in set.now c ≡ true → begins_at s.now.rows.items s.now.seam s.now.at c t ≡ None }
+{
+    if t == s.at && !s.seam.is_empty() {
+        return true;
+    }
+    has_any(&s.marks, t, set)
+}
+
+/// The first row from t on, and before `end`, at which something of a set of components may begin.
+pub(crate) fn next_begin(s: &Changes, t: u32, end: u32, set: &[u64]) -> u32
+    requires changes { IsChanges s.now.width s.now.rows.items s.now.marks.items s.now.seam s.now.at }
+    requires end { end ≤ length s.now.rows.items }
+    ensures from { t ≤ result }
+    ensures to { t ≤ end → result ≤ end }
+    ensures past { end < t → result ≡ t }
+    ensures steady { (u c : ℕ) → t ≤ u → u < result → c < s.now.width → is_in set.now c ≡ true → begins_at s.now.rows.items s.now.seam s.now.at c u ≡ None }
+{
+    let mut u = t;
+    while u < end {
+        if may_begin(s, u as usize, set) {
+            return u;
+        }
+        u += 1;
+    }
+    u
 }
 
 /// Other cells for a row, with their marks.

@@ -7,7 +7,7 @@ ghost use Rattle.change_rows.specs.Changes.{row_at, begins_at, IsChanges};
 
 use crate::cells::Cells;
 use crate::changes::{Changes, is_change, put_cells, words_in};
-use crate::merge::{unite, without};
+use crate::merge::{join, unite, without};
 use std::alloc::{AllocError, Global};
 use std::mem;
 
@@ -200,7 +200,7 @@ fn others_of(
 {
     without(&s.rows[t], draft, of_row)?;
     without(&s.seam, draft, of_seam)?;
-    unite(of_row, of_seam, out)?;
+    join(of_row, of_seam, out)?;
     Ok(())
 }
 
@@ -223,7 +223,7 @@ fn row_of(s: &Changes, t: usize, draft: &Cells, b: &mut Buffers) -> Result<(), A
         &mut b.of_seam,
         &mut b.others,
     )?;
-    unite(&b.fresh, &b.others, &mut b.row)?;
+    join(&mut b.fresh, &mut b.others, &mut b.row)?;
     Ok(())
 }
 

@@ -1,7 +1,7 @@
 //! At which cycles the cells of components begin.
 ghost use Rattle.std.specs.Prelude.{◌≡◌, ℕ, ◌+◌, ◌*◌, ◌<◌, ◌≤◌, ◌++◌, ◌||◌, [], List, true, false, cond, nat_eq, MatchOption, OnOk, length, take, replicate, is_some, slice_index_or, slice_set};
 ghost use Rattle.change_rows.specs.Cells.{found, end_of};
-ghost use Rattle.change_rows.specs.Marks.{is_one, is_set, is_marked};
+ghost use Rattle.change_rows.specs.Marks.{is_one, is_set, is_marked, is_in};
 
 use crate::cells::Cells;
 use std::alloc::{AllocError, Global};
@@ -178,6 +178,25 @@ fn last_in(words: &[u64], t: usize, k: u32) -> Option<usize>
         }
     }
     None
+}
+
+fn has_both(word: u64, other: u64) -> bool
+    ensures { result ≡ false → (k : ℕ) → is_one other k ≡ true → is_one word k ≡ false }
+{
+    word & other != 0
+}
+
+/// Whether a component of a set is marked at a cycle.
+pub(crate) fn has_any(lines: &Vec<Marks>, t: usize, set: &[u64]) -> bool
+    requires { (w : ℕ) → w < length lines.now.items → t < length (slice_index_or lines.now.items w []) }
+    ensures { result ≡ false → (c : ℕ) → c < 64 * length lines.now.items → is_in set.now c ≡ true → is_marked lines.now.items t c ≡ false }
+{
+    for w in 0..lines.len().min(set.len()) {
+        if has_both(lines[w].word(t), set[w]) {
+            return true;
+        }
+    }
+    false
 }
 
 /// No component is marked at a cycle any more.

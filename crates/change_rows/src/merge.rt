@@ -5,6 +5,7 @@ ghost use Rattle.change_rows.specs.Cells.{found, end_of, component_at, IsAscendi
 
 use crate::cells::Cells;
 use std::alloc::AllocError;
+use std::mem;
 
 /// Behind all components.
 const NO_COMPONENT: u64 = u64::MAX;
@@ -53,6 +54,31 @@ pub(crate) fn unite(over: &Cells, under: &Cells, out: &mut Cells) -> Result<(), 
             j += 1;
         }
     }
+    Ok(())
+}
+
+/// The same, where what is put together isn't needed any more: where one of both is empty, the other is taken whole.
+///
+/// # Errors
+///
+/// Where a growth was refused.
+pub(crate) fn join(
+    over: &mut Cells,
+    under: &mut Cells,
+    out: &mut Cells,
+) -> Result<(), AllocError>
+    ensures found { OnOk result ((c : ℕ) → found out.new c ≡ option_or (found over.old c) (found under.old c)) }
+    ensures end { OnOk result (end_of out.new ≤ max (end_of over.old) (end_of under.old)) }
+{
+    if under.is_empty() {
+        mem::swap(over, out);
+        return Ok(());
+    }
+    if over.is_empty() {
+        mem::swap(under, out);
+        return Ok(());
+    }
+    unite(over, under, out)?;
     Ok(())
 }
 

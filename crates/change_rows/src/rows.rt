@@ -1,10 +1,11 @@
 //! The words of all cells of a table.
 ghost use Rattle.std.specs.Prelude.{◌≡◌, ℕ, ◌+◌, ◌-◌, ◌*◌, ◌^◌, ◌<◌, ◌≤◌, ◌++◌, [], List, true, false, MatchResult, IfOk, OnOk, length, take, replicate, slice_index_or, slice_set};
 ghost use Rattle.change_rows.specs.Cells.{end_of};
+ghost use Rattle.change_rows.specs.Marks.{is_in};
 ghost use Rattle.change_rows.specs.Rows.{Table, words_at, overlaid, IsWhole};
 
 use crate::cells::Cells;
-use crate::changes::{Changes, begins_in, words_in};
+use crate::changes::{Changes, begins_in, next_begin, words_in};
 use crate::edit::{Buffers, put};
 use crate::grow::{cut, grow};
 use crate::marks::Marks;
@@ -22,7 +23,8 @@ pub struct Rows {
 }
 
 impl Model for Rows {
-    ghost use Rattle.change_rows.specs.Rows.{Table};
+    ghost use Rattle.change_rows.specs.Marks.{is_in};
+ghost use Rattle.change_rows.specs.Rows.{Table};
     ghost use Rattle.change_rows.specs.Changes.{cells_in, IsChanges};
 
     ghost Value = { Table };
@@ -88,6 +90,21 @@ impl Rows {
             return true;
         }
         begins_in(&self.changes, t as usize, c)
+    }
+
+    /// The first row from t on, and before `to`, at which a component of a set may begin, or else where such rows end.
+    /// The set has a bit for each component, 64 in a word. All rows before that one hold for each
+    /// component of the set what the row before them holds.
+    pub fn next_change(&self, t: u32, to: u32, set: &[u64]) -> u32
+        ensures from { t ≤ result }
+        ensures to { t ≤ to → result ≤ to }
+        ensures steady { (u c : ℕ) → t ≤ u → u < result → c < self.now.width → is_in set.now c ≡ true → (0 < u) × (words_at self.now.rows u c ≡ words_at self.now.rows (u - 1) c) }
+    {
+        if t == 0 {
+            return 0;
+        }
+        let end = to.min(self.changes.rows.len() as u32);
+        next_begin(&self.changes, t, end, set)
     }
 
     /// Rows more, whose cells have no words.
