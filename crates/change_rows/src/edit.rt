@@ -73,7 +73,7 @@ pub(crate) fn settle(
 }
 
 /// What a component held at row t, for row t + 1, unless something begins there, or it holds that now too.
-fn keep(
+pub(crate) fn keep(
     s: &Changes,
     t: usize,
     c: u32,

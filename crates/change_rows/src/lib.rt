@@ -8,6 +8,7 @@ mod grow;
 mod marks;
 mod merge;
 mod rows;
+mod run;
 
 pub use cells::Cells;
 pub use rows::Rows;

@@ -147,7 +147,7 @@ pub(crate) fn cut_lines(lines: &mut Vec<Marks>, n: usize)
 }
 
 #[inline]
-fn has_bit(word: u64, k: u32) -> bool
+pub(crate) fn has_bit(word: u64, k: u32) -> bool
     requires { k < 64 }
     ensures { result ≡ is_one word k }
 {
