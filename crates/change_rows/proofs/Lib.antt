@@ -8,3 +8,4 @@ pub mod Putting
 pub mod Tables
 pub mod Viewing
 pub mod Growing
+pub mod Running

@@ -1,5 +1,6 @@
 -- What a contract sees of the cells of a table: by cycle, then component, the words that each holds.
-use Rattle.std.specs.Prelude.{◌≡◌, ℕ, unwrap_or, List, [], length, map, slice_index_or, ◌<◌}
+use Rattle.change_rows.specs.Marks.{is_in}
+use Rattle.std.specs.Prelude.{◌≡◌, ◌-◌, cond, ◌&&◌, nat_le, nat_lt, ℕ, unwrap_or, List, [], length, map, slice_index_or, ◌<◌}
 use Rattle.std.specs.List.{range_with_len}
 use Rattle.change_rows.specs.Cells.{Held, found}
 
@@ -18,3 +19,7 @@ IsWhole table = (t : ℕ) → t < length table.rows → length (slice_index_or t
 -- a row in which some cells hold other words
 abbrev pub overlaid : List (List ℕ) → List Held → List (List ℕ)
 overlaid row cells = map (λ c. unwrap_or (found cells c) (slice_index_or row c [])) (range_with_len 0 (length row))
+
+-- rows in which the components of a set hold from row `from` on and before row `to` what they hold in the row before
+abbrev pub repeated : List (List (List ℕ)) → ℕ → ℕ → ℕ → List ℕ → List (List (List ℕ))
+repeated rows width from to set = map (λ t. map (λ c. cond (is_in set c && (nat_le from t && nat_lt t to)) (words_at rows (from - 1) c) (words_at rows t c)) (range_with_len 0 width)) (range_with_len 0 (length rows))

@@ -2,13 +2,14 @@
 ghost use Rattle.std.specs.Prelude.{◌≡◌, ℕ, ◌+◌, ◌-◌, ◌*◌, ◌^◌, ◌<◌, ◌≤◌, ◌++◌, [], List, true, false, MatchResult, IfOk, OnOk, length, take, replicate, slice_index_or, slice_set};
 ghost use Rattle.change_rows.specs.Cells.{end_of};
 ghost use Rattle.change_rows.specs.Marks.{is_in};
-ghost use Rattle.change_rows.specs.Rows.{Table, words_at, overlaid, IsWhole};
+ghost use Rattle.change_rows.specs.Rows.{Table, words_at, overlaid, repeated, IsWhole};
 
 use crate::cells::Cells;
 use crate::changes::{Changes, begins_in, next_begin, words_in};
 use crate::edit::{Buffers, put};
 use crate::grow::{cut, grow};
 use crate::marks::Marks;
+use crate::run::repeat;
 use std::alloc::{AllocError, Global};
 use std::marker::Model;
 
@@ -135,6 +136,31 @@ impl Rows {
         ensures { self.new ≡ record { width = self.old.width; rows = take n self.old.rows } }
     {
         cut(&mut self.changes, n as usize);
+    }
+
+    /// The components of a set hold from row `from` on and before row `to` what they hold in the row before `from`; all other
+    /// cells hold what they held. The set has a bit for each component, 64 in a word.
+    ///
+    /// # Errors
+    ///
+    /// Where a growth was refused. All cells hold what they held.
+    pub fn repeat(&mut self, alloc: Global, from: u32, to: u32, set: &[u64]) -> Result<(), AllocError>
+        requires before { 0 < from }
+        requires some { from < to }
+        requires rows { to ≤ length self.old.rows }
+        ensures { MatchResult result
+            (λ _. self.new ≡ record { width = self.old.width; rows = repeated self.old.rows self.old.width from to set.now })
+            (λ _. self.new ≡ self.old) }
+    {
+        repeat(
+            alloc,
+            &mut self.changes,
+            &mut self.buffers,
+            from as usize - 1,
+            to as usize - 1,
+            set,
+        )?;
+        Ok(())
     }
 
     /// The cells of a draft hold its words in row t, and all other cells of all rows hold what they held.

@@ -1,5 +1,5 @@
 //! Cells that hold over several rows what they hold before them.
-ghost use Rattle.std.specs.Prelude.{◌≡◌, ℕ, ◌+◌, ◌-◌, ◌*◌, ◌<◌, ◌≤◌, [], List, None, Some, true, false, cond, OnOk, OnErr, IfOk, MatchResult, length, is_some, unwrap_or, slice_index_or};
+ghost use Rattle.std.specs.Prelude.{◌≡◌, ℕ, ◌+◌, ◌-◌, ◌*◌, ◌<◌, ◌≤◌, [], List, None, Some, true, false, cond, ◌&&◌, nat_lt, nat_le, OnOk, OnErr, IfOk, length, is_some, unwrap_or, slice_index_or};
 ghost use Rattle.change_rows.specs.Cells.{found, end_of};
 ghost use Rattle.change_rows.specs.Marks.{is_in};
 ghost use Rattle.change_rows.specs.Standing.{standing};
@@ -167,4 +167,38 @@ fn put_rows(s: &mut Changes, before: usize, rest: Vec<Cells>)
             row,
         );
     }
+}
+
+/// The components of a set hold behind row `before` and up to row `last` what they hold in row `before`; all other cells
+/// hold what they held.
+///
+/// # Errors
+///
+/// Where a growth was refused. All cells hold what they held.
+pub(crate) fn repeat(
+    alloc: Global,
+    s: &mut Changes,
+    b: &mut Buffers,
+    before: usize,
+    last: usize,
+    set: &[u64],
+) -> Result<(), AllocError>
+    requires changes { IsChanges s.old.width s.old.rows.items s.old.marks.items s.old.seam s.old.at }
+    requires order { before ≤ last }
+    requires row { last < length s.old.rows.items }
+    ensures changes { IsChanges s.new.width s.new.rows.items s.new.marks.items s.new.seam s.new.at }
+    ensures width { s.new.width ≡ s.old.width }
+    ensures len { length s.new.rows.items ≡ length s.old.rows.items }
+    ensures run { OnOk result ((c u : ℕ) → c < s.old.width → u < length s.old.rows.items → standing (begins_at s.new.rows.items s.new.seam s.new.at c) u ≡ cond (is_in set.now c && (nat_lt before u && nat_le u last)) (standing (begins_at s.old.rows.items s.old.seam s.old.at c) before) (standing (begins_at s.old.rows.items s.old.seam s.old.at c) u)) }
+    ensures err { OnErr result ((c u : ℕ) → begins_at s.new.rows.items s.new.seam s.new.at c u ≡ begins_at s.old.rows.items s.old.seam s.old.at c u) }
+{
+    let n = s.rows.len();
+    settle(alloc, s, n, &mut b.row)?;
+    chosen_of(set, s.width, &mut b.fresh)?;
+    seam_of(s, before, last, &b.fresh, &mut b.seam)?;
+    let rest = rest_of(alloc, s, before, last, &b.fresh, &mut b.row)?;
+    put_rows(s, before, rest);
+    mem::swap(&mut s.seam, &mut b.seam);
+    s.at = last + 1;
+    Ok(())
 }
