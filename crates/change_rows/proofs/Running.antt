@@ -180,3 +180,15 @@ module _ (rows rows1 rest : List (List Held)) (seam seam1 chosen : List Held) (a
 
   pub runs : (u : ℕ) → u < length rows → standing news u ≡ cond (is_some (found chosen c) && (ltb before u && leb u last)) (standing olds before) (standing olds u)
   runs u h = is_run (found chosen c) refl u h
+
+-- the same, once the seam was settled
+pub ran_all : (rows0 rows rows1 rest : List (List Held)) (seam0 seam seam1 seam2 chosen : List Held) (at0 at before last c : ℕ) (member : Bool) → before ≤ last → last < length rows → seam ≡ [] → before + length rest ≡ last → ((u : ℕ) → before < u → u ≤ last → found (get_or rest (u - (before + 1)) []) c ≡ cond (is_some (found chosen c)) None (found (row_at rows u) c)) → ((u : ℕ) → before < u → u ≤ before + length rest → row_at rows1 u ≡ get_or rest (u - (before + 1)) []) → ((u : ℕ) → u ≤ before → row_at rows1 u ≡ row_at rows u) → ((u : ℕ) → before + length rest < u → row_at rows1 u ≡ row_at rows u) → (last + 1 < length rows → (w : List ℕ) → found chosen c ≡ Some w → found (row_at rows (last + 1)) c ≡ None → unwrap_or (found seam1 c) (standing (begins_at rows seam at c) before) ≡ standing (begins_at rows seam at c) last) → (found chosen c ≡ None → found seam1 c ≡ None) → ((d u : ℕ) → begins_at rows seam at d u ≡ begins_at rows0 seam0 at0 d u) → length rows ≡ length rows0 → seam2 ≡ seam1 → is_some (found chosen c) ≡ member → (u : ℕ) → u < length rows0 → standing (begins_at rows1 seam2 (last + 1) c) u ≡ cond (member && (ltb before u && leb u last)) (standing (begins_at rows0 seam0 at0 c) before) (standing (begins_at rows0 seam0 at0 c) u)
+ran_all rows0 rows rows1 rest seam0 seam seam1 seam2 chosen at0 at before last c member order there none count found_rest inside low behind kept only same len g m u h =
+    ap (λ (v : List Held). standing (begins_at rows1 v (last + 1) c) u) g
+    ∙ runs rows rows1 rest seam seam1 chosen at before last c order there none count found_rest inside low behind kept only u (omega (arith, h, len))
+    ∙ ap (λ (b : Bool). cond (b && (ltb before u && leb u last)) (standing (begins_at rows seam at c) before) (standing (begins_at rows seam at c) u)) m
+    ∙ ap (λ (w : List ℕ). cond (member && (ltb before u && leb u last)) w (standing (begins_at rows seam at c) u)) (stood before)
+    ∙ ap (λ (w : List ℕ). cond (member && (ltb before u && leb u last)) (standing (begins_at rows0 seam0 at0 c) before) w) (stood u)
+  where
+    stood : (k : ℕ) → standing (begins_at rows seam at c) k ≡ standing (begins_at rows0 seam0 at0 c) k
+    stood k = alike (begins_at rows0 seam0 at0 c) (begins_at rows seam at c) k (λ j _. same c j)
