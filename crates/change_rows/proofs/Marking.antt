@@ -1,7 +1,7 @@
 -- Lines of marks.
-use Rattle.std.proofs.Common.{◌≡◌, ℕ, ◌+◌, ◌*◌, ◌/◌, ◌%◌, ◌<◌, ◌≤◌, ◌∙◌, ◌⊎◌, inl, inr, sym, ap, refl, subst, arith, Bool, true, false, cond, eqb, ◌&&◌, ◌||◌, is_some, Option, Some, None, List, [], ◌∷◌, ◌++◌, ◌-◌, zero, suc, min, replicate, length, take, get_or}
+use Rattle.std.proofs.Common.{◌≡◌, ℕ, ◌+◌, ◌*◌, ◌/◌, ◌%◌, ◌<◌, ◌≤◌, ◌∙◌, ◌⊎◌, inl, inr, sym, ap, refl, arith, Bool, true, false, cond, eqb, ◌&&◌, ◌||◌, is_some, Option, Some, None, List, [], ◌∷◌, ◌++◌, ◌-◌, zero, suc, min, replicate, length, take, get_or}
 use Rattle.std.specs.Option.{option_or}
-use Rattle.std.proofs.Math.ListN.{set, length-set}
+use Rattle.std.proofs.Math.ListN.{set}
 use lib.Bits.{bit_and}
 use Rattle.std.specs.Int.{bit_at}
 use Rattle.std.proofs.lemmas.Nat.Bits.{bit_at-zero, bit_at_and}
@@ -19,7 +19,6 @@ module _ (lines : List (List ℕ)) (line : List ℕ) (t c : ℕ)
     (there : c / 64 < length lines)
     (here : is_set line t (c % 64) ≡ true)
     (others : (u i : ℕ) → (u ≡ t → i ≡ c % 64 → ⊥) → is_set line u i ≡ is_set (get_or lines (c / 64) []) u i) where
-
   same_line : (u d : ℕ) → d / 64 ≡ c / 64 → is_marked (set lines (c / 64) line) u d ≡ is_set line u (d % 64)
   same_line u d e =
       ap (λ (w : ℕ). is_set (get_or (set lines (c / 64) line) w []) u (d % 64)) e
@@ -100,10 +99,10 @@ marked_anew lines0 lines1 lines2 cells t tall cleared marks u c small = marks u 
     by_row : (u ≡ t) ⊎ (u ≡ t → ⊥) → cond (eqb u t) (is_some (found cells c) || is_marked lines1 u c) (is_marked lines1 u c) ≡ cond (eqb u t) (is_some (found cells c)) (is_marked lines0 u c)
     by_row (inl e) =
         let none : is_marked lines1 u c ≡ false =
-            ap (λ (l : List ℕ). is_set l u (c % 64)) (cleared (c / 64))
-            ∙ ap (λ (x : ℕ). is_set (set (get_or lines0 (c / 64) []) t 0) x (c % 64)) e
-            ∙ ap (λ (w : ℕ). is_one w (c % 64)) (get_or-set_same (get_or lines0 (c / 64) []) t 0 0 (tall (c / 64) (omega arith)))
-            ∙ none_of_zero (c % 64)
+        ap (λ (l : List ℕ). is_set l u (c % 64)) (cleared (c / 64))
+        ∙ ap (λ (x : ℕ). is_set (set (get_or lines0 (c / 64) []) t 0) x (c % 64)) e
+        ∙ ap (λ (w : ℕ). is_one w (c % 64)) (get_or-set_same (get_or lines0 (c / 64) []) t 0 0 (tall (c / 64) (omega arith)))
+        ∙ none_of_zero (c % 64)
         in
         ap (λ (b : Bool). cond b (is_some (found cells c) || is_marked lines1 u c) (is_marked lines1 u c)) (eq-eqb u t e)
         ∙ ap (λ (b : Bool). is_some (found cells c) || b) none ∙ or_false (is_some (found cells c))

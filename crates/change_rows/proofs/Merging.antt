@@ -114,10 +114,10 @@ module _ (over under out out1 : List Held) (i j a : ℕ) (words : List ℕ) (asc
           ap (option_or (option_or (found (take i over) c) (found (take j under) c))) (single_other over i c n)
           ∙ or_none (option_or (found (take i over) c) (found (take j under) c))
           ∙ sym (
-              ap (λ (o : Option (List ℕ)). option_or (option_or (found (take i over) c) o) (option_or (found (take j under) c) (single under j c))) (single_other over i c n)
-              ∙ ap (λ (o : Option (List ℕ)). option_or o (option_or (found (take j under) c) (single under j c))) (or_none (found (take i over) c))
-              ∙ ap (λ (o : Option (List ℕ)). option_or (found (take i over) c) (option_or (found (take j under) c) o)) other
-              ∙ ap (option_or (found (take i over) c)) (or_none (found (take j under) c))
+          ap (λ (o : Option (List ℕ)). option_or (option_or (found (take i over) c) o) (option_or (found (take j under) c) (single under j c))) (single_other over i c n)
+          ∙ ap (λ (o : Option (List ℕ)). option_or o (option_or (found (take j under) c) (single under j c))) (or_none (found (take i over) c))
+          ∙ ap (λ (o : Option (List ℕ)). option_or (found (take i over) c) (option_or (found (take j under) c) o)) other
+          ∙ ap (option_or (found (take i over) c)) (or_none (found (take j under) c))
           )
 
 pub united_none : (over under : List Held) → IsUnited over under [] 0 0

@@ -1,9 +1,8 @@
 -- Cells in two buffers.
-use Rattle.std.proofs.Common.{Some, None, ◌≡◌, ℕ, zero, suc, ◌+◌, ◌-◌, ◌<◌, ◌≤◌, ◌^◌, ◌∙◌, ◌⊎◌, inl, inr, sym, ap, refl, subst, arith, List, [], ◌∷◌, ◌++◌, length, take, drop, get_or, map}
-use Rattle.std.specs.List.{range_with_len}
+use Rattle.std.proofs.Common.{Some, None, ◌≡◌, ℕ, ◌+◌, ◌-◌, ◌<◌, ◌≤◌, ◌^◌, ◌∙◌, ◌⊎◌, inl, inr, sym, ap, refl, subst, arith, List, [], ◌∷◌, ◌++◌, length, take, drop, get_or}
 use Rattle.std.proofs.lemmas.Bool.{cases_eq, cases_lt}
-use Rattle.std.proofs.lemmas.List.{get_or_default, get_or_past, get_or_append_left, get_or_push, length_push, length-append, drop-append-le, take-append-le, length-drop, take_all, drop_at, drop_all, append-nil, same_lists, get_or_at, take_at}
-use Rattle.std.proofs.lemmas.List.FromFn.{length-map-range_with_len, get_or-map-range_with_len, map-range_with_len_more}
+use Rattle.std.proofs.lemmas.List.{get_or_default, get_or_past, get_or_append_left, get_or_push, length_push, length-append, drop-append-le, take-append-le, length-drop, take_all, drop_at, append-nil, same_lists}
+use Rattle.std.proofs.lemmas.List.FromFn.{length-map-range_with_len, get_or-map-range_with_len}
 use Rattle.change_rows.specs.declared.cells.Head.{Head}
 use Rattle.change_rows.specs.Cells.{Held, no_cell, found, end_of, component_at, IsAscending}
 use Rattle.change_rows.specs.Packed.{head_at, start_at, cell_at, cells_of, IsPacked, IsPlace}
@@ -92,9 +91,9 @@ module _ (heads : List Head) (words ws : List ℕ) (c : ℕ) (packed : IsPacked 
       let comp : (head_at longer m k).component ≡ (head_at heads (length words) k).component = ap (λ (x : Head). x.component) (get_or_append_left heads (record { component = c; from = length words } ∷ []) (record { component = 0; from = m }) k h ∙ get_or_default heads k _ _ h) in
       same_cell _ _ _ _ comp
       (
-          ap (λ (a : ℕ). take (start_at longer m (k + 1) - a) (drop a (words ++ ws))) s
-          ∙ ap (λ (a : ℕ). take (a - start_at heads (length words) k) (drop (start_at heads (length words) k) (words ++ ws))) e
-          ∙ same_part words ws (start_at heads (length words) k) (start_at heads (length words) (k + 1)) (packed.climbs k h) (packed.within (k + 1))
+      ap (λ (a : ℕ). take (start_at longer m (k + 1) - a) (drop a (words ++ ws))) s
+      ∙ ap (λ (a : ℕ). take (a - start_at heads (length words) k) (drop (start_at heads (length words) k) (words ++ ws))) e
+      ∙ same_part words ws (start_at heads (length words) k) (start_at heads (length words) (k + 1)) (packed.climbs k h) (packed.within (k + 1))
       )
 
   cell_last : cell_at longer (words ++ ws) (length heads) ≡ record { component = c; words = ws }
@@ -106,8 +105,8 @@ module _ (heads : List Head) (words ws : List ℕ) (c : ℕ) (packed : IsPacked 
       let comp : (head_at longer m n).component ≡ c = ap (λ (x : Head). x.component) (get_or_push heads (record { component = c; from = length words }) (record { component = 0; from = m }) n refl) in
       same_cell _ _ _ _ comp
       (
-          ap (λ (a : ℕ). take (start_at longer m (n + 1) - a) (drop a (words ++ ws))) s
-          ∙ last_part words ws (start_at longer m (n + 1)) (e ∙ length-append words ws)
+      ap (λ (a : ℕ). take (start_at longer m (n + 1) - a) (drop a (words ++ ws))) s
+      ∙ last_part words ws (start_at longer m (n + 1)) (e ∙ length-append words ws)
       )
 
   pub pushed_cells : cells_of longer (words ++ ws) ≡ cells_of heads words ++ record { component = c; words = ws } ∷ []
@@ -166,8 +165,8 @@ pub more_packed : (heads heads1 : List Head) (words words1 ws : List ℕ) (c fro
 more_packed heads heads1 words words1 ws c from packed e f g above room =
     subst (λ (h : List Head). IsPacked h words1) (sym e)
     (
-        subst (λ (w : List ℕ). IsPacked (heads ++ record { component = c; from = from } ∷ []) w) (sym g)
-        (subst (λ (n : ℕ). IsPacked (heads ++ record { component = c; from = n } ∷ []) (words ++ ws)) (sym f) (pushed_packed heads words ws c packed above room))
+    subst (λ (w : List ℕ). IsPacked (heads ++ record { component = c; from = from } ∷ []) w) (sym g)
+    (subst (λ (n : ℕ). IsPacked (heads ++ record { component = c; from = n } ∷ []) (words ++ ws)) (sym f) (pushed_packed heads words ws c packed above room))
     )
 
 pub begun_cells : (heads heads1 : List Head) (words : List ℕ) (c from : ℕ) → IsPacked heads words → heads1 ≡ heads ++ record { component = c; from = from } ∷ [] → from ≡ length words → cells_of heads1 words ≡ cells_of heads words ++ record { component = c; words = [] } ∷ []
@@ -189,9 +188,9 @@ module _ (heads : List Head) (words ws : List ℕ) (packed : IsPacked heads word
       let m = length (words ++ ws) in
       same_cell _ _ _ _ (component_same k (omega arith))
       (
-          ap (λ (a : ℕ). take (start_at heads m (k + 1) - a) (drop a (words ++ ws))) (start_same k (omega arith))
-          ∙ ap (λ (a : ℕ). take (a - start_at heads (length words) k) (drop (start_at heads (length words) k) (words ++ ws))) (start_same (k + 1) h)
-          ∙ same_part words ws (start_at heads (length words) k) (start_at heads (length words) (k + 1)) (packed.climbs k (omega arith)) (packed.within (k + 1))
+      ap (λ (a : ℕ). take (start_at heads m (k + 1) - a) (drop a (words ++ ws))) (start_same k (omega arith))
+      ∙ ap (λ (a : ℕ). take (a - start_at heads (length words) k) (drop (start_at heads (length words) k) (words ++ ws))) (start_same (k + 1) h)
+      ∙ same_part words ws (start_at heads (length words) k) (start_at heads (length words) (k + 1)) (packed.climbs k (omega arith)) (packed.within (k + 1))
       )
 
   cell_more : (k : ℕ) → k + 1 ≡ length heads → cell_at heads (words ++ ws) k ≡ a_cell (cell_at heads words k).component ((cell_at heads words k).words ++ ws)
@@ -204,10 +203,10 @@ module _ (heads : List Head) (words ws : List ℕ) (packed : IsPacked heads word
       let whole : take (start_at heads (length words) (k + 1) - s) (drop s words) ≡ drop s words = take_all (start_at heads (length words) (k + 1) - s) (drop s words) (omega (arith, length-drop s words, last0)) in
       same_cell _ _ _ _ (component_same k (omega arith))
       (
-          ap (λ (a : ℕ). take (start_at heads m (k + 1) - a) (drop a (words ++ ws))) (start_same k (omega arith))
-          ∙ take_all (start_at heads m (k + 1) - s) (drop s (words ++ ws)) (omega (arith, length-drop s (words ++ ws), last))
-          ∙ drop-append-le s words ws low
-          ∙ ap (λ (v : List ℕ). v ++ ws) (sym whole)
+      ap (λ (a : ℕ). take (start_at heads m (k + 1) - a) (drop a (words ++ ws))) (start_same k (omega arith))
+      ∙ take_all (start_at heads m (k + 1) - s) (drop s (words ++ ws)) (omega (arith, length-drop s (words ++ ws), last))
+      ∙ drop-append-le s words ws low
+      ∙ ap (λ (v : List ℕ). v ++ ws) (sym whole)
       )
 
   pub extended_cells : (front : List Held) (cell : Held) → cells_of heads words ≡ front ++ cell ∷ [] → cells_of heads (words ++ ws) ≡ front ++ record { component = cell.component; words = cell.words ++ ws } ∷ []

@@ -1,10 +1,10 @@
 -- What stands once a row is put.
-use Rattle.std.proofs.Common.{◌≡◌, ℕ, zero, suc, ◌+◌, ◌*◌, ◌<◌, ◌≤◌, ◌∙◌, ◌⊎◌, inl, inr, sym, ap, refl, subst, arith, Bool, true, false, cond, eqb, is_some, unwrap_or, Option, Some, None, List, [], ◌∷◌, length, get_or}
+use Rattle.std.proofs.Common.{◌≡◌, ℕ, zero, suc, ◌+◌, ◌<◌, ◌≤◌, ◌∙◌, ◌⊎◌, inl, inr, sym, ap, refl, arith, Bool, cond, eqb, unwrap_or, Option, Some, None, List, [], length}
 use Rattle.std.specs.Option.{option_or}
-use Rattle.std.proofs.Math.ListN.{set, length-set}
+use Rattle.std.proofs.Math.ListN.{set}
 use Rattle.std.proofs.lemmas.Bool.{cases_eq, cases_lt, eq-eqb, ne_eqb}
 use Rattle.std.proofs.lemmas.List.{get_or-set_same, get_or-set_other}
-use Rattle.change_rows.specs.Cells.{Held, found, end_of}
+use Rattle.change_rows.specs.Cells.{Held, found}
 use Rattle.change_rows.specs.Standing.{standing, standing_before}
 use Rattle.change_rows.specs.Changes.{row_at, begins_at}
 use Rattle.change_rows.proofs.Editing.{no_seam, or_none}

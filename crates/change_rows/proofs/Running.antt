@@ -1,10 +1,9 @@
 -- Cells that hold over several rows what they hold before them.
-use Rattle.std.proofs.Common.{◌≡◌, ℕ, zero, suc, ◌+◌, ◌-◌, ◌<◌, ◌≤◌, ◌^◌, ◌*◌, ◌&&◌, ltb, leb, ◌∙◌, ◌⊎◌, inl, inr, sym, ap, refl, subst, arith, Bool, true, false, cond, eqb, is_some, unwrap_or, Option, Some, None, List, [], ◌∷◌, ◌++◌, length, take, get_or}
+use Rattle.std.proofs.Common.{◌≡◌, ℕ, zero, suc, ◌+◌, ◌-◌, ◌<◌, ◌≤◌, ◌&&◌, ltb, leb, ◌∙◌, ◌⊎◌, inl, inr, sym, ap, refl, arith, Bool, true, false, cond, is_some, unwrap_or, Option, Some, None, List, [], ◌∷◌, ◌++◌, length, take, get_or}
 use Rattle.std.specs.Option.{option_or}
-use Rattle.std.proofs.Math.ListN.{set, length-set}
-use Rattle.std.proofs.lemmas.Bool.{cases_eq, cases_lt, eq-eqb, ne_eqb, lt-ltb, le-ltb, le-leb, lt-leb, cases_Bool}
-use Rattle.std.proofs.lemmas.List.{get_or-set_same, get_or-set_other, length_push, length-take-le, get_or-take, take_at, take-take, get_or_push}
-use Rattle.change_rows.specs.Marks.{is_in}
+use Rattle.std.proofs.Math.ListN.{set}
+use Rattle.std.proofs.lemmas.Bool.{cases_eq, cases_lt, eq-eqb, ne_eqb, lt-ltb, le-ltb, le-leb, lt-leb}
+use Rattle.std.proofs.lemmas.List.{get_or-set_same, get_or-set_other, length_push, get_or-take, take_at, take-take, get_or_push}
 use Rattle.change_rows.proofs.Editing.{no_seam, or_none}
 use Rattle.change_rows.specs.Cells.{Held, found, end_of}
 use Rattle.change_rows.specs.Standing.{standing}

@@ -1,10 +1,10 @@
 -- What stands at a cycle.
-use Rattle.std.proofs.Common.{get_or, MatchOption, IfSome, ◌≡◌, ℕ, zero, suc, ◌+◌, ◌*◌, ◌/◌, ◌<◌, ◌≤◌, ◌∙◌, ◌⊎◌, inl, inr, sym, ap, refl, subst, arith, Bool, true, false, cond, eqb, is_some, unwrap_or, Option, Some, None, List, [], length}
+use Rattle.std.proofs.Common.{get_or, MatchOption, IfSome, ◌≡◌, ℕ, zero, suc, ◌*◌, ◌/◌, ◌<◌, ◌≤◌, ◌∙◌, ◌⊎◌, inl, inr, sym, ap, refl, arith, Bool, true, false, cond, eqb, is_some, unwrap_or, Option, Some, None, List, [], length}
 use Rattle.std.specs.Option.{option_or}
 use Rattle.std.proofs.lemmas.Bool.{cases_eq, cases_lt, eq-eqb, ne_eqb, false≢true}
-use Rattle.change_rows.specs.Cells.{Held, found, end_of}
+use Rattle.change_rows.specs.Cells.{Held, found}
 use Rattle.change_rows.specs.Marks.{is_marked}
-use Rattle.change_rows.specs.Standing.{standing, standing_before}
+use Rattle.change_rows.specs.Standing.{standing}
 use Rattle.change_rows.specs.Changes.{row_at, begins_at, IsChanges}
 
 pub none_is : (o : Option (List ℕ)) → is_some o ≡ false → o ≡ None

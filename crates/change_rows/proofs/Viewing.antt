@@ -1,13 +1,13 @@
 -- What a contract sees of rows of changes.
-use Rattle.std.proofs.Common.{Bool, ◌&&◌, ltb, leb, zero, suc, ◌-◌, ◌++◌, ◌⊎◌, inl, inr, min, replicate, take, Some, None, ◌≡◌, ℕ, ◌+◌, ◌<◌, ◌≤◌, ◌∙◌, ap, sym, refl, subst, arith, cond, eqb, unwrap_or, Option, List, [], length, get_or}
+use Rattle.std.proofs.Common.{Bool, ◌&&◌, ltb, leb, zero, suc, ◌-◌, ◌++◌, ◌⊎◌, inl, inr, min, replicate, take, None, ◌≡◌, ℕ, ◌+◌, ◌<◌, ◌≤◌, ◌∙◌, ap, sym, arith, cond, eqb, unwrap_or, Option, List, [], length, get_or}
 use Rattle.std.proofs.Math.ListN.{set}
 use Rattle.std.proofs.lemmas.List.{append-nil}
 use Rattle.std.proofs.lemmas.Bool.{cases_lt, lt-ltb, le-ltb, le-leb, lt-leb}
 use Rattle.change_rows.specs.Marks.{is_in}
 use Rattle.change_rows.specs.Cells.{Held, found}
-use Rattle.change_rows.specs.Rows.{Table, words_at, overlaid, repeated, IsWhole}
+use Rattle.change_rows.specs.Rows.{Table, words_at, overlaid, repeated}
 use Rattle.change_rows.specs.Standing.{standing}
-use Rattle.change_rows.specs.Changes.{row_at, begins_at, table, cells_in}
+use Rattle.change_rows.specs.Changes.{begins_at, table, cells_in}
 use Rattle.change_rows.proofs.Tables.{table_same, table_put, table_grow, table_cut, length_table, at_table}
 use Rattle.change_rows.proofs.Putting.{alike}
 

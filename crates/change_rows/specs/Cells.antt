@@ -1,5 +1,5 @@
 -- Some cells of one row, and what they hold.
-use Rattle.std.specs.Prelude.{◌≡◌, ℕ, ◌+◌, ◌<◌, ◌≤◌, max, cond, nat_eq, Option, Some, None, List, [], ◌∷◌, length, take, slice_index_or}
+use Rattle.std.specs.Prelude.{ℕ, ◌+◌, ◌<◌, ◌≤◌, max, cond, nat_eq, Option, Some, None, List, [], ◌∷◌, length, take, slice_index_or}
 
 -- a component, and the words that it holds
 pub record Held : Type 0 where

@@ -1,5 +1,5 @@
 -- Cells in two buffers: their heads, and all their words, one cell's after another's.
-use Rattle.std.specs.Prelude.{◌≡◌, ℕ, ◌+◌, ◌<◌, ◌≤◌, ◌^◌, List, length, map, slice_index_or, slice_range}
+use Rattle.std.specs.Prelude.{ℕ, ◌+◌, ◌<◌, ◌≤◌, ◌^◌, List, length, map, slice_index_or, slice_range}
 use Rattle.std.specs.List.{range_with_len}
 use Rattle.change_rows.specs.declared.cells.Head.{Head}
 use Rattle.change_rows.specs.Cells.{Held, IsAscending}

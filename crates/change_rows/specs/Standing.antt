@@ -1,5 +1,5 @@
 -- What stands at a cycle, by what begins at each.
-use Rattle.std.specs.Prelude.{ℕ, zero, suc, Option, Some, None, unwrap_or, List, []}
+use Rattle.std.specs.Prelude.{ℕ, zero, suc, Option, unwrap_or, List, []}
 
 -- the words that began last; none where none began
 abbrev pub standing : (ℕ → Option (List ℕ)) → ℕ → List ℕ

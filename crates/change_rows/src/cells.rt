@@ -28,7 +28,7 @@ pub struct Cells {
 impl Model for Cells {
     ghost use Rattle.std.specs.Prelude.{List};
     ghost use Rattle.change_rows.specs.Packed.{head_at, start_at, cell_at, cells_of, IsPacked, IsPlace};
-ghost use Rattle.change_rows.specs.Cells.{Held};
+    ghost use Rattle.change_rows.specs.Cells.{Held};
 
     ghost Value = { List Held };
 

@@ -146,13 +146,7 @@ fn words_before(s: &Changes, t: usize, c: u32) -> &[u64]
 }
 
 /// A cell that begins at row t, unless its component holds these words a cycle before.
-fn begin(
-    s: &Changes,
-    t: usize,
-    c: u32,
-    words: &[u64],
-    out: &mut Cells,
-) -> Result<(), AllocError>
+fn begin(s: &Changes, t: usize, c: u32, words: &[u64], out: &mut Cells) -> Result<(), AllocError>
     requires changes { IsChanges s.now.width s.now.rows.items s.now.marks.items s.now.seam s.now.at }
     requires row { t < length s.now.rows.items }
     requires component { c < s.now.width }
@@ -215,14 +209,7 @@ fn row_of(s: &Changes, t: usize, draft: &Cells, b: &mut Buffers) -> Result<(), A
     ensures seam { b.new.seam ≡ b.old.seam }
 {
     fresh_of(s, t, draft, &mut b.fresh)?;
-    others_of(
-        s,
-        t,
-        draft,
-        &mut b.of_row,
-        &mut b.of_seam,
-        &mut b.others,
-    )?;
+    others_of(s, t, draft, &mut b.of_row, &mut b.of_seam, &mut b.others)?;
     join(&mut b.fresh, &mut b.others, &mut b.row)?;
     Ok(())
 }

@@ -62,11 +62,7 @@ pub(crate) fn unite(over: &Cells, under: &Cells, out: &mut Cells) -> Result<(), 
 /// # Errors
 ///
 /// Where a growth was refused.
-pub(crate) fn join(
-    over: &mut Cells,
-    under: &mut Cells,
-    out: &mut Cells,
-) -> Result<(), AllocError>
+pub(crate) fn join(over: &mut Cells, under: &mut Cells, out: &mut Cells) -> Result<(), AllocError>
     ensures found { OnOk result ((c : ℕ) → found out.new c ≡ option_or (found over.old c) (found under.old c)) }
     ensures end { OnOk result (end_of out.new ≤ max (end_of over.old) (end_of under.old)) }
 {

@@ -25,7 +25,7 @@ pub struct Rows {
 
 impl Model for Rows {
     ghost use Rattle.change_rows.specs.Marks.{is_in};
-ghost use Rattle.change_rows.specs.Rows.{Table};
+    ghost use Rattle.change_rows.specs.Rows.{Table};
     ghost use Rattle.change_rows.specs.Changes.{cells_in, IsChanges};
 
     ghost Value = { Table };
@@ -122,12 +122,7 @@ impl Rows {
         if m == 0 {
             return Ok(());
         }
-        grow(
-            alloc,
-            &mut self.changes,
-            &mut self.buffers.row,
-            m as usize,
-        )?;
+        grow(alloc, &mut self.changes, &mut self.buffers.row, m as usize)?;
         Ok(())
     }
 
@@ -144,7 +139,13 @@ impl Rows {
     /// # Errors
     ///
     /// Where a growth was refused. All cells hold what they held.
-    pub fn repeat(&mut self, alloc: Global, from: u32, to: u32, set: &[u64]) -> Result<(), AllocError>
+    pub fn repeat(
+        &mut self,
+        alloc: Global,
+        from: u32,
+        to: u32,
+        set: &[u64],
+    ) -> Result<(), AllocError>
         requires before { 0 < from }
         requires some { from < to }
         requires rows { to ≤ length self.old.rows }

@@ -160,12 +160,7 @@ fn put_rows(s: &mut Changes, before: usize, rest: Vec<Cells>)
 {
     let mut rest = rest;
     while let Some(row) = rest.pop() {
-        put_cells(
-            &mut s.rows,
-            &mut s.marks,
-            before + 1 + rest.len(),
-            row,
-        );
+        put_cells(&mut s.rows, &mut s.marks, before + 1 + rest.len(), row);
     }
 }
 

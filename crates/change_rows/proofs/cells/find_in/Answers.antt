@@ -1,4 +1,4 @@
-use Rattle.std.proofs.Common.{◌≡◌, ◌<◌, ◌∙◌, ap, sym, arith, length, Some}
+use Rattle.std.proofs.Common.{◌≡◌, ◌<◌, ◌∙◌, ap, sym, length, Some}
 use Rattle.std.proofs.lemmas.Bool.{false≢true}
 use Rattle.change_rows.specs.Packed.{head_at}
 use Rattle.change_rows.proofs.Packing.{pairs_ascend, found_here, found_nowhere, at_cells}

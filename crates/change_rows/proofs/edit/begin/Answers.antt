@@ -1,5 +1,4 @@
-use Rattle.std.proofs.Common.{◌≡◌, ◌+◌, ◌≤◌, ◌∙◌, sym, refl, arith, List, ℕ}
-use Rattle.change_rows.specs.Cells.{end_of}
+use Rattle.std.proofs.Common.{◌∙◌, sym, refl, arith}
 use Rattle.change_rows.proofs.Editing.{absent, present, pushed_same, pushed_other}
 use Rattle.change_rows.proofs.Merging.{pushed_end}
 use Rattle.change_rows.proofs.edit.begin.Goals as goal

@@ -1,5 +1,5 @@
-use Rattle.std.proofs.Common.{◌≡◌, ◌+◌, ◌<◌, ◌≤◌, ◌∙◌, ap, sym, subst, refl, arith, List, ℕ, Option, None, unwrap_or, length, get_or}
-use Rattle.change_rows.specs.Cells.{Held, no_cell, found, end_of, component_at}
+use Rattle.std.proofs.Common.{◌≡◌, ◌<◌, ◌∙◌, subst, arith, List, ℕ, Option, unwrap_or, length, get_or}
+use Rattle.change_rows.specs.Cells.{no_cell, found, component_at}
 use Rattle.change_rows.specs.Standing.{standing_before}
 use Rattle.change_rows.specs.Changes.{begins_at}
 use Rattle.change_rows.proofs.Editing.{kept_more, only_more, end_more}
@@ -21,9 +21,9 @@ loop-i-preserved c =
     let others : (d : ℕ) → (d ≡ component_at draft i → ⊥) → found out1 d ≡ found out d = λ d n. e.others d (λ q. n (q ∙ c.component.ensures)) in
     record {
       kept = kept_more draft out out1 i c.len-i-end.ensures.ascending there others
-        (λ (k : ℕ) (w : List ℕ) (o : Option (List ℕ)). unwrap_or o (standing_before (begins_at s.rows.items s.seam s.at k) c.args.t) ≡ w)
-        c.loop-i.invariant.kept
-        (subst (λ (k : ℕ). unwrap_or (found out1 k) (standing_before (begins_at s.rows.items s.seam s.at k) c.args.t) ≡ (get_or draft i no_cell).words) c.component.ensures (e.kept ∙ c.words.ensures));
+          (λ (k : ℕ) (w : List ℕ) (o : Option (List ℕ)). unwrap_or o (standing_before (begins_at s.rows.items s.seam s.at k) c.args.t) ≡ w)
+          c.loop-i.invariant.kept
+          (subst (λ (k : ℕ). unwrap_or (found out1 k) (standing_before (begins_at s.rows.items s.seam s.at k) c.args.t) ≡ (get_or draft i no_cell).words) c.component.ensures (e.kept ∙ c.words.ensures));
       only = only_more draft out out1 i c.len-i-end.ensures.ascending there others c.loop-i.invariant.only;
       end = end_more draft out1 i there (omega (arith, e.end, c.component.ensures));
     }

@@ -1,4 +1,4 @@
-use Rattle.std.proofs.Common.{◌≡◌, ℕ, ◌+◌, ◌≤◌, List, Some, None, take, unwrap_or}
+use Rattle.std.proofs.Common.{◌≡◌, ℕ, ◌≤◌, List, Some, None, take, unwrap_or}
 use Rattle.change_rows.specs.Cells.{found, end_of}
 use Rattle.change_rows.specs.Standing.{standing_before}
 use Rattle.change_rows.specs.Changes.{begins_at}

@@ -1,4 +1,4 @@
-use Rattle.std.proofs.Common.{◌≡◌, ◌∙◌, arith}
+use Rattle.std.proofs.Common.{◌∙◌, arith}
 use Rattle.change_rows.proofs.Putting.{put_all}
 use Rattle.change_rows.proofs.edit.put.Goals as goal
 

@@ -1,4 +1,3 @@
-use Rattle.std.proofs.Common.{◌≡◌, ℕ, ◌+◌, ◌<◌, ◌≤◌, [], arith}
 use Rattle.change_rows.proofs.Growing.{blank_more, blank_end}
 use Rattle.change_rows.proofs.grow.blank.Goals as goal
 

@@ -1,4 +1,4 @@
-use Rattle.std.proofs.Common.{◌≡◌, ℕ, ◌≤◌, ◌∙◌, ap, arith, List}
+use Rattle.std.proofs.Common.{◌≤◌, ◌∙◌, ap, arith, List}
 use Rattle.change_rows.specs.Cells.{Held, found, end_of}
 use Rattle.change_rows.proofs.Growing.{rows_are, grown_changes, grown_blank}
 use Rattle.change_rows.proofs.grow.grow.Goals as goal

@@ -1,4 +1,3 @@
-use Rattle.std.proofs.Common.{◌≡◌, ◌∙◌, arith, length}
 use Rattle.change_rows.proofs.Marking.{zeros_set}
 use Rattle.change_rows.proofs.marks.grow_by.Goals as goal
 

@@ -1,4 +1,3 @@
-use Rattle.std.proofs.Common.{◌≡◌}
 use Rattle.std.proofs.lemmas.Bool.{eqb-true, not-false}
 use Rattle.change_rows.proofs.Marking.{apart}
 use Rattle.change_rows.proofs.marks.has_both.Goals as goal

@@ -1,4 +1,4 @@
-use Rattle.std.proofs.Common.{◌≡◌, ℕ, ◌<◌, ◌≤◌, ◌+◌, false}
+use Rattle.std.proofs.Common.{◌≡◌, ℕ, ◌≤◌, ◌+◌, false}
 use Rattle.change_rows.specs.Marks.{is_set}
 use Rattle.change_rows.proofs.marks.last_in.Given as goal
 

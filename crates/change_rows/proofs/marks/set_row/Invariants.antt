@@ -1,4 +1,4 @@
-use Rattle.std.proofs.Common.{◌≡◌, ℕ, ◌<◌, ◌≤◌, ◌||◌, cond, nat_eq, is_some, length, take, [], slice_index_or}
+use Rattle.std.proofs.Common.{◌≡◌, ℕ, ◌||◌, cond, nat_eq, is_some, length, take, [], slice_index_or}
 use Rattle.change_rows.specs.Cells.{found}
 use Rattle.change_rows.specs.Marks.{is_marked}
 use Rattle.change_rows.proofs.marks.set_row.Given as goal

@@ -1,4 +1,4 @@
-use Rattle.std.proofs.Common.{ap, arith, eqb, eq-eqb, w64}
+use Rattle.std.proofs.Common.{ap, eqb, eq-eqb, w64}
 use Rattle.std.proofs.lemmas.Nat.Bits.{bit_at_set_same, bit_at_set_other}
 use Rattle.change_rows.proofs.marks.with_bit.Goals as goal
 

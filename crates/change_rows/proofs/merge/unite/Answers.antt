@@ -1,5 +1,4 @@
 use Rattle.std.proofs.Common.{◌≡◌, ◌<◌, arith, length}
-use Rattle.change_rows.specs.Cells.{component_at}
 use Rattle.change_rows.proofs.Merging.{unite_over, unite_under, unite_both}
 use Rattle.change_rows.proofs.merge.unite.Goals as goal
 use Rattle.change_rows.proofs.merge.unite.Goals.{then-i-len, else-i-len+then-j-len}
@@ -27,10 +26,10 @@ loop-i-preserved c =
     let b = c.next_in-b in
     let same : a.result ≡ b.result = omega (arith, c.if-a-b.false, c.if-b-a.false) in
     let some : a.result < 18446744073709551615 =
-        elim c.if-i-len.branch [
-            then-i-len w ↦ omega (arith, a.ensures.small (omega (arith, w.if-i-len.true, c.len.ensures.count)))
-            | else-i-len+then-j-len w ↦ omega (arith, same, b.ensures.small (omega (arith, w.if-j-len.true, w.len-else-i-len.ensures.count)))
-        ]
+    elim c.if-i-len.branch [
+      | then-i-len w ↦ omega (arith, a.ensures.small (omega (arith, w.if-i-len.true, c.len.ensures.count)))
+      | else-i-len+then-j-len w ↦ omega (arith, same, b.ensures.small (omega (arith, w.if-j-len.true, w.len-else-i-len.ensures.count)))
+    ]
     in
     let here : l.i < length c.args.over.now = a.ensures.some some in
     let there : l.j < length c.args.under.now = b.ensures.some (omega (arith, same, some)) in

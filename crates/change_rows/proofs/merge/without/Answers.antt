@@ -1,5 +1,4 @@
-use Rattle.std.proofs.Common.{◌≡◌, ◌<◌, arith, length}
-use Rattle.change_rows.specs.Cells.{component_at}
+use Rattle.std.proofs.Common.{◌<◌, arith, length}
 use Rattle.change_rows.proofs.Merging.{left_past, left_more, left_out}
 use Rattle.change_rows.proofs.merge.without.Goals as goal
 

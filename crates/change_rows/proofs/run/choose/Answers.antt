@@ -1,5 +1,4 @@
-use Rattle.std.proofs.Common.{◌≡◌, ◌+◌, ◌≤◌, ◌∙◌, ap, sym, arith, true, is_some, Option, List, ℕ}
-use Rattle.change_rows.specs.Cells.{end_of}
+use Rattle.std.proofs.Common.{◌∙◌, ap, sym, arith, is_some}
 use Rattle.change_rows.proofs.Editing.{pushed_same, pushed_other}
 use Rattle.change_rows.proofs.Finding.{found_past}
 use Rattle.change_rows.proofs.Merging.{pushed_end}

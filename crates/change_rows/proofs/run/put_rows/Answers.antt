@@ -1,4 +1,4 @@
-use Rattle.std.proofs.Common.{◌≡◌, ℕ, ◌+◌, ◌-◌, ◌<◌, ◌≤◌, ◌∙◌, ap, sym, subst, arith, List, [], ◌∷◌, ◌++◌, length, take, get_or}
+use Rattle.std.proofs.Common.{◌≡◌, ◌+◌, ◌<◌, ◌≤◌, ◌∙◌, ap, sym, subst, arith, List, length}
 use Rattle.std.proofs.Math.ListN.{length-set}
 use Rattle.change_rows.specs.Cells.{Held, end_of}
 use Rattle.change_rows.specs.Changes.{IsChanges}
@@ -21,7 +21,7 @@ loop-row-preserved c =
     let wide : end_of row ≤ s.width = omega (arith, ap end_of p.2, c.requires.wide n, i.width) in
     record {
       changes = subst (λ (r : List (List Held)). IsChanges s.width r c.put_cells.new.marks.items s.seam s.at) (sym c.put_cells.ensures.rows)
-        (changed s.width s.rows.items s.marks.items c.put_cells.new.marks.items s.seam s.seam s.at s.at (c.args.before + 1 + c.len.result) row i.changes here wide c.put_cells.ensures.len c.put_cells.ensures.tall c.put_cells.ensures.marks i.changes.seam_wide i.changes.seam_there);
+          (changed s.width s.rows.items s.marks.items c.put_cells.new.marks.items s.seam s.seam s.at s.at (c.args.before + 1 + c.len.result) row i.changes here wide c.put_cells.ensures.len c.put_cells.ensures.tall c.put_cells.ensures.marks i.changes.seam_wide i.changes.seam_there);
       width = i.width;
       seam = i.seam;
       len = ap length c.put_cells.ensures.rows ∙ length-set s.rows.items (c.args.before + 1 + c.len.result) row ∙ i.len;

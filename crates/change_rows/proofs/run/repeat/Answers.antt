@@ -1,4 +1,4 @@
-use Rattle.std.proofs.Common.{◌≡◌, ℕ, ◌∙◌, arith, length}
+use Rattle.std.proofs.Common.{arith, length}
 use Rattle.change_rows.specs.Marks.{is_in}
 use Rattle.change_rows.proofs.Running.{ran_all, no_seam_left}
 use Rattle.change_rows.proofs.run.repeat.Goals as goal

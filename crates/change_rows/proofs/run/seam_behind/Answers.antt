@@ -1,5 +1,5 @@
-use Rattle.std.proofs.Common.{◌≡◌, ◌+◌, ◌<◌, ◌≤◌, ◌∙◌, ap, sym, subst, refl, arith, List, ℕ, Option, None, unwrap_or, length, get_or}
-use Rattle.change_rows.specs.Cells.{Held, no_cell, found, end_of, component_at}
+use Rattle.std.proofs.Common.{◌≡◌, ◌+◌, ◌<◌, ◌∙◌, subst, arith, List, ℕ, Option, None, unwrap_or, length}
+use Rattle.change_rows.specs.Cells.{found, component_at}
 use Rattle.change_rows.specs.Standing.{standing}
 use Rattle.change_rows.specs.Changes.{row_at, begins_at}
 use Rattle.change_rows.proofs.Editing.{kept_more, only_more, end_more}
@@ -21,9 +21,9 @@ loop-i-preserved c =
     let others : (d : ℕ) → (d ≡ component_at chosen i → ⊥) → found out1 d ≡ found out d = λ d n. e.others d (λ q. n (q ∙ c.component.ensures)) in
     record {
       kept = kept_more chosen out out1 i c.len-i-end.ensures.ascending there others
-        (λ (k : ℕ) (w : List ℕ) (o : Option (List ℕ)). found (row_at s.rows.items (c.args.last + 1)) k ≡ None → unwrap_or o (standing (begins_at s.rows.items s.seam s.at k) c.args.before) ≡ standing (begins_at s.rows.items s.seam s.at k) c.args.last)
-        c.loop-i.invariant.kept
-        (subst (λ (k : ℕ). found (row_at s.rows.items (c.args.last + 1)) k ≡ None → unwrap_or (found out1 k) (standing (begins_at s.rows.items s.seam s.at k) c.args.before) ≡ standing (begins_at s.rows.items s.seam s.at k) c.args.last) c.component.ensures e.kept);
+          (λ (k : ℕ) (w : List ℕ) (o : Option (List ℕ)). found (row_at s.rows.items (c.args.last + 1)) k ≡ None → unwrap_or o (standing (begins_at s.rows.items s.seam s.at k) c.args.before) ≡ standing (begins_at s.rows.items s.seam s.at k) c.args.last)
+          c.loop-i.invariant.kept
+          (subst (λ (k : ℕ). found (row_at s.rows.items (c.args.last + 1)) k ≡ None → unwrap_or (found out1 k) (standing (begins_at s.rows.items s.seam s.at k) c.args.before) ≡ standing (begins_at s.rows.items s.seam s.at k) c.args.last) c.component.ensures e.kept);
       only = only_more chosen out out1 i c.len-i-end.ensures.ascending there others c.loop-i.invariant.only;
       end = end_more chosen out1 i there (omega (arith, e.end, c.component.ensures));
     }

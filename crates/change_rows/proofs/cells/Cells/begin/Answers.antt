@@ -1,8 +1,6 @@
-use Rattle.std.proofs.Common.{◌≡◌, ◌≤◌, ◌<◌, ◌+◌, ◌^◌, ◌∙◌, ◌++◌, ◌∷◌, [], ap, sym, subst, arith, length, List, ℕ}
-use Rattle.std.proofs.lemmas.List.{append-nil}
-use Rattle.change_rows.specs.declared.cells.Head.{Head}
+use Rattle.std.proofs.Common.{◌≤◌, ◌∙◌, ◌++◌, ◌∷◌, [], ap, arith, List}
 use Rattle.change_rows.specs.Cells.{Held, end_of}
-use Rattle.change_rows.specs.Packed.{cells_of, IsPacked}
+use Rattle.change_rows.specs.Packed.{cells_of}
 use Rattle.change_rows.proofs.Packing.{begun_cells, begun_packed}
 use Rattle.change_rows.proofs.cells.Cells.begin.Goals as goal
 

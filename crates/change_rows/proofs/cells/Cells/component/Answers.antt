@@ -1,5 +1,4 @@
 use Rattle.std.proofs.Common.{◌<◌, ◌∙◌, ap, sym, arith, length}
-use Rattle.std.proofs.lemmas.List.{get_or_read}
 use Rattle.change_rows.specs.declared.cells.Head.{Head}
 use Rattle.change_rows.specs.Cells.{Held, component_at}
 use Rattle.change_rows.proofs.Packing.{length_cells, component_is}

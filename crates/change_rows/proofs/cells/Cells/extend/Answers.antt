@@ -1,4 +1,4 @@
-use Rattle.std.proofs.Common.{◌≡◌, ◌∙◌, arith}
+use Rattle.std.proofs.Common.{◌∙◌, arith}
 use Rattle.change_rows.proofs.Packing.{longer_cells, longer_packed}
 use Rattle.change_rows.proofs.cells.Cells.extend.Goals as goal
 

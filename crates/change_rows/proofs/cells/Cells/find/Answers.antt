@@ -1,4 +1,4 @@
-use Rattle.std.proofs.Common.{◌∙◌, ap, sym, List, ℕ}
+use Rattle.std.proofs.Common.{◌∙◌, ap, List, ℕ}
 use Rattle.change_rows.specs.Cells.{Held, found}
 use Rattle.change_rows.specs.Packed.{cells_of}
 use Rattle.change_rows.specs.declared.cells.Head.{Head}

@@ -1,7 +1,7 @@
-use Rattle.std.proofs.Common.{◌≡◌, ◌≤◌, ◌<◌, ◌+◌, ◌^◌, ◌∙◌, ◌++◌, ◌∷◌, [], ap, sym, subst, arith, length, List, ℕ}
+use Rattle.std.proofs.Common.{◌≡◌, ◌≤◌, ◌∙◌, ◌++◌, ◌∷◌, [], ap, arith, List}
 use Rattle.change_rows.specs.declared.cells.Head.{Head}
 use Rattle.change_rows.specs.Cells.{Held, end_of}
-use Rattle.change_rows.specs.Packed.{cells_of, IsPacked}
+use Rattle.change_rows.specs.Packed.{cells_of}
 use Rattle.change_rows.proofs.Packing.{more_cells, more_packed}
 use Rattle.change_rows.proofs.cells.Cells.push.Goals as goal
 

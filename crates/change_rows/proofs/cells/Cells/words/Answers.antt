@@ -1,4 +1,4 @@
-use Rattle.std.proofs.Common.{◌≡◌, ◌<◌, ◌∙◌, ap, sym, arith, length, List, ℕ, get_or}
+use Rattle.std.proofs.Common.{◌<◌, ◌∙◌, ap, sym, arith, length, List, ℕ, get_or}
 use Rattle.change_rows.specs.Cells.{Held, no_cell}
 use Rattle.change_rows.specs.Packed.{cell_at}
 use Rattle.change_rows.specs.declared.cells.Head.{Head}

@@ -1,4 +1,4 @@
-use Rattle.std.proofs.Common.{◌≡◌, ℕ, ◌<◌, arith, length}
+use Rattle.std.proofs.Common.{◌<◌, arith, length}
 use Rattle.change_rows.proofs.Viewing.{view_steady}
 use Rattle.change_rows.proofs.rows.Rows.begins.Goals as goal
 

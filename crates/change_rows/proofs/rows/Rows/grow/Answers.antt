@@ -1,8 +1,8 @@
-use Rattle.std.proofs.Common.{◌≡◌, ℕ, ◌<◌, ◌+◌, ◌^◌, ◌∙◌, ap, arith, length, List}
+use Rattle.std.proofs.Common.{ap, arith, length}
 use Rattle.std.proofs.lemmas.Result.{err_from_is_err_and}
 use Rattle.change_rows.specs.Rows.{Table}
 use Rattle.change_rows.proofs.Tables.{length_table}
-use Rattle.change_rows.proofs.Viewing.{cells, view_grow, view_same, grow_none}
+use Rattle.change_rows.proofs.Viewing.{cells, view_grow, view_same}
 use Rattle.change_rows.proofs.rows.Rows.grow.Goals as goal
 
 pub grow-requires-clause-few : goal.grow-requires-clause-few

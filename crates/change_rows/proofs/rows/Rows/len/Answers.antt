@@ -1,4 +1,4 @@
-use Rattle.std.proofs.Common.{◌≡◌, ℕ, ◌<◌, ap, subst, arith, length, List}
+use Rattle.std.proofs.Common.{ap, subst, arith, length}
 use Rattle.change_rows.specs.Rows.{Table, IsWhole}
 use Rattle.change_rows.proofs.Tables.{length_table, length_row}
 use Rattle.change_rows.proofs.Viewing.{cells}

@@ -1,6 +1,5 @@
-use Rattle.std.proofs.Common.{◌≡◌, ℕ, ◌<◌, ◌≤◌, ◌⊎◌, inl, inr, ap, arith, length}
+use Rattle.std.proofs.Common.{◌<◌, ap, arith, length}
 use Rattle.change_rows.specs.Rows.{Table}
-use Rattle.std.proofs.lemmas.Bool.{cases_lt}
 use Rattle.change_rows.proofs.Viewing.{view_steady, steady_row}
 use Rattle.change_rows.proofs.rows.Rows.next_change.Goals as goal
 

@@ -1,4 +1,3 @@
-use Rattle.std.proofs.Common.{◌≡◌, ℕ}
 use Rattle.change_rows.proofs.Viewing.{view_cut}
 use Rattle.change_rows.proofs.rows.Rows.truncate.Goals as goal
 
