@@ -1,0 +1,11 @@
+pub mod Finding
+pub mod Packing
+pub mod Marking
+pub mod Merging
+pub mod Standing
+pub mod Editing
+pub mod Putting
+pub mod Tables
+pub mod Viewing
+pub mod Growing
+pub mod Running

@@ -1,0 +1,11 @@
+use Rattle.std.proofs.Common.{◌≡◌, ℕ, ◌+◌, ◌-◌, ◌<◌, ◌≤◌, cond, is_some, None, [], length, slice_index_or}
+use Rattle.change_rows.specs.Cells.{found, end_of}
+use Rattle.change_rows.specs.Changes.{row_at}
+use Rattle.change_rows.proofs.run.rest_of.Given as goal
+
+abbrev pub invariant-loop-t : goal.invariant-loop-t
+invariant-loop-t l = record {
+  len : l.before + 1 + length l.rest.items ≡ l.t;
+  found : (u c : ℕ) → l.before < u → u < l.t → found (slice_index_or l.rest.items (u - (l.before + 1)) []) c ≡ cond (is_some (found l.chosen c)) None (found (row_at l.s.rows.items u) c);
+  end : (i : ℕ) → end_of (slice_index_or l.rest.items i []) ≤ l.s.width;
+}

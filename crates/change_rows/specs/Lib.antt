@@ -1,0 +1,6 @@
+pub mod Cells
+pub mod Packed
+pub mod Marks
+pub mod Standing
+pub mod Rows
+pub mod Changes

@@ -1,0 +1,275 @@
+//! Some cells of one row.
+ghost use Rattle.std.specs.Prelude.{◌≡◌, ℕ, ◌+◌, ◌<◌, ◌≤◌, ◌++◌, ◌∷◌, [], List, true, IsTrue, ◌↔◌, MatchResult, MatchOption, OnErr, OnOk, IfOk, length, is_some, Some, None, slice_index_or, unwrap_or};
+ghost use Rattle.std.specs.Option.{option_copied};
+ghost use Rattle.change_rows.specs.Packed.{head_at, start_at, cell_at, cells_of, IsPacked, IsPlace};
+ghost use Rattle.change_rows.specs.Cells.{Held, no_cell, found, end_of, component_at, IsAscending};
+
+use std::alloc::{AllocError, Global};
+use std::marker::Model;
+
+/// The most words that cells hold together.
+const MOST_WORDS: usize = u32::MAX as usize;
+
+/// A cell's component, and where its words begin.
+#[derive(Clone, Copy)]
+pub(crate) struct Head {
+    component: u32,
+    from: u32,
+}
+
+/// Cells of one row by ascending component, each with its words. They lie in two buffers, which
+/// `clear` keeps.
+#[derive(Drop)]
+pub struct Cells {
+    heads: Vec<Head>,
+    words: Vec<u64>,
+}
+
+impl Model for Cells {
+    ghost use Rattle.std.specs.Prelude.{List};
+    ghost use Rattle.change_rows.specs.Packed.{head_at, start_at, cell_at, cells_of, IsPacked, IsPlace};
+    ghost use Rattle.change_rows.specs.Cells.{Held};
+
+    ghost Value = { List Held };
+
+    ghost use Rattle.change_rows.specs.Packed.{cells_of, IsPacked};
+
+    ghost view = { λ c. cells_of c.heads.items c.words.items };
+
+    ghost invariant = { λ c. IsPacked c.heads.items c.words.items };
+}
+
+impl Cells {
+    /// No cell.
+    pub fn new(alloc: Global) -> Cells
+        ensures { result ≡ [] }
+    {
+        Cells {
+            heads: Vec::new(alloc),
+            words: Vec::new(alloc),
+        }
+    }
+
+    /// How many cells there are.
+    pub fn len(&self) -> usize
+        ensures count { result ≡ length self.now }
+        ensures ascending { IsAscending self.now }
+    {
+        self.heads.len()
+    }
+
+    /// Whether there is no cell.
+    pub fn is_empty(&self) -> bool
+        ensures { result ≡ true → self.now ≡ [] }
+    {
+        self.heads.is_empty()
+    }
+
+    /// Removes all cells. The buffers stay.
+    pub fn clear(&mut self)
+        ensures { self.new ≡ [] }
+    {
+        self.heads.clear();
+        self.words.clear();
+    }
+
+    /// The first component above those of all cells: from there on cells can be pushed.
+    pub fn end(&self) -> u64
+        ensures { result ≡ end_of self.now }
+    {
+        end_in(self.heads.as_slice(), self.words.as_slice())
+    }
+
+    /// The component of the cell at a place.
+    pub fn component(&self, i: usize) -> u32
+        requires { i < length self.now }
+        ensures { result ≡ component_at self.now i }
+    {
+        self.heads[i].component
+    }
+
+    /// The words of the cell at a place.
+    pub fn words(&self, i: usize) -> &[u64]
+        requires { i < length self.now }
+        ensures { result.now ≡ (slice_index_or self.now i no_cell).words }
+    {
+        words_in(self.heads.as_slice(), self.words.as_slice(), i)
+    }
+
+    /// The words of a component, where there is a cell of it.
+    pub fn find(&self, component: u32) -> Option<&[u64]>
+        ensures { option_copied result ≡ found self.now component }
+    {
+        find_in(self.heads.as_slice(), self.words.as_slice(), component)
+    }
+
+    /// The words of a component; none where there is no cell of it.
+    pub fn words_of(&self, component: u32) -> &[u64]
+        ensures { result.now ≡ unwrap_or (found self.now component) [] }
+    {
+        match self.find(component) {
+            Some(words) => words,
+            None => &[],
+        }
+    }
+
+    /// Whether there is a cell of a component.
+    pub fn has(&self, component: u32) -> bool
+        ensures { result ≡ is_some (found self.now component) }
+    {
+        self.find(component).is_some()
+    }
+
+    /// A cell with no words more, behind all others.
+    ///
+    /// # Errors
+    ///
+    /// Where a growth was refused, and at 2^32 words. Nothing is changed.
+    pub fn begin(&mut self, component: u32) -> Result<(), AllocError>
+        requires { end_of self.old ≤ component }
+        ensures { MatchResult result
+            (λ _. self.new ≡ self.old ++ record { component = component; words = [] } ∷ [])
+            (λ _. self.new ≡ self.old) }
+    {
+        let Ok(from) = u32::try_from(self.words.len()) else {
+            return Err(AllocError);
+        };
+        self.heads.push(Head { component, from })?;
+        Ok(())
+    }
+
+    /// More words for the last cell.
+    ///
+    /// # Errors
+    ///
+    /// Where a growth was refused, and at 2^32 words. Nothing is changed.
+    pub fn extend(&mut self, words: &[u64]) -> Result<(), AllocError>
+        requires { 0 < length self.old }
+        ensures { MatchResult result
+            (λ _. (front : List Held) (cell : Held) → self.old ≡ front ++ cell ∷ [] → self.new ≡ front ++ record { component = cell.component; words = cell.words ++ words.now } ∷ [])
+            (λ _. self.new ≡ self.old) }
+    {
+        let from = self.words.len();
+        if words.len() > MOST_WORDS - from {
+            return Err(AllocError);
+        }
+        self.words.extend_from_slice(words)?;
+        Ok(())
+    }
+
+    /// A cell more, behind all others.
+    ///
+    /// # Errors
+    ///
+    /// Where a growth was refused, and at 2^32 words. Nothing is changed.
+    pub fn push(&mut self, component: u32, words: &[u64]) -> Result<(), AllocError>
+        requires { end_of self.old ≤ component }
+        ensures { MatchResult result
+            (λ _. self.new ≡ self.old ++ record { component = component; words = words.now } ∷ [])
+            (λ _. self.new ≡ self.old) }
+    {
+        let from = self.words.len();
+        if words.len() > MOST_WORDS - from {
+            return Err(AllocError);
+        }
+        self.heads.reserve(1)?;
+        match self.words.extend_from_slice(words) {
+            Ok(()) => {
+                self.heads.push_reserved(Head {
+                    component,
+                    from: from as u32,
+                });
+                Ok(())
+            }
+            Err(e) => Err(e),
+        }
+    }
+
+    /// The same cells once more, in buffers of just their size.
+    ///
+    /// # Errors
+    ///
+    /// Where a growth was refused.
+    pub fn copy(&self, alloc: Global) -> Result<Cells, AllocError>
+        ensures { IfOk result (λ cells. cells ≡ self.now) }
+    {
+        let heads = Vec::from_slice(alloc, &self.heads)?;
+        let words = Vec::from_slice(alloc, &self.words)?;
+        Ok(Cells { heads, words })
+    }
+}
+
+/// The first component above those of all cells.
+fn end_in(heads: &[Head], words: &[u64]) -> u64
+    requires { IsPacked heads.now words.now }
+    ensures { result ≡ end_of (cells_of heads.now words.now) }
+{
+    let _ = words;
+    let count = heads.len();
+    if count == 0 {
+        return 0;
+    }
+    u64::from(heads[count - 1].component) + 1
+}
+
+/// Where the words of the cell at a place begin, or n behind the last cell.
+fn start_in(heads: &[Head], n: usize, i: usize) -> usize
+    ensures { result ≡ start_at heads.now n i }
+{
+    match heads.get(i) {
+        Some(head) => head.from as usize,
+        None => n,
+    }
+}
+
+/// The words of the cell at a place.
+fn words_in<'a>(heads: &'a [Head], words: &'a [u64], i: usize) -> &'a [u64]
+    requires packed { IsPacked heads.now words.now }
+    requires there { i < length heads.now }
+    ensures { result.now ≡ (cell_at heads.now words.now i).words }
+{
+    let from = start_in(heads, words.len(), i);
+    let to = start_in(heads, words.len(), i + 1);
+    &words[from..to]
+}
+
+/// The words of a component, where there is a cell of it.
+fn find_in<'a>(heads: &'a [Head], words: &'a [u64], c: u32) -> Option<&'a [u64]>
+    requires { IsPacked heads.now words.now }
+    ensures { option_copied result ≡ found (cells_of heads.now words.now) c }
+{
+    let place = place_in(heads, c);
+    if is_at(heads, place, c) {
+        Some(words_in(heads, words, place))
+    } else {
+        None
+    }
+}
+
+/// Whether the cell at a place is one of c.
+fn is_at(heads: &[Head], i: usize, c: u32) -> bool
+    ensures { IsTrue result ↔ ((i < length heads.now) × ((head_at heads.now 0 i).component ≡ c)) }
+{
+    match heads.get(i) {
+        Some(head) => head.component == c,
+        None => false,
+    }
+}
+
+/// How many components are below c.
+fn place_in(heads: &[Head], c: u32) -> usize
+    requires { (i j : ℕ) → i < j → j < length heads.now → (head_at heads.now 0 i).component < (head_at heads.now 0 j).component }
+    ensures { IsPlace heads.now c result }
+{
+    let mut low = 0;
+    let mut high = heads.len();
+    while low < high {
+        let mid = low + (high - low) / 2;
+        if heads[mid].component < c {
+            low = mid + 1;
+        } else {
+            high = mid;
+        }
+    }
+    low
+}

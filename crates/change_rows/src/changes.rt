@@ -1,0 +1,146 @@
+//! Rows of changes, and where a cell's words are found in them.
+ghost use Rattle.std.specs.Prelude.{◌≡◌, ℕ, ◌+◌, ◌*◌, ◌/◌, ◌%◌, ◌<◌, ◌≤◌, [], None, Some, true, false, cond, nat_eq, MatchOption, IfSome, OnOk, length, is_some, unwrap_or, slice_index_or, slice_set};
+ghost use Rattle.change_rows.specs.Cells.{found, end_of};
+ghost use Rattle.change_rows.specs.Marks.{is_set, is_marked, is_in};
+ghost use Rattle.change_rows.specs.Standing.{standing};
+ghost use Rattle.change_rows.specs.Changes.{row_at, begins_at, IsChanges};
+
+use crate::cells::Cells;
+use crate::marks::{Marks, has_any, mark_row};
+use std::alloc::{AllocError, Global};
+
+/// For each row the cells at which other words begin than a cycle before; all others go on.
+#[derive(Drop)]
+pub(crate) struct Changes {
+    pub width: u32,
+    pub rows: Vec<Cells>,
+    /// For 64 components each, at which rows they begin.
+    pub marks: Vec<Marks>,
+    /// Cells that begin at row `at` too, where that row has none of their component: what stood
+    /// there before the row above it was put.
+    pub seam: Cells,
+    pub at: usize,
+}
+
+/// What the seam has for a component, if it begins behind the cycle of the last change and up to t.
+#[inline]
+fn in_seam<'a>(s: &'a Changes, last: Option<usize>, t: usize, c: u32) -> Option<&'a [u64]>
+    ensures { MatchOption result
+        (s.now.at ≤ t → IfSome last (λ b. b < s.now.at) → found s.now.seam c ≡ None)
+        (λ words. (s.now.at ≤ t) × IfSome last (λ b. b < s.now.at) × (found s.now.seam c ≡ Some words.now)) }
+{
+    let later = match last {
+        Some(b) => b < s.at,
+        None => true,
+    };
+    if later && s.at <= t {
+        s.seam.find(c)
+    } else {
+        None
+    }
+}
+
+/// The words of a cell.
+pub(crate) fn words_in(s: &Changes, t: usize, c: u32) -> &[u64]
+    requires changes { IsChanges s.now.width s.now.rows.items s.now.marks.items s.now.seam s.now.at }
+    requires row { t < length s.now.rows.items }
+    requires component { c < s.now.width }
+    ensures { result.now ≡ standing (begins_at s.now.rows.items s.now.seam s.now.at c) t }
+{
+    let last = last_change(&s.marks, t, c);
+    match in_seam(s, last, t, c) {
+        Some(words) => words,
+        None => words_from(&s.rows, last, c),
+    }
+}
+
+/// The words of a component in the row of its last change.
+fn words_from<'a>(rows: &'a Vec<Cells>, last: Option<usize>, c: u32) -> &'a [u64]
+    requires { IfSome last (λ b. b < length rows.now.items) }
+    ensures { MatchOption last (result.now ≡ []) (λ b. result.now ≡ unwrap_or (found (row_at rows.now.items b) c) []) }
+{
+    match last {
+        Some(b) => rows[b].words_of(c),
+        None => &[],
+    }
+}
+
+/// The last row up to t in which a component is marked.
+#[inline]
+fn last_change(marks: &Vec<Marks>, t: usize, c: u32) -> Option<usize>
+    requires component { c < 64 * length marks.now.items }
+    requires row { t < length (slice_index_or marks.now.items (c / 64) []) }
+    ensures { MatchOption result
+        ((u : ℕ) → u ≤ t → is_marked marks.now.items u c ≡ false)
+        (λ b. (b ≤ t) × (is_marked marks.now.items b c ≡ true) × ((u : ℕ) → b < u → u ≤ t → is_marked marks.now.items u c ≡ false)) }
+{
+    marks[c as usize / 64].last(t, c % 64)
+}
+
+/// Whether a component is marked in a row.
+#[inline]
+pub(crate) fn is_change(marks: &Vec<Marks>, t: usize, c: u32) -> bool
+    requires component { c < 64 * length marks.now.items }
+    requires row { t < length (slice_index_or marks.now.items (c / 64) []) }
+    ensures { result ≡ is_marked marks.now.items t c }
+{
+    marks[c as usize / 64].has(t, c % 64)
+}
+
+/// Whether something begins at a cell.
+pub(crate) fn begins_in(s: &Changes, t: usize, c: u32) -> bool
+    requires changes { IsChanges s.now.width s.now.rows.items s.now.marks.items s.now.seam s.now.at }
+    requires row { t < length s.now.rows.items }
+    requires component { c < s.now.width }
+    ensures { result ≡ false → begins_at s.now.rows.items s.now.seam s.now.at c t ≡ None }
+{
+    if is_change(&s.marks, t, c) {
+        return true;
+    }
+    t == s.at && s.seam.has(c)
+}
+
+/// Whether something may begin at a cell of a set of components; one word tells it of 64 of them.
+fn may_begin(s: &Changes, t: usize, set: &[u64]) -> bool
+    requires changes { IsChanges s.now.width s.now.rows.items s.now.marks.items s.now.seam s.now.at }
+    requires row { t < length s.now.rows.items }
+    ensures { result ≡ false → (c : ℕ) → c < s.now.width → is_in set.now c ≡ true → begins_at s.now.rows.items s.now.seam s.now.at c t ≡ None }
+{
+    if t == s.at && !s.seam.is_empty() {
+        return true;
+    }
+    has_any(&s.marks, t, set)
+}
+
+/// The first row from t on, and before `end`, at which something of a set of components may begin.
+pub(crate) fn next_begin(s: &Changes, t: u32, end: u32, set: &[u64]) -> u32
+    requires changes { IsChanges s.now.width s.now.rows.items s.now.marks.items s.now.seam s.now.at }
+    requires end { end ≤ length s.now.rows.items }
+    ensures from { t ≤ result }
+    ensures to { t ≤ end → result ≤ end }
+    ensures past { end < t → result ≡ t }
+    ensures steady { (u c : ℕ) → t ≤ u → u < result → c < s.now.width → is_in set.now c ≡ true → begins_at s.now.rows.items s.now.seam s.now.at c u ≡ None }
+{
+    let mut u = t;
+    while u < end {
+        if may_begin(s, u as usize, set) {
+            return u;
+        }
+        u += 1;
+    }
+    u
+}
+
+/// Other cells for a row, with their marks.
+pub(crate) fn put_cells(rows: &mut Vec<Cells>, marks: &mut Vec<Marks>, t: usize, row: Cells)
+    requires there { t < length rows.old.items }
+    requires tall { (w : ℕ) → w < length marks.old.items → t < length (slice_index_or marks.old.items w []) }
+    requires wide { end_of row ≤ 64 * length marks.old.items }
+    ensures rows { rows.new.items ≡ slice_set rows.old.items t row }
+    ensures len { length marks.new.items ≡ length marks.old.items }
+    ensures tall { (w : ℕ) → length (slice_index_or marks.new.items w []) ≡ length (slice_index_or marks.old.items w []) }
+    ensures marks { (u c : ℕ) → c < 64 * length marks.old.items → is_marked marks.new.items u c ≡ cond (nat_eq u t) (is_some (found row c)) (is_marked marks.old.items u c) }
+{
+    mark_row(marks, t, &row);
+    rows[t] = row;
+}

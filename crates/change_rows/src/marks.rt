@@ -1,0 +1,237 @@
+//! At which cycles the cells of components begin.
+ghost use Rattle.std.specs.Prelude.{◌≡◌, ℕ, ◌+◌, ◌*◌, ◌<◌, ◌≤◌, ◌++◌, ◌||◌, [], List, true, false, cond, nat_eq, MatchOption, OnOk, length, take, replicate, is_some, slice_index_or, slice_set};
+ghost use Rattle.change_rows.specs.Cells.{found, end_of};
+ghost use Rattle.change_rows.specs.Marks.{is_one, is_set, is_marked, is_in};
+
+use crate::cells::Cells;
+use std::alloc::{AllocError, Global};
+use std::marker::Model;
+
+/// For 64 components a word of marks for each cycle.
+#[derive(Drop)]
+pub(crate) struct Marks {
+    words: Vec<u64>,
+}
+
+impl Model for Marks {
+    ghost use Rattle.std.specs.Prelude.{List, ℕ};
+
+    ghost Value = { List ℕ };
+
+    ghost view = { λ m. m.words.items };
+}
+
+impl Marks {
+    /// No cycle.
+    pub fn new(alloc: Global) -> Marks
+        ensures { result ≡ [] }
+    {
+        Marks {
+            words: Vec::new(alloc),
+        }
+    }
+
+    /// The marks of a cycle.
+    #[inline]
+    pub fn word(&self, t: usize) -> u64
+        requires { t < length self.now }
+        ensures { result ≡ slice_index_or self.now t 0 }
+    {
+        self.words[t]
+    }
+
+    /// Whether a component is marked at a cycle.
+    #[inline]
+    pub fn has(&self, t: usize, k: u32) -> bool
+        requires cycle { t < length self.now }
+        requires component { k < 64 }
+        ensures { result ≡ is_set self.now t k }
+    {
+        has_bit(self.words[t], k)
+    }
+
+    /// The last cycle up to t at which a component is marked.
+    pub fn last(&self, t: usize, k: u32) -> Option<usize>
+        requires cycle { t < length self.now }
+        requires component { k < 64 }
+        ensures { MatchOption result
+            ((u : ℕ) → u ≤ t → is_set self.now u k ≡ false)
+            (λ b. (b ≤ t) × (is_set self.now b k ≡ true) × ((u : ℕ) → b < u → u ≤ t → is_set self.now u k ≡ false)) }
+    {
+        last_in(self.words.as_slice(), t, k)
+    }
+
+    /// No component is marked at a cycle any more.
+    pub fn clear(&mut self, t: usize)
+        requires { t < length self.old }
+        ensures { self.new ≡ slice_set self.old t 0 }
+    {
+        self.words[t] = 0;
+    }
+
+    /// Marks a component at a cycle.
+    pub fn set(&mut self, t: usize, k: u32)
+        requires cycle { t < length self.old }
+        requires component { k < 64 }
+        ensures len { length self.new ≡ length self.old }
+        ensures set { is_set self.new t k ≡ true }
+        ensures others { (u i : ℕ) → (u ≡ t → i ≡ k → ⊥) → is_set self.new u i ≡ is_set self.old u i }
+    {
+        let word = with_bit(self.words[t], k);
+        self.words[t] = word;
+    }
+
+    /// Room for n cycles; nothing is marked at those that come in addition.
+    ///
+    /// # Errors
+    ///
+    /// Where a growth was refused. Nothing is changed.
+    pub fn grow_to(&mut self, n: usize) -> Result<(), AllocError>
+        ensures same { (t k : ℕ) → is_set self.new t k ≡ is_set self.old t k }
+        ensures longer { length self.old ≤ length self.new }
+        ensures ok { OnOk result (n ≤ length self.new) }
+    {
+        let len = self.words.len();
+        if n <= len {
+            return Ok(());
+        }
+        grow_by(&mut self.words, n - len)
+    }
+
+    /// The first n cycles stay.
+    pub fn truncate(&mut self, n: usize)
+        ensures { self.new ≡ take n self.old }
+    {
+        self.words.truncate(n);
+    }
+}
+
+/// Words more, all 0.
+fn grow_by(words: &mut Vec<u64>, m: usize) -> Result<(), AllocError>
+    ensures same { (t k : ℕ) → is_set words.new.items t k ≡ is_set words.old.items t k }
+    ensures longer { length words.old.items ≤ length words.new.items }
+    ensures ok { OnOk result (length words.new.items ≡ length words.old.items + m) }
+{
+    words.reserve(m)?;
+    for _t in 0..m {
+        words.push_reserved(0);
+    }
+    Ok(())
+}
+
+/// Room for n cycles in all lines.
+///
+/// # Errors
+///
+/// Where a growth was refused. All marks stay.
+pub(crate) fn grow_lines(lines: &mut Vec<Marks>, n: usize) -> Result<(), AllocError>
+    ensures len { length lines.new.items ≡ length lines.old.items }
+    ensures same { (t c : ℕ) → is_marked lines.new.items t c ≡ is_marked lines.old.items t c }
+    ensures longer { (w : ℕ) → length (slice_index_or lines.old.items w []) ≤ length (slice_index_or lines.new.items w []) }
+    ensures ok { OnOk result ((w : ℕ) → w < length lines.old.items → n ≤ length (slice_index_or lines.new.items w [])) }
+{
+    for w in 0..lines.len() {
+        lines[w].grow_to(n)?;
+    }
+    Ok(())
+}
+
+/// The first n cycles stay.
+pub(crate) fn cut_lines(lines: &mut Vec<Marks>, n: usize)
+    ensures len { length lines.new.items ≡ length lines.old.items }
+    ensures lines { (w : ℕ) → slice_index_or lines.new.items w [] ≡ take n (slice_index_or lines.old.items w []) }
+{
+    for w in 0..lines.len() {
+        lines[w].truncate(n);
+    }
+}
+
+#[inline]
+pub(crate) fn has_bit(word: u64, k: u32) -> bool
+    requires { k < 64 }
+    ensures { result ≡ is_one word k }
+{
+    (word >> k) & 1 == 1
+}
+
+fn with_bit(word: u64, k: u32) -> u64
+    requires { k < 64 }
+    ensures set { is_one result k ≡ true }
+    ensures others { (i : ℕ) → (i ≡ k → ⊥) → is_one result i ≡ is_one word i }
+{
+    word | (1 << k)
+}
+
+/// The last cycle up to t at which a component is marked.
+fn last_in(words: &[u64], t: usize, k: u32) -> Option<usize>
+    requires cycle { t < length words.now }
+    requires component { k < 64 }
+    ensures { MatchOption result
+        ((u : ℕ) → u ≤ t → is_set words.now u k ≡ false)
+        (λ b. (b ≤ t) × (is_set words.now b k ≡ true) × ((u : ℕ) → b < u → u ≤ t → is_set words.now u k ≡ false)) }
+{
+    let mut at = t + 1;
+    while at > 0 {
+        at -= 1;
+        if has_bit(words[at], k) {
+            return Some(at);
+        }
+    }
+    None
+}
+
+fn has_both(word: u64, other: u64) -> bool
+    ensures { result ≡ false → (k : ℕ) → is_one other k ≡ true → is_one word k ≡ false }
+{
+    word & other != 0
+}
+
+/// Whether a component of a set is marked at a cycle.
+pub(crate) fn has_any(lines: &Vec<Marks>, t: usize, set: &[u64]) -> bool
+    requires { (w : ℕ) → w < length lines.now.items → t < length (slice_index_or lines.now.items w []) }
+    ensures { result ≡ false → (c : ℕ) → c < 64 * length lines.now.items → is_in set.now c ≡ true → is_marked lines.now.items t c ≡ false }
+{
+    for w in 0..lines.len().min(set.len()) {
+        if has_both(lines[w].word(t), set[w]) {
+            return true;
+        }
+    }
+    false
+}
+
+/// No component is marked at a cycle any more.
+fn clear_row(lines: &mut Vec<Marks>, t: usize)
+    requires { (w : ℕ) → w < length lines.old.items → t < length (slice_index_or lines.old.items w []) }
+    ensures len { length lines.new.items ≡ length lines.old.items }
+    ensures lines { (w : ℕ) → slice_index_or lines.new.items w [] ≡ slice_set (slice_index_or lines.old.items w []) t 0 }
+{
+    for w in 0..lines.len() {
+        lines[w].clear(t);
+    }
+}
+
+/// Marks the components of cells at a cycle.
+fn set_row(lines: &mut Vec<Marks>, t: usize, cells: &Cells)
+    requires tall { (w : ℕ) → w < length lines.old.items → t < length (slice_index_or lines.old.items w []) }
+    requires wide { end_of cells.now ≤ 64 * length lines.old.items }
+    ensures len { length lines.new.items ≡ length lines.old.items }
+    ensures tall { (w : ℕ) → length (slice_index_or lines.new.items w []) ≡ length (slice_index_or lines.old.items w []) }
+    ensures marks { (u c : ℕ) → is_marked lines.new.items u c ≡ cond (nat_eq u t) (is_some (found cells.now c) || is_marked lines.old.items u c) (is_marked lines.old.items u c) }
+{
+    for i in 0..cells.len() {
+        let c = cells.component(i);
+        lines[c as usize / 64].set(t, c % 64);
+    }
+}
+
+/// The components of cells, and no others, are marked at a cycle.
+pub(crate) fn mark_row(lines: &mut Vec<Marks>, t: usize, cells: &Cells)
+    requires tall { (w : ℕ) → w < length lines.old.items → t < length (slice_index_or lines.old.items w []) }
+    requires wide { end_of cells.now ≤ 64 * length lines.old.items }
+    ensures len { length lines.new.items ≡ length lines.old.items }
+    ensures tall { (w : ℕ) → length (slice_index_or lines.new.items w []) ≡ length (slice_index_or lines.old.items w []) }
+    ensures marks { (u c : ℕ) → c < 64 * length lines.old.items → is_marked lines.new.items u c ≡ cond (nat_eq u t) (is_some (found cells.now c)) (is_marked lines.old.items u c) }
+{
+    clear_row(lines, t);
+    set_row(lines, t, cells);
+}

@@ -1,0 +1,203 @@
+//! The words of all cells of a table.
+ghost use Rattle.std.specs.Prelude.{◌≡◌, ℕ, ◌+◌, ◌-◌, ◌*◌, ◌^◌, ◌<◌, ◌≤◌, ◌++◌, [], List, true, false, MatchResult, IfOk, OnOk, length, take, replicate, slice_index_or, slice_set};
+ghost use Rattle.change_rows.specs.Cells.{end_of};
+ghost use Rattle.change_rows.specs.Marks.{is_in};
+ghost use Rattle.change_rows.specs.Rows.{Table, words_at, overlaid, repeated, IsWhole};
+
+use crate::cells::Cells;
+use crate::changes::{Changes, begins_in, next_begin, words_in};
+use crate::edit::{Buffers, put};
+use crate::grow::{cut, grow};
+use crate::marks::Marks;
+use crate::run::repeat;
+use std::alloc::{AllocError, Global};
+use std::marker::Model;
+
+/// A list of words for each cell by cycle, then component, kept as what begins at each cycle.
+///
+/// A row that is put is one piece of memory written for its components and one for its words. What
+/// stood in the row behind it is held beside the rows, until another row than that one is put.
+#[derive(Drop)]
+pub struct Rows {
+    changes: Changes,
+    buffers: Buffers,
+}
+
+impl Model for Rows {
+    ghost use Rattle.change_rows.specs.Marks.{is_in};
+    ghost use Rattle.change_rows.specs.Rows.{Table};
+    ghost use Rattle.change_rows.specs.Changes.{cells_in, IsChanges};
+
+    ghost Value = { Table };
+
+    ghost view = { λ r. record { width = r.changes.width; rows = cells_in r.changes.rows.items r.changes.seam r.changes.at r.changes.width } };
+
+    ghost invariant = { λ r. IsChanges r.changes.width r.changes.rows.items r.changes.marks.items r.changes.seam r.changes.at };
+}
+
+impl Rows {
+    /// No row yet, for that many components.
+    ///
+    /// # Errors
+    ///
+    /// Where a growth was refused.
+    pub fn new(alloc: Global, width: u32) -> Result<Rows, AllocError>
+        ensures { IfOk result (λ rows. rows ≡ record { width = width; rows = [] }) }
+    {
+        let marks = no_marks(alloc, width.div_ceil(64))?;
+        Ok(Rows {
+            changes: Changes {
+                width,
+                rows: Vec::new(alloc),
+                marks,
+                seam: Cells::new(alloc),
+                at: 0,
+            },
+            buffers: Buffers::new(alloc),
+        })
+    }
+
+    /// How many rows there are. Each has a cell for each component.
+    pub fn len(&self) -> u32
+        ensures count { result ≡ length self.now.rows }
+        ensures whole { IsWhole self.now }
+    {
+        self.changes.rows.len() as u32
+    }
+
+    /// How many components there are.
+    pub fn width(&self) -> u32
+        ensures { result ≡ self.now.width }
+    {
+        self.changes.width
+    }
+
+    /// The words of a cell; none where there is no such cell.
+    pub fn words(&self, t: u32, c: u32) -> &[u64]
+        ensures { result.now ≡ words_at self.now.rows t c }
+    {
+        if t as usize >= self.changes.rows.len() || c >= self.changes.width {
+            return &[];
+        }
+        words_in(&self.changes, t as usize, c)
+    }
+
+    /// Whether other words may begin at a cell than its component holds a cycle before. Where they
+    /// don't, it holds the same; there may be such cells besides.
+    pub fn begins(&self, t: u32, c: u32) -> bool
+        ensures { result ≡ false → (0 < t) × (words_at self.now.rows t c ≡ words_at self.now.rows (t - 1) c) }
+    {
+        if t == 0 || t as usize >= self.changes.rows.len() || c >= self.changes.width {
+            return true;
+        }
+        begins_in(&self.changes, t as usize, c)
+    }
+
+    /// The first row from t on, and before `to`, at which a component of a set may begin, or else where such rows end.
+    /// The set has a bit for each component, 64 in a word. All rows before that one hold for each
+    /// component of the set what the row before them holds.
+    pub fn next_change(&self, t: u32, to: u32, set: &[u64]) -> u32
+        ensures from { t ≤ result }
+        ensures to { t ≤ to → result ≤ to }
+        ensures steady { (u c : ℕ) → t ≤ u → u < result → c < self.now.width → is_in set.now c ≡ true → (0 < u) × (words_at self.now.rows u c ≡ words_at self.now.rows (u - 1) c) }
+    {
+        if t == 0 {
+            return 0;
+        }
+        let end = to.min(self.changes.rows.len() as u32);
+        next_begin(&self.changes, t, end, set)
+    }
+
+    /// Rows more, whose cells have no words.
+    ///
+    /// # Errors
+    ///
+    /// Where a growth was refused. There are as many rows as before.
+    pub fn grow(&mut self, alloc: Global, m: u32) -> Result<(), AllocError>
+        requires { length self.old.rows + m < 2 ^ 32 }
+        ensures { MatchResult result
+            (λ _. self.new ≡ record { width = self.old.width; rows = self.old.rows ++ replicate m (replicate self.old.width []) })
+            (λ _. self.new ≡ self.old) }
+    {
+        if m == 0 {
+            return Ok(());
+        }
+        grow(alloc, &mut self.changes, &mut self.buffers.row, m as usize)?;
+        Ok(())
+    }
+
+    /// The first n rows stay.
+    pub fn truncate(&mut self, n: u32)
+        ensures { self.new ≡ record { width = self.old.width; rows = take n self.old.rows } }
+    {
+        cut(&mut self.changes, n as usize);
+    }
+
+    /// The components of a set hold from row `from` on and before row `to` what they hold in the row before `from`; all other
+    /// cells hold what they held. The set has a bit for each component, 64 in a word.
+    ///
+    /// # Errors
+    ///
+    /// Where a growth was refused. All cells hold what they held.
+    pub fn repeat(
+        &mut self,
+        alloc: Global,
+        from: u32,
+        to: u32,
+        set: &[u64],
+    ) -> Result<(), AllocError>
+        requires before { 0 < from }
+        requires some { from < to }
+        requires rows { to ≤ length self.old.rows }
+        ensures { MatchResult result
+            (λ _. self.new ≡ record { width = self.old.width; rows = repeated self.old.rows self.old.width from to set.now })
+            (λ _. self.new ≡ self.old) }
+    {
+        repeat(
+            alloc,
+            &mut self.changes,
+            &mut self.buffers,
+            from as usize - 1,
+            to as usize - 1,
+            set,
+        )?;
+        Ok(())
+    }
+
+    /// The cells of a draft hold its words in row t, and all other cells of all rows hold what they held.
+    ///
+    /// # Errors
+    ///
+    /// Where a growth was refused. All cells hold what they held.
+    pub fn put_row(&mut self, alloc: Global, t: u32, draft: &Cells) -> Result<(), AllocError>
+        requires row { t < length self.old.rows }
+        requires components { end_of draft.now ≤ self.old.width }
+        ensures { MatchResult result
+            (λ _. self.new ≡ record { width = self.old.width; rows = slice_set self.old.rows t (overlaid (slice_index_or self.old.rows t []) draft.now) })
+            (λ _. self.new ≡ self.old) }
+    {
+        put(
+            alloc,
+            &mut self.changes,
+            &mut self.buffers,
+            t as usize,
+            draft,
+        )?;
+        Ok(())
+    }
+}
+
+/// Marks of no row, for that many times 64 components.
+fn no_marks(alloc: Global, lines: u32) -> Result<Vec<Marks>, AllocError>
+    ensures len { IfOk result (λ marks. length marks.items ≡ lines) }
+    ensures none { IfOk result (λ marks. (w : ℕ) → slice_index_or marks.items w [] ≡ []) }
+{
+    let mut marks = Vec::with_capacity(alloc, lines as usize)?;
+    for _w in 0..lines {
+        match marks.push(Marks::new(alloc)) {
+            Ok(()) => {}
+            Err(_) => return Err(AllocError),
+        }
+    }
+    Ok(marks)
+}
