@@ -1,4 +1,6 @@
 //! The flat row of the machine, and states as words.
+ghost use Rattle.flat_row.specs.Row.{IsRowOf};
+
 use crate::again::again;
 use crate::projects::project;
 use flat_row::Row;
@@ -10,12 +12,10 @@ use state_words::{decode, encode};
 use std::alloc::{AllocError, Global};
 use std::sync::Arc;
 
-/// The words of the states after a run of flat rows, one after another. Where a step was refused its row is let go.
-fn run_words(alloc: Global, project: &Project) -> Result<Vec<u64>, NoMemory> {
-    let mut row = Row::start(alloc, project)?;
-    for _ in 0..project.horizon() {
-        row.step(project)?;
-    }
+/// The words of a row's states, one after another.
+fn row_words(alloc: Global, project: &Project, row: &Row) -> Result<Vec<u64>, NoMemory>
+    requires { IsRowOf project.now row.now }
+{
     let mut words = Vec::new(alloc);
     let shape = project.shape();
     for c in 0..shape.components() {
@@ -24,6 +24,15 @@ fn run_words(alloc: Global, project: &Project) -> Result<Vec<u64>, NoMemory> {
         }
     }
     Ok(words)
+}
+
+/// The words of the states after a run of flat rows. Where a step was refused its row is let go.
+fn run_words(alloc: Global, project: &Project) -> Result<Vec<u64>, NoMemory> {
+    let mut row = Row::start(alloc, project)?;
+    for _ in 0..project.horizon() {
+        row.step(project)?;
+    }
+    row_words(alloc, project, &row)
 }
 
 /// The words of these states.
