@@ -383,9 +383,7 @@ fn with_workers<H: Hall>(
     let gates = gates(rt.alloc(), &board, 4)?;
     let (answers, ()) = thread::join(
         host,
-        || -> Result<Answers> {
-            answers_and_end(rt, host, load, pass, last_word(project), &board)
-        },
+        || -> Result<Answers> { answers_and_end(rt, host, load, pass, last_word(project), &board) },
         || attended(host, own, gates, &board),
     );
     answers

@@ -220,7 +220,8 @@ fn play_plain(alloc: Global, plain: &mut Plain, step: Step) -> Result<(), Fail> 
 /// Whether a cell is as in the plain table, and goes on where it is said.
 fn is_alike(rows: &Rows, plain: &Plain, t: u32, c: u32) -> bool {
     let wanted = plain.words(t, c);
-    rows.words(t, c) == wanted && (rows.begins(t, c) || plain.words(t.saturating_sub(1), c) == wanted)
+    rows.words(t, c) == wanted
+        && (rows.begins(t, c) || plain.words(t.saturating_sub(1), c) == wanted)
 }
 
 fn compare(rt: &(impl Abort + Eprint), rows: &Rows, plain: &Plain, step: Step) {
