@@ -11,3 +11,4 @@ pub mod Combining
 pub mod Stages
 pub mod Ends
 pub mod Step
+pub mod Looks

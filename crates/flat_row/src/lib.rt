@@ -30,6 +30,7 @@ mod labels;
 mod laws;
 mod leaving;
 mod level;
+mod looks;
 mod marks;
 mod moving;
 mod pairs;
