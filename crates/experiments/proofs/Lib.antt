@@ -1,4 +1,5 @@
 pub mod Adding
+pub mod Counting
 pub mod Draws
 pub mod Firsts
 pub mod Greatest
@@ -7,5 +8,6 @@ pub mod Lines
 pub mod Numbered
 pub mod Refusals
 pub mod Rows
+pub mod Runners
 pub mod Steadying
 pub mod Waits

@@ -12,15 +12,8 @@ use Rattle.run_queries.specs.Answers.{answer}
 use Rattle.experiments.specs.declared.fault.Fault.{Fault}
 use Rattle.experiments.specs.declared.fault.Fault.TheVariants as fault
 use Rattle.experiments.specs.declared.flows.Flows.{Flows}
-use Rattle.experiments.specs.declared.flows.Measure.{Measure}
-use Rattle.experiments.specs.declared.flows.Measure.TheVariants.{Answered, Served}
 use Rattle.experiments.specs.declared.load.Load.{Load}
 use Rattle.experiments.specs.Loads.{loaded, IsLoad}
-
--- the workbench's counter
-abbrev pub counter_of : Measure → Counter
-counter_of Answered = counter.Answered
-counter_of Served = counter.Served
 
 -- what the first n components count at cycle t
 abbrev pub counted_at : Counter → (ℕ → ℕ → Option MachineState) → ℕ → ℕ → ℕ

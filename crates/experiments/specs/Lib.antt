@@ -6,3 +6,4 @@ pub mod Maps
 pub mod Orders
 pub mod Steady
 pub mod Told
+pub mod Runners

@@ -1,32 +1,21 @@
 //! What came of each cycle of a run.
-ghost use Rattle.std.specs.Prelude.{◌≡◌, ◌<◌, ◌≤◌, ◌+◌, IfOk, length, map};
-ghost use Rattle.std.specs.Arc.{arc_value};
-ghost use Rattle.std.specs.Option.{option_copied};
-ghost use Rattle.omega_net.specs.Wires.{below};
+ghost use Rattle.std.specs.Prelude.{◌≡◌, ◌≤◌, ◌+◌, ◌++◌, [], ◌∷◌, IfOk, OnOk, is_some};
+ghost use Rattle.omega_net.specs.Numbers.{components};
+ghost use Rattle.omega_net.specs.Ports.{message_at};
 ghost use Rattle.machine_cells.specs.Run.{run};
 ghost use Rattle.machine_cells.specs.Runs.{state_in};
-ghost use Rattle.monitor_sums.specs.Adding.{sum_below};
-ghost use Rattle.monitor_sums.specs.Counts.{count};
+ghost use Rattle.monitor_sums.specs.Counts.{one};
 ghost use Rattle.monitor_sums.specs.declared.counter.Counter.TheVariants.{Answered, Served};
-ghost use Rattle.experiments.specs.Flows.{counted_at, counter_of, AreFlows, IsFlow};
+ghost use Rattle.experiments.specs.Flows.{counted_at, AreFlows, IsFlow};
+ghost use Rattle.experiments.specs.Runners.{IsAt};
 
-use crate::queues::state_at;
+use crate::runner::Runner;
 use crate::{Fault, Load, project_of};
 use grid_law::NoMemory;
-use machine_cells::{MachineState, from_scratch};
+use omega_net::Reply;
 use page_map::MAX_K;
 use project_book::{MAX_HORIZON, Project};
 use std::alloc::{AllocError, Global};
-use std::sync::Arc;
-
-/// What is counted of a run.
-#[derive(Clone, Copy, PartialEq, Eq, Debug)]
-pub enum Measure {
-    /// References that were answered.
-    Answered,
-    /// Requests that modules served; requests that combined on their way are served as one.
-    Served,
-}
 
 /// For each cycle of a run, from 0 on, how many references were answered, and how many requests served, in the step to it.
 #[derive(Drop)]
@@ -35,51 +24,58 @@ pub struct Flows {
     pub served: Vec<u16>,
 }
 
-/// What a state counts.
-fn count_in(measure: Measure, state: Option<&MachineState>) -> u16
-    ensures count { result ≡ count (counter_of measure) (option_copied state.entry) }
-    ensures few { result ≤ 2 }
+/// 1 for what is so.
+fn one(so: bool) -> u16
+    ensures one { result ≡ one so }
+    ensures few { result ≤ 1 }
 {
-    match (measure, state) {
-        (Measure::Answered, Some(MachineState::Proc(state))) => {
-            let [low, comb] = state.got;
-            u16::from(low.is_some()) + u16::from(comb.is_some())
-        }
-        (Measure::Served, Some(MachineState::Module(state))) => u16::from(state.served),
-        _ => 0,
-    }
+    u16::from(so)
 }
 
-/// What the first components count at a cycle.
-#[tactic(auto, using(crate::proofs::Adding::sum_next))]
-fn counted_at(rows: &[Vec<Arc<MachineState>>], measure: Measure, cycle: u32, count: u32) -> u16
-    requires { count < 10000 }
-    ensures { result ≡ counted_at (counter_of measure) (state_in (map (λ row. map arc_value row.items) rows.now)) count cycle }
+/// How many replies a processor received.
+fn replies_in(got: [Option<Reply>; 2]) -> u16
+    ensures count { result ≡ one (is_some (message_at got 0)) + one (is_some (message_at got 1)) }
+    ensures few { result ≤ 2 }
+{
+    let [low, comb] = got;
+    one(low.is_some()) + one(comb.is_some())
+}
+
+/// How many references were answered in the step to the present cycle.
+fn answered_now(project: &Project, runner: &Runner) -> u16
+    requires { IsAt project.now runner.now }
+    ensures { result ≡ counted_at Answered (state_in (run project.now)) (components project.now.k) runner.now.cycle }
 {
     let mut sum: u16 = 0;
-    for component in 0..count {
-        sum += count_in(measure, state_at(rows, cycle, component));
+    for p in 0..project.shape().lines() {
+        sum += replies_in(runner.row.got(p));
     }
     sum
 }
 
-/// What they count at each cycle up to the last.
-fn flow(
-    alloc: Global,
-    rows: &[Vec<Arc<MachineState>>],
-    measure: Measure,
-    count: u32,
-    last: u32,
-) -> Result<Vec<u16>, AllocError>
-    requires count { count < 10000 }
-    requires short { last < 1000000 }
-    ensures { IfOk result (λ v. v.items ≡ map (counted_at (counter_of measure) (state_in (map (λ row. map arc_value row.items) rows.now)) count) (below (last + 1))) }
+/// How many requests modules served in the step to the present cycle.
+fn served_now(project: &Project, runner: &Runner) -> u16
+    requires { IsAt project.now runner.now }
+    ensures { result ≡ counted_at Served (state_in (run project.now)) (components project.now.k) runner.now.cycle }
 {
-    let mut flow = Vec::new(alloc);
-    for cycle in 0..last + 1 {
-        flow.push(counted_at(rows, measure, cycle, count))?;
+    let mut sum: u16 = 0;
+    for m in 0..project.shape().lines() {
+        sum += one(runner.row.served(m));
     }
-    Ok(flow)
+    sum
+}
+
+impl Flows {
+    /// Adds what came of the step to the present cycle.
+    fn add(&mut self, project: &Project, runner: &Runner) -> Result<(), AllocError>
+        requires { IsAt project.now runner.now }
+        ensures answered { OnOk result (self.new.answered.items ≡ self.old.answered.items ++ counted_at Answered (state_in (run project.now)) (components project.now.k) runner.now.cycle ∷ []) }
+        ensures served { OnOk result (self.new.served.items ≡ self.old.served.items ++ counted_at Served (state_in (run project.now)) (components project.now.k) runner.now.cycle ∷ []) }
+    {
+        self.answered.push(answered_now(project, runner))?;
+        self.served.push(served_now(project, runner))?;
+        Ok(())
+    }
 }
 
 /// What came of each cycle of the run of the project. It simulates the project from cycle 0.
@@ -92,14 +88,17 @@ pub fn flows_of(alloc: Global, project: &Project) -> Result<Flows, NoMemory>
     ensures served { IfOk result (λ f. IsFlow project.now Served f.served.items) }
 {
     project.is_project();
-    let rows = from_scratch(alloc, project)?;
-    let rows = rows.as_slice();
-    let count = project.shape().components();
-    let last = project.horizon();
-    Ok(Flows {
-        answered: flow(alloc, rows, Measure::Answered, count, last)?,
-        served: flow(alloc, rows, Measure::Served, count, last)?,
-    })
+    let mut runner = Runner::start(alloc, project)?;
+    let mut flows = Flows {
+        answered: Vec::new(alloc),
+        served: Vec::new(alloc),
+    };
+    flows.add(project, &runner)?;
+    for _cycle in 0..project.horizon() {
+        runner.step(project)?;
+        flows.add(project, &runner)?;
+    }
+    Ok(flows)
 }
 
 /// What came of each cycle of the run of a load's project.

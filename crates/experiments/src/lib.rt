@@ -27,6 +27,7 @@ mod load;
 mod map;
 mod order;
 mod queues;
+mod runner;
 mod series;
 mod steady;
 mod sweep;
