@@ -7,3 +7,5 @@ pub mod Orders
 pub mod Steady
 pub mod Told
 pub mod Runners
+pub mod Logs
+pub mod Lengths

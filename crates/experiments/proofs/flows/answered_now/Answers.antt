@@ -15,10 +15,9 @@ pub got-requires : goal.got-requires
 got-requires c = subst (λ (k : ℕ). c.loop-p.p < lines k) (sym c.requires.of.size) (omega (arith, c.loop-p-test.true, c.lines-p-end.ensures.value ∙ ap lines c.shape.ensures))
 
 pub loop-p-preserved : goal.loop-p-preserved
-loop-p-preserved c = (
-  answer_next c.args.project.now c.args.runner.now c.requires c.loop-p.p c.loop-p.sum c.replies_in-sum.result (omega (arith, c.loop-p-test.true, c.lines-p-end.ensures.value ∙ ap lines c.shape.ensures)) c.loop-p.invariant.0 c.got.result c.got.ensures c.replies_in-sum.ensures.count,
-  omega (arith, c.loop-p.invariant.1, c.replies_in-sum.ensures.few),
-)
+loop-p-preserved c =
+    (answer_next c.args.project.now c.args.runner.now c.requires c.loop-p.p c.loop-p.sum c.replies_in-sum.result (omega (arith, c.loop-p-test.true, c.lines-p-end.ensures.value ∙ ap lines c.shape.ensures)) c.loop-p.invariant.0 c.got.result c.got.ensures c.replies_in-sum.ensures.count,
+    omega (arith, c.loop-p.invariant.1, c.replies_in-sum.ensures.few))
 
 pub returns : goal.returns
 returns c = answers_all c.args.project.now c.args.runner.now c.requires c.loop-p.p c.loop-p.sum (omega (arith, c.loop-p-test.false, c.loop-p.auto.p-end, c.lines-p-end.ensures.value ∙ ap lines c.shape.ensures)) c.loop-p.invariant.0

@@ -1,17 +1,27 @@
-use Rattle.std.proofs.Common.{◌∙◌, ap, sym, map, Bor, Vec, Global, List}
-use Rattle.std.specs.Arc.{arc_value}
-use Rattle.std.specs.declared.sync.Arc.{Arc}
-use Rattle.std.specs.Prelude.{slice_get, ℕ, Option}
-use Rattle.machine_cells.specs.declared.state.MachineState.{MachineState}
-use Rattle.saturation.specs.Levels.{level}
-use Rattle.experiments.proofs.Rows.{states_of}
+use Rattle.std.proofs.Common.{sym, ◌∙◌, arith}
+use Rattle.machine_cells.specs.Run.{run}
+use Rattle.machine_cells.specs.Runs.{state_in}
+use Rattle.saturation.specs.Towards.{is_full_stage}
+use Rattle.saturation.proofs.Heights.{height_is, one_higher}
 use Rattle.experiments.proofs.map.level_at.Goals as goal
+
+pub loop-level-init : goal.loop-level-init
+loop-level-init c s low high = absurd (omega arith)
+
+pub returns-then-not-is_full_stage : goal.returns-then-not-is_full_stage
+returns-then-not-is_full_stage c =
+    let full = is_full_stage c.args.project.now c.args.kept.now.to.net c.args.kept.now.to.«module» (state_in (run c.args.project.now) c.args.cycle) in
+    sym (height_is full c.args.project.now.k c.loop-level.level (omega (arith, c.k-k.ensures.k)) c.loop-level.invariant
+    (λ _. sym c.is_full_stage.ensures ∙ c.if-not-is_full_stage.true))
+
+pub loop-level-preserved : goal.loop-level-preserved
+loop-level-preserved c =
+    let full = is_full_stage c.args.project.now c.args.kept.now.to.net c.args.kept.now.to.«module» (state_in (run c.args.project.now) c.args.cycle) in
+    one_higher full c.args.project.now.k c.loop-level.level c.loop-level.invariant (sym c.is_full_stage.ensures ∙ c.if-not-is_full_stage.false)
 
 pub returns : goal.returns
 returns c =
-    let now = λ (r : Bor MachineState). r.now in
-    c.level.ensures
-    ∙ ap (λ (S : List MachineState). level c.args.project.now c.args.net c.args.module (slice_get S))
-    (ap (map now) c.as_slice.ensures.value ∙ c.in_ok-row.ensures ∙ ap (map arc_value) c.deref.ensures.value)
-    ∙ ap (λ (at : ℕ → Option MachineState). level c.args.project.now c.args.net c.args.module at)
-    (sym (states_of (λ (r : Vec (Arc MachineState Global) Global). map arc_value r.items) c.args.rows.now c.args.cycle c.index-rows-cycle.result c.requires.within c.index-rows-cycle.is))
+    let full = is_full_stage c.args.project.now c.args.kept.now.to.net c.args.kept.now.to.«module» (state_in (run c.args.project.now) c.args.cycle) in
+    c.k-k.ensures.k
+    ∙ sym (height_is full c.args.project.now.k c.args.project.now.k (omega arith)
+    (λ s low high. c.loop-level.invariant s (omega (arith, c.k-k.ensures.k)) high) (λ lt. absurd (omega arith)))

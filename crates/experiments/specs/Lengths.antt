@@ -1,0 +1,31 @@
+-- What is kept of a run, from which a map is made.
+use Rattle.std.specs.Prelude.{◌≡◌, ℕ, ◌+◌, ◌-◌, List, map, Option}
+use Rattle.std.specs.List.{flat_map}
+use Rattle.omega_net.specs.declared.component.Net.{Net}
+use Rattle.omega_net.specs.Numbers.{lines}
+use Rattle.omega_net.specs.Wires.{below}
+use Rattle.project_book.specs.Project.{Project}
+use Rattle.machine_cells.specs.declared.state.MachineState.{MachineState}
+use Rattle.machine_cells.specs.Run.{run}
+use Rattle.machine_cells.specs.Runs.{state_in}
+use Rattle.experiments.specs.declared.map.Kept.{Kept}
+use Rattle.experiments.specs.Maps.{has_served, length_on, line_towards, queues_at}
+
+-- the length of the queue at a place among those of a stage that lead to module m, in the states of one cycle
+abbrev pub length_there : ℕ → Net → ℕ → (ℕ → Option MachineState) → ℕ → ℕ → ℕ
+length_there k net m at stage place = length_on k net at stage (line_towards k m stage place)
+
+-- the lengths of a stage's queues, of the queues of the last n stages, the last one first, and of all queues at the first t cycles
+abbrev pub stage_now : ℕ → Net → ℕ → (ℕ → Option MachineState) → ℕ → List ℕ
+stage_now k net m at stage = map (length_there k net m at stage) (below (queues_at k stage))
+
+abbrev pub lengths_now : ℕ → Net → ℕ → (ℕ → Option MachineState) → ℕ → List ℕ
+lengths_now k net m at n = flat_map (λ back. stage_now k net m at (k - 1 - back)) (below n)
+
+abbrev pub all_lengths : ℕ → Net → ℕ → (ℕ → ℕ → Option MachineState) → ℕ → List ℕ
+all_lengths k net m at t = flat_map (λ u. lengths_now k net m (at u) k) (below t)
+
+-- what is kept of the first t cycles of a run
+pub record IsKept (P : Project) (t : ℕ) (kept : Kept) : Type 0 where
+  pub lengths : kept.lengths.items ≡ all_lengths P.k kept.to.net kept.to.«module» (state_in (run P)) t
+  pub served : kept.served.items ≡ map (λ u. has_served kept.to.net (state_in (run P) u (lines P.k + kept.to.«module»))) (below t)
