@@ -1,5 +1,5 @@
 //! How long references wait for their replies.
-ghost use Rattle.std.specs.Prelude.{◌≡◌, ◌<◌, ◌≤◌, ◌^◌, ◌+◌, ◌++◌, ℕ, [], IfOk, IfSome, OnOk, Some, length, option_to_list, sum};
+ghost use Rattle.std.specs.Prelude.{◌≡◌, ◌<◌, ◌≤◌, ◌^◌, ◌+◌, ◌++◌, ℕ, [], IfOk, IfSome, OnOk, Some, length, option_to_list, slice_get, sum};
 ghost use Rattle.std.specs.List.{AllZip, flat_map};
 ghost use Rattle.std.specs.Option.{option_copied};
 ghost use Rattle.omega_net.specs.Numbers.{lines};
@@ -142,8 +142,7 @@ impl Log {
     {
         let mut numbers = Vec::new(alloc);
         for came in self.replies.as_slice() {
-            let issue = self.issues.get(came.issue as usize);
-            add(&mut numbers, since(came.cycle, issue))?;
+            add(&mut numbers, wait_of(self.issues.as_slice(), *came))?;
         }
         Ok(numbers)
     }
@@ -157,6 +156,13 @@ fn since(cycle: u32, issue: Option<&Issue>) -> Option<u32>
         Some(issue) if issue.cold => Some(cycle.saturating_sub(issue.cycle)),
         _ => None,
     }
+}
+
+/// The cycles that a reply took, where it is to a reference that isn't hot.
+fn wait_of(issued: &[Issue], came: Came) -> Option<u32>
+    ensures { result ≡ since came.cycle (slice_get issued.now came.issue) }
+{
+    since(came.cycle, issued.get(came.issue as usize))
 }
 
 /// Adds a number, if there is one.

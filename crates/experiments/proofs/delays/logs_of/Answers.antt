@@ -1,4 +1,5 @@
-use Rattle.std.proofs.Common.{◌≡◌, ◌+◌, ◌∙◌, ap, arith}
+use Rattle.std.proofs.Common.{◌≡◌, ◌+◌, ◌∙◌, ℕ, ap, sym, subst, arith}
+use Rattle.experiments.specs.Logs.{AreLogs}
 use Rattle.experiments.proofs.Logging.{cycle_logged, last_logged}
 use Rattle.experiments.proofs.delays.logs_of.Goals as goal
 
@@ -17,3 +18,8 @@ pub returns : goal.returns
 returns c =
     last_logged c.args.project.now c.args.window.from c.loop-cycle._cycle c.loop-cycle.runner.cycle c.args.window.to c.loop-cycle.logs.items c.add_replies-2.new.logs.items
     c.loop-cycle.invariant.cycle (omega (arith, c.loop-cycle-test.false, c.loop-cycle.auto._cycle-end)) c.loop-cycle.invariant.logs (c.in_ok-add_replies-2.ensures c.args.window.to)
+
+pub add_replies-requires-clause-many : goal.add_replies-requires-clause-many
+add_replies-requires-clause-many c =
+    (c.in_ok-add_issues.ensures c.args.window.from
+    (subst (λ (n : ℕ). AreLogs c.args.project.now c.args.window.from n n c.loop-cycle.logs.items) (sym c.loop-cycle.invariant.cycle) c.loop-cycle.invariant.logs)).many

@@ -15,8 +15,8 @@ loop-came-preserved c =
     let none : Came = record { cycle = 0; issue = 0 } in
     let came = c.as_slice-came-items.result.now in
     let same : came ≡ c.args.self.now.replies.items = c.as_slice-came-items.ensures.value in
-    let is : option_to_list c.since.result ≡ wait_of issued (get_or came i none) =
-    ap option_to_list (c.since.ensures ∙ ap (since (get_or came i none).cycle) (c.get-issue.ensures.lookup ∙ ap (λ (xs : List Issue). slice_get xs (get_or came i none).issue) c.deref.ensures.value)) in
-    wait_next issued came i none c.loop-came.numbers.items c.add.new.numbers.items c.since.result (omega (arith, c.loop-came-test.true, c.loop-came.auto.came-index-end, c.as_slice-came-items.ensures.len))
+    let is : option_to_list c.wait_of.result ≡ wait_of issued (get_or came i none) =
+    ap option_to_list (c.wait_of.ensures ∙ ap (λ (xs : List Issue). since (get_or came i none).cycle (slice_get xs (get_or came i none).issue)) c.as_slice.ensures.value) in
+    wait_next issued came i none c.loop-came.numbers.items c.add.new.numbers.items c.wait_of.result (omega (arith, c.loop-came-test.true, c.loop-came.auto.came-index-end, c.as_slice-came-items.ensures.len))
     (c.loop-came.invariant ∙ ap (λ (xs : List Came). flat_map (wait_of issued) (take i xs)) (sym same)) c.in_ok-add.ensures is
     ∙ ap (λ (xs : List Came). flat_map (wait_of issued) (take (i + 1) xs)) same
