@@ -48,6 +48,10 @@ pub end_push : (cells : List Held) (x : Held) → end_of (cells ++ x ∷ []) ≡
 end_push [] x = omega arith
 end_push (y ∷ ys) x = omega (arith, end_push ys x)
 
+pub end_append : (xs ys : List Held) → end_of (xs ++ ys) ≡ max (end_of xs) (end_of ys)
+end_append [] ys = omega arith
+end_append (x ∷ xs) ys = omega (arith, end_append xs ys)
+
 pub ascending_push : (cells : List Held) (x : Held) → IsAscending cells → end_of cells ≤ x.component → IsAscending (cells ++ x ∷ [])
 ascending_push cells x asc h = λ i l. by_place i l (cases_eq i (length cells))
   where

@@ -1,7 +1,9 @@
 pub mod Finding
 pub mod Packing
+pub mod Appending
 pub mod Marking
 pub mod Merging
+pub mod Laying
 pub mod Standing
 pub mod Editing
 pub mod Putting

@@ -260,3 +260,15 @@ longer_cells heads words words1 ws front cell packed g e = ap (cells_of heads) g
 
 pub longer_packed : (heads : List Head) (words words1 ws : List ℕ) → IsPacked heads words → words1 ≡ words ++ ws → length words + length ws < 2 ^ 32 → IsPacked heads words1
 longer_packed heads words words1 ws packed g room = subst (IsPacked heads) (sym g) (extended_packed heads words ws packed room)
+
+-- where a component's cell stands is its place
+pub place_here : (heads : List Head) (words : List ℕ) (c n : ℕ) → IsPacked heads words → n < length heads → (head_at heads 0 n).component ≡ c → IsPlace heads c n
+place_here heads words c n packed h e = record {
+  within = omega arith;
+  below = λ k l. let step : (head_at heads 0 k).component < (head_at heads 0 n).component = pairs_ascend heads words packed k n l h in omega (arith, step, e);
+  above = λ k l m. by_place k l m (cases_eq k n);
+}
+  where
+    by_place : (k : ℕ) → n ≤ k → k < length heads → (k ≡ n) ⊎ (k ≡ n → ⊥) → c ≤ (head_at heads 0 k).component
+    by_place k l m (inl q) = omega (arith, e, ap (λ (j : ℕ). (head_at heads 0 j).component) q)
+    by_place k l m (inr q) = let step : (head_at heads 0 n).component < (head_at heads 0 k).component = pairs_ascend heads words packed n k (omega (arith, l, q)) m in omega (arith, step, e)

@@ -1,32 +1,35 @@
 -- Cells that hold over several rows what they hold before them.
-use Rattle.std.proofs.Common.{◌≡◌, ℕ, zero, suc, ◌+◌, ◌-◌, ◌<◌, ◌≤◌, ◌&&◌, ltb, leb, ◌∙◌, ◌⊎◌, inl, inr, sym, ap, refl, arith, Bool, true, false, cond, is_some, unwrap_or, Option, Some, None, List, [], ◌∷◌, ◌++◌, length, take, get_or}
+use Rattle.std.proofs.Common.{◌≡◌, ℕ, zero, suc, ◌+◌, ◌*◌, ◌<◌, ◌≤◌, ◌&&◌, ltb, leb, ◌∙◌, ◌⊎◌, inl, inr, sym, ap, refl, arith, Bool, true, false, cond, is_some, unwrap_or, Option, Some, None, List, [], ◌∷◌, ◌++◌, length, take, get_or}
 use Rattle.std.specs.Option.{option_or}
 use Rattle.std.proofs.Math.ListN.{set}
-use Rattle.std.proofs.lemmas.Bool.{cases_eq, cases_lt, eq-eqb, ne_eqb, lt-ltb, le-ltb, le-leb, lt-leb}
+use Rattle.std.proofs.lemmas.Bool.{cases_eq, cases_lt, eq-eqb, ne_eqb, lt-ltb, le-ltb, le-leb, lt-leb, false≢true}
 use Rattle.std.proofs.lemmas.List.{get_or-set_same, get_or-set_other, length_push, get_or-take, take_at, take-take, get_or_push}
-use Rattle.change_rows.proofs.Editing.{no_seam, or_none}
-use Rattle.change_rows.specs.Cells.{Held, found, end_of}
+use Rattle.change_rows.proofs.Editing.{no_seam, or_none, pushed_same, pushed_other}
+use Rattle.change_rows.specs.Cells.{Held, no_cell, found, end_of, component_at, IsAscending}
 use Rattle.change_rows.specs.Standing.{standing}
 use Rattle.change_rows.specs.Changes.{row_at, begins_at, IsChanges}
 use Rattle.change_rows.proofs.Standing.{carried}
+use Rattle.change_rows.specs.Marks.{is_marked, is_in}
+use Rattle.change_rows.proofs.Finding.{found_past}
+use Rattle.change_rows.proofs.Laying.{some_low, last_found, rest_found}
 use Rattle.change_rows.proofs.Putting.{alike}
 
 -- the last of the rest is taken
-pub popped : (all rest rest1 : List (List Held)) (row : List Held) → length rest ≤ length all → rest ≡ take (length rest) all → rest ≡ rest1 ++ row ∷ [] → (length rest ≡ length rest1 + 1) × (rest1 ≡ take (length rest1) all) × (row ≡ get_or all (length rest1) [])
-popped all rest rest1 row few e f = (count, front, last)
+pub popped : {X : Type 0} (all rest rest1 : List X) (x d : X) → length rest ≤ length all → rest ≡ take (length rest) all → rest ≡ rest1 ++ x ∷ [] → (length rest ≡ length rest1 + 1) × (rest1 ≡ take (length rest1) all) × (x ≡ get_or all (length rest1) d)
+popped {X} all rest rest1 x d few e f = (count, front, last)
   where
     count : length rest ≡ length rest1 + 1
-    count = ap length f ∙ length_push rest1 row
+    count = ap length f ∙ length_push rest1 x
 
     front : rest1 ≡ take (length rest1) all
     front =
-        sym (take_at rest1 (row ∷ []) (length rest1) refl) ∙ ap (take (length rest1)) (sym f ∙ e)
-        ∙ take-take (length rest1) (length rest) all (omega (arith, ap length f, length_push rest1 row))
+        sym (take_at rest1 (x ∷ []) (length rest1) refl) ∙ ap (take (length rest1)) (sym f ∙ e)
+        ∙ take-take (length rest1) (length rest) all (omega (arith, ap length f, length_push rest1 x))
 
-    last : row ≡ get_or all (length rest1) []
+    last : x ≡ get_or all (length rest1) d
     last =
-        sym (get_or_push rest1 row [] (length rest1) refl) ∙ ap (λ (v : List (List Held)). get_or v (length rest1) []) (sym f ∙ e)
-        ∙ get_or-take (length rest) all (length rest1) [] (omega (arith, ap length f, length_push rest1 row))
+        sym (get_or_push rest1 x d (length rest1) refl) ∙ ap (λ (v : List X). get_or v (length rest1) d) (sym f ∙ e)
+        ∙ get_or-take (length rest) all (length rest1) d (omega (arith, ap length f, length_push rest1 x))
 
 module _ (rows rows1 : List (List Held)) (row : List Held) (before n t : ℕ) (at : t ≡ before + 1 + n) (e : rows1 ≡ set rows t row) where
   other : (u : ℕ) → (u ≡ t → ⊥) → row_at rows1 u ≡ row_at rows u
@@ -35,13 +38,11 @@ module _ (rows rows1 : List (List Held)) (row : List Held) (before n t : ℕ) (a
   same : t < length rows → row_at rows1 t ≡ row
   same here = ap (λ (r : List (List Held)). row_at r t) e ∙ get_or-set_same rows t row [] here
 
-pub step_inside : (all rows rows1 : List (List Held)) (row : List Held) (before n t k : ℕ) → t ≡ before + 1 + n → k ≡ n + 1 → t < length rows → rows1 ≡ set rows t row → row ≡ get_or all n [] → ((u : ℕ) → before + k < u → u ≤ before + length all → row_at rows u ≡ get_or all (u - (before + 1)) []) → (u : ℕ) → before + n < u → u ≤ before + length all → row_at rows1 u ≡ get_or all (u - (before + 1)) []
-step_inside all rows rows1 row before n t k at count here e f inside u low high = by_place (cases_eq u t)
+pub step_inside : (new : ℕ → List Held) (rows rows1 : List (List Held)) (row : List Held) (before m n t k : ℕ) → t ≡ before + 1 + n → k ≡ n + 1 → t < length rows → rows1 ≡ set rows t row → row ≡ new t → ((u : ℕ) → before + k < u → u ≤ before + m → row_at rows u ≡ new u) → (u : ℕ) → before + n < u → u ≤ before + m → row_at rows1 u ≡ new u
+step_inside new rows rows1 row before m n t k at count here e f inside u low high = by_place (cases_eq u t)
   where
-    by_place : (u ≡ t) ⊎ (u ≡ t → ⊥) → row_at rows1 u ≡ get_or all (u - (before + 1)) []
-    by_place (inl q) =
-        let place : n ≡ u - (before + 1) = omega (arith, q, at) in
-        ap (row_at rows1) q ∙ same rows rows1 row before n t at e here ∙ f ∙ ap (λ (j : ℕ). get_or all j []) place
+    by_place : (u ≡ t) ⊎ (u ≡ t → ⊥) → row_at rows1 u ≡ new u
+    by_place (inl q) = ap (row_at rows1) q ∙ same rows rows1 row before n t at e here ∙ f ∙ ap new (sym q)
     by_place (inr ne) = other rows rows1 row before n t at e u ne ∙ inside u (omega (arith, low, ne, at, count)) high
 
 pub step_low : (rows0 rows rows1 : List (List Held)) (row : List Held) (before n t k : ℕ) → t ≡ before + 1 + n → k ≡ n + 1 → rows1 ≡ set rows t row → ((u : ℕ) → u ≤ before + k → row_at rows u ≡ row_at rows0 u) → (u : ℕ) → u ≤ before + n → row_at rows1 u ≡ row_at rows0 u
@@ -88,24 +89,15 @@ module _ (begins begins1 : ℕ → Option (List ℕ)) (before last n : ℕ)
 pub reseam : (width : ℕ) (rows : List (List Held)) (marks : List (List ℕ)) (seam seam1 : List Held) (at at1 : ℕ) → IsChanges width rows marks seam at → end_of seam1 ≤ width → ((at1 < length rows → ⊥) → seam1 ≡ []) → IsChanges width rows marks seam1 at1
 reseam width rows marks seam seam1 at at1 s wide there = record { wide = s.wide; seam_wide = wide; seam_there = there; room = s.room; tall = s.tall; marked = s.marked; short = s.short }
 
--- a seam that could stand at no row but one behind the last doesn't stand
-pub no_seam_left : (seam : List Held) (at n m : ℕ) → n ≡ m → ((at ≡ n → ⊥) → seam ≡ []) → ((at < m → ⊥) → seam ≡ []) → seam ≡ []
-no_seam_left seam at n m e elsewhere there = by_place (cases_eq at n)
-  where
-    by_place : (at ≡ n) ⊎ (at ≡ n → ⊥) → seam ≡ []
-    by_place (inl q) = there (λ l. absurd (omega (arith, q, e, l)))
-    by_place (inr ne) = elsewhere ne
-
 -- a component over the run
-module _ (rows rows1 rest : List (List Held)) (seam seam1 chosen : List Held) (at before last c : ℕ)
+module _ (rows rows1 : List (List Held)) (seam seam1 chosen : List Held) (at before last m c : ℕ)
     (order : before ≤ last)
     (there : last < length rows)
     (none : seam ≡ [])
-    (count : before + length rest ≡ last)
-    (found_rest : (u : ℕ) → before < u → u ≤ last → found (get_or rest (u - (before + 1)) []) c ≡ cond (is_some (found chosen c)) None (found (row_at rows u) c))
-    (inside : (u : ℕ) → before < u → u ≤ before + length rest → row_at rows1 u ≡ get_or rest (u - (before + 1)) [])
+    (count : before + m ≡ last)
+    (inside : (u : ℕ) → before < u → u ≤ last → found (row_at rows1 u) c ≡ cond (is_some (found chosen c)) None (found (row_at rows u) c))
     (low : (u : ℕ) → u ≤ before → row_at rows1 u ≡ row_at rows u)
-    (behind : (u : ℕ) → before + length rest < u → row_at rows1 u ≡ row_at rows u)
+    (behind : (u : ℕ) → before + m < u → row_at rows1 u ≡ row_at rows u)
     (kept : last + 1 < length rows → (w : List ℕ) → found chosen c ≡ Some w → found (row_at rows (last + 1)) c ≡ None → unwrap_or (found seam1 c) (standing (begins_at rows seam at c) before) ≡ standing (begins_at rows seam at c) last)
     (only : found chosen c ≡ None → found seam1 c ≡ None) where
   abbrev olds : ℕ → Option (List ℕ)
@@ -132,7 +124,7 @@ module _ (rows rows1 rest : List (List Held)) (seam seam1 chosen : List Held) (a
   same_high u h = new_is u (λ q. absurd (omega (arith, q, h))) ∙ ap (λ (r : List Held). found r c) (behind u (omega (arith, h, count))) ∙ sym (old_is u)
 
   in_run : (u : ℕ) → before < u → u ≤ last → news u ≡ cond (is_some (found chosen c)) None (found (row_at rows u) c)
-  in_run u l h = new_is u (λ q. absurd (omega (arith, q, h))) ∙ ap (λ (r : List Held). found r c) (inside u l (omega (arith, h, count))) ∙ found_rest u l h
+  in_run u l h = new_is u (λ q. absurd (omega (arith, q, h))) ∙ inside u l h
 
   next_is : (w : List ℕ) → found chosen c ≡ Some w → last + 1 < length rows → (p : Option (List ℕ)) → found (row_at rows (last + 1)) c ≡ p → unwrap_or (news (last + 1)) (standing olds before) ≡ unwrap_or (olds (last + 1)) (standing olds last)
   next_is w e h (Some x) f =
@@ -181,13 +173,62 @@ module _ (rows rows1 rest : List (List Held)) (seam seam1 chosen : List Held) (a
   runs u h = is_run (found chosen c) refl u h
 
 -- the same, once the seam was settled
-pub ran_all : (rows0 rows rows1 rest : List (List Held)) (seam0 seam seam1 seam2 chosen : List Held) (at0 at before last c : ℕ) (member : Bool) → before ≤ last → last < length rows → seam ≡ [] → before + length rest ≡ last → ((u : ℕ) → before < u → u ≤ last → found (get_or rest (u - (before + 1)) []) c ≡ cond (is_some (found chosen c)) None (found (row_at rows u) c)) → ((u : ℕ) → before < u → u ≤ before + length rest → row_at rows1 u ≡ get_or rest (u - (before + 1)) []) → ((u : ℕ) → u ≤ before → row_at rows1 u ≡ row_at rows u) → ((u : ℕ) → before + length rest < u → row_at rows1 u ≡ row_at rows u) → (last + 1 < length rows → (w : List ℕ) → found chosen c ≡ Some w → found (row_at rows (last + 1)) c ≡ None → unwrap_or (found seam1 c) (standing (begins_at rows seam at c) before) ≡ standing (begins_at rows seam at c) last) → (found chosen c ≡ None → found seam1 c ≡ None) → ((d u : ℕ) → begins_at rows seam at d u ≡ begins_at rows0 seam0 at0 d u) → length rows ≡ length rows0 → seam2 ≡ seam1 → is_some (found chosen c) ≡ member → (u : ℕ) → u < length rows0 → standing (begins_at rows1 seam2 (last + 1) c) u ≡ cond (member && (ltb before u && leb u last)) (standing (begins_at rows0 seam0 at0 c) before) (standing (begins_at rows0 seam0 at0 c) u)
-ran_all rows0 rows rows1 rest seam0 seam seam1 seam2 chosen at0 at before last c member order there none count found_rest inside low behind kept only same len g m u h =
+pub ran_all : (rows0 rows rows1 : List (List Held)) (seam0 seam seam1 seam2 chosen : List Held) (at0 at before last m c : ℕ) (member : Bool) → before ≤ last → last < length rows → seam ≡ [] → before + m ≡ last → ((u : ℕ) → before < u → u ≤ last → found (row_at rows1 u) c ≡ cond (is_some (found chosen c)) None (found (row_at rows u) c)) → ((u : ℕ) → u ≤ before → row_at rows1 u ≡ row_at rows u) → ((u : ℕ) → before + m < u → row_at rows1 u ≡ row_at rows u) → (last + 1 < length rows → (w : List ℕ) → found chosen c ≡ Some w → found (row_at rows (last + 1)) c ≡ None → unwrap_or (found seam1 c) (standing (begins_at rows seam at c) before) ≡ standing (begins_at rows seam at c) last) → (found chosen c ≡ None → found seam1 c ≡ None) → ((d u : ℕ) → begins_at rows seam at d u ≡ begins_at rows0 seam0 at0 d u) → length rows ≡ length rows0 → seam2 ≡ seam1 → is_some (found chosen c) ≡ member → (u : ℕ) → u < length rows0 → standing (begins_at rows1 seam2 (last + 1) c) u ≡ cond (member && (ltb before u && leb u last)) (standing (begins_at rows0 seam0 at0 c) before) (standing (begins_at rows0 seam0 at0 c) u)
+ran_all rows0 rows rows1 seam0 seam seam1 seam2 chosen at0 at before last m c member order there none count inside low behind kept only same len g chose u h =
     ap (λ (v : List Held). standing (begins_at rows1 v (last + 1) c) u) g
-    ∙ runs rows rows1 rest seam seam1 chosen at before last c order there none count found_rest inside low behind kept only u (omega (arith, h, len))
-    ∙ ap (λ (b : Bool). cond (b && (ltb before u && leb u last)) (standing (begins_at rows seam at c) before) (standing (begins_at rows seam at c) u)) m
+    ∙ runs rows rows1 seam seam1 chosen at before last m c order there none count inside low behind kept only u (omega (arith, h, len))
+    ∙ ap (λ (b : Bool). cond (b && (ltb before u && leb u last)) (standing (begins_at rows seam at c) before) (standing (begins_at rows seam at c) u)) chose
     ∙ ap (λ (w : List ℕ). cond (member && (ltb before u && leb u last)) w (standing (begins_at rows seam at c) u)) (stood before)
     ∙ ap (λ (w : List ℕ). cond (member && (ltb before u && leb u last)) (standing (begins_at rows0 seam0 at0 c) before) w) (stood u)
   where
     stood : (k : ℕ) → standing (begins_at rows seam at c) k ≡ standing (begins_at rows0 seam0 at0 c) k
     stood k = alike (begins_at rows0 seam0 at0 c) (begins_at rows seam at c) k (λ j _. same c j)
+
+is_none : (o : Option (List ℕ)) → is_some o ≡ false → o ≡ None
+is_none None e = refl
+is_none (Some w) e = absurd (false≢true (sym e))
+
+-- a row in which no component of a set is marked has none of the chosen ones
+pub none_chosen : (width : ℕ) (rows : List (List Held)) (marks : List (List ℕ)) (seam chosen : List Held) (at t : ℕ) (set : List ℕ) → IsChanges width rows marks seam at → end_of chosen ≤ width → ((c : ℕ) → c < width → is_some (found chosen c) ≡ is_in set c) → ((c : ℕ) → c < 64 * length marks → is_in set c ≡ true → is_marked marks t c ≡ false) → (c : ℕ) → found (row_at rows t) c ≡ cond (is_some (found chosen c)) None (found (row_at rows t) c)
+none_chosen width rows marks seam chosen at t set s wide chose none c = by_case (found chosen c) refl
+  where
+    by_case : (o : Option (List ℕ)) → found chosen c ≡ o → found (row_at rows t) c ≡ cond (is_some o) None (found (row_at rows t) c)
+    by_case None e = refl
+    by_case (Some w) e =
+        let small : c < width = omega (arith, wide, some_low chosen c w e) in
+        is_none (found (row_at rows t) c) (sym (s.marked t c small) ∙ none c (omega (arith, small, s.room)) (sym (chose c small) ∙ ap is_some e))
+
+-- a cell of a component that a set has is left out, and another one is kept
+pub left_out : (cells out : List Held) (set : List ℕ) (i c : ℕ) → i < length cells → c ≡ component_at cells i → is_in set c ≡ true → ((d : ℕ) → found out d ≡ cond (is_in set d) None (found (take i cells) d)) → (d : ℕ) → found out d ≡ cond (is_in set d) None (found (take (i + 1) cells) d)
+left_out cells out set i c h e member before d = by_place (cases_eq d (component_at cells i))
+  where
+    by_place : (d ≡ component_at cells i) ⊎ (d ≡ component_at cells i → ⊥) → found out d ≡ cond (is_in set d) None (found (take (i + 1) cells) d)
+    by_place (inl q) =
+        let in_set : is_in set d ≡ true = ap (is_in set) (q ∙ sym e) ∙ member in
+        before d ∙ ap (λ (b : Bool). cond b None (found (take i cells) d)) in_set ∙ sym (ap (λ (b : Bool). cond b None (found (take (i + 1) cells) d)) in_set)
+    by_place (inr n) = before d ∙ ap (cond (is_in set d) None) (sym (rest_found cells i d h n))
+
+pub left_more : (cells out out1 : List Held) (set : List ℕ) (i c : ℕ) (words : List ℕ) → IsAscending cells → i < length cells → c ≡ component_at cells i → words ≡ (get_or cells i no_cell).words → is_in set c ≡ false → end_of out ≤ c → out1 ≡ out ++ record { component = c; words = words } ∷ [] → ((d : ℕ) → found out d ≡ cond (is_in set d) None (found (take i cells) d)) → (d : ℕ) → found out1 d ≡ cond (is_in set d) None (found (take (i + 1) cells) d)
+left_more cells out out1 set i c words asc h e f other low g before d = by_place (cases_eq d c)
+  where
+    by_place : (d ≡ c) ⊎ (d ≡ c → ⊥) → found out1 d ≡ cond (is_in set d) None (found (take (i + 1) cells) d)
+    by_place (inl q) =
+        ap (found out1) q ∙ pushed_same out out1 c words g low ∙ ap Some f ∙ sym (last_found cells i asc h)
+        ∙ ap (found (take (i + 1) cells)) (sym e ∙ sym q)
+        ∙ sym (ap (λ (b : Bool). cond b None (found (take (i + 1) cells) d)) (ap (is_in set) q ∙ other))
+    by_place (inr n) =
+        pushed_other out out1 c words g d n ∙ before d ∙ ap (cond (is_in set d) None) (sym (rest_found cells i d h (λ q. n (q ∙ sym e))))
+
+-- what is left without the components of a set is so without the chosen ones
+pub left_chosen : (width : ℕ) (row chosen out : List Held) (set : List ℕ) → end_of row ≤ width → end_of chosen ≤ width → ((c : ℕ) → c < width → is_some (found chosen c) ≡ is_in set c) → ((c : ℕ) → found out c ≡ cond (is_in set c) None (found row c)) → (c : ℕ) → found out c ≡ cond (is_some (found chosen c)) None (found row c)
+left_chosen width row chosen out set wide chosen_wide chose left c = by_place (cases_lt c width)
+  where
+    same_none : (b : Bool) (o : Option (List ℕ)) → o ≡ None → cond b None o ≡ o
+    same_none true o e = sym e
+    same_none false o e = refl
+
+    by_place : (c < width) ⊎ (width ≤ c) → found out c ≡ cond (is_some (found chosen c)) None (found row c)
+    by_place (inl l) = left c ∙ ap (λ (b : Bool). cond b None (found row c)) (sym (chose c l))
+    by_place (inr l) =
+        let none : found row c ≡ None = found_past row c (omega (arith, l, wide)) in
+        left c ∙ same_none (is_in set c) (found row c) none ∙ sym (same_none (is_some (found chosen c)) (found row c) none)

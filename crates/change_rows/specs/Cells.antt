@@ -26,3 +26,9 @@ component_at cells i = (slice_index_or cells i no_cell).component
 -- each component is above those before it
 abbrev pub IsAscending : List Held → Type 0
 IsAscending cells = (i : ℕ) → i < length cells → end_of (take i cells) ≤ component_at cells i
+
+-- the first n cells are those below component c
+pub record IsSplit (cells : List Held) (c n : ℕ) : Type 0 where
+  pub within : n ≤ length cells
+  pub below : end_of (take n cells) ≤ c
+  pub above : n < length cells → c ≤ component_at cells n

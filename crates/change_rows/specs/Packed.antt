@@ -1,5 +1,5 @@
 -- Cells in two buffers: their heads, and all their words, one cell's after another's.
-use Rattle.std.specs.Prelude.{ℕ, ◌+◌, ◌<◌, ◌≤◌, ◌^◌, List, length, map, slice_index_or, slice_range}
+use Rattle.std.specs.Prelude.{ℕ, ◌+◌, ◌-◌, ◌<◌, ◌≤◌, ◌^◌, List, length, map, slice_index_or, slice_range}
 use Rattle.std.specs.List.{range_with_len}
 use Rattle.change_rows.specs.declared.cells.Head.{Head}
 use Rattle.change_rows.specs.Cells.{Held, IsAscending}
@@ -10,6 +10,10 @@ head_at heads n i = slice_index_or heads i (record { component = 0; from = n })
 
 abbrev pub start_at : List Head → ℕ → ℕ → ℕ
 start_at heads n i = (head_at heads n i).from
+
+-- the head of a cell among other cells: those whose words began at `start` begin at `base`
+abbrev pub moved : ℕ → ℕ → Head → Head
+moved start base head = record { component = head.component; from = head.from - start + base }
 
 -- a cell's words end where those of the next cell begin
 abbrev pub cell_at : List Head → List ℕ → ℕ → Held

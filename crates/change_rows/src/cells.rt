@@ -1,7 +1,8 @@
 //! Some cells of one row.
-ghost use Rattle.std.specs.Prelude.{◌≡◌, ℕ, ◌+◌, ◌<◌, ◌≤◌, ◌++◌, ◌∷◌, [], List, true, IsTrue, ◌↔◌, MatchResult, MatchOption, OnErr, OnOk, IfOk, length, is_some, Some, None, slice_index_or, unwrap_or};
+ghost use Rattle.std.specs.Prelude.{◌≡◌, ℕ, ◌+◌, ◌-◌, ◌^◌, ◌<◌, ◌≤◌, ◌++◌, ◌∷◌, [], List, true, IsTrue, ◌↔◌, MatchResult, MatchOption, OnErr, OnOk, IfOk, length, map, is_some, Some, None, slice_index_or, slice_range, unwrap_or, vec_len, vec_capacity};
 ghost use Rattle.std.specs.Option.{option_copied};
-ghost use Rattle.change_rows.specs.Packed.{head_at, start_at, cell_at, cells_of, IsPacked, IsPlace};
+ghost use Rattle.change_rows.specs.declared.cells.Head.{Head};
+ghost use Rattle.change_rows.specs.Packed.{head_at, start_at, moved, cell_at, cells_of, IsPacked, IsPlace};
 ghost use Rattle.change_rows.specs.Cells.{Held, no_cell, found, end_of, component_at, IsAscending};
 
 use std::alloc::{AllocError, Global};
@@ -113,6 +114,17 @@ impl Cells {
         }
     }
 
+    /// The same, where a guess of the cell's place is tried first.
+    pub(crate) fn words_near(&self, component: u32, guess: usize) -> &[u64]
+        ensures { result.now ≡ unwrap_or (found self.now component) [] }
+    {
+        let (heads, words) = (self.heads.as_slice(), self.words.as_slice());
+        match find_near(heads, words, component, guess) {
+            Some(words) => words,
+            None => &[],
+        }
+    }
+
     /// Whether there is a cell of a component.
     pub fn has(&self, component: u32) -> bool
         ensures { result ≡ is_some (found self.now component) }
@@ -185,6 +197,66 @@ impl Cells {
         }
     }
 
+    /// The cells of others from a place on and before another one, behind all cells.
+    ///
+    /// # Errors
+    ///
+    /// Where a growth was refused, and at 2^32 words. Nothing is changed.
+    pub(crate) fn append(
+        &mut self,
+        others: &Cells,
+        from: usize,
+        to: usize,
+    ) -> Result<(), AllocError>
+        requires order { from ≤ to }
+        requires there { to ≤ length others.now }
+        requires above { from < to → end_of self.old ≤ component_at others.now from }
+        ensures { MatchResult result
+            (λ _. self.new ≡ self.old ++ slice_range others.now from to)
+            (λ _. self.new ≡ self.old) }
+    {
+        if from == to {
+            return Ok(());
+        }
+        let (heads, words) = (others.heads.as_slice(), others.words.as_slice());
+        let start = start_in(heads, words.len(), from);
+        let more = words_between(heads, words, from, to);
+        let base = self.words.len();
+        if more.len() > MOST_WORDS - base {
+            return Err(AllocError);
+        }
+        self.heads.reserve(to - from)?;
+        match self.words.extend_from_slice(more) {
+            Ok(()) => {
+                push_heads(&mut self.heads, heads, from, to, start as u32, base as u32);
+                Ok(())
+            }
+            Err(e) => Err(e),
+        }
+    }
+
+    /// The cells of others, in the buffers that are here where these have room.
+    ///
+    /// # Errors
+    ///
+    /// Where a growth was refused. Nothing is changed.
+    pub(crate) fn assign(&mut self, others: &Cells) -> Result<(), AllocError>
+        ensures { MatchResult result (λ _. self.new ≡ others.now) (λ _. self.new ≡ self.old) }
+    {
+        room_for(&mut self.heads, others.heads.len())?;
+        room_for(&mut self.words, others.words.len())?;
+        self.heads.clear();
+        self.words.clear();
+        match self.heads.extend_from_slice(&others.heads) {
+            Ok(()) => {}
+            Err(e) => return Err(e),
+        }
+        match self.words.extend_from_slice(&others.words) {
+            Ok(()) => Ok(()),
+            Err(e) => Err(e),
+        }
+    }
+
     /// The same cells once more, in buffers of just their size.
     ///
     /// # Errors
@@ -196,6 +268,40 @@ impl Cells {
         let heads = Vec::from_slice(alloc, &self.heads)?;
         let words = Vec::from_slice(alloc, &self.words)?;
         Ok(Cells { heads, words })
+    }
+}
+
+/// Room for n values in all.
+///
+/// # Errors
+///
+/// Where a growth was refused.
+fn room_for<T>(buffer: &mut Vec<T>, n: usize) -> Result<(), AllocError>
+    ensures items { buffer.new.items ≡ buffer.old.items }
+    ensures ok { OnOk result (n ≤ vec_capacity buffer.new) }
+{
+    let len = buffer.len();
+    if n <= len {
+        return Ok(());
+    }
+    buffer.reserve_exact(n - len)
+}
+
+/// The heads from a place on and before another one, behind all heads; their words, which began at `start`, begin at `base`.
+fn push_heads(heads: &mut Vec<Head>, others: &[Head], from: usize, to: usize, start: u32, base: u32)
+    requires room { vec_len heads.old + (to - from) ≤ vec_capacity heads.old }
+    requires order { from ≤ to }
+    requires there { to ≤ length others.now }
+    requires climbs { (k : ℕ) → from ≤ k → k < to → start ≤ start_at others.now 0 k }
+    requires small { (k : ℕ) → from ≤ k → k < to → start_at others.now 0 k - start + base < 2 ^ 32 }
+    ensures { heads.new.items ≡ heads.old.items ++ map (moved start base) (slice_range others.now from to) }
+{
+    for i in from..to {
+        let head = others[i];
+        heads.push_reserved(Head {
+            component: head.component,
+            from: head.from - start + base,
+        });
     }
 }
 
@@ -233,6 +339,18 @@ fn words_in<'a>(heads: &'a [Head], words: &'a [u64], i: usize) -> &'a [u64]
     &words[from..to]
 }
 
+/// The words of the cells from a place on and before another one.
+fn words_between<'a>(heads: &'a [Head], words: &'a [u64], from: usize, to: usize) -> &'a [u64]
+    requires packed { IsPacked heads.now words.now }
+    requires order { from ≤ to }
+    requires there { to ≤ length heads.now }
+    ensures { result.now ≡ slice_range words.now (start_at heads.now (length words.now) from) (start_at heads.now (length words.now) to) }
+{
+    let start = start_in(heads, words.len(), from);
+    let end = start_in(heads, words.len(), to);
+    &words[start..end]
+}
+
 /// The words of a component, where there is a cell of it.
 fn find_in<'a>(heads: &'a [Head], words: &'a [u64], c: u32) -> Option<&'a [u64]>
     requires { IsPacked heads.now words.now }
@@ -243,6 +361,18 @@ fn find_in<'a>(heads: &'a [Head], words: &'a [u64], c: u32) -> Option<&'a [u64]>
         Some(words_in(heads, words, place))
     } else {
         None
+    }
+}
+
+/// The same, where a guess of the cell's place is tried first.
+fn find_near<'a>(heads: &'a [Head], words: &'a [u64], c: u32, guess: usize) -> Option<&'a [u64]>
+    requires { IsPacked heads.now words.now }
+    ensures { option_copied result ≡ found (cells_of heads.now words.now) c }
+{
+    if is_at(heads, guess, c) {
+        Some(words_in(heads, words, guess))
+    } else {
+        find_in(heads, words, c)
     }
 }
 

@@ -1,12 +1,12 @@
 //! Rows of changes, and where a cell's words are found in them.
-ghost use Rattle.std.specs.Prelude.{◌≡◌, ℕ, ◌+◌, ◌*◌, ◌/◌, ◌%◌, ◌<◌, ◌≤◌, [], None, Some, true, false, cond, nat_eq, MatchOption, IfSome, OnOk, length, is_some, unwrap_or, slice_index_or, slice_set};
+ghost use Rattle.std.specs.Prelude.{◌≡◌, ℕ, ◌+◌, ◌*◌, ◌/◌, ◌%◌, ◌<◌, ◌≤◌, [], None, Some, true, false, cond, nat_eq, MatchOption, IfSome, OnOk, OnErr, length, is_some, unwrap_or, slice_index_or, slice_set};
 ghost use Rattle.change_rows.specs.Cells.{found, end_of};
 ghost use Rattle.change_rows.specs.Marks.{is_set, is_marked, is_in};
 ghost use Rattle.change_rows.specs.Standing.{standing};
 ghost use Rattle.change_rows.specs.Changes.{row_at, begins_at, IsChanges};
 
 use crate::cells::Cells;
-use crate::marks::{Marks, has_any, mark_row};
+use crate::marks::{Marks, has_any, mark_row, rank};
 use std::alloc::{AllocError, Global};
 
 /// For each row the cells at which other words begin than a cycle before; all others go on.
@@ -50,17 +50,24 @@ pub(crate) fn words_in(s: &Changes, t: usize, c: u32) -> &[u64]
     let last = last_change(&s.marks, t, c);
     match in_seam(s, last, t, c) {
         Some(words) => words,
-        None => words_from(&s.rows, last, c),
+        None => words_from(&s.rows, &s.marks, last, c),
     }
 }
 
 /// The words of a component in the row of its last change.
-fn words_from<'a>(rows: &'a Vec<Cells>, last: Option<usize>, c: u32) -> &'a [u64]
-    requires { IfSome last (λ b. b < length rows.now.items) }
+fn words_from<'a>(
+    rows: &'a Vec<Cells>,
+    marks: &Vec<Marks>,
+    last: Option<usize>,
+    c: u32,
+) -> &'a [u64]
+    requires row { IfSome last (λ b. b < length rows.now.items) }
+    requires marked { IfSome last (λ b. (w : ℕ) → w < length marks.now.items → b < length (slice_index_or marks.now.items w [])) }
+    requires component { c < 64 * length marks.now.items }
     ensures { MatchOption last (result.now ≡ []) (λ b. result.now ≡ unwrap_or (found (row_at rows.now.items b) c) []) }
 {
     match last {
-        Some(b) => rows[b].words_of(c),
+        Some(b) => rows[b].words_near(c, rank(marks, b, c)),
         None => &[],
     }
 }
@@ -143,4 +150,29 @@ pub(crate) fn put_cells(rows: &mut Vec<Cells>, marks: &mut Vec<Marks>, t: usize,
 {
     mark_row(marks, t, &row);
     rows[t] = row;
+}
+
+/// The same, where a growth may be refused.
+///
+/// # Errors
+///
+/// Where a growth was refused. Nothing is changed.
+pub(crate) fn lay(
+    rows: &mut Vec<Cells>,
+    marks: &mut Vec<Marks>,
+    t: usize,
+    row: &Cells,
+) -> Result<(), AllocError>
+    requires there { t < length rows.old.items }
+    requires tall { (w : ℕ) → w < length marks.old.items → t < length (slice_index_or marks.old.items w []) }
+    requires wide { end_of row.now ≤ 64 * length marks.old.items }
+    ensures rows { OnOk result (rows.new.items ≡ slice_set rows.old.items t row.now) }
+    ensures err { OnErr result ((rows.new.items ≡ rows.old.items) × (marks.new.items ≡ marks.old.items)) }
+    ensures len { length marks.new.items ≡ length marks.old.items }
+    ensures tall { (w : ℕ) → length (slice_index_or marks.new.items w []) ≡ length (slice_index_or marks.old.items w []) }
+    ensures marks { OnOk result ((u c : ℕ) → c < 64 * length marks.old.items → is_marked marks.new.items u c ≡ cond (nat_eq u t) (is_some (found row.now c)) (is_marked marks.old.items u c)) }
+{
+    rows[t].assign(row)?;
+    mark_row(marks, t, row);
+    Ok(())
 }

@@ -199,6 +199,26 @@ pub(crate) fn has_any(lines: &Vec<Marks>, t: usize, set: &[u64]) -> bool
     false
 }
 
+/// How many components below c are marked at a cycle: the place of its cell, where a row has one.
+pub(crate) fn rank(lines: &Vec<Marks>, t: usize, c: u32) -> usize
+    requires tall { (w : ℕ) → w < length lines.now.items → t < length (slice_index_or lines.now.items w []) }
+    requires component { c < 64 * length lines.now.items }
+{
+    let line = c as usize / 64;
+    let mut below = bits_below(lines[line].word(t), c % 64);
+    for w in 0..line {
+        below = below.wrapping_add(lines[w].word(t).count_ones() as usize);
+    }
+    below
+}
+
+/// How many of the first k bits are set.
+fn bits_below(word: u64, k: u32) -> usize
+    requires { k < 64 }
+{
+    (word & !(u64::MAX << k)).count_ones() as usize
+}
+
 /// No component is marked at a cycle any more.
 fn clear_row(lines: &mut Vec<Marks>, t: usize)
     requires { (w : ℕ) → w < length lines.old.items → t < length (slice_index_or lines.old.items w []) }

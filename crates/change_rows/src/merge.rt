@@ -1,33 +1,65 @@
 //! Cells of one row put together from those of two.
-ghost use Rattle.std.specs.Prelude.{◌≡◌, ℕ, ◌<◌, ◌≤◌, ◌^◌, max, [], None, cond, is_some, OnOk, length};
+ghost use Rattle.std.specs.Prelude.{◌≡◌, ℕ, ◌+◌, ◌<◌, ◌≤◌, ◌^◌, ◌↔◌, max, [], None, cond, is_some, IsTrue, OnOk, length, take, unwrap_or};
 ghost use Rattle.std.specs.Option.{option_or};
-ghost use Rattle.change_rows.specs.Cells.{found, end_of, component_at, IsAscending};
+ghost use Rattle.change_rows.specs.Cells.{found, end_of, component_at, IsAscending, IsSplit};
 
 use crate::cells::Cells;
 use std::alloc::AllocError;
-use std::mem;
 
-/// Behind all components.
-const NO_COMPONENT: u64 = u64::MAX;
+/// How many cells are below a component; those before a place are known to be.
+pub(crate) fn seek(cells: &Cells, from: usize, c: u32) -> usize
+    requires there { from ≤ length cells.now }
+    requires low { end_of (take from cells.now) ≤ c }
+    ensures order { from ≤ result }
+    ensures split { IsSplit cells.now c result }
+    ensures ascending { IsAscending cells.now }
+{
+    let mut i = from;
+    while i < cells.len() && cells.component(i) < c {
+        i += 1;
+    }
+    i
+}
 
-/// The component of the cell at a place, or one above all where there is no cell.
-fn next_in(cells: &Cells, i: usize) -> u64
-    ensures there { i < length cells.now → result ≡ component_at cells.now i }
-    ensures small { i < length cells.now → result < 2 ^ 32 }
-    ensures past { length cells.now ≤ i → result ≡ 18446744073709551615 }
-    ensures bound { result ≤ 18446744073709551615 }
-    ensures some { result < 18446744073709551615 → i < length cells.now }
+/// Whether the cell at a place is one of c.
+pub(crate) fn is_at(cells: &Cells, place: usize, c: u32) -> bool
+    ensures is { IsTrue result ↔ ((place < length cells.now) × (component_at cells.now place ≡ c)) }
     ensures len { length cells.now < 2 ^ 64 }
     ensures ascending { IsAscending cells.now }
 {
-    if i < cells.len() {
-        u64::from(cells.component(i))
+    place < cells.len() && cells.component(place) == c
+}
+
+/// The words of a component whose place is known; others where there is no cell of it.
+pub(crate) fn words_or<'a>(cells: &'a Cells, place: usize, c: u32, others: &'a [u64]) -> &'a [u64]
+    requires { IsSplit cells.now c place }
+    ensures { result.now ≡ unwrap_or (found cells.now c) others.now }
+{
+    if is_at(cells, place, c) {
+        cells.words(place)
     } else {
-        NO_COMPONENT
+        others
     }
 }
 
-/// The cells of both; of those with one component the ones of `over`.
+/// How many cells are below a component or of it, where it is known how many are below it.
+pub(crate) fn behind(cells: &Cells, place: usize, c: u32) -> usize
+    requires { IsSplit cells.now c place }
+    ensures there { result ≤ length cells.now }
+    ensures low { end_of (take result cells.now) ≤ c + 1 }
+    ensures high { result < length cells.now → c < component_at cells.now result }
+    ensures here { found (take result cells.now) c ≡ found cells.now c }
+    ensures others { (d : ℕ) → (d ≡ c → ⊥) → found (take result cells.now) d ≡ found (take place cells.now) d }
+{
+    if is_at(cells, place, c) {
+        place + 1
+    } else {
+        place
+    }
+}
+
+/// The cells of both; of those with one component the ones of `over`. Between two cells of `under` those of `over` are
+/// copied at once.
 ///
 /// # Errors
 ///
@@ -36,71 +68,18 @@ pub(crate) fn unite(over: &Cells, under: &Cells, out: &mut Cells) -> Result<(), 
     ensures found { OnOk result ((c : ℕ) → found out.new c ≡ option_or (found over.now c) (found under.now c)) }
     ensures end { OnOk result (end_of out.new ≤ max (end_of over.now) (end_of under.now)) }
 {
-    out.clear();
-    let mut i = 0;
-    let mut j = 0;
-    while i < over.len() || j < under.len() {
-        let a = next_in(over, i);
-        let b = next_in(under, j);
-        if a < b {
-            out.push(a as u32, over.words(i))?;
-            i += 1;
-        } else if b < a {
-            out.push(b as u32, under.words(j))?;
-            j += 1;
-        } else {
-            out.push(a as u32, over.words(i))?;
-            i += 1;
-            j += 1;
-        }
-    }
-    Ok(())
-}
-
-/// The same, where what is put together isn't needed any more: where one of both is empty, the other is taken whole.
-///
-/// # Errors
-///
-/// Where a growth was refused.
-pub(crate) fn join(over: &mut Cells, under: &mut Cells, out: &mut Cells) -> Result<(), AllocError>
-    ensures found { OnOk result ((c : ℕ) → found out.new c ≡ option_or (found over.old c) (found under.old c)) }
-    ensures end { OnOk result (end_of out.new ≤ max (end_of over.old) (end_of under.old)) }
-{
-    if under.is_empty() {
-        mem::swap(over, out);
-        return Ok(());
-    }
     if over.is_empty() {
-        mem::swap(under, out);
-        return Ok(());
+        return out.assign(under);
     }
-    unite(over, under, out)?;
-    Ok(())
-}
-
-/// The cells of which the other ones have none with their component.
-///
-/// # Errors
-///
-/// Where a growth was refused.
-pub(crate) fn without(cells: &Cells, others: &Cells, out: &mut Cells) -> Result<(), AllocError>
-    ensures found { OnOk result ((c : ℕ) → found out.new c ≡ cond (is_some (found others.now c)) None (found cells.now c)) }
-    ensures end { OnOk result (end_of out.new ≤ end_of cells.now) }
-{
     out.clear();
-    let mut i = 0;
-    let mut j = 0;
-    while i < cells.len() {
-        let a = next_in(cells, i);
-        let b = next_in(others, j);
-        if b < a {
-            j += 1;
-        } else if a < b {
-            out.push(a as u32, cells.words(i))?;
-            i += 1;
-        } else {
-            i += 1;
-        }
+    let mut from = 0;
+    for j in 0..under.len() {
+        let c = under.component(j);
+        let place = seek(over, from, c);
+        out.append(over, from, place)?;
+        out.push(c, words_or(over, place, c, under.words(j)))?;
+        from = behind(over, place, c);
     }
+    out.append(over, from, over.len())?;
     Ok(())
 }

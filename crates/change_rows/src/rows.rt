@@ -176,13 +176,8 @@ impl Rows {
             (λ _. self.new ≡ record { width = self.old.width; rows = slice_set self.old.rows t (overlaid (slice_index_or self.old.rows t []) draft.now) })
             (λ _. self.new ≡ self.old) }
     {
-        put(
-            alloc,
-            &mut self.changes,
-            &mut self.buffers,
-            t as usize,
-            draft,
-        )?;
+        let _ = alloc;
+        put(&mut self.changes, &mut self.buffers, t as usize, draft)?;
         Ok(())
     }
 }

@@ -1,33 +1,60 @@
-use Rattle.std.proofs.Common.{◌≡◌, ◌+◌, ◌<◌, ◌≤◌, ◌∙◌, ap, sym, subst, arith, List, length}
+use Rattle.std.proofs.Common.{◌≡◌, ◌+◌, ◌-◌, ◌<◌, ◌∙◌, ap, arith, List, ℕ, Option, None, get_or, length, unwrap_or}
 use Rattle.std.proofs.Math.ListN.{length-set}
 use Rattle.change_rows.specs.Cells.{Held, end_of}
-use Rattle.change_rows.specs.Changes.{IsChanges}
+use Rattle.change_rows.specs.Changes.{row_at}
 use Rattle.change_rows.proofs.Running.{popped, step_inside, step_low, step_behind}
-use Rattle.change_rows.proofs.Editing.{changed}
 use Rattle.change_rows.proofs.run.put_rows.Goals as goal
 
-pub loop-row-preserved : goal.loop-row-preserved
-loop-row-preserved c =
-    let l = c.loop-row in
+pub put_left-requires-clause-row : goal.put_left-requires-clause-row
+put_left-requires-clause-row c =
+    let l = c.loop-left in
+    let i = l.invariant in
+    let p = popped c.args.rest.items l.rest.items c.pop.new.self.items c.in-Some.left None i.few i.rest c.in-Some.ensures.items in
+    omega (arith, c.len.ensures, c.pop.new.self.ok.0, p.0, i.few, i.len, c.requires.rows)
+
+pub put_left-requires-clause-wide : goal.put_left-requires-clause-wide
+put_left-requires-clause-wide c =
+    let l = c.loop-left in
+    let i = l.invariant in
+    let n = length c.pop.new.self.items in
+    let t = c.args.before + 1 + c.len.result in
+    let rows0 = c.args.s.now.rows.items in
+    let p = popped c.args.rest.items l.rest.items c.pop.new.self.items c.in-Some.left None i.few i.rest c.in-Some.ensures.items in
+    let at : t ≡ c.args.before + 1 + n = omega (arith, c.len.ensures, c.pop.new.self.ok.0) in
+    let place : n ≡ t - (c.args.before + 1) = omega (arith, at) in
+    let same : unwrap_or c.in-Some.left (row_at l.s.rows.items t) ≡ unwrap_or (get_or c.args.rest.items (t - (c.args.before + 1)) None) (row_at rows0 t) =
+    ap (λ (o : Option (List Held)). unwrap_or o (row_at l.s.rows.items t)) (p.2 ∙ ap (λ (k : ℕ). get_or c.args.rest.items k None) place) ∙ ap (unwrap_or (get_or c.args.rest.items (t - (c.args.before + 1)) None)) (i.low t (omega (arith, at, p.0)))
+    in
+    omega (arith, ap end_of same, c.requires.wide t (omega (arith, at)) (omega (arith, at, p.0, i.few)), i.width)
+
+pub loop-left-preserved : goal.loop-left-preserved
+loop-left-preserved c =
+    let l = c.loop-left in
     let i = l.invariant in
     let s = l.s in
     let all = c.args.rest.items in
     let n = length c.pop.new.self.items in
-    let row = c.in-Some.row in
-    let p = popped all l.rest.items c.pop.new.self.items row i.few i.rest c.in-Some.ensures.items in
+    let t = c.args.before + 1 + c.len.result in
+    let rows0 = c.args.s.now.rows.items in
+    let row = unwrap_or c.in-Some.left (row_at s.rows.items t) in
+    let rows1 = c.put_left.new.s.rows.items in
+    let e = c.put_left.ensures in
+    let p = popped all l.rest.items c.pop.new.self.items c.in-Some.left None i.few i.rest c.in-Some.ensures.items in
     let count : length l.rest.items ≡ n + 1 = p.0 in
-    let t : c.args.before + 1 + c.len.result ≡ c.args.before + 1 + n = omega (arith, c.len.ensures, c.pop.new.self.ok.0) in
-    let here : c.args.before + 1 + c.len.result < length s.rows.items = omega (arith, t, count, i.few, i.len, c.requires.rows) in
-    let wide : end_of row ≤ s.width = omega (arith, ap end_of p.2, c.requires.wide n, i.width) in
+    let at : t ≡ c.args.before + 1 + n = omega (arith, c.len.ensures, c.pop.new.self.ok.0) in
+    let place : n ≡ t - (c.args.before + 1) = omega (arith, at) in
+    let here : t < length s.rows.items = omega (arith, at, count, i.few, i.len, c.requires.rows) in
+    let same : row ≡ unwrap_or (get_or all (t - (c.args.before + 1)) None) (row_at rows0 t) =
+    ap (λ (o : Option (List Held)). unwrap_or o (row_at s.rows.items t)) (p.2 ∙ ap (λ (k : ℕ). get_or all k None) place) ∙ ap (unwrap_or (get_or all (t - (c.args.before + 1)) None)) (i.low t (omega (arith, at, count)))
+    in
     record {
-      changes = subst (λ (r : List (List Held)). IsChanges s.width r c.put_cells.new.marks.items s.seam s.at) (sym c.put_cells.ensures.rows)
-          (changed s.width s.rows.items s.marks.items c.put_cells.new.marks.items s.seam s.seam s.at s.at (c.args.before + 1 + c.len.result) row i.changes here wide c.put_cells.ensures.len c.put_cells.ensures.tall c.put_cells.ensures.marks i.changes.seam_wide i.changes.seam_there);
-      width = i.width;
-      seam = i.seam;
-      len = ap length c.put_cells.ensures.rows ∙ length-set s.rows.items (c.args.before + 1 + c.len.result) row ∙ i.len;
+      changes = e.changes;
+      width = e.width ∙ i.width;
+      seam = e.seam ∙ i.seam;
+      len = ap length e.rows ∙ length-set s.rows.items t row ∙ i.len;
       few = omega (arith, count, i.few);
       rest = p.1;
-      inside = step_inside all s.rows.items c.put_cells.new.rows.items row c.args.before n (c.args.before + 1 + c.len.result) (length l.rest.items) t count here c.put_cells.ensures.rows p.2 i.inside;
-      low = step_low c.args.s.now.rows.items s.rows.items c.put_cells.new.rows.items row c.args.before n (c.args.before + 1 + c.len.result) (length l.rest.items) t count c.put_cells.ensures.rows i.low;
-      behind = step_behind c.args.s.now.rows.items s.rows.items c.put_cells.new.rows.items row c.args.before (length all) n (c.args.before + 1 + c.len.result) t (omega (arith, count, i.few)) c.put_cells.ensures.rows i.behind;
+      inside = step_inside (λ u. unwrap_or (get_or all (u - (c.args.before + 1)) None) (row_at rows0 u)) s.rows.items rows1 row c.args.before (length all) n t (length l.rest.items) at count here e.rows same i.inside;
+      low = step_low rows0 s.rows.items rows1 row c.args.before n t (length l.rest.items) at count e.rows i.low;
+      behind = step_behind rows0 s.rows.items rows1 row c.args.before (length all) n t at (omega (arith, count, i.few)) e.rows i.behind;
     }
