@@ -47,3 +47,16 @@ cycle_is P R S e f each =
         by_component x has_it =
             ap (state_of S) has_it.is ∙ each x has_it.there
             ∙ ap (λ o. part_of P (moves P (states_of R)) o (state_of R o)) (sym has_it.is)
+
+-- rows whose components are alike are one whole state
+pub states_alike : (R S : Arrays) (k : ℕ) → R.k ≡ k → S.k ≡ k → ((x : Component) → Exists k x → state_of S (Some x) ≡ state_of R (Some x)) → states_of S ≡ states_of R
+states_alike R S k e f each =
+    ap (λ n. map (λ c. state_of S (component_of n c)) (below (components n))) f
+    ∙ map_alike (λ c. state_of S (component_of k c)) (λ c. state_of R (component_of k c)) (components k) here
+    ∙ sym (ap (λ n. map (λ c. state_of R (component_of n c)) (below (components n))) e)
+  where
+    here : (c : ℕ) → c < components k → state_of S (component_of k c) ≡ state_of R (component_of k c)
+    here c lt = by_component (component_has k c lt).0 (component_has k c lt).1
+      where
+        by_component : (x : Component) → Has k c (component_of k c) x → state_of S (component_of k c) ≡ state_of R (component_of k c)
+        by_component x has_it = ap (state_of S) has_it.is ∙ each x has_it.there ∙ ap (state_of R) (sym has_it.is)

@@ -9,6 +9,11 @@ pub mod Starting
 pub mod Carrying
 pub mod Turning
 pub mod Passing
+pub mod Encoding
+pub mod Loading
+pub mod Loaded
+pub mod Placing
+pub mod Remembering
 pub mod Wording
 pub mod Forthing
 pub mod Staying
@@ -28,4 +33,7 @@ pub mod Cycling
 pub mod Whole
 pub mod Siding
 pub mod Planning
+pub mod Still
+pub mod Touching
+pub mod Quiet
 pub mod Stepped

@@ -22,12 +22,12 @@ use Rattle.flat_row.specs.Masks.{has}
 use Rattle.flat_row.specs.Queues.{Queues}
 use Rattle.flat_row.specs.Row.{Network, Buffers, Arrays, queue_of, port_label, turn_of, states_of, wait_of, combined_of, comb_of}
 use Rattle.flat_row.specs.Rows.{if_leaves}
-use Rattle.flat_row.specs.Moving.{leaves_forth, left_back}
+use Rattle.flat_row.specs.Moving.{leaves_forth, left_back, leaves_back}
 use Rattle.flat_row.specs.Combining.{core, at_ports, meeting, splitting, cleared}
 use Rattle.flat_row.specs.Stages.{buffers_in, met_at, returned_at}
 use Rattle.flat_row.specs.Leaving.{AllForth, AllBack, Enters, Receives}
 use Rattle.flat_row.proofs.Turning.{stands}
-use Rattle.flat_row.proofs.Stepping.{leaves_same, leaves_back, comes_in, goes_out, comes_back, goes_back}
+use Rattle.flat_row.proofs.Stepping.{leaves_same, comes_in, goes_out, comes_back, goes_back}
 
 abbrev two_empty : List (ArrayVec Reply)
 two_empty = empty ∷ empty ∷ []

@@ -3,7 +3,7 @@ use Rattle.std.proofs.Common.{◌≡◌, ℕ, zero, suc, ◌+◌, ◌-◌, ◌^�
 use Rattle.std.proofs.Math.Pow.{pow_mono}
 use Rattle.std.proofs.lemmas.List.{get_or_past}
 use Rattle.std.proofs.lemmas.Bool.{cases_lt, eqb-true, eq-eqb}
-use Rattle.std.specs.Prelude.{◌==◌, IsSome, slice_index_or, bit_or}
+use Rattle.std.specs.Prelude.{◌==◌, ◌||◌, not, IsSome, slice_index_or, bit_or}
 use Rattle.arrayvec.specs.ArrayVec.{ArrayVec}
 use Rattle.omega_net.specs.declared.component.Net.{Net}
 use Rattle.omega_net.specs.declared.component.Net.TheVariants.{Low as LowNet, Comb as CombNet}
@@ -19,31 +19,35 @@ use Rattle.ref_proc.specs.declared.state.ProcState.{ProcState}
 use Rattle.project_book.specs.Project.{Project, IsProject, depth_of}
 use Rattle.project_book.specs.declared.edit.Depths.TheVariants.{ModuleQueue}
 use Rattle.machine_cells.specs.declared.state.MachineState.TheVariants.{Proc, Module, Low, Comb}
-use Rattle.machine_cells.specs.Moves.{moves}
+use Rattle.machine_cells.specs.Moves.{Move, moves}
 use Rattle.machine_cells.specs.Cycle.{cycle, part_of, comb_settings, proc_settings, proc_traffic, module_traffic, switch_traffic}
 use Rattle.ref_proc.specs.RefProc.{proc_after}
 use Rattle.mem_module.specs.MemModule.{words_after, answer_to, module_after}
 use Rattle.comb_switch.specs.CombSwitch.{comb_after}
 use Rattle.low_switch.specs.LowSwitch.{low_after}
+use Rattle.flat_row.specs.declared.changed.Changed.{Changed}
 use Rattle.flat_row.specs.declared.decide.Served.{Served}
 use Rattle.flat_row.specs.declared.leaving.Plan.{Plan}
 use Rattle.flat_row.specs.Labels.{switch_label}
-use Rattle.flat_row.specs.Masks.{has}
+use Rattle.flat_row.specs.Masks.{has, IsSetOf}
 use Rattle.flat_row.specs.Queues.{Queues}
 use Rattle.flat_row.specs.declared.acting.Replies.{Replies}
-use Rattle.flat_row.specs.Row.{Rests, out_from, Network, Buffers, Arrays, IsRow, IsRowOf, IsNetworkOf, HasNetwork, HasLevels, level_at, queue_of, state_of, states_of, wait_of, combined_of, low_of, comb_of, proc_of, module_of}
+use Rattle.flat_row.specs.Row.{Rests, out_from, Network, Buffers, Arrays, IsRow, IsRowOf, IsNetworkOf, HasNetwork, HasLevels, level_at, queue_of, state_of, states_of, buffers_at, wait_of, combined_of, low_of, comb_of, proc_of, module_of}
 use Rattle.flat_row.specs.Rows.{if_leaves, network}
-use Rattle.flat_row.specs.Moving.{SameShape, AllWait, AllWaitBack, arrival, leaves_forth, forth_after, left_back, back_after}
+use Rattle.flat_row.specs.Moving.{SameShape, AllWait, AllWaitBack, arrival, leaves_forth, forth_after, left_back, leaves_back, back_after}
 use Rattle.flat_row.specs.Stages.{CombForth, HasBuffers, buffers_in}
 use Rattle.flat_row.specs.Ends.{ShowsOne, Stays, reply_at, got_at, words_of, proc_at, shown_with}
 use Rattle.flat_row.specs.Step.{Serves, OnlyModules, BothServed, Departed, BothActed, Returned, CombsReturned, IsPlan}
+use Rattle.flat_row.specs.Changed.{none_changed, SameOutside, crosses, has_combined, AreTouched}
 use Rattle.flat_row.proofs.Passing.{level_within, shape_twice}
-use Rattle.flat_row.proofs.Processing.{label_small, with_out}
+use Rattle.flat_row.proofs.Processing.{label_small, with_out, neither, not_false}
 use Rattle.flat_row.proofs.Staging.{levels_still, buffers_still}
-use Rattle.flat_row.proofs.Stepping.{leaves_back, low_steps}
+use Rattle.flat_row.proofs.Stepping.{low_steps}
 use Rattle.flat_row.proofs.Mixing.{comb_steps}
 use Rattle.flat_row.proofs.Whole.{enters_it, leaves_it, receives_it, sends_it, module_whole, proc_whole}
-use Rattle.flat_row.proofs.Cycling.{cycle_is}
+use Rattle.flat_row.proofs.Cycling.{cycle_is, states_alike}
+use Rattle.flat_row.proofs.Touching.{none_combined, none_in}
+use Rattle.flat_row.proofs.Quiet.{quiet, own_small, is_quiet, module_stays}
 
 -- as many levels of as many queues, and the same rules
 pub network_still : (k : ℕ) (old new : Network) → HasNetwork k old → SameShape old.requests new.requests → SameShape old.replies new.replies → length new.turns ≡ 6 → length new.back_turns ≡ 6 → HasNetwork k new
@@ -233,6 +237,13 @@ module _ (P : Project) (isp : IsProject P) (R : Arrays) (row : IsRow R) (of : Is
         | inr h ↦ omega (arith, past_labels L1.requests 0 P.k p few (act_low.each 0 (omega arith)) h, past_labels C1.requests 0 P.k p few (act_comb.each 0 (omega arith)) h)
       ]
 
+      -- where nothing has left, a processor shows what it showed
+      unsent : (p : ℕ) → p < 64 → leaves_forth P.k low.forth.leave low.enter 0 p ≡ false → leaves_forth P.k comb.forth.leave comb.enter 0 p ≡ false
+          → shown_with R.procs (level_at L1.requests 0) (level_at C1.requests 0) p ≡ proc_of R p
+      unsent p small low_out comb_out =
+          ap (λ q. with_out (proc_at R.procs p) (out_from (head q) (head (queue_of C1.requests 0 p)))) (low_left p small ∙ ap (λ t. without_head t (queue_of R.low.requests 0 p)) low_out)
+          ∙ ap (λ q. with_out (proc_at R.procs p) (out_from (head (queue_of R.low.requests 0 p)) (head q))) (comb_left p small ∙ ap (λ t. without_head t (queue_of R.comb.requests 0 p)) comb_out)
+
       -- who isn't asked to act stays as it is
       module _ (active : ℕ) (low_set : low_got.set ≡ low.receive) (comb_set : comb_got.set ≡ comb.receive)
           (rests_so : (p : ℕ) → p < 64 → has active p ≡ false → has R.rests p ≡ true) (low_none : (p : ℕ) → p < 64 → has active p ≡ false → has low.receive p ≡ false)
@@ -242,10 +253,7 @@ module _ (P : Project) (isp : IsProject P) (R : Arrays) (row : IsRow R) (of : Is
         -- it shows what it showed
         still_shown : (p : ℕ) → p < 64 → has active p ≡ false → shown_with R.procs (level_at L1.requests 0) (level_at C1.requests 0) p ≡ proc_of R p
         still_shown p small out =
-            ap (λ q. with_out (proc_at R.procs p) (out_from (head q) (head (queue_of C1.requests 0 p))))
-            (low_left p small ∙ ap (λ t. without_head t (queue_of R.low.requests 0 p)) (ap (λ k. leaves_forth k low.forth.leave low.enter 0 p) (sym of.size) ∙ low_stays p small out))
-            ∙ ap (λ q. with_out (proc_at R.procs p) (out_from (head (queue_of R.low.requests 0 p)) (head q)))
-            (comb_left p small ∙ ap (λ t. without_head t (queue_of R.comb.requests 0 p)) (ap (λ k. leaves_forth k comb.forth.leave comb.enter 0 p) (sym of.size) ∙ comb_stays p small out))
+            unsent p small (ap (λ k. leaves_forth k low.forth.leave low.enter 0 p) (sym of.size) ∙ low_stays p small out) (ap (λ k. leaves_forth k comb.forth.leave comb.enter 0 p) (sym of.size) ∙ comb_stays p small out)
 
         pub act_others : (p : ℕ) → p < lines P.k → has active p ≡ false → Stays P low_got comb_got (shown_with R.procs (level_at L1.requests 0) (level_at C1.requests 0) p) p
         act_others p within out =
@@ -438,3 +446,59 @@ module _ (P : Project) (isp : IsProject P) (R : Arrays) (row : IsRow R) (of : Is
 
           pub new_states : states_of new ≡ cycle P (states_of R)
           new_states = cycle_is P R new of.size of.size each_part
+
+          -- outside of where something moves, of marks that fall and of the processors that don't rest, all is as it was
+          module _ (touched : Changed) (are : AreTouched R.k R served low comb touched) (set : ℕ) (awake : IsSetOf (λ p. not (has rests p) || has touched.procs p) set) where
+            abbrev changed : Changed
+            changed = record touched { procs = set }
+
+            here : AreTouched P.k R served low comb touched
+            here = subst (λ k. AreTouched k R served low comb touched) of.size are
+
+            proc_stays : (p : ℕ) → p < lines P.k → has set p ≡ false → proc_of new p ≡ proc_of R p
+            proc_stays p within out =
+                let small : p < 64 = small_line p within in
+                let n = neither (not (has rests p)) (has touched.procs p) (sym (awake p small) ∙ out) in
+                let m = neither (leaves_forth P.k low.forth.leave low.enter 0 p) (leaves_forth P.k comb.forth.leave comb.enter 0 p) (sym (here.procs p small) ∙ n.1) in
+                shown_now p ∙ acted.stay p within (not_false (has rests p) n.0) ∙ unsent p small m.0 m.1
+
+            module_same : (m : ℕ) → m < lines P.k → has touched.modules m ≡ false → module_of new m ≡ module_of R m
+            module_same m within out =
+                let serving = has R.served m || (has served.low m || has served.comb m) in
+                let entering = has low.enter m || has comb.enter m in
+                let leaving = leaves_back low.receive low.back.leave P.k m || leaves_back comb.receive comb.back.leave P.k m in
+                let n = neither (serving || entering) leaving (sym (here.modules m (small_line m within)) ∙ out) in
+                let i = neither serving entering n.0 in
+                let a = neither (has R.served m) (has served.low m || has served.comb m) i.0 in
+                let d = neither (has served.low m) (has served.comb m) a.1 in
+                let e = neither (has low.enter m) (has comb.enter m) i.1 in
+                let l = neither (leaves_back low.receive low.back.leave P.k m) (leaves_back comb.receive comb.back.leave P.k m) n.1 in
+                module_so m within ∙ module_stays P few R low comb low_plan comb_plan served.low served.comb served.turn serves m within a.0 d.0 d.1 e.0 e.1 l.0 l.1
+
+            abbrev M : List Move
+            M = moves P (states_of R)
+
+            low_quiet : (s j : ℕ) → s < P.k → j < half P.k → has (slice_index_or touched.low s 0) (switch_label P.k s j) ≡ false → switch_traffic M P.k LowNet s j ≡ quiet
+            low_quiet s j lt small out = is_quiet P few R LowNet low low_plan s j lt small (sym (here.low_switches s lt (switch_label P.k s j) (own_small P few s j lt small)) ∙ out)
+
+            abbrev own : ℕ → ℕ → ℕ
+            own s j = switch_label P.k s j
+
+            comb_none : (s j : ℕ) → s < P.k → j < half P.k → has (slice_index_or touched.comb s 0) (own s j) ≡ false → (crosses P.k comb s (own s j) ≡ false) × (has_combined (buffers_at R s) (own s j) ≡ false)
+            comb_none s j lt small out = neither (crosses P.k comb s (own s j)) (has_combined (buffers_at R s) (own s j)) (sym (here.comb_switches s lt (own s j) (own_small P few s j lt small)) ∙ out)
+
+            pub outside : SameOutside P.k changed R new
+            outside (ProcAt p) h out = ap Proc (proc_stays p h out)
+            outside (ModuleAt m) h out = ap Module (module_same m h out)
+            outside (Switch LowNet s j) h out =
+                each_part (Switch LowNet s j) h ∙ ap (λ t. Low (low_after (P.k - 1 - s) t (low_of R.k R.low s j))) (low_quiet s j h.0 h.1 out)
+            outside (Switch CombNet s j) h out =
+                let n = comb_none s j h.0 h.1 out in
+                let none : combined_of (buffers_at R s) (switch_label R.k s j) ≡ 0 = ap (λ k. combined_of (buffers_at R s) (switch_label k s j)) of.size ∙ none_combined (buffers_at R s) (own s j) n.1 in
+                each_part (Switch CombNet s j) h
+                ∙ ap (λ t. Comb (comb_after (comb_settings P s) t (comb_of R.k R.comb s j (wait_of (buffers_at R s) (switch_label R.k s j)) (combined_of (buffers_at R s) (switch_label R.k s j)))))
+                (is_quiet P few R CombNet comb comb_plan s j h.0 h.1 n.0)
+                ∙ ap (λ c. Comb (comb_of R.k R.comb s j (wait_of (buffers_at R s) (switch_label R.k s j)) c)) (sym none)
+
+            pub still : none_changed changed ≡ true → states_of new ≡ states_of R
+            still e = states_alike R new P.k of.size of.size (λ x h. outside x h (none_in P.k changed e x))

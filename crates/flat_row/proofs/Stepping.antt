@@ -22,7 +22,7 @@ use Rattle.flat_row.specs.Queues.{Queues}
 use Rattle.flat_row.specs.Shows.{on_line}
 use Rattle.flat_row.specs.Row.{Network, Arrays, queue_of, port_label, turn_of, states_of, low_of}
 use Rattle.flat_row.specs.Rows.{if_leaves, network}
-use Rattle.flat_row.specs.Moving.{sent_to, arrival, leaves_forth, forth_after, left_back, back_after}
+use Rattle.flat_row.specs.Moving.{sent_to, arrival, leaves_forth, forth_after, left_back, leaves_back, back_after}
 use Rattle.flat_row.specs.Leaving.{AllForth, AllBack, Enters, Receives}
 use Rattle.flat_row.proofs.Turning.{request_sent, reply_sent, stands, line_in, line_out, into, out}
 
@@ -34,11 +34,6 @@ leaves_same {T} true q = by_items q.items
     by_items : (xs : List T) → without_head true (record { items = xs }) ≡ without_head (is_some (slice_get xs 0)) (record { items = xs })
     by_items [] = refl
     by_items (x ∷ xs) = refl
-
--- the set that leaves a level of replies: for the processors, or behind a stage
-abbrev pub leaves_back : ℕ → List ℕ → ℕ → ℕ → Bool
-leaves_back received back zero z = has received z
-leaves_back received back (suc s) z = has (slice_index_or back s 0) z
 
 -- what has left a level of replies when all have
 abbrev pub gone_back : {T : Type 0} → ℕ → List ℕ → List (Queues T) → ℕ → ℕ → ArrayVec T

@@ -25,13 +25,13 @@ use Rattle.flat_row.specs.Queues.{Queues}
 use Rattle.flat_row.specs.Shows.{on_line}
 use Rattle.flat_row.specs.Row.{Arrays, IsRow, queue_of, states_of, module_of, proc_of, out_of, out_from}
 use Rattle.flat_row.specs.Rows.{if_leaves, network}
-use Rattle.flat_row.specs.Moving.{leaves_forth}
+use Rattle.flat_row.specs.Moving.{leaves_forth, leaves_back}
 use Rattle.flat_row.specs.Ends.{words_of, proc_at, shown_with, acted}
 use Rattle.flat_row.specs.Leaving.{AllForth, AllBack, Enters, Receives}
 use Rattle.flat_row.specs.Step.{Serves}
 use Rattle.flat_row.proofs.Labelling.{each_is_named}
 use Rattle.flat_row.proofs.Masking.{has_or}
-use Rattle.flat_row.proofs.Stepping.{leaves_same, leaves_back, level_moved, back_moved}
+use Rattle.flat_row.proofs.Stepping.{leaves_same, level_moved, back_moved}
 use Rattle.flat_row.proofs.Finishing.{module_steps, out_left, proc_steps}
 
 -- at processors and at modules a line is its own label

@@ -12,3 +12,6 @@ pub mod Stages
 pub mod Ends
 pub mod Step
 pub mod Looks
+pub mod Changed
+pub mod Parts
+pub mod Loading

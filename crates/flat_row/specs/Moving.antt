@@ -83,6 +83,11 @@ abbrev pub left_back : {T : Type 0} → List ℕ → List (Queues T) → ℕ →
 left_back back levels zero z = queue_of levels 0 z
 left_back back levels (suc s) z = without_head (has (slice_index_or back s 0) z) (queue_of levels (suc s) z)
 
+-- the heads that leave a level of replies: for the processors, or for the stage before it
+abbrev pub leaves_back : ℕ → List ℕ → ℕ → ℕ → Bool
+leaves_back receive back zero z = has receive z
+leaves_back receive back (suc s) z = has (slice_index_or back s 0) z
+
 -- a level of replies where all of the low network that leave behind stages have moved, by the levels before
 abbrev pub back_after : {T : Type 0} → (T → ℕ) → ℕ → List ℕ → List (Queues T) → ℕ → ℕ → ArrayVec T
 back_after route k back levels l z =

@@ -1,7 +1,7 @@
 //! Labels of a set.
 ghost use Rattle.std.specs.Prelude.{◌≡◌, ◌<◌, ◌||◌, not};
 ghost use Rattle.omega_net.specs.Wires.{bit};
-ghost use Rattle.flat_row.specs.Masks.{has, IsSetOf};
+ghost use Rattle.flat_row.specs.Masks.{has, are_empty, IsSetOf};
 
 /// A label's bit in a set.
 pub(crate) fn bit_in(set: u64, x: u32) -> u8
@@ -33,4 +33,11 @@ pub(crate) fn either(first: u64, second: u64) -> u64
     ensures { IsSetOf (λ x. has first x || has second x) result }
 {
     first | second
+}
+
+/// Whether each of these sets is empty.
+pub(crate) fn are_empty(sets: &[u64; 6]) -> bool
+    ensures { result ≡ are_empty sets.now }
+{
+    sets.iter().all(|set| *set == 0)
 }

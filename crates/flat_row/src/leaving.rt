@@ -1,8 +1,10 @@
 //! What leaves in a cycle, decided for a stage at once.
-ghost use Rattle.std.specs.Prelude.{◌≡◌, ◌<◌, length};
+ghost use Rattle.std.specs.Prelude.{◌≡◌, ℕ, ◌<◌, ◌≤◌, length};
 ghost use Rattle.flat_row.specs.Row.{IsRowOf};
 ghost use Rattle.flat_row.specs.Rows.{network};
 ghost use Rattle.flat_row.specs.Shows.{heads_of, room_of};
+ghost use Rattle.flat_row.specs.Masks.{has};
+ghost use Rattle.flat_row.specs.Moving.{leaves_forth, leaves_back};
 ghost use Rattle.flat_row.specs.Leaving.{StageForth, StageBack, AllForth, AllBack, Enters, Receives};
 ghost use Rattle.flat_row.specs.Step.{Serves, IsPlan};
 
@@ -12,7 +14,7 @@ use crate::decide::{
 use crate::marks::Marks;
 use crate::row::Row;
 use crate::side::Side;
-use omega_net::Net;
+use omega_net::{Net, Shape};
 use project_book::Project;
 
 /// What leaves on the stages of a network, and the turns one cycle later, by stage.
@@ -29,6 +31,32 @@ pub(crate) struct Plan {
     pub(crate) back: Stages,
     pub(crate) enter: u64,
     pub(crate) receive: u64,
+}
+
+impl Plan {
+    /// The labels of a level of requests whose heads leave it.
+    pub(crate) fn requests_leave(&self, shape: Shape, level: u32) -> u64
+        requires { level ≤ shape }
+        ensures { (x : ℕ) → has result x ≡ leaves_forth shape self.now.forth.leave self.now.enter level x }
+    {
+        if level == shape.k() {
+            self.enter
+        } else {
+            self.forth.leave[level as usize]
+        }
+    }
+
+    /// The labels of a level of replies whose heads leave it.
+    pub(crate) fn replies_leave(&self, level: u32) -> u64
+        requires { level ≤ 6 }
+        ensures { (x : ℕ) → has result x ≡ leaves_back self.now.receive self.now.back.leave level x }
+    {
+        if level == 0 {
+            self.receive
+        } else {
+            self.back.leave[level as usize - 1]
+        }
+    }
 }
 
 impl Row {

@@ -1,13 +1,16 @@
 //! The queues of a level of a network: one for each label.
-ghost use Rattle.std.specs.Prelude.{◌≡◌, ℕ, ◌<◌, ◌≤◌, length, replicate, slice_set, IfOk, IsSome, Some, true, []};
+ghost use Rattle.std.specs.Prelude.{◌≡◌, ℕ, ◌<◌, ◌≤◌, length, option_to_list, replicate, slice_set, IfOk, IsSome, Some, true, []};
 ghost use Rattle.omega_net.specs.Ports.{queue_at, empty};
 ghost use Rattle.omega_net.specs.Limits.{queue_places};
 ghost use Rattle.omega_net.specs.Queues.{head, without_head, joined};
 ghost use Rattle.flat_row.specs.Masks.{has, IsSetOf};
+ghost use Rattle.state_words.specs.Reading.{after, queue_from};
 ghost use Rattle.flat_row.specs.Queues.{shown_of, shown_at, asks_one, with_queue};
 
 use crate::marks::{Marks, Routed, Rule, shown_by, with_shown};
 use crate::queue::Places;
+use crate::reading::fill;
+use state_words::TwoWords;
 use std::alloc::{AllocError, Global};
 use std::marker::Model;
 
@@ -91,6 +94,17 @@ impl<T: Routed> Level<T> {
         self.marks = with_shown(self.marks, x, shown);
     }
 
+    /// Puts one message, or none, in the place of a queue's.
+    pub fn hold(&mut self, x: u32, message: Option<T>)
+        requires { x < length self.old.queues }
+        ensures { self.new ≡ with_queue self.old x (record { items = option_to_list message }) }
+    {
+        let queue = &mut self.queues[x as usize];
+        queue.hold(message);
+        let shown = shown_by(self.rule, queue.as_slice());
+        self.marks = with_shown(self.marks, x, shown);
+    }
+
     /// Puts another message in the place of one.
     pub fn set(&mut self, x: u32, index: usize, message: T)
         requires there { x < length self.old.queues }
@@ -101,6 +115,22 @@ impl<T: Routed> Level<T> {
         queue.set(index, message);
         let shown = shown_by(self.rule, queue.as_slice());
         self.marks = with_shown(self.marks, x, shown);
+    }
+}
+
+impl<T: Routed + TwoWords> Level<T> {
+    /// Puts the messages that so many pairs of words are in the place of a queue's, and gives the words after them.
+    pub fn put<'a>(&mut self, x: u32, words: &'a [u64], count: usize) -> &'a [u64]
+        requires there { x < length self.old.queues }
+        requires few { count ≤ queue_places }
+        ensures after { self.new ≡ with_queue self.old x (queue_from T.from count words.now) }
+        ensures rest { result.now ≡ after count words.now }
+    {
+        let queue = &mut self.queues[x as usize];
+        let rest = fill(queue, words, count);
+        let shown = shown_by(self.rule, queue.as_slice());
+        self.marks = with_shown(self.marks, x, shown);
+        rest
     }
 }
 

@@ -3,7 +3,7 @@
 //! A line of a network is named by its label, which is the line before a stage rotated right by the stage among k bits
 //! (Lawrie 1975 describes the shuffle that this undoes). A stage then joins the same two labels before and behind it, which
 //! differ in the bit by which it decides. So what a whole stage decides is a few words of 64 bits, a bit for each label. The crate
-//! stands on the definitions of `machine_cells` and on those of the four components.
+//! stands on the definitions of `machine_cells` and on those of the four components, and on the words of `state_words`.
 //!
 //! It promises, so far:
 //! - Lines and labels name each other ([`labels_name`], `specs/Labels.antt`).
@@ -17,6 +17,11 @@
 //! - A [`Row`] is a whole state of a project's machine by levels, labels and sets of labels (`states_of`, `IsRowOf`,
 //!   `specs/Row.antt`). [`Row::start`] is the first states, [`Row::read`] gives a component's state, and [`Row::step`] makes of it the
 //!   row whose states are `cycle` of those before: a third way to say the machine, beside the definition and the components that pull.
+//! - A step answers which components may be other ones than before ([`Changed`], `specs/Changed.antt`): outside of these sets each is
+//!   as it was, and where they are empty the whole machine stands still.
+//! - [`Row::words`] appends the words of a component's state straight from the arrays, as `state_words` writes them (`words_of`), and
+//!   [`Row::load`] puts the state that has these words in the place of a component's, and takes no memory (`CanHold`,
+//!   `specs/Loading.antt`); [`Row::set_memory`] does so with a module's memory. All other states stay.
 //! - A step passes over the processors that rest: those that stay as they are until a reply comes or what they show leaves (`Rests`).
 //!
 //! A step takes no memory but where a module keeps a word more. Where that was refused the row is no state of its machine any more.
@@ -24,20 +29,25 @@
 
 mod acting;
 mod bits;
+mod changed;
 mod combining;
 mod crossing;
 mod decide;
+mod encode;
 mod labels;
 mod laws;
 mod leaving;
 mod level;
+mod load;
 mod looks;
 mod marks;
 mod moving;
 mod pairs;
 mod queue;
 mod read;
+mod reading;
 mod row;
+mod same;
 mod serving;
 mod side;
 mod sides;
@@ -46,6 +56,7 @@ mod step;
 mod waits;
 mod words;
 
+pub use changed::Changed;
 pub use decide::{Decided, Heads, Room, Served, decided_apart, decided_together, served_by_turns};
 pub use labels::{label_of, labels_name, line_of};
 pub use laws::{ends_decide, rows_decide, rows_turn, stages_decide};
@@ -53,3 +64,4 @@ pub use level::Level;
 pub use marks::{Marks, Routed, Rule, Shown, shown_by, with_shown};
 pub use queue::Places;
 pub use row::Row;
+pub use same::can_hold;

@@ -1,5 +1,5 @@
 //! A queue whose places are there from the start.
-ghost use Rattle.std.specs.Prelude.{◌≡◌, ◌<◌, ◌≤◌, [], length, remove, slice_set, slice_index_or, IfOk, IsSome, Some, true};
+ghost use Rattle.std.specs.Prelude.{◌≡◌, ◌<◌, ◌≤◌, [], length, option_to_list, remove, slice_set, slice_index_or, IfOk, IsSome, Some, true};
 ghost use Rattle.omega_net.specs.Limits.{queue_places};
 ghost use Rattle.omega_net.specs.Queues.{head, without_head, joined};
 
@@ -64,6 +64,27 @@ impl<T> Places<T> {
         ensures { self.new ≡ joined self.old (Some message) }
     {
         if self.messages.len() < QUEUE_PLACES {
+            self.messages.push_reserved(message);
+        }
+    }
+
+    /// Takes all messages out.
+    pub fn clear(&mut self)
+    where
+        T: Drop,
+        ensures { self.new.items ≡ [] }
+    {
+        self.messages.clear();
+    }
+
+    /// Puts one message, or none, in the place of those that wait.
+    pub fn hold(&mut self, message: Option<T>)
+    where
+        T: Drop,
+        ensures { self.new.items ≡ option_to_list message }
+    {
+        self.messages.clear();
+        if let Some(message) = message {
             self.messages.push_reserved(message);
         }
     }

@@ -54,7 +54,7 @@ impl Row {
     }
 
     /// A processor's state.
-    fn processor(&self, p: u32) -> ProcState
+    pub(crate) fn processor(&self, p: u32) -> ProcState
         requires { p < lines self.now.k }
         ensures { result ≡ proc_of self.now p }
     {
@@ -76,13 +76,26 @@ impl Row {
     }
 
     /// A module's state.
-    fn memory(&self, alloc: Global, m: u32) -> Result<ModuleState, NoMemory>
+    pub(crate) fn memory(&self, alloc: Global, m: u32) -> Result<ModuleState, NoMemory>
         requires { m < lines self.now.k }
         ensures { IfOk result (λ state. state ≡ module_of self.now m) }
     {
-        let k = self.shape.k() as usize;
         let words = copied(alloc, self.words[m as usize].as_slice())?;
         let words = SharedWords::new(alloc, words)?;
+        self.module_with(alloc, m, words)
+    }
+
+    /// The state of a module that has these words of memory.
+    pub(crate) fn module_with(
+        &self,
+        alloc: Global,
+        m: u32,
+        words: SharedWords,
+    ) -> Result<ModuleState, NoMemory>
+        requires { m < lines self.now.k }
+        ensures { (module_of self.now m).words ≡ words → IfOk result (λ state. state ≡ module_of self.now m) }
+    {
+        let k = self.shape.k() as usize;
         let low_requests = held(alloc, &self.low.requests, k + 1, m)?;
         let comb_requests = held(alloc, &self.comb.requests, k + 1, m)?;
         let low_replies = held(alloc, &self.low.replies, k, m)?;
@@ -161,14 +174,14 @@ pub(crate) fn out_from(low: Option<&Request>, comb: Option<&Request>) -> Option<
 }
 
 /// The network of a module's turn.
-fn net_for(comb: bool) -> Net
+pub(crate) fn net_for(comb: bool) -> Net
     ensures { result ≡ net_for comb }
 {
     if comb { Net::Comb } else { Net::Low }
 }
 
 /// The messages of a queue of a level.
-fn messages_at<T: Routed>(levels: &[Level<T>], level: usize, x: u32) -> &[T]
+pub(crate) fn messages_at<T: Routed>(levels: &[Level<T>], level: usize, x: u32) -> &[T]
     requires there { level < length levels.now }
     requires label { x < length (level_at levels.now level).queues }
     ensures value { result.now ≡ (queue_of levels.now level x).items }
@@ -193,7 +206,7 @@ fn held<T: Routed>(
 }
 
 /// The labels of a switch's ports.
-fn ports(shape: Shape, stage: u32, index: u32) -> (u32, u32)
+pub(crate) fn ports(shape: Shape, stage: u32, index: u32) -> (u32, u32)
     requires stage { stage < shape }
     requires index { index < half shape }
     ensures first { result.0 ≡ port_label shape stage index 0 }

@@ -10,6 +10,7 @@ ghost use Rattle.flat_row.specs.Ends.{AllServed, ShowsOne, Stays, shown_with};
 ghost use Rattle.flat_row.specs.Step.{OnlyModules, NetReceived, NetAnswered, OnlyRequests, OnlyReplies, BothActed, BothServed, Departed, Returned, CombsReturned};
 
 use crate::acting::{Replies, act_all, receive};
+use crate::bits::are_empty;
 use crate::decide::Served;
 use crate::leaving::Plan;
 use crate::moving::{move_back, move_forth};
@@ -78,6 +79,9 @@ impl Side {
         ensures only { OnlyRequests self.old self.new }
         ensures queues { (l z : ℕ) → l < shape + 2 → z < 64 → queue_of self.new.requests l z ≡ forth_after (λ r. r.place.«module») shape leave.now enter self.old.requests l z }
     {
+        if enter == 0 && are_empty(leave) {
+            return;
+        }
         move_forth(&mut self.requests, shape, leave, enter);
     }
 
@@ -88,6 +92,9 @@ impl Side {
         ensures only { OnlyReplies self.old self.new }
         ensures queues { (l z : ℕ) → l < shape + 1 → z < 64 → queue_of self.new.replies l z ≡ back_after (λ y. y.tag.proc) shape leave.now self.old.replies l z }
     {
+        if are_empty(leave) {
+            return;
+        }
         move_back(&mut self.replies, shape, leave);
     }
 
@@ -116,6 +123,9 @@ impl Side {
         ensures only { OnlyReplies self.old self.new }
         ensures crossed { CombBack project.now leave.now self.old.replies self.new.replies waits.old.items waits.new.items }
     {
+        if are_empty(leave) {
+            return;
+        }
         combs_back(&mut self.replies, waits, project, leave);
     }
 

@@ -1,10 +1,12 @@
 //! The row one cycle later.
-ghost use Rattle.std.specs.Prelude.{◌≡◌, ℕ, ◌<◌, true, false, OnOk};
+ghost use Rattle.std.specs.Prelude.{◌≡◌, ℕ, ◌<◌, true, false, IfOk, OnOk};
 ghost use Rattle.machine_cells.specs.Cycle.{cycle};
+ghost use Rattle.flat_row.specs.Changed.{SameOutside, none_changed};
 ghost use Rattle.flat_row.specs.Masks.{has};
 ghost use Rattle.flat_row.specs.Moving.{leaves_forth};
 
 use crate::bits::{either, not_in};
+use crate::changed::Changed;
 use crate::leaving::Plan;
 use crate::row::Row;
 use crate::sides::{act_on, serve_both};
@@ -16,21 +18,25 @@ impl Row {
     ghost use Rattle.flat_row.specs.Row.{IsRowOf, states_of};
 
     /// The row one cycle later: all that moves is decided on the row as it is; then modules serve, requests move, processors
-    /// receive and act, replies move, and modules answer.
+    /// receive and act, replies move, and modules answer. The answer tells which components may be other ones than before; where it is
+    /// empty the machine stands still, in this cycle and in every later one.
     ///
     /// # Errors
     ///
     /// Where a module had to keep a word more and the growth was refused. Then the row is one of the project still, but no state of
     /// its machine: it is to be let go.
-    pub fn step(&mut self, project: &Project) -> Result<(), NoMemory>
+    pub fn step(&mut self, project: &Project) -> Result<Changed, NoMemory>
         requires { IsRowOf project.now self.old }
         ensures states { OnOk result (states_of self.new ≡ cycle project.now (states_of self.old)) }
         ensures of { IsRowOf project.now self.new }
+        ensures outside { IfOk result (λ changed. SameOutside project.now.k changed self.old self.new) }
+        ensures still { IfOk result (λ changed. none_changed changed ≡ true → states_of self.new ≡ states_of self.old) }
     {
         project.is_project();
         let served = self.serving(project);
         let low = self.plan(project, Net::Low);
         let comb = self.plan(project, Net::Comb);
+        let touched = self.touched(&served, &low, &comb);
         let shape = self.shape;
         serve_both(
             shape,
@@ -66,7 +72,10 @@ impl Row {
         self.module_turns = served.turn;
         self.served = served.low | served.comb;
         self.rests = rests;
-        Ok(())
+        Ok(Changed {
+            procs: either(not_in(rests), touched.procs),
+            ..touched
+        })
     }
 }
 
@@ -78,22 +87,11 @@ fn active(shape: Shape, rests: u64, low: &Plan, comb: &Plan) -> u64
     ensures low_leave { (p : ℕ) → p < 64 → has result p ≡ false → leaves_forth shape low.now.forth.leave low.now.enter 0 p ≡ false }
     ensures comb_leave { (p : ℕ) → p < 64 → has result p ≡ false → leaves_forth shape comb.now.forth.leave comb.now.enter 0 p ≡ false }
 {
-    let low_leave = leaving_first(shape, low);
-    let comb_leave = leaving_first(shape, comb);
+    let low_leave = low.requests_leave(shape, 0);
+    let comb_leave = comb.requests_leave(shape, 0);
     let leave = either(low_leave, comb_leave);
     let asked = either(low.receive, comb.receive);
     let woken = either(asked, leave);
     let awake = not_in(rests);
     either(awake, woken)
-}
-
-/// The processors whose requests leave on a network.
-fn leaving_first(shape: Shape, plan: &Plan) -> u64
-    ensures { (p : ℕ) → has result p ≡ leaves_forth shape plan.now.forth.leave plan.now.enter 0 p }
-{
-    if shape.k() == 0 {
-        plan.enter
-    } else {
-        plan.forth.leave[0]
-    }
 }

@@ -24,10 +24,10 @@ pub returns-clause-low_leave : goal.returns-clause-low_leave
 returns-clause-low_leave c = λ p small out.
     let n = neither (has c.not_in-awake.result p) (has c.either-woken.result p) (sym (c.either.ensures p small) ∙ out) in
     let m = neither (has c.either-asked.result p) (has c.either-leave.result p) (sym (c.either-woken.ensures p small) ∙ n.1) in
-    sym (c.leaving_first-low_leave.ensures p) ∙ (neither (has c.leaving_first-low_leave.result p) (has c.leaving_first-comb_leave.result p) (sym (c.either-leave.ensures p small) ∙ m.1)).0
+    sym (c.requests_leave-low_leave.ensures p) ∙ (neither (has c.requests_leave-low_leave.result p) (has c.requests_leave-comb_leave.result p) (sym (c.either-leave.ensures p small) ∙ m.1)).0
 
 pub returns-clause-comb_leave : goal.returns-clause-comb_leave
 returns-clause-comb_leave c = λ p small out.
     let n = neither (has c.not_in-awake.result p) (has c.either-woken.result p) (sym (c.either.ensures p small) ∙ out) in
     let m = neither (has c.either-asked.result p) (has c.either-leave.result p) (sym (c.either-woken.ensures p small) ∙ n.1) in
-    sym (c.leaving_first-comb_leave.ensures p) ∙ (neither (has c.leaving_first-low_leave.result p) (has c.leaving_first-comb_leave.result p) (sym (c.either-leave.ensures p small) ∙ m.1)).1
+    sym (c.requests_leave-comb_leave.ensures p) ∙ (neither (has c.requests_leave-low_leave.result p) (has c.requests_leave-comb_leave.result p) (sym (c.either-leave.ensures p small) ∙ m.1)).1

@@ -3,6 +3,7 @@ use Rattle.omega_net.specs.Numbers.{lines}
 use Rattle.flat_row.specs.Row.{Network, HasLevels}
 use Rattle.flat_row.specs.Moving.{AllWaitBack, back_after}
 use Rattle.flat_row.proofs.Siding.{replies_only}
+use Rattle.flat_row.proofs.Still.{back_same}
 use Rattle.flat_row.proofs.side.Side.back.Goals as goal
 
 pub move_back-requires-clause-levels : goal.move_back-requires-clause-levels
@@ -17,3 +18,7 @@ returns-clause-only c = replies_only c.args.self.now c.self.inside.requests.item
 pub returns-clause-queues : goal.returns-clause-queues
 returns-clause-queues c = λ l z within small.
     c.move_back.ensures.queues l z within small ∙ ap (λ (n : Network). back_after (λ y. y.tag.proc) c.args.shape c.args.leave.now n.replies l z) c.self.view_is
+
+pub returns-then-are_empty-clause-queues : goal.returns-then-are_empty-clause-queues
+returns-then-are_empty-clause-queues c = λ l z within small.
+    sym (back_same c.args.shape c.args.leave.now (sym c.are_empty.ensures ∙ c.if-are_empty.true) (λ y. y.tag.proc) c.args.self.now.replies l z)
