@@ -3,9 +3,12 @@ pub mod Counting
 pub mod Draws
 pub mod Firsts
 pub mod Greatest
+pub mod Keeping
 pub mod LevelFirsts
 pub mod Lines
+pub mod Logging
 pub mod Numbered
+pub mod Places
 pub mod Refusals
 pub mod Rows
 pub mod Runners

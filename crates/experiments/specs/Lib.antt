@@ -1,7 +1,9 @@
 pub mod Delays
 pub mod Flows
 pub mod Lanes
+pub mod Lengths
 pub mod Loads
+pub mod Logs
 pub mod Maps
 pub mod Orders
 pub mod Steady

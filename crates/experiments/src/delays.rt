@@ -1,23 +1,24 @@
 //! How long references wait for their replies.
-ghost use Rattle.std.specs.Prelude.{◌≡◌, ◌<◌, ◌≤◌, ◌^◌, ◌+◌, ◌++◌, IfOk, IfSome, OnOk, map, option_to_list, sum};
-ghost use Rattle.std.specs.List.{AllZip};
-ghost use Rattle.std.specs.Arc.{arc_value};
+ghost use Rattle.std.specs.Prelude.{◌≡◌, ◌<◌, ◌≤◌, ◌^◌, ◌+◌, ◌++◌, ℕ, [], IfOk, IfSome, OnOk, Some, length, option_to_list, slice_get, sum};
+ghost use Rattle.std.specs.List.{AllZip, flat_map};
 ghost use Rattle.std.specs.Option.{option_copied};
+ghost use Rattle.omega_net.specs.Numbers.{lines};
+ghost use Rattle.machine_cells.specs.declared.state.MachineState.TheVariants.{Proc};
 ghost use Rattle.machine_cells.specs.Run.{run};
 ghost use Rattle.machine_cells.specs.Runs.{state_in};
-ghost use Rattle.experiments.specs.Delays.{entry_of, is_cold, issue_at, issues, since, waited, waits_in, waits_of, waits, IsWaitedBy};
+ghost use Rattle.flat_row.specs.Row.{proc_of};
+ghost use Rattle.experiments.specs.Delays.{is_cold, since, waits, IsWaitedBy};
+ghost use Rattle.experiments.specs.Logs.{came_at, came_in, issued_now, wait_of, AreLogs};
+ghost use Rattle.experiments.specs.Runners.{IsAt};
 
-use crate::queues::state_at;
+use crate::runner::Runner;
 use crate::{Fault, HOT_ADDRESS, Load, Window, project_of};
 use grid_law::NoMemory;
-use machine_cells::{MachineState, from_scratch};
 use omega_net::{Reply, ScriptEntry};
 use page_map::MAX_K;
 use project_book::{MAX_HORIZON, Project};
 use rayon::prelude::*;
-use run_queries::has_sent;
 use std::alloc::{AllocError, Global};
-use std::sync::Arc;
 use std::thread::Threads;
 
 /// How many replies came to references that aren't hot, and how many cycles they took in all.
@@ -48,60 +49,98 @@ fn is_cold(entry: Option<ScriptEntry>) -> bool
     }
 }
 
-/// The entry of its script that a processor in this state has come to.
-fn entry_of(project: &Project, proc: u32, state: Option<&MachineState>) -> Option<ScriptEntry>
-    ensures { result ≡ entry_of project.now proc (option_copied state.entry) }
-{
-    match state {
-        Some(MachineState::Proc(state)) => project.entry(proc, u32::from(state.index)),
-        _ => None,
-    }
-}
-
-/// The reference that a processor issued in the step to a cycle, if it did.
-fn issue_at(
-    project: &Project,
-    rows: &[Vec<Arc<MachineState>>],
-    proc: u32,
+/// A reply that a processor received.
+#[derive(Clone, Copy)]
+struct Came {
+    /// The cycle whose state shows it.
     cycle: u32,
-) -> Option<Issue>
-    ensures { result ≡ issue_at project.now (state_in (map (λ row. map arc_value row.items) rows.now)) proc cycle }
-{
-    if !has_sent(state_at(rows, cycle, proc)) {
-        return None;
-    }
-    let before = state_at(rows, cycle.saturating_sub(1), proc);
-    Some(Issue {
-        cycle,
-        cold: is_cold(entry_of(project, proc, before)),
-    })
+    /// The number of the reference's issue.
+    issue: u32,
 }
 
-/// Adds a reference, if one was issued.
-fn add_issue(issues: &mut Vec<Issue>, issue: Option<Issue>) -> Result<(), AllocError>
-    ensures { OnOk result (issues.new.items ≡ issues.old.items ++ option_to_list issue) }
-{
-    if let Some(issue) = issue {
-        issues.push(issue)?;
-    }
-    Ok(())
+/// What a processor issued and received in the cycles so far.
+#[derive(Drop)]
+struct Log {
+    /// The entry that it had come to at the last of these cycles.
+    index: u16,
+    /// The references that it issued.
+    issues: Vec<Issue>,
+    /// The replies that it received from the first cycle of a window on.
+    replies: Vec<Came>,
 }
 
-/// The references that a processor issued before a cycle, in order of their issue.
-fn issues(
-    alloc: Global,
-    project: &Project,
-    rows: &[Vec<Arc<MachineState>>],
-    proc: u32,
-    before: u32,
-) -> Result<Vec<Issue>, AllocError>
-    ensures { IfOk result (λ v. v.items ≡ issues project.now (state_in (map (λ row. map arc_value row.items) rows.now)) proc before) }
-{
-    let mut issues = Vec::new(alloc);
-    for cycle in 0..before {
-        add_issue(&mut issues, issue_at(project, rows, proc, cycle))?;
+impl Log {
+    /// Before the first cycle.
+    fn new(alloc: Global, runner: &Runner, proc: u32) -> Log
+        requires { proc < lines runner.now.row.k }
+        ensures index { result.index ≡ (proc_of runner.now.row proc).index }
+        ensures issues { result.issues.items ≡ [] }
+        ensures replies { result.replies.items ≡ [] }
+    {
+        Log {
+            index: runner.row.index(proc),
+            issues: Vec::new(alloc),
+            replies: Vec::new(alloc),
+        }
     }
-    Ok(issues)
+
+    /// Adds the reference that the processor issued in the step to the present cycle, if it did.
+    fn add_issue(&mut self, project: &Project, runner: &Runner, proc: u32) -> Result<(), AllocError>
+        requires { proc < lines runner.now.row.k }
+        ensures index { OnOk result (self.new.index ≡ (proc_of runner.now.row proc).index) }
+        ensures issues { OnOk result (self.new.issues.items ≡ self.old.issues.items ++ option_to_list (issued_now project.now proc self.old.index runner.now.cycle (proc_of runner.now.row proc))) }
+        ensures replies { self.new.replies ≡ self.old.replies }
+    {
+        let before = self.index;
+        self.index = runner.row.index(proc);
+        if runner.row.sent(proc) {
+            let entry = project.entry(proc, u32::from(before));
+            self.issues.push(Issue {
+                cycle: runner.cycle,
+                cold: is_cold(entry),
+            })?;
+        }
+        Ok(())
+    }
+
+    /// Adds a reply, if there is one.
+    fn add_reply(&mut self, cycle: u32, reply: Option<Reply>) -> Result<(), AllocError>
+        ensures replies { OnOk result (self.new.replies.items ≡ self.old.replies.items ++ option_to_list (came_at cycle reply)) }
+        ensures index { self.new.index ≡ self.old.index }
+        ensures issues { self.new.issues ≡ self.old.issues }
+    {
+        if let Some(reply) = reply {
+            self.replies.push(Came {
+                cycle,
+                issue: reply.tag.issue,
+            })?;
+        }
+        Ok(())
+    }
+
+    /// Adds the replies that the processor received in the step to the present cycle.
+    fn add_replies(&mut self, runner: &Runner, proc: u32) -> Result<(), AllocError>
+        requires { proc < lines runner.now.row.k }
+        ensures replies { OnOk result (self.new.replies.items ≡ self.old.replies.items ++ came_in runner.now.cycle (Some (Proc (proc_of runner.now.row proc)))) }
+        ensures index { self.new.index ≡ self.old.index }
+        ensures issues { self.new.issues ≡ self.old.issues }
+    {
+        let [low, comb] = runner.row.got(proc);
+        self.add_reply(runner.cycle, low)?;
+        self.add_reply(runner.cycle, comb)?;
+        Ok(())
+    }
+
+    /// How many cycles each of the replies took that came to references that aren't hot.
+    fn waits(&self, alloc: Global) -> Result<Vec<u32>, AllocError>
+        ensures { IfOk result (λ v. v.items ≡ flat_map (wait_of self.now.issues.items) self.now.replies.items) }
+    {
+        let mut numbers = Vec::new(alloc);
+        for came in self.replies.as_slice() {
+            add(&mut numbers, wait_of(self.issues.as_slice(), *came))?;
+        }
+        Ok(numbers)
+    }
 }
 
 /// The cycles from the issue of a reference that isn't hot.
@@ -115,13 +154,10 @@ fn since(cycle: u32, issue: Option<&Issue>) -> Option<u32>
 }
 
 /// The cycles that a reply took, where it is to a reference that isn't hot.
-fn waited(issued: &[Issue], cycle: u32, reply: Option<Reply>) -> Option<u32>
-    ensures { result ≡ waited issued.now cycle reply }
+fn wait_of(issued: &[Issue], came: Came) -> Option<u32>
+    ensures { result ≡ since came.cycle (slice_get issued.now came.issue) }
 {
-    match reply {
-        Some(reply) => since(cycle, issued.get(reply.tag.issue as usize)),
-        None => None,
-    }
+    since(came.cycle, issued.get(came.issue as usize))
 }
 
 /// Adds a number, if there is one.
@@ -134,51 +170,75 @@ fn add(numbers: &mut Vec<u32>, number: Option<u32>) -> Result<(), AllocError>
     Ok(())
 }
 
-/// Adds those of the replies that a state shows to have come.
-fn add_waits(
-    numbers: &mut Vec<u32>,
-    issued: &[Issue],
-    cycle: u32,
-    state: Option<&MachineState>,
-) -> Result<(), AllocError>
-    ensures { OnOk result (numbers.new.items ≡ numbers.old.items ++ waits_in issued.now cycle (option_copied state.entry)) }
+/// The logs of all processors before the first cycle.
+fn first_logs(alloc: Global, project: &Project, runner: &Runner) -> Result<Vec<Log>, AllocError>
+    requires at { IsAt project.now runner.now }
+    requires first { runner.now.cycle ≡ 0 }
+    ensures { IfOk result (λ logs. (from : ℕ) → AreLogs project.now from 0 0 logs.items) }
 {
-    match state {
-        Some(MachineState::Proc(state)) => {
-            let [low, comb] = state.got;
-            add(numbers, waited(issued, cycle, low))?;
-            add(numbers, waited(issued, cycle, comb))?;
-            Ok(())
+    let mut logs = Vec::new(alloc);
+    for proc in 0..project.processors() {
+        match logs.push(Log::new(alloc, runner, proc)) {
+            Ok(()) => {}
+            Err(_) => return Err(AllocError),
         }
-        _ => Ok(()),
     }
+    Ok(logs)
 }
 
-/// Those of a processor's replies in a window.
-fn waits_of(
-    alloc: Global,
-    project: &Project,
-    rows: &[Vec<Arc<MachineState>>],
-    proc: u32,
-    window: Window,
-) -> Result<Vec<u32>, AllocError>
-    requires window { window.from ≤ window.to }
-    requires short { window.to < 1000000 }
-    ensures { IfOk result (λ v. v.items ≡ waits_of project.now (state_in (map (λ row. map arc_value row.items) rows.now)) window.from window.to proc) }
+/// Adds what the processors issued in the step to the present cycle.
+fn add_issues(project: &Project, runner: &Runner, logs: &mut Vec<Log>) -> Result<(), AllocError>
+    requires at { IsAt project.now runner.now }
+    requires many { length logs.old.items ≡ 2 ^ project.now.k }
+    ensures { (from : ℕ) → AreLogs project.now from runner.now.cycle runner.now.cycle logs.old.items → OnOk result (AreLogs project.now from (runner.now.cycle + 1) runner.now.cycle logs.new.items) }
 {
-    let issued = issues(alloc, project, rows, proc, window.to)?;
-    let mut numbers = Vec::new(alloc);
-    for i in 0..window.to + 1 - window.from {
-        let cycle = i + window.from;
-        let state = state_at(rows, cycle, proc);
-        add_waits(&mut numbers, &issued, cycle, state)?;
+    for proc in 0..project.processors() {
+        logs[proc as usize].add_issue(project, runner, proc)?;
     }
-    Ok(numbers)
+    Ok(())
+}
+
+/// Adds what they received in it, from a cycle on.
+fn add_replies(
+    project: &Project,
+    runner: &Runner,
+    from: u32,
+    logs: &mut Vec<Log>,
+) -> Result<(), AllocError>
+    requires at { IsAt project.now runner.now }
+    requires many { length logs.old.items ≡ 2 ^ project.now.k }
+    ensures { (n : ℕ) → AreLogs project.now from n runner.now.cycle logs.old.items → OnOk result (AreLogs project.now from n (runner.now.cycle + 1) logs.new.items) }
+{
+    if runner.cycle < from {
+        return Ok(());
+    }
+    for proc in 0..project.processors() {
+        logs[proc as usize].add_replies(runner, proc)?;
+    }
+    Ok(())
+}
+
+/// The logs of a run up to the end of a window, with the replies that came in the window.
+fn logs_of(alloc: Global, project: &Project, window: Window) -> Result<Vec<Log>, NoMemory>
+    requires { window.to ≤ project.now.horizon }
+    ensures { IfOk result (λ logs. AreLogs project.now window.from window.to (window.to + 1) logs.items) }
+{
+    project.is_project();
+    let mut runner = Runner::start(alloc, project)?;
+    let mut logs = first_logs(alloc, project, &runner)?;
+    for _cycle in 0..window.to {
+        add_issues(project, &runner, &mut logs)?;
+        add_replies(project, &runner, window.from, &mut logs)?;
+        runner.step(project)?;
+    }
+    add_replies(project, &runner, window.from, &mut logs)?;
+    Ok(logs)
 }
 
 /// How many cycles each reply took that came in a window to a reference that isn't hot, in the run of the project: by
 /// processor, then by cycle. The time is that from the state in which the reference was issued to the state in which its
-/// reply was received. It simulates the project from cycle 0. The window isn't empty, and is within the horizon.
+/// reply was received. It simulates the project from cycle 0 to the end of the window, and keeps no state of it. The window isn't
+/// empty, and is within the horizon.
 ///
 /// # Errors
 ///
@@ -188,11 +248,10 @@ pub fn cold_waits(alloc: Global, project: &Project, window: Window) -> Result<Ve
     requires within { window.to ≤ project.now.horizon }
     ensures { IfOk result (λ v. v.items ≡ waits project.now (state_in (run project.now)) window.from window.to) }
 {
-    project.is_project();
-    let rows = from_scratch(alloc, project)?;
+    let logs = logs_of(alloc, project, window)?;
     let mut numbers = Vec::new(alloc);
     for proc in 0..project.processors() {
-        let more = waits_of(alloc, project, rows.as_slice(), proc, window)?;
+        let more = logs[proc as usize].waits(alloc)?;
         numbers.extend_from_slice(more.as_slice())?;
     }
     Ok(numbers)

@@ -7,4 +7,4 @@ use Rattle.experiments.specs.Delays.{waits_of}
 use Rattle.experiments.proofs.delays.cold_waits.Given as goal
 
 abbrev pub invariant-loop-proc : goal.invariant-loop-proc
-invariant-loop-proc l = l.numbers.items ≡ flat_map (waits_of l.project (state_in (run l.project)) l.window.from l.window.to) (below l.proc)
+invariant-loop-proc l = l.numbers.items ≡ flat_map (waits_of l.project (state_in (run l.project)) l.fn.window.from l.fn.window.to) (below l.proc)

@@ -1,55 +1,54 @@
-use Rattle.std.proofs.Common.{◌≡◌, ◌∙◌, ◌+◌, ap, sym, ℕ, map, length, Vec, Global, List, arith}
-use Rattle.std.specs.Arc.{arc_value}
-use Rattle.std.specs.declared.sync.Arc.{Arc}
+use Rattle.std.proofs.Common.{◌≡◌, ◌∙◌, ◌+◌, ◌<◌, ◌≤◌, ap, sym, subst, length, arith}
 use Rattle.std.proofs.lemmas.List.{length-map}
-use Rattle.machine_cells.specs.declared.state.MachineState.{MachineState}
-use Rattle.machine_cells.specs.Run.{first_states}
+use Rattle.machine_cells.specs.Run.{run}
 use Rattle.machine_cells.specs.Runs.{state_in}
-use Rattle.machine_cells.proofs.Rows.{length-run}
 use Rattle.machine_cells.proofs.Runs.{length-below}
+use Rattle.omega_net.specs.Numbers.{lines}
 use Rattle.omega_net.specs.Wires.{below}
 use Rattle.saturation.specs.Levels.{level}
-use Rattle.machine_cells.specs.Run.{run}
-use Rattle.experiments.specs.Maps.{levels_over}
+use Rattle.experiments.specs.declared.map.Scope.{Scope}
+use Rattle.experiments.specs.Maps.{stages_lengths}
 use Rattle.experiments.proofs.LevelFirsts.{firsts_of}
+use Rattle.experiments.proofs.Places.{windowed}
 use Rattle.experiments.proofs.map.saturation_map.Goals as goal
 
-pub levels_over-requires-clause-within : goal.levels_over-requires-clause-within
-levels_over-requires-clause-within c =
-    let items = λ (r : Vec (Arc MachineState Global) Global). map arc_value r.items in
-    let size : length c.as_slice-rows.result.now ≡ c.args.project.now.horizon + 1 =
-    sym (length-map c.as_slice-rows.result.now items)
-    ∙ ap length (ap (map items) c.as_slice-rows.ensures.value ∙ c.in_ok-rows.ensures)
-    ∙ length-run c.args.project.now (first_states c.args.project.now) c.args.project.now.horizon in
-    omega (arith, size, c.requires.within)
+pub stages_lengths-requires-clause-there : goal.stages_lengths-requires-clause-there
+stages_lengths-requires-clause-there c = subst (λ (s : Scope). s.«module» < lines c.args.project.now.k) (sym c.in_ok-kept.ensures.scope) c.requires.there
 
-pub all_levels-requires-clause-within : goal.all_levels-requires-clause-within
-all_levels-requires-clause-within c =
-    let items = λ (r : Vec (Arc MachineState Global) Global). map arc_value r.items in
-    let size : length c.as_slice-rows.result.now ≡ c.args.project.now.horizon + 1 =
-    sym (length-map c.as_slice-rows.result.now items)
-    ∙ ap length (ap (map items) c.as_slice-rows.ensures.value ∙ c.in_ok-rows.ensures)
-    ∙ length-run c.args.project.now (first_states c.args.project.now) c.args.project.now.horizon in
-    omega (arith, size)
+pub stages_lengths-requires-clause-window : goal.stages_lengths-requires-clause-window
+stages_lengths-requires-clause-window c = subst (λ (s : Scope). s.window.from ≤ s.window.to) (sym c.in_ok-kept.ensures.scope) c.requires.window
+
+pub stages_lengths-requires-clause-within : goal.stages_lengths-requires-clause-within
+stages_lengths-requires-clause-within c = subst (λ (s : Scope). s.window.to ≤ c.args.project.now.horizon) (sym c.in_ok-kept.ensures.scope) c.requires.within
+
+pub returns-clause-lengths : goal.returns-clause-lengths
+returns-clause-lengths c =
+    c.in_ok-stages.ensures
+    ∙ ap (λ (s : Scope). stages_lengths c.args.project.now.k s.net s.«module» (state_in (run c.args.project.now)) s.window.from s.window.to) c.in_ok-kept.ensures.scope
+
+pub returns-clause-levels : goal.returns-clause-levels
+returns-clause-levels c =
+    let P = c.args.project.now in
+    c.from_vec.ensures
+    ∙ windowed (λ t. level P c.args.net c.args.module (state_in (run P) t)) (P.horizon + 1) c.args.window.from c.args.window.to c.as_slice-2.result.now c.in_ok-levels.levels.items
+    (c.as_slice-2.ensures.value ∙ c.in_ok-kept.ensures.levels)
+    (omega (arith, c.requires.within)) c.requires.window c.in_ok-levels.ensures.items
+
+pub returns-clause-firsts : goal.returns-clause-firsts
+returns-clause-firsts c =
+    let P = c.args.project.now in
+    firsts_of P c.args.net c.args.module (state_in (run P)) c.as_slice.result.now c.in_ok-firsts.firsts.items (c.horizon-cycles.result + 1) c.k.result
+    (c.as_slice.ensures.value ∙ c.in_ok-kept.ensures.levels)
+    (ap (λ n. n + 1) c.horizon-cycles.ensures.horizon) c.k.ensures.k c.in_ok-firsts.ensures
 
 pub first_cycles-requires-clause-there : goal.first_cycles-requires-clause-there
 first_cycles-requires-clause-there c =
     let size : length c.as_slice.result.now ≡ c.args.project.now.horizon + 1 =
-    ap length (c.as_slice.ensures.value ∙ c.in_ok-whole.ensures) ∙ length-map (below (c.args.project.now.horizon + 1)) _ ∙ length-below (c.args.project.now.horizon + 1) in
+    ap length (c.as_slice.ensures.value ∙ c.in_ok-kept.ensures.levels) ∙ length-map (below (c.args.project.now.horizon + 1)) _ ∙ length-below (c.args.project.now.horizon + 1) in
     omega (arith, size, c.horizon-cycles.ensures.horizon)
 
-pub returns-clause-firsts : goal.returns-clause-firsts
-returns-clause-firsts c =
-    let items = λ (r : Vec (Arc MachineState Global) Global). map arc_value r.items in
-    let made = λ (R : List (List MachineState)) (t : ℕ). level c.args.project.now c.args.net c.args.module (state_in R t) in
-    firsts_of c.args.project.now c.args.net c.args.module (state_in (run c.args.project.now)) c.as_slice.result.now c.in_ok-firsts.firsts.items (c.horizon-cycles.result + 1) c.k.result
-    (c.as_slice.ensures.value ∙ c.in_ok-whole.ensures
-    ∙ ap (λ (R : List (List MachineState)). map (made R) (below (c.args.project.now.horizon + 1))) (ap (map items) c.as_slice-rows.ensures.value ∙ c.in_ok-rows.ensures))
-    (ap (λ n. n + 1) c.horizon-cycles.ensures.horizon) c.k.ensures.k c.in_ok-firsts.ensures
-
-pub returns-clause-levels : goal.returns-clause-levels
-returns-clause-levels c =
-    let items = λ (r : Vec (Arc MachineState Global) Global). map arc_value r.items in
-    c.from_vec.ensures ∙ c.in_ok-levels.ensures
-    ∙ ap (λ (R : List (List MachineState)). levels_over c.args.project.now c.args.net c.args.module (state_in R) c.args.window.from c.args.window.to)
-    (ap (map items) c.as_slice-rows.ensures.value ∙ c.in_ok-rows.ensures)
+pub slice_bounds-shown-end : goal.slice_bounds-shown-end
+slice_bounds-shown-end c =
+    let size : length c.as_slice-2.result.now ≡ c.args.project.now.horizon + 1 =
+    ap length (c.as_slice-2.ensures.value ∙ c.in_ok-kept.ensures.levels) ∙ length-map (below (c.args.project.now.horizon + 1)) _ ∙ length-below (c.args.project.now.horizon + 1) in
+    omega (arith, size, c.requires.within)

@@ -1,9 +1,0 @@
-use Rattle.std.proofs.Common.{◌≡◌, map}
-use Rattle.std.specs.Arc.{arc_value}
-use Rattle.omega_net.specs.Wires.{below}
-use Rattle.machine_cells.specs.Runs.{state_in}
-use Rattle.saturation.specs.Levels.{level}
-use Rattle.experiments.proofs.map.all_levels.Given as goal
-
-abbrev pub invariant-loop-cycle : goal.invariant-loop-cycle
-invariant-loop-cycle l = l.levels.items ≡ map (λ t. level l.project l.net l.module (state_in (map (λ row. map arc_value row.items) l.rows) t)) (below l.cycle)
