@@ -8,9 +8,13 @@ pub mod Trailing
 pub mod Passing
 pub mod Repeating
 pub mod Alike
+pub mod Passes
 pub mod Repeated
+pub mod SettledRow
 pub mod Filled
 pub mod FilledRows
+pub mod PutRows
+pub mod WideRows
 pub mod Woken
 pub mod MarkedCycle
 pub mod MarkedRow
@@ -27,7 +31,6 @@ pub mod Ordering
 pub mod Settling
 pub mod Costing
 pub mod EditCosting
-pub mod Passes
 pub mod Cuts
 pub mod Cones
 pub mod ConeRuns

@@ -166,3 +166,10 @@ nearer horizon t0 c0 t c further fits = by_cycle (cases_lt t0 t)
     by_cycle : (t0 < t) ⊎ (t ≤ t0) → 4294967296 * (horizon + 1 - t) + (4294967296 - c) < 4294967296 * (horizon + 1 - t0) + (4294967296 - c0)
     by_cycle (inl h) = omega (arith, h, further.1, fits)
     by_cycle (inr h) = let e : t0 ≡ t = omega (arith, h, further.0.0) in let k = further.0.1 e in omega (arith, e, k, fits)
+
+-- a pass comes to the cycle of the first due cell from there on, where it is a later one, or the pass stands before all cells of it
+pub comes_ahead : {State Slots Slot : Type 0} (R : Rules State Slots Slot) (laws : Laws R) (v : Seen State Slots) → IsTable R v.slots v.horizon v.rows → (t c : ℕ) (cell : Cell) → NoneDueBefore R v t c → IsNextDue R v t c cell → (t < cell.cycle) ⊎ ((cell.cycle ≤ t) × (c ≡ 0)) → (first : Seen State Slots) (n : ℕ) → IsAt R first v t c n → IsAt R first v cell.cycle 0 n
+comes_ahead R laws v table t c cell none next (inl h) first n at = moves_on R laws v table cell.cycle (none_till R v t c cell none next) first t c n at h
+comes_ahead R laws v table t c cell none next (inr e) first n at =
+    let here : t ≡ cell.cycle = omega (arith, e.0, next.after.0) in
+    subst (λ u. IsAt R first v u 0 n) here (subst (λ k. IsAt R first v t k n) e.1 at)

@@ -33,7 +33,7 @@ count_taken p xs d f none more (suc n) h =
     by_kind true e so = ap (λ m. m + 1) so ∙ sym (count_by_more_yes p xs n d (omega (arith, h)) e)
     by_kind false e so = so ∙ sym (count_by_more_no p xs n d (omega (arith, h)) e)
 
-count_whole : {X : Type 0} (p : X → Bool) (xs : List X) (d : X) (f : ℕ → ℕ) (n : ℕ) → length xs ≡ n → f 0 ≡ 0 → ((k : ℕ) → k < length xs → f (suc k) ≡ cond (p (get_or xs k d)) (f k + 1) (f k)) → f n ≡ count_by p xs
+pub count_whole : {X : Type 0} (p : X → Bool) (xs : List X) (d : X) (f : ℕ → ℕ) (n : ℕ) → length xs ≡ n → f 0 ≡ 0 → ((k : ℕ) → k < length xs → f (suc k) ≡ cond (p (get_or xs k d)) (f k + 1) (f k)) → f n ≡ count_by p xs
 count_whole p xs d f n len none more = count_taken p xs d f none more n (omega (arith, len)) ∙ ap (count_by p) (take_all n xs (omega (arith, len)))
 
 -- how many components are marked, told one by one

@@ -23,3 +23,4 @@ pub mod Waves
 pub mod Filling
 pub mod Passing
 pub mod Repeating
+pub mod WholeRows

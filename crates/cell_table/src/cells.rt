@@ -1,6 +1,6 @@
 //! What is held for the cells.
 ghost use Rattle.std.specs.Prelude.{◌≡◌, ℕ, ◌+◌, ◌-◌, ◌<◌, ◌≤◌, ◌++◌, ◌^◌, ◌↔◌, ◌||◌, IsTrue, All, IfOk, OnOk, OnErr, IfErr, length, replicate, map, take, option_map, is_some, true, false, ◌==◌, ◌&&◌, MatchOption, Some, None, if◌then◌else◌, nat_lt, slice_index_or, []};
-ghost use Rattle.std.specs.Option.{option_copied};
+ghost use Rattle.std.specs.Option.{option_copied, option_or};
 ghost use Rattle.std.specs.Arc.{arc_value};
 ghost use Rattle.cell_table.specs.Seen.{fresh, stored, marked, held_at, row_at, due_in_row, due_up_to};
 ghost use Rattle.cell_table.specs.Inputs.{states_of};
@@ -15,8 +15,8 @@ mod standing;
 use crate::Cell;
 use crate::fill::fill_lines;
 use crate::lines::{
-    are_empty_from, bring_to, cut_ends, extend_changed, grow_ends, lines_of, put_state,
-    repeat_state, reserve_changed, reserve_ends, shared_in, state_in, stays_in,
+    are_empty_from, bring_to, cut_ends, extend_changed, grow_ends, lines_of, put_changed,
+    put_state, repeat_state, reserve_changed, reserve_ends, shared_in, state_in, stays_in,
 };
 use crate::neighbours::Neighbours;
 use crate::readers::Readers;
@@ -438,5 +438,35 @@ pub(crate) fn repeat_cells<S: Drop>(
     }
     extend_changed(&mut cells.lines, changes, from, to);
     clear_rows(&mut cells.due, from, to);
+    Ok(())
+}
+
+/// Puts what is new for each component that changes at a cycle, or where nothing is new the state of the cycle before, and no cell of
+/// that cycle is due then. Where memory is wanting, nothing is changed.
+pub(crate) fn put_cells<S: Drop>(
+    cells: &mut Cells<S>,
+    changes: &Row,
+    news: &mut Vec<Option<Arc<S>>>,
+    cycle: u32,
+) -> Result<(), NoMemory>
+    requires later { 0 < cycle }
+    requires within { cycle < length cells.old }
+    requires width { (t : ℕ) → t < length cells.old → length (row_at cells.old t) ≡ length changes.now }
+    requires news { length news.old.items ≡ length changes.now }
+    ensures len { length cells.new ≡ length cells.old }
+    ensures lens { (t : ℕ) → t < length cells.old → length (row_at cells.new t) ≡ length changes.now }
+    ensures len_news { length news.new.items ≡ length news.old.items }
+    ensures put { OnOk result ((c : ℕ) → c < length changes.now → held_at cells.new cycle c
+        ≡ cleared (if is_awake changes.now c then option_or (option_map arc_value (slice_index_or news.old.items c None)) (held_at cells.old (cycle - 1) c).state else (held_at cells.old cycle c).state)) }
+    ensures others { OnOk result ((t c : ℕ) → (t ≡ cycle → ⊥) → held_at cells.new t c ≡ held_at cells.old t c) }
+    ensures versions { (t c : ℕ) → (held_at cells.old t c).is_due ≡ false → (held_at cells.old t c).version ≡ 0 }
+    ensures err { OnErr result (cells.new ≡ cells.old) }
+{
+    match reserve_changed(&mut cells.lines, changes, cycle) {
+        Ok(()) => {}
+        Err(_) => return Err(NoMemory),
+    }
+    put_changed(&mut cells.lines, changes, news, cycle);
+    clear_rows(&mut cells.due, cycle, cycle + 1);
     Ok(())
 }

@@ -295,7 +295,7 @@ fn commit_all<G: Grid>(
 }
 
 /// So many times nothing.
-fn no_news<S: Drop>(alloc: Global, count: usize) -> Result<Vec<Option<Arc<S>>>, NoMemory>
+pub(crate) fn no_news<S: Drop>(alloc: Global, count: usize) -> Result<Vec<Option<Arc<S>>>, NoMemory>
     ensures len { IfOk result (λ news. length news.items ≡ count) }
     ensures none { IfOk result (λ news. (c : ℕ) → option_map arc_value (slice_index_or news.items c None) ≡ None) }
 {

@@ -76,6 +76,7 @@ mod rows;
 mod table;
 mod versions;
 mod watcher;
+mod whole_row;
 mod work;
 
 pub use cell::{Cell, CellRange};
@@ -83,4 +84,5 @@ pub use claim::{Claim, Done};
 pub use given::{Given, SettleFault, Settled, StoreFault, TouchFault};
 pub use table::Table;
 pub use watcher::Watcher;
+pub use whole_row::WholeRow;
 pub use work::Work;

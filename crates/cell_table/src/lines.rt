@@ -1,6 +1,6 @@
 //! The lines of all components.
-ghost use Rattle.std.specs.Prelude.{◌≡◌, ℕ, ◌+◌, ◌++◌, ◌<◌, ◌≤◌, ◌-◌, ◌^◌, All, IfOk, OnOk, OnErr, IfErr, Some, None, length, replicate, take, option_map, true, false};
-ghost use Rattle.std.specs.Option.{option_copied};
+ghost use Rattle.std.specs.Prelude.{◌≡◌, ℕ, ◌+◌, ◌++◌, ◌<◌, ◌≤◌, ◌-◌, ◌^◌, All, IfOk, OnOk, OnErr, IfErr, Some, None, length, replicate, take, option_map, slice_index_or, slice_set, true, false};
+ghost use Rattle.std.specs.Option.{option_copied, option_or};
 ghost use Rattle.std.specs.Arc.{arc_value};
 ghost use Rattle.state_line.specs.Lined.{GoesOn};
 ghost use Rattle.cell_table.specs.Layout.{line_at, state_at, IsSameStates, IsOtherState};
@@ -170,6 +170,7 @@ pub(crate) fn reserve_changed<S: Drop>(
     requires within { (c : ℕ) → c < length lines.old.items → n ≤ length (line_at lines.old.items c).states }
     ensures same { IsSameStates lines.old.items lines.new.items }
     ensures place { OnOk result ((c : ℕ) → is_awake changes.now c ≡ true → (line_at lines.new.items c).place ≡ n) }
+    ensures room { OnOk result ((c : ℕ) → is_awake changes.now c ≡ true → 0 < (line_at lines.new.items c).room) }
 {
     // The number of a component is below this one, so that of the next fits.
     let _count = changes.len();
@@ -204,6 +205,51 @@ pub(crate) fn extend_changed<S: Drop>(lines: &mut Vec<Line<S>>, changes: &Row, f
     while let Some(c) = changes.first_from(next) {
         let line = &mut lines[c as usize];
         line.extend_to(to);
+        next = c + 1;
+    }
+}
+
+/// Puts a state at a line's place, or where there is none lets the state before go on.
+#[inline(always)]
+fn put_or_extend<S: Drop>(line: &mut Line<S>, new: Option<Arc<S>>)
+    requires before { 0 < line.old.place }
+    requires within { line.old.place < length line.old.states }
+    requires room { 0 < line.old.room }
+    ensures { line.new.states ≡ slice_set line.old.states line.old.place (option_or (option_map arc_value new) (slice_index_or line.old.states (line.old.place - 1) None)) }
+{
+    match new {
+        Some(state) => line.put(state),
+        None => line.extend(),
+    }
+}
+
+/// Puts what is new for each component that changes at a cycle, or where nothing is new the state of the cycle before.
+pub(crate) fn put_changed<S: Drop>(
+    lines: &mut Vec<Line<S>>,
+    changes: &Row,
+    news: &mut Vec<Option<Arc<S>>>,
+    cycle: u32,
+)
+    requires later { 0 < cycle }
+    requires width { length changes.now ≡ length lines.old.items }
+    requires news { length news.old.items ≡ length lines.old.items }
+    requires within { (c : ℕ) → c < length lines.old.items → cycle < length (line_at lines.old.items c).states }
+    requires place { (c : ℕ) → is_awake changes.now c ≡ true → (line_at lines.old.items c).place ≡ cycle }
+    requires room { (c : ℕ) → is_awake changes.now c ≡ true → 0 < (line_at lines.old.items c).room }
+    ensures len { length lines.new.items ≡ length lines.old.items }
+    ensures len_news { length news.new.items ≡ length news.old.items }
+    ensures put { (c : ℕ) → is_awake changes.now c ≡ true → (line_at lines.new.items c).states
+        ≡ slice_set (line_at lines.old.items c).states cycle (option_or (option_map arc_value (slice_index_or news.old.items c None)) (state_at lines.old.items (cycle - 1) c)) }
+    ensures others { (c : ℕ) → is_awake changes.now c ≡ false → line_at lines.new.items c ≡ line_at lines.old.items c }
+{
+    let _ = cycle;
+    // The number of a component is below this one, so that of the next fits.
+    let _count = changes.len();
+    let mut next = 0;
+    while let Some(c) = changes.first_from(next) {
+        let new = news[c as usize].take();
+        let line = &mut lines[c as usize];
+        put_or_extend(line, new);
         next = c + 1;
     }
 }

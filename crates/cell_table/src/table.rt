@@ -21,6 +21,7 @@ mod settling;
 mod standing;
 mod touching;
 mod wave;
+mod wide;
 
 use crate::Cell;
 use crate::cells::Cells;

@@ -1,7 +1,7 @@
 //! The flat row beside the plain simulation, and each call of it that takes memory.
 ghost use Rattle.flat_row.specs.Row.{IsRowOf};
 
-use flat_row::Row;
+use flat_row::{Changed, Row};
 use machine_cells::{MachineState, from_scratch};
 use omega_net::ScriptEntry;
 use project_book::{Edit, Project};
@@ -19,7 +19,7 @@ const ENTRIES: [(u32, bool, Kind, u32); 4] = [
 ];
 
 /// Four processors that ask for word 0, three of them through the network that combines.
-fn four(alloc: Global) -> Result<Project, Fail> {
+pub(crate) fn four(alloc: Global) -> Result<Project, Fail> {
     let mut project = Project::new(alloc, 2, 40)?.ok_or("no such project")?;
     for (proc, sync, kind, times) in ENTRIES {
         let entry = ScriptEntry::Reference {
@@ -42,7 +42,7 @@ fn four(alloc: Global) -> Result<Project, Fail> {
 }
 
 /// Whether a row has these states.
-fn has(
+pub(crate) fn has(
     alloc: Global,
     project: &Project,
     row: &Row,
@@ -71,6 +71,58 @@ fn is_run(alloc: Global, project: &Project) -> Result<bool, Fail> {
         row.step(project)?;
     }
     Ok(true)
+}
+
+/// Whether these are the components whose states differ between two rows.
+fn tells(
+    alloc: Global,
+    project: &Project,
+    before: &Row,
+    after: &Row,
+    changed: &Changed,
+) -> Result<bool, Fail>
+    requires before { IsRowOf project.now before.now }
+    requires after { IsRowOf project.now after.now }
+{
+    let shape = project.shape();
+    for c in 0..shape.components() {
+        let component = shape.component(c).ok_or("no such component")?;
+        let was = before.read(alloc, component)?;
+        let same = after.read(alloc, component)?.same(&was);
+        if changed.has(shape, component) == same {
+            return Ok(false);
+        }
+    }
+    Ok(true)
+}
+
+/// The cycle from which nothing changes, where each step up to it tells exactly the components that changed.
+fn stands_from(alloc: Global, project: &Project) -> Result<Option<u32>, Fail> {
+    let mut before = Row::start(alloc, project)?;
+    let mut row = Row::start(alloc, project)?;
+    for cycle in 0..project.horizon() {
+        let changed = row.step(project)?;
+        if changed.is_empty() {
+            return Ok(Some(cycle));
+        }
+        if !tells(alloc, project, &before, &row, &changed)? {
+            return Ok(None);
+        }
+        before.step(project)?;
+    }
+    Ok(None)
+}
+
+#[test]
+fn steps_tell_what_changed(rt: HostRuntime) -> Result<(), Fail> {
+    let alloc = rt.alloc();
+    let mut project = four(alloc)?;
+    project = project.apply(Edit::Horizon(200))?.0;
+    for stage in 0..2 {
+        project = project.apply(Edit::Combine { stage, on: true })?.0;
+    }
+    assert!(rt; stands_from(alloc, &project)?.is_some());
+    Ok(())
 }
 
 #[test]

@@ -21,6 +21,7 @@ use super::Bench;
 use cell_table::{Cell, Claim, Done, Given, SettleFault, Settled, Watcher};
 use grid_law::NoMemory;
 use machine_cells::Rp3;
+use whole_rows::MachineRow;
 
 impl Bench {
     /// A claim of the first cell at or after `from`, by cycle and then component, that is due and whose near cells one
@@ -87,7 +88,8 @@ impl Bench {
         ensures rises { self.old.table.clock ≤ self.new.table.clock }
         ensures clock { self.old.table.clock ≡ 2 ^ 64 - 1 → self.new.table.clock ≡ 2 ^ 64 - 1 }
     {
-        self.table.settle_watched(&mut self.counters)
+        let table = &mut self.table;
+        table.settle_rows::<MachineRow, _>(&mut self.counters)
     }
 
     /// Settles the cells up to a cycle as `settle` settles all. The cells stored are exactly those of that cycle or an
@@ -112,6 +114,7 @@ impl Bench {
         ensures rises { self.old.table.clock ≤ self.new.table.clock }
         ensures clock { self.old.table.clock ≡ 2 ^ 64 - 1 → self.new.table.clock ≡ 2 ^ 64 - 1 }
     {
-        self.table.settle_watched_to(last, &mut self.counters)
+        let (table, counters) = (&mut self.table, &mut self.counters);
+        table.settle_rows_to::<MachineRow, _>(last, counters)
     }
 }

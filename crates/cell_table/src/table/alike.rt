@@ -214,6 +214,8 @@ impl<G: Grid> Table<G> {
         ensures reached { length spare.new.reached ≡ length spare.old.reached }
         ensures none { IfNone result (self.new ≡ self.old) }
         ensures on { IfSome result (λ a. (first : Seen G.State G.Slots) (n : ℕ) → IsAt G.rules first self.old cycle 0 n → IsAt G.rules first self.new (cycle + a.cycles) 0 (n + a.computed)) }
+        ensures slots { self.new.slots ≡ self.old.slots }
+        ensures some { IfSome result (λ a. 0 < a.cycles) }
         ensures before { IfSome result (λ a. cycle + a.cycles ≤ end) }
         ensures but { IfSome result (λ a. HoldsBut G.rules self.old self.new spare.new.ranges.items) }
     {
@@ -260,7 +262,28 @@ impl<G: Grid> Table<G> {
         })
     }
 
-    /// Where nothing is due any more at a cycle, settles at once those behind it as `settle_alike` does, and tells a watcher:
+    /// The cycle of the first due cell at or after `from`, of those before a cycle, where no cell of that cycle stands before `from`.
+    pub(super) fn row_ahead(&self, from: Cell, end: u32) -> Option<u32>
+        requires within { end ≤ self.now.horizon + 1 }
+        requires none { NoneDueBefore G.rules self.now from.cycle from.component }
+        ensures none { IfSome result (λ t. NoneDueBefore G.rules self.now t 0) }
+        ensures at { IfSome result (λ t. (first : Seen G.State G.Slots) (n : ℕ) → IsAt G.rules first self.now from.cycle from.component n → IsAt G.rules first self.now t 0 n) }
+        ensures ahead { IfSome result (λ t. (from.cycle ≤ t) × (t < end)) }
+    {
+        let _ = &self.slots;
+        match self.next_due_before(from, end) {
+            Some(cell) => {
+                if cell.cycle > from.cycle || from.component == 0 {
+                    Some(cell.cycle)
+                } else {
+                    None
+                }
+            }
+            None => None,
+        }
+    }
+
+    /// Where nothing is due any more at a cycle, or it begins there, settles at once the cycles behind as `settle_alike` does, and tells a watcher:
     /// where to go on, and how many cells were computed.
     pub(super) fn settle_on<W: Watcher<G>>(
         &mut self,
@@ -276,6 +299,7 @@ impl<G: Grid> Table<G> {
         requires watched { W.keeps watcher.old self.old }
         ensures changes { length spare.new.changes ≡ length spare.old.changes }
         ensures reached { length spare.new.reached ≡ length spare.old.reached }
+        ensures slots { self.new.slots ≡ self.old.slots }
         ensures watched { W.keeps watcher.new self.new }
         ensures none { IfNone result (self.new ≡ self.old) }
         ensures on { IfSome result (λ p. (first : Seen G.State G.Slots) (n : ℕ) → IsAt G.rules first self.old from.cycle from.component n → IsAt G.rules first self.new p.to.cycle p.to.component (n + p.computed)) }
@@ -283,15 +307,12 @@ impl<G: Grid> Table<G> {
         ensures before { IfSome result (λ p. AtOrAfter p.to.cycle p.to.component end 0) }
     {
         let _ = &self.slots;
-        if from.cycle >= end || self.is_row_due(from.cycle) {
-            return None;
-        }
         if spare.wait > 0 {
             spare.wait -= 1;
             return None;
         }
-        let cycle = match self.next_due_before(from, end) {
-            Some(cell) => cell.cycle,
+        let cycle = match self.row_ahead(from, end) {
+            Some(cycle) => cycle,
             None => return None,
         };
         let alike = match self.settle_alike(cycle, end, spare) {

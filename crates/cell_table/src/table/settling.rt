@@ -9,13 +9,17 @@ ghost use Rattle.cell_table.specs.Gives.{IsAfterStore, IsStored, HoldsSame};
 ghost use Rattle.cell_table.specs.Events.{Event, Start};
 ghost use Rattle.cell_table.specs.Stands.{Stands};
 ghost use Rattle.cell_table.specs.Settling.{IsAsBefore, IsNextDueInRow, NoneDueBefore, NoneDueFrom, HoldsRunBefore, IsNextDue, IsSettled, IsSettledTo, SettlesNext, IsSpent, IsSpentBefore, IsAt, StopsBefore, IsFurther, computed_of, IsClockSpent};
+ghost use Rattle.cell_table.specs.WholeRows.{HoldsRow};
 ghost use Rattle.cell_table.specs.Cost.{Settles, SettlesTo, SettlesFirst, SettlesFirstTo};
 
 use super::Table;
 use super::alike::{Passed, Spare};
+use super::wide::Wide;
+use crate::fill::no_news;
 use crate::near::{first, five_lent};
 use crate::watcher::{Nobody, Watcher};
-use crate::{Cell, SettleFault, Settled, StoreFault};
+use crate::whole_row::NoRow;
+use crate::{Cell, SettleFault, Settled, StoreFault, WholeRow};
 use grid_law::{Grid, NoMemory};
 use std::sync::Arc;
 
@@ -275,20 +279,25 @@ impl<G: Grid> Table<G> {
     /// Computes the first cell at or after `from` that is due before a cycle, or at once the cells of all cycles from there
     /// on in which the same happens as in the one before, and tells a watcher: where to go on, or none where no cell is due
     /// before that cycle. After a fault nothing is changed.
-    fn settle_more<W: Watcher<G>>(
+    fn settle_more<M: WholeRow<G>, W: Watcher<G>>(
         &mut self,
         from: Cell,
         end: u32,
         spare: &mut Spare,
+        wide: &mut Wide<G::State, M>,
         watcher: &mut W,
     ) -> Result<Option<Passed>, StoreFault>
         requires within { end ≤ self.old.horizon + 1 }
         requires none { NoneDueBefore G.rules self.old from.cycle from.component }
         requires changes { length spare.old.changes ≡ G.rules.components self.old.slots }
         requires reached { length spare.old.reached ≡ G.rules.components self.old.slots }
+        requires news { length wide.old.news.items ≡ G.rules.components self.old.slots }
+        requires along { IfSome wide.old.along (λ a. HoldsRow G.rules M.stands M.holds self.old.slots a.row a.cycle) }
         requires watched { W.keeps watcher.old self.old }
         ensures changes { length spare.new.changes ≡ length spare.old.changes }
         ensures reached { length spare.new.reached ≡ length spare.old.reached }
+        ensures news { length wide.new.news.items ≡ length wide.old.news.items }
+        ensures along { IfSome wide.new.along (λ a. HoldsRow G.rules M.stands M.holds self.new.slots a.row a.cycle) }
         ensures watched { W.keeps watcher.new self.new }
         ensures none { IfOk result (λ o. IfNone o (NoneDueBefore G.rules self.old end 0 × HoldsRunBefore G.rules self.old end 0 × (self.new ≡ self.old))) }
         ensures on { IfOk result (λ o. IfSome o (λ p. (first : Seen G.State G.Slots) (n : ℕ) → IsAt G.rules first self.old from.cycle from.component n → IsAt G.rules first self.new p.to.cycle p.to.component (n + p.computed))) }
@@ -297,7 +306,7 @@ impl<G: Grid> Table<G> {
         ensures err { OnErr result (self.new ≡ self.old) }
         ensures spent { result ≡ Err StoreFault.ClockSpent → IsSpentBefore G.rules end self.old from.cycle from.component }
     {
-        match self.settle_on(from, end, spare, watcher) {
+        match self.settle_at_once(from, end, spare, wide, watcher) {
             Some(passed) => return Ok(Some(passed)),
             None => {}
         }
@@ -316,7 +325,7 @@ impl<G: Grid> Table<G> {
     }
 
     /// As `settle_before`, one cell after another, and cycles at once where the same happens as in the one before.
-    fn settle_each<W: Watcher<G>>(
+    fn settle_each<M: WholeRow<G>, W: Watcher<G>>(
         &mut self,
         end: u32,
         watcher: &mut W,
@@ -342,8 +351,13 @@ impl<G: Grid> Table<G> {
             Ok(spare) => spare,
             Err(_) => return Err(SettleFault::Memory { computed }),
         };
+        let news = match no_news(self.cells.allocator(), count as usize) {
+            Ok(news) => news,
+            Err(_) => return Err(SettleFault::Memory { computed }),
+        };
+        let mut wide: Wide<G::State, M> = Wide { along: None, news };
         loop {
-            match self.settle_more(from, end, &mut spare, watcher) {
+            match self.settle_more(from, end, &mut spare, &mut wide, watcher) {
                 Ok(Some(passed)) => {
                     computed += passed.computed;
                     from = passed.to;
@@ -378,7 +392,7 @@ impl<G: Grid> Table<G> {
     }
 
     /// Settles the cells before a cycle, and tells a watcher.
-    fn settle_before<W: Watcher<G>>(
+    fn settle_before<M: WholeRow<G>, W: Watcher<G>>(
         &mut self,
         end: u32,
         watcher: &mut W,
@@ -390,13 +404,13 @@ impl<G: Grid> Table<G> {
         ensures stops { IfErr result (λ f. StopsBefore G.rules end self.old self.new (computed_of f)) }
         ensures spent { IfErr result (λ f. IsClockSpent f → IsSpentBefore G.rules end self.new 0 0) }
     {
-        let settled = self.settle_due(end, watcher)?;
+        let settled = self.settle_due::<M, W>(end, watcher)?;
         self.note_held(end);
         Ok(settled)
     }
 
     /// As `settle_before`.
-    fn settle_due<W: Watcher<G>>(
+    fn settle_due<M: WholeRow<G>, W: Watcher<G>>(
         &mut self,
         end: u32,
         watcher: &mut W,
@@ -410,8 +424,37 @@ impl<G: Grid> Table<G> {
     {
         match self.first_new(end) {
             Some(from) => self.settle_new(from, end, watcher),
-            None => self.settle_each(end, watcher),
+            None => self.settle_each::<M, W>(end, watcher),
         }
+    }
+
+    /// `settle_to`, where `watcher` is told of what is stored as soon as it is, and cycles of which many cells are due are settled by a
+    /// row of all components.
+    ///
+    /// # Errors
+    ///
+    /// As `settle`. The watcher was told of just those cells that stay stored.
+    pub fn settle_rows_to<M: WholeRow<G>, W: Watcher<G>>(
+        &mut self,
+        last: u32,
+        watcher: &mut W,
+    ) -> Result<Settled, SettleFault>
+        requires { W.keeps watcher.old self.old }
+        ensures watched { W.keeps watcher.new self.new }
+        ensures headline_settles { IfOk result (λ s. (done : List (Event G.State G.Slots G.Slot)) × ((o : Start G.Slots) (h : List (Event G.State G.Slots G.Slot)) → Stands G.rules o self.old h
+            → SettlesTo G.rules o last h self.new done s.computed)) }
+        ensures after_fault { IfErr result (λ f. (done : List (Event G.State G.Slots G.Slot)) × ((o : Start G.Slots) (h : List (Event G.State G.Slots G.Slot)) → Stands G.rules o self.old h
+            → SettlesFirstTo G.rules o last h self.new done (computed_of f))) }
+        ensures settled { OnOk result (IsSettledTo G.rules last self.new) }
+        ensures slots { self.new.slots ≡ self.old.slots }
+        ensures horizon { self.new.horizon ≡ self.old.horizon }
+        ensures rises { self.old.clock ≤ self.new.clock }
+        ensures clock { self.old.clock ≡ 2 ^ 64 - 1 → self.new.clock ≡ 2 ^ 64 - 1 }
+        ensures spent { IfErr result (λ f. IsClockSpent f → self.new.clock ≡ 2 ^ 64 - 1) }
+        ensures differs { IfErr result (λ f. IsClockSpent f → (spent : IsSpent G.rules self.new 0 0) × (spent.cell.cycle ≤ last)) }
+    {
+        let end = self.end_of(last);
+        self.settle_before::<M, W>(end, watcher)
     }
 
     /// `settle_to`, where `watcher` is told of what is stored as soon as it is.
@@ -438,8 +481,35 @@ impl<G: Grid> Table<G> {
         ensures spent { IfErr result (λ f. IsClockSpent f → self.new.clock ≡ 2 ^ 64 - 1) }
         ensures differs { IfErr result (λ f. IsClockSpent f → (spent : IsSpent G.rules self.new 0 0) × (spent.cell.cycle ≤ last)) }
     {
-        let end = self.end_of(last);
-        self.settle_before(end, watcher)
+        self.settle_rows_to::<NoRow, W>(last, watcher)
+    }
+
+    /// `settle`, where `watcher` is told of what is stored as soon as it is, and cycles of which many cells are due are settled by a row of
+    /// all components.
+    ///
+    /// # Errors
+    ///
+    /// As `settle`. The watcher was told of just those cells that stay stored.
+    pub fn settle_rows<M: WholeRow<G>, W: Watcher<G>>(
+        &mut self,
+        watcher: &mut W,
+    ) -> Result<Settled, SettleFault>
+        requires { W.keeps watcher.old self.old }
+        ensures watched { W.keeps watcher.new self.new }
+        ensures headline_settles { IfOk result (λ s. (done : List (Event G.State G.Slots G.Slot)) × ((o : Start G.Slots) (h : List (Event G.State G.Slots G.Slot)) → Stands G.rules o self.old h
+            → Settles G.rules o h self.new done s.computed)) }
+        ensures after_fault { IfErr result (λ f. (done : List (Event G.State G.Slots G.Slot)) × ((o : Start G.Slots) (h : List (Event G.State G.Slots G.Slot)) → Stands G.rules o self.old h
+            → SettlesFirst G.rules o h self.new done (computed_of f))) }
+        ensures settled { OnOk result (IsSettled G.rules self.new) }
+        ensures slots { self.new.slots ≡ self.old.slots }
+        ensures horizon { self.new.horizon ≡ self.old.horizon }
+        ensures rises { self.old.clock ≤ self.new.clock }
+        ensures clock { self.old.clock ≡ 2 ^ 64 - 1 → self.new.clock ≡ 2 ^ 64 - 1 }
+        ensures spent { IfErr result (λ f. IsClockSpent f → self.new.clock ≡ 2 ^ 64 - 1) }
+        ensures differs { IfErr result (λ f. IsClockSpent f → IsSpent G.rules self.new 0 0) }
+    {
+        let last = self.horizon();
+        self.settle_rows_to::<M, W>(last, watcher)
     }
 
     /// `settle`, where `watcher` is told of what is stored as soon as it is.
@@ -462,8 +532,7 @@ impl<G: Grid> Table<G> {
         ensures spent { IfErr result (λ f. IsClockSpent f → self.new.clock ≡ 2 ^ 64 - 1) }
         ensures differs { IfErr result (λ f. IsClockSpent f → IsSpent G.rules self.new 0 0) }
     {
-        let last = self.horizon();
-        self.settle_watched_to(last, watcher)
+        self.settle_rows::<NoRow, W>(watcher)
     }
 
     /// Settles the cells up to a cycle as `settle` settles all. The cells stored are exactly those of that cycle or an

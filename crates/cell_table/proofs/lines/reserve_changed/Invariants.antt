@@ -7,7 +7,7 @@ abbrev pub invariant-loop-c : goal.invariant-loop-c
 invariant-loop-c g l = record {
   within : l.from ≤ length l.changes;
   same : IsSameStates l.initial.lines.items l.lines.items;
-  done : (c : ℕ) → c < l.from → is_awake l.changes c ≡ true → (line_at l.lines.items c).place ≡ l.n;
+  done : (c : ℕ) → c < l.from → is_awake l.changes c ≡ true → ((line_at l.lines.items c).place ≡ l.n) × (0 < (line_at l.lines.items c).room);
 }
 
 abbrev pub decreases-loop-c : goal.decreases-loop-c

@@ -1,6 +1,7 @@
-use Rattle.std.proofs.Common.{◌≡◌, ◌+◌, ◌-◌, ◌*◌, ◌≤◌, length}
+use Rattle.std.proofs.Common.{◌≡◌, ◌+◌, ◌-◌, ◌*◌, ◌≤◌, length, IfSome}
 use Rattle.cell_table.specs.Cells.{AtOrAfter}
 use Rattle.cell_table.specs.Settling.{IsAt}
+use Rattle.cell_table.specs.WholeRows.{HoldsRow}
 use Rattle.cell_table.proofs.table.Table.settle_each.Given as goal
 
 abbrev pub invariant-loop-passed : goal.invariant-loop-passed
@@ -10,6 +11,8 @@ invariant-loop-passed g l = record {
   within : l.fn.end ≤ l.self.horizon + 1;
   changes : length l.spare.changes ≡ g.G.Grid.rules.components l.self.slots;
   reached : length l.spare.reached ≡ g.G.Grid.rules.components l.self.slots;
+  news : length l.wide.news.items ≡ g.G.Grid.rules.components l.self.slots;
+  along : IfSome l.wide.along (λ a. HoldsRow g.G.Grid.rules g.M.WholeRow.stands g.M.WholeRow.holds l.self.slots a.row a.cycle);
   watched : g.W.Watcher.keeps l.watcher l.self;
 }
 

@@ -1,0 +1,15 @@
+use Rattle.std.proofs.Common.{◌+◌, sym, subst}
+use Rattle.cell_table.specs.Passing.{HoldsBut}
+use Rattle.cell_table.specs.Settling.{IsAt}
+use Rattle.cell_table.proofs.table.Table.settle_wide.Goals as goal
+
+pub refilled-requires : goal.refilled-requires
+refilled-requires g c = (
+  c.args.self.now,
+  c.requires.watched,
+  subst (HoldsBut g.G.Grid.rules c.args.self.now c.settle_row.new.self) (sym c.as_slice.ensures.value) c.in-Some-settle_row.ensures.but,
+)
+
+pub returns-clause-on : goal.returns-clause-on
+returns-clause-on g c = λ first n at.
+    subst (λ k. IsAt g.G.Grid.rules first c.settle_row.new.self (c.in-Some.cycle + 1) 0 (n + k)) (sym c.from.ensures) (c.in-Some-settle_row.ensures.on first n (c.in-Some.ensures.at first n at))

@@ -1,0 +1,11 @@
+//! The flat row of the RP3-like machine as the whole row of a table: where many cells of a cycle are due, the table steps all of them by it.
+//!
+//! The crate joins `flat_row` and the trait [`cell_table::WholeRow`], for which `machine_cells` has the grid. It promises what the trait
+//! asks: a row that holds the states of a cycle holds, after its step, for each cell the step of the near ones; what it says to be
+//! still is as it was; and a state is compared, put and read exactly (`specs/Rows.antt`).
+#![tactic(auto)]
+
+mod memory;
+mod row;
+
+pub use row::MachineRow;
