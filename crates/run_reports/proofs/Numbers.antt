@@ -1,16 +1,18 @@
 -- How many references a run has at most.
-use Rattle.std.proofs.Common.{◌≡◌, ℕ, zero, suc, ◌+◌, ◌*◌, ◌-◌, ◌≤◌, ◌^◌, Bool, true, false, List, [], ◌∷◌, length, refl, ap, ◌∙◌, None, Some, Option, arith}
-use Rattle.std.specs.Prelude.{if◌then◌else◌, option_to_list}
-use Rattle.std.specs.List.{flat_map}
+use Rattle.std.proofs.Common.{◌<◌, ◌++◌, ◌≡◌, ℕ, zero, suc, ◌+◌, ◌*◌, ◌-◌, ◌≤◌, ◌^◌, Bool, true, false, List, [], ◌∷◌, length, refl, ap, ◌∙◌, None, Some, Option, arith}
+use Rattle.std.specs.Prelude.{if◌then◌else◌, option_to_list, ◌&&◌, nat_lt, is_some}
+use Rattle.std.specs.List.{All, flat_map}
 use Rattle.std.proofs.Math.Nat.{mul-suc, pow-le-pow_right}
 use Rattle.std.proofs.lemmas.List.{length-append}
+use Rattle.std.proofs.lemmas.List.Elements.{All-append, All-cons, All-nil, All-same}
 use Rattle.std.proofs.lemmas.Nat.{mul-le}
 use Rattle.omega_net.specs.Wires.{below}
 use Rattle.machine_cells.specs.declared.state.MachineState.{MachineState}
 use Rattle.project_book.specs.Project.{Project}
-use Rattle.run_queries.specs.Answers.{has_sent}
+use Rattle.run_queries.specs.Answers.{first_of, has_sent, word_got}
 use Rattle.run_reports.specs.declared.reference.Reference.{Reference}
-use Rattle.run_reports.specs.References.{entry_of, issue_at, issues, references, references_of, with_replies}
+use Rattle.run_reports.specs.Latencies.{cycles_to, IsWithin}
+use Rattle.run_reports.specs.References.{entry_of, first_got, issue_at, issues, references, references_of, with_replies}
 use Rattle.run_reports.proofs.Below.{flat-next}
 
 -- where each number has so many at most
@@ -48,3 +50,42 @@ few_references P at small short =
     let lines : 2 ^ P.k ≤ 64 = pow-le-pow_right {n = 2} (omega arith) {i = P.k} {j = 6} small in
     let most : 1 * suc P.horizon * 2 ^ P.k ≤ 2001 * 64 = mul-le (1 * suc P.horizon) (2 ^ P.k) 2001 64 (omega (arith, short)) lines in
     omega (arith, all, most)
+
+-- a reply is shown before the cycles end
+got_before : (at : ℕ → Option MachineState) (n u t x : ℕ) → first_got at n u t ≡ Some x → x < t
+got_before at n u zero x is = cc
+got_before at n u (suc t) x is = by_first (first_got at n u t) (nat_lt u t && is_some (word_got n (at t))) (got_before at n u t) is
+  where
+    by_first : (o : Option ℕ) (b : Bool) → ((y : ℕ) → o ≡ Some y → y < t) → first_of o (if b then Some t else None) ≡ Some x → x < suc t
+    by_first (Some y) b before found =
+        let same : y ≡ x = cc in
+        omega (arith, before y refl, same)
+    by_first None true before found =
+        let same : t ≡ x = cc in
+        omega (arith, same)
+    by_first None false before found = cc
+
+replied_within : (at : ℕ → Option MachineState) (longest n : ℕ) (xs : List Reference) → All (IsWithin longest) (with_replies at (suc longest) n xs)
+replied_within at longest n [] = All-nil (IsWithin longest)
+replied_within at longest n (x ∷ xs) =
+    All-cons (IsWithin longest) (record x { answered = first_got at n x.issued (suc longest) }) (with_replies at (suc longest) (n + 1) xs)
+    (by_reply (first_got at n x.issued (suc longest)) refl) (replied_within at longest (n + 1) xs)
+  where
+    by_reply : (o : Option ℕ) → first_got at n x.issued (suc longest) ≡ o → (d : ℕ) → cycles_to x.issued o ≡ Some d → d ≤ longest
+    by_reply None got d is = cc
+    by_reply (Some t) got d is =
+        let same : t - x.issued ≡ d = cc in
+        omega (arith, same, got_before at n x.issued (suc longest) t got)
+
+pub within_horizon : (P : Project) (at : ℕ → ℕ → Option MachineState) → All (IsWithin P.horizon) (references P at)
+within_horizon P at = listed (2 ^ P.k)
+  where
+    listed : (n : ℕ) → All (IsWithin P.horizon) (flat_map (references_of P at (suc P.horizon)) (below n))
+    listed zero = All-nil (IsWithin P.horizon)
+    listed (suc n) =
+        let e : suc n ≡ n + 1 = omega arith in
+        All-same (IsWithin P.horizon) (flat_map (references_of P at (suc P.horizon)) (below (suc n)))
+        (flat_map (references_of P at (suc P.horizon)) (below n) ++ references_of P at (suc P.horizon) n)
+        (ap (λ i. flat_map (references_of P at (suc P.horizon)) (below i)) e ∙ flat-next (references_of P at (suc P.horizon)) n)
+        (All-append (IsWithin P.horizon) (flat_map (references_of P at (suc P.horizon)) (below n)) (references_of P at (suc P.horizon) n)
+        (listed n) (replied_within (λ u. at u n) P.horizon 0 (issues P at n (suc P.horizon))))

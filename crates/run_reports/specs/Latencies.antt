@@ -23,6 +23,10 @@ abbrev pub is_latency : ℕ → Option ℕ → Bool
 is_latency d None = false
 is_latency d (Some n) = n == d
 
+-- no latency is longer
+abbrev pub IsWithin : ℕ → Reference → Type 0
+IsWithin longest r = (d : ℕ) → latency r ≡ Some d → d ≤ longest
+
 -- one more where it is so
 abbrev pub one_if : Bool → ℕ
 one_if b = if b then 1 else 0
@@ -35,11 +39,12 @@ abbrev pub has_no_reply : Condition → Reference → Bool
 has_no_reply c r = meets c r && is_none r.answered
 
 -- for each latency up to a longest one, how many of some references meet a condition and took that long, and how many meet it and
--- have no reply
+-- have no reply: together these are all that meet it
 pub record AreCounted (c : Condition) (longest : ℕ) (refs : List Reference) (l : Latencies) : Type 0 where
   pub many : length l.histogram.items ≡ longest + 1
   pub each : (d : ℕ) → d ≤ longest → slice_index l.histogram.items d ≡ count_by (took c d) refs
   pub unanswered : l.unanswered ≡ count_by (has_no_reply c) refs
+  pub all : sum l.histogram.items + l.unanswered ≡ count_by (meets c) refs
 
 -- these are those of the run of a project
 abbrev pub AreLatencies : Project → Condition → Latencies → Type 0

@@ -1,6 +1,7 @@
 //! How long the references of a run took that meet a condition.
-ghost use Rattle.std.specs.Prelude.{◌≡◌, ◌≤◌, ◌<◌, ◌+◌, ◌^◌, ℕ, IfOk, is_none, length, replicate, slice_index, sum};
-ghost use Rattle.run_reports.specs.Latencies.{is_latency, latency, one_if, AreCounted, AreFew, AreLatencies};
+ghost use Rattle.std.specs.Prelude.{◌≡◌, ◌≤◌, ◌<◌, ◌+◌, ◌^◌, ℕ, IfOk, is_none, length, replicate, slice_index, sum, Some};
+ghost use Rattle.std.specs.List.{All};
+ghost use Rattle.run_reports.specs.Latencies.{is_latency, latency, one_if, AreCounted, AreFew, AreLatencies, IsWithin};
 
 use crate::{Condition, Reference, meets, references};
 use grid_law::NoMemory;
@@ -44,32 +45,30 @@ impl Latencies {
 
     /// Counts a reference.
     fn count(&mut self, latency: Option<u32>)
-        requires { sum self.old.histogram.items + self.old.unanswered + 1 < 2 ^ 64 }
+        requires few { sum self.old.histogram.items + self.old.unanswered + 1 < 2 ^ 64 }
+        requires within { (d : ℕ) → latency ≡ Some d → d < length self.old.histogram.items }
         ensures many { length self.new.histogram.items ≡ length self.old.histogram.items }
         ensures each { (d : ℕ) → d < length self.old.histogram.items → slice_index self.new.histogram.items d ≡ slice_index self.old.histogram.items d + one_if (is_latency d latency) }
         ensures unanswered { self.new.unanswered ≡ self.old.unanswered + one_if (is_none latency) }
-        ensures few { sum self.new.histogram.items + self.new.unanswered ≤ sum self.old.histogram.items + self.old.unanswered + 1 }
+        ensures all { sum self.new.histogram.items + self.new.unanswered ≡ sum self.old.histogram.items + self.old.unanswered + 1 }
     {
-        let Some(latency) = latency else {
-            self.unanswered += 1;
-            return;
-        };
-        let place = latency as usize;
-        if place < self.histogram.len() {
-            self.histogram[place] += 1;
+        match latency {
+            Some(latency) => self.histogram[latency as usize] += 1,
+            None => self.unanswered += 1,
         }
     }
 }
 
 /// The latencies up to a longest one of those of some references that meet a condition.
+#[tactic(auto, using(crate::proofs::Tallying::fits))]
 fn counted(
     alloc: Global,
     condition: &Condition,
     longest: u32,
     references: &[Reference],
 ) -> Result<Latencies, AllocError>
-    ensures counted { IfOk result (AreCounted condition.now longest references.now) }
-    ensures few { IfOk result (λ l. sum l.histogram.items + l.unanswered ≤ length references.now) }
+    requires { All (IsWithin longest) references.now }
+    ensures { IfOk result (AreCounted condition.now longest references.now) }
 {
     let mut latencies = Latencies::new(alloc, longest)?;
     for reference in references {
