@@ -4,3 +4,4 @@ pub mod Latencies
 pub mod Logs
 pub mod References
 pub mod Runners
+pub mod Texts
