@@ -26,13 +26,17 @@ use std::thread::Threads;
 use verdict::{Verdict, status_after};
 
 /// An example NAME is a project file NAME.toml, commands NAME.in, and the answers NAME.out.
-const EXAMPLES: [&str; 6] = [
+const EXAMPLES: [&str; 10] = [
+    "fetch_barrier",
     "flag",
     "flag_fenced",
     "hot_word",
+    "matrix_stride",
     "one_module",
     "saturation",
     "spin_lock",
+    "ticket_lock",
+    "work_queue",
 ];
 
 /// The pages that are played.

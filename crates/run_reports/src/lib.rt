@@ -1,0 +1,25 @@
+//! Reports over a run of a project: what an architect asks of it as a whole.
+//!
+//! - [`references`]: the references of a run by processor and issue, each with the entry that it was issued for and the cycles
+//!   of the first states that show its issue and its reply.
+//! - [`Condition`]: which references are asked for, by processor, network, page, address, the hot word and a window of cycles.
+//! - [`latencies_of`]: how many of those that meet a condition took each number of cycles, and how many have no reply
+//!   ([`Latencies`]), with the figures of that histogram: their number, mean, least, greatest and percentiles.
+//! - [`latency_text`]: these figures as lines, and the histogram as a table.
+//!
+//! The crate stands on `flat_row` for a run that is stepped cycle by cycle and not kept, and on `machine_cells` and `project_book`
+//! for what a run is. It promises that each report is that of the run of the project from cycle 0 (`specs/References.antt`,
+//! `specs/Latencies.antt`), and that each figure is the one of its histogram (`specs/Figures.antt`).
+#![tactic(auto)]
+
+mod condition;
+mod figures;
+mod latency;
+mod reference;
+mod report;
+mod runner;
+
+pub use condition::{Condition, HOT_ADDRESS, Window, meets};
+pub use latency::{Latencies, latencies_of};
+pub use reference::{Reference, references};
+pub use report::{Summary, latency_text};
