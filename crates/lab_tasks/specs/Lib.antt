@@ -9,6 +9,7 @@ pub mod Elsewhere
 pub mod Ends
 pub mod Heats
 pub mod Kept
+pub mod Latencies
 pub mod MapPictures
 pub mod Numbers
 pub mod OrderPictures

@@ -4,9 +4,10 @@ use Rattle.std.specs.Option.{option_map_or}
 use Rattle.std.specs.Borrow.{Bor}
 use Rattle.clap.specs.Words.{Row, Text, all_of, first_of}
 use Rattle.lab_tasks.specs.declared.words.Asked.{Asked}
-use Rattle.lab_tasks.specs.declared.words.Asked.TheVariants.{Map, Order, Rates, Delays, Sweep, Check, Convert}
+use Rattle.lab_tasks.specs.declared.words.Asked.TheVariants.{Map, Order, Latency, Rates, Delays, Sweep, Check, Convert}
 use Rattle.lab_tasks.specs.declared.words.MapWords.{MapWords}
 use Rattle.lab_tasks.specs.declared.convert.ConvertWords.{ConvertWords}
+use Rattle.lab_tasks.specs.declared.latency.LatencyWords.{LatencyWords}
 use Rattle.lab_tasks.specs.declared.order.OrderWords.{OrderWords}
 use Rattle.lab_tasks.specs.declared.words.CurveWords.{CurveWords}
 use Rattle.lab_tasks.specs.declared.words.SweepWords.{SweepWords}
@@ -43,6 +44,13 @@ pub record AreOrderWords (rows : List Row) (words : OrderWords) : Type 0 where
   pub to : text_of words.to ≡ first_of (codes "to") rows
   pub out : text_of words.out ≡ first_of (codes "out") rows
 
+pub record AreLatencyWords (rows : List Row) (words : LatencyWords) : Type 0 where
+  pub file : words.file.now ≡ file_at rows
+  pub processor : text_of words.processor ≡ first_of (codes "processor") rows
+  pub network : text_of words.network ≡ first_of (codes "network") rows
+  pub from : text_of words.from ≡ first_of (codes "from") rows
+  pub to : text_of words.to ≡ first_of (codes "to") rows
+
 pub record AreCurveWords (rows : List Row) (words : CurveWords) : Type 0 where
   pub k : text_of words.k ≡ first_of (codes "k") rows
   pub hot : text_of words.hot ≡ first_of (codes "hot") rows
@@ -73,6 +81,7 @@ IsNamed said name Says = (rows : List Row) × (said ≡ Some (name, rows)) × Sa
 abbrev pub AsksFor : Option (Text × List Row) → Asked → Type 0
 AsksFor said (Map words) = IsNamed said (codes "map") (λ rows. AreMapWords rows words)
 AsksFor said (Order words) = IsNamed said (codes "order") (λ rows. AreOrderWords rows words)
+AsksFor said (Latency words) = IsNamed said (codes "latency") (λ rows. AreLatencyWords rows words)
 AsksFor said (Rates words) = IsNamed said (codes "rates") (λ rows. AreCurveWords rows words)
 AsksFor said (Delays words) = IsNamed said (codes "delays") (λ rows. AreCurveWords rows words)
 AsksFor said (Sweep words) = IsNamed said (codes "sweep") (λ rows. AreSweepWords rows words)
@@ -82,6 +91,7 @@ AsksFor said (Convert words) = IsNamed said (codes "convert") (λ rows. AreConve
 abbrev pub file_of : Asked → Option (List ℕ)
 file_of (Map words) = Some words.file.now
 file_of (Order words) = Some words.file.now
+file_of (Latency words) = Some words.file.now
 file_of (Rates words) = None
 file_of (Delays words) = None
 file_of (Sweep words) = Some words.file.now

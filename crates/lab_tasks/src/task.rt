@@ -6,6 +6,7 @@ ghost use Rattle.lab_tasks.specs.Added.{Adds};
 ghost use Rattle.lab_tasks.specs.DelayPictures.{IsDelayPicture};
 ghost use Rattle.lab_tasks.specs.Done.{delay_header, rate_header, is_over, AreDelays, AreRates, IsConverted, IsDone, IsMadeOf, IsMapMade, IsNoSweep, IsNotDone, IsNotMade, IsOver, IsSweepText, IsTableGiven};
 ghost use Rattle.lab_tasks.specs.Kept.{kept_of, load_name, name_text, net_text, IsKept, IsWithKept};
+ghost use Rattle.lab_tasks.specs.Latencies.{IsLatencyText, IsNoCondition};
 ghost use Rattle.lab_tasks.specs.Orders.{IsNoOrder, IsOrderText};
 ghost use Rattle.lab_tasks.specs.Outcomes.{files_of, folder_of, AreGiven, IsGiven};
 ghost use Rattle.lab_tasks.specs.Plans.{IsNoCurve, IsNoMap};
@@ -19,6 +20,7 @@ use crate::convert::{ConvertWords, convert_file, refuse_source};
 use crate::delay_picture::delay_picture;
 use crate::delays::{delay_points, delay_table};
 use crate::end::End;
+use crate::latency::{LatencyWords, condition, report};
 use crate::map::map_picture;
 use crate::order::{OrderWords, order_text, order_window};
 use crate::other_net::elsewhere;
@@ -119,6 +121,16 @@ fn order<'a>(alloc: Global, words: &OrderWords<'a>, bytes: &[u8]) -> Result<Outc
     let window = order_window(words, &project)?;
     let text = order_text(alloc, words, &project, window)?;
     Ok(to_file_or_output(alloc, words.out, text.into_bytes())?)
+}
+
+fn latency<'a>(alloc: Global, words: &LatencyWords<'a>, bytes: &[u8]) -> Result<Outcome, End<'a>>
+    ensures done { IfOk result (IsMadeOf bytes.now None (IsLatencyText words.now)) }
+    ensures refused { IfErr result (λ end. IsNotMade bytes.now (λ P. IsNoCondition P words.now end) end) }
+{
+    let project = project_in(alloc, bytes)?;
+    let condition = condition(words, &project)?;
+    let text = report(alloc, &project, &condition)?;
+    Ok(to_file_or_output(alloc, None, text.into_bytes())?)
 }
 
 /// The network of a load, in the name of its project file.
@@ -356,6 +368,7 @@ pub fn perform<'a, T: Threads + Sync, P: Progress>(
     match asked {
         Asked::Map(words) => map(alloc, words, bytes),
         Asked::Order(words) => order(alloc, words, bytes),
+        Asked::Latency(words) => latency(alloc, words, bytes),
         Asked::Rates(words) => rates(rt, alloc, words, progress),
         Asked::Delays(words) => delays(rt, alloc, words, progress),
         Asked::Sweep(words) => sweep(rt, alloc, words, bytes),

@@ -4,10 +4,11 @@ ghost use Rattle.std.specs.Option.{option_map_or};
 ghost use Rattle.clap.specs.Matches.{matched_of, raw_values};
 ghost use Rattle.clap.specs.Walk.{texts};
 ghost use Rattle.clap.specs.Words.{FailsBy, fault_of, first_of, found_of, new_app, rows_of, rule_of, subcommand_of};
-ghost use Rattle.lab_tasks.specs.CommandLine.{bare, check_task, convert_task, delays_task, file_rule, flag_rule, kept_rules, lab, map_task, measured_task, option_rule, order_task, rates_task, several_rule, sweep_task, HasAll, HasMore, HasTask, IsApp, IsLab, IsNoTask, IsTask};
-ghost use Rattle.lab_tasks.specs.Words.{file_at, is_given, text_of, texts_at, AreConvertWords, AreCurveWords, AreMapWords, AreOrderWords, AreSweepWords, AsksFor};
+ghost use Rattle.lab_tasks.specs.CommandLine.{bare, check_task, convert_task, delays_task, file_rule, flag_rule, kept_rules, lab, map_task, latency_task, measured_task, option_rule, order_task, rates_task, several_rule, sweep_task, HasAll, HasMore, HasTask, IsApp, IsLab, IsNoTask, IsTask};
+ghost use Rattle.lab_tasks.specs.Words.{file_at, is_given, text_of, texts_at, AreConvertWords, AreCurveWords, AreLatencyWords, AreMapWords, AreOrderWords, AreSweepWords, AsksFor};
 
 use crate::convert::ConvertWords;
+use crate::latency::LatencyWords;
 use crate::order::OrderWords;
 use clap::{Arg, ArgAction, ArgMatches, Command, Error};
 use std::alloc::{AllocError, Global};
@@ -52,6 +53,7 @@ pub struct SweepWords<'a> {
 pub enum Asked<'a> {
     Map(MapWords<'a>),
     Order(OrderWords<'a>),
+    Latency(LatencyWords<'a>),
     Rates(CurveWords<'a>),
     Delays(CurveWords<'a>),
     Sweep(SweepWords<'a>),
@@ -69,6 +71,7 @@ impl<'a> Asked<'a> {
         match self {
             Asked::Map(words) => Some(words.file),
             Asked::Order(words) => Some(words.file),
+            Asked::Latency(words) => Some(words.file),
             Asked::Rates(_) | Asked::Delays(_) => None,
             Asked::Sweep(words) => Some(words.file),
             Asked::Check { file } => Some(*file),
@@ -83,6 +86,9 @@ const MAP_ABOUT: &str = "Draws tree saturation: the queues towards a module, cyc
 
 const ORDER_ABOUT: &str =
     "Draws or tabulates the one order of all references: when each was issued, served and answered";
+
+const LATENCY_ABOUT: &str =
+    "Says how long references waited for their replies: the mean, percentiles and a table";
 
 const RATES_ABOUT: &str =
     "Measures references answered per cycle against the number of processors, for some shares of hot references";
@@ -260,6 +266,41 @@ fn order_command<'a>(alloc: Global) -> Result<Command<'a>, AllocError>
     Ok(task)
 }
 
+fn latency_command<'a>(alloc: Global) -> Result<Command<'a>, AllocError>
+    ensures { IfOk result (IsTask latency_task) }
+{
+    let task = with_file(alloc, named(alloc, "latency", LATENCY_ABOUT, ENDS))?;
+    let task = with_option(
+        alloc,
+        task,
+        "processor",
+        "P",
+        "The processor that issued them; without it all",
+    )?;
+    let task = with_option(
+        alloc,
+        task,
+        "network",
+        "NET",
+        "low or comb: the network that they went over; without it both",
+    )?;
+    let task = with_option(
+        alloc,
+        task,
+        "from",
+        "T",
+        "The first cycle that shows one issued; without it 0",
+    )?;
+    let task = with_option(
+        alloc,
+        task,
+        "to",
+        "T",
+        "The last cycle that shows one issued; without it the horizon",
+    )?;
+    Ok(task)
+}
+
 /// A task of curves, with the arguments that say what is measured.
 fn measured_command<'a>(
     alloc: Global,
@@ -433,6 +474,7 @@ fn lab_command<'a>(alloc: Global) -> Result<Command<'a>, AllocError>
     let command = bare_command(alloc)?;
     let command = with_task(command, map_command(alloc)?)?;
     let command = with_task(command, order_command(alloc)?)?;
+    let command = with_task(command, latency_command(alloc)?)?;
     let command = with_task(command, rates_command(alloc)?)?;
     let command = with_task(command, delays_command(alloc)?)?;
     let command = with_task(command, sweep_command(alloc)?)?;
@@ -505,6 +547,18 @@ fn order_words<'a>(matches: &ArgMatches<'a>) -> OrderWords<'a>
     }
 }
 
+fn latency_words<'a>(matches: &ArgMatches<'a>) -> LatencyWords<'a>
+    ensures { AreLatencyWords (rows_of (found_of matches.now)) result }
+{
+    LatencyWords {
+        file: file_in(matches),
+        processor: text_in(matches, "processor"),
+        network: text_in(matches, "network"),
+        from: text_in(matches, "from"),
+        to: text_in(matches, "to"),
+    }
+}
+
 fn curve_words<'a>(matches: &ArgMatches<'a>) -> CurveWords<'a>
     ensures { AreCurveWords (rows_of (found_of matches.now)) result }
 {
@@ -556,6 +610,7 @@ fn asked_of<'a>(
     Ok(match name {
         "map" => Some(Asked::Map(map_words(matches))),
         "order" => Some(Asked::Order(order_words(matches))),
+        "latency" => Some(Asked::Latency(latency_words(matches))),
         "rates" => Some(Asked::Rates(curve_words(matches))),
         "delays" => Some(Asked::Delays(curve_words(matches))),
         "sweep" => Some(Asked::Sweep(sweep_words(alloc, matches)?)),

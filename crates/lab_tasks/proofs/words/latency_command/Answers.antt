@@ -1,0 +1,11 @@
+use Rattle.std.proofs.Common.{codes}
+use Rattle.clap.specs.Words.{new_app}
+use Rattle.lab_tasks.proofs.words.latency_command.Goals as goal
+
+pub returns : goal.returns
+returns c =
+    let one = c.in_ok-task.ensures (new_app (codes "latency")) c.named.ensures in
+    let two = c.in_ok-task-2.ensures _ one in
+    let three = c.in_ok-task-3.ensures _ two in
+    let four = c.in_ok-task-4.ensures _ three in
+    c.in_ok-task-5.ensures _ four
