@@ -20,17 +20,19 @@ mod wave;
 use crate::Noted;
 use crate::counters::Counters;
 use crate::recent::Recent;
-use cell_table::Table;
+use cell_table::{Beside, Table};
 use machine_cells::Rp3;
 use project_book::Project;
 use std::alloc::Global;
 use std::marker::Model;
+use whole_rows::MachineRow;
 
 /// A project, its run as far as it was computed, the edits that were accepted, the answers that were told last, and, once
 /// a counter or a profile was asked, the counters.
 #[derive(Drop)]
 pub struct Bench {
     table: Table<Rp3>,
+    beside: Beside<MachineRow>,
     counters: Counters,
     journal: Vec<Noted>,
     recent: Recent,
@@ -72,6 +74,7 @@ impl Bench {
         match Table::new(alloc, project, horizon, clock) {
             Ok(table) => Ok(Bench {
                 table,
+                beside: Beside::none(alloc),
                 counters: Counters::none(),
                 journal: Vec::new(alloc),
                 recent,

@@ -11,11 +11,12 @@ ghost use Rattle.project_book.specs.Limits.{max_horizon};
 
 use cell_table::{Cell, CellRange, Table, Watcher};
 use grid_law::NoMemory;
-use machine_cells::Rp3;
+use machine_cells::{MachineState, Rp3};
 use monitor_sums::Sums;
 use omega_net::Shape;
 use std::alloc::Global;
 use std::marker::Model;
+use std::sync::Arc;
 
 /// Sums over the states that a bench's table holds, made when they are first asked for.
 #[derive(Drop)]
@@ -93,6 +94,15 @@ fn count_table(alloc: Global, table: &Table<Rp3>) -> Result<Sums, NoMemory>
     Ok(sums)
 }
 
+/// A state, lent.
+pub(crate) fn lent(state: &Option<Arc<MachineState>>) -> Option<&MachineState>
+{
+    match state {
+        Some(state) => Some(&**state),
+        None => None,
+    }
+}
+
 /// Counts what a component holds at the cycles from one on to before another: each stretch of equal states
 /// at once.
 fn count_filled(sums: &mut Sums, table: &Table<Rp3>, component: u32, from: u32, to: u32)
@@ -105,13 +115,11 @@ fn count_filled(sums: &mut Sums, table: &Table<Rp3>, component: u32, from: u32, 
     ensures stands { (at : States) → StandsFor sums.old at → StandsFor sums.new (filled_in at (held table.now) component from to) }
 {
     let mut cycle = from;
-    let mut hint = 0;
     while cycle < to {
-        let part = table.standing(Cell { cycle, component }, hint);
+        let part = table.standing(Cell { cycle, component });
         let end = part.end.min(to);
-        sums.fill(component, cycle, end, part.state);
+        sums.fill(component, cycle, end, lent(&part.state));
         cycle = end;
-        hint = part.stretch.saturating_add(1);
     }
 }
 
@@ -149,7 +157,7 @@ impl Watcher<Rp3> for Counters {
 
     fn stored(&mut self, table: &Table<Rp3>, cell: Cell) {
         if let Some(sums) = &mut self.sums {
-            sums.change(cell.component, cell.cycle, table.state(cell));
+            sums.change(cell.component, cell.cycle, lent(&table.state(cell)));
         }
     }
 

@@ -105,6 +105,12 @@ impl Marks {
         self.rows[u as usize].is_union(&self.rows[t as usize], with)
     }
 
+    /// A row.
+    pub fn row(&self, t: u32) -> &Row
+    {
+        &self.rows[t as usize]
+    }
+
     /// Marks a cell.
     pub fn set(&mut self, t: u32, c: u32)
         requires row { t < length self.old.rows }

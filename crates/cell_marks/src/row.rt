@@ -88,6 +88,24 @@ impl Row {
         }
     }
 
+    /// The marks, 64 in a word. Behind the last component there may be others.
+    pub fn words(&self) -> &[u64]
+    {
+        &self.words
+    }
+
+    /// Other marks in the place of these, 64 in a word.
+    pub fn assign(&mut self, words: &[u64])
+    {
+        let mut count = 0;
+        for w in 0..self.words.len().min(words.len()) {
+            let word = words[w];
+            self.words[w] = word;
+            count += word.count_ones();
+        }
+        self.count = count;
+    }
+
     /// Whether the components marked in one row or the other are just those marked here; 64 of them in one step.
     pub(crate) fn is_union(&self, one: &Row, other: &Row) -> bool
         requires one { length one.now ≡ length self.now }
@@ -110,7 +128,7 @@ impl Row {
 
     /// Marks all components that another row marks, too; 64 of them in one step.
     #[tactic(auto, using(crate::proofs::Added::count_le))]
-    pub(crate) fn add(&mut self, other: &Row)
+    pub fn add(&mut self, other: &Row)
         requires { length other.now ≡ length self.old }
         ensures { self.new ≡ union self.old other.now }
     {

@@ -1,128 +1,174 @@
 //! What is held for the cells.
-ghost use Rattle.std.specs.Prelude.{◌≡◌, ℕ, ◌+◌, ◌-◌, ◌<◌, ◌≤◌, ◌++◌, ◌^◌, ◌↔◌, ◌||◌, IsTrue, All, IfOk, OnOk, OnErr, IfErr, length, replicate, map, take, option_map, is_some, true, false, ◌==◌, ◌&&◌, MatchOption, Some, None, if◌then◌else◌, nat_lt, slice_index_or, []};
-ghost use Rattle.std.specs.Option.{option_copied, option_or};
-ghost use Rattle.std.specs.Arc.{arc_value};
-ghost use Rattle.cell_table.specs.Seen.{fresh, stored, marked, held_at, row_at, due_in_row, due_up_to};
-ghost use Rattle.cell_table.specs.Inputs.{states_of};
-ghost use Rattle.cell_table.specs.Readers.{has, IsIndex, AreNear};
-ghost use Rattle.grid_law.specs.Run.{run};
-ghost use Rattle.cell_table.specs.Settling.{IsNextDueInRow};
-ghost use Rattle.cell_table.specs.Layout.{cleared, IsOtherCell};
-ghost use Rattle.cell_table.specs.Filling.{is_awake};
 
-mod standing;
+pub(crate) mod standing;
 
 use crate::Cell;
-use crate::fill::fill_lines;
-use crate::lines::{
-    are_empty_from, bring_to, cut_ends, extend_changed, grow_ends, lines_of, put_changed,
-    put_state, repeat_state, reserve_changed, reserve_ends, shared_in, state_in, stays_in,
-};
-use crate::neighbours::Neighbours;
-use crate::readers::Readers;
+use crate::memories::Memories;
 use crate::versions::{Versions, grow_rows, rows_of, set_version, set_versions, version_in};
 use cell_marks::{Marks, Row};
+use change_rows::{Cells as Draft, Rows, Source};
 use grid_law::{Grid, NoMemory};
-use state_line::Line;
 use std::alloc::Global;
-use std::marker::Model;
 use std::sync::Arc;
 
-/// The cells of the first cycles: for each component a line of states, and by cycle which cells are
-/// due, and their versions.
+/// The cells of the first cycles: by cycle the words of the states that begin there, by component what isn't in the words, and by cycle
+/// which cells are due, and their versions.
 #[derive(Drop)]
-pub(crate) struct Cells<S> {
-    lines: Vec<Line<S>>,
+pub(crate) struct Cells<G: Grid> {
+    rows: Rows,
+    memories: Memories<G::Memory>,
     due: Marks,
     versions: Vec<Versions>,
+    /// All components.
+    all: Row,
+    /// What is put together on the way to a row.
+    draft: Draft,
+    words: Vec<u64>,
 }
 
-impl<S> Model for Cells<S> {
-    ghost use Rattle.std.specs.Prelude.{List};
-    ghost use Rattle.cell_table.specs.Seen.{Held};
-    ghost use Rattle.cell_table.specs.Layout.{rows_of, IsLayout};
-
-    ghost Value = { List (List (Held S)) };
-
-    ghost view = { λ k. rows_of k.lines.items k.due k.versions.items };
-
-    ghost invariant = { λ k. IsLayout k.lines.items k.due k.versions.items };
-}
-
-impl<S: Drop> Cells<S> {
+impl<G: Grid> Cells<G> {
     /// New cells of `cycles` cycles, all due.
     pub(crate) fn new(
         alloc: Global,
         count: u32,
         cycles: u32,
         version: u64,
-    ) -> Result<Cells<S>, NoMemory>
-        ensures { IfOk result (λ k. k ≡ replicate cycles (replicate count (fresh version))) }
+    ) -> Result<Cells<G>, NoMemory>
     {
-        let lines = lines_of(alloc, count, cycles)?;
+        let mut rows = Rows::new(alloc, count)?;
+        rows.grow(alloc, cycles)?;
+        let memories = Memories::new(alloc, count)?;
         let versions = rows_of(alloc, cycles, count, version)?;
         let mut due = Marks::new(alloc, count);
         due.grow(alloc, cycles, true)?;
         Ok(Cells {
-            lines,
+            rows,
+            memories,
             due,
             versions,
+            all: Row::new(alloc, count, true)?,
+            draft: Draft::new(alloc),
+            words: Vec::new(alloc),
         })
     }
 
     /// Where its memory comes from.
     pub(crate) fn allocator(&self) -> Global {
-        *self.lines.allocator()
+        *self.words.allocator()
     }
 
     /// How many cycles there are.
     pub(crate) fn cycles(&self) -> u32
-        ensures { result ≡ length self.now }
     {
         self.due.len()
     }
 
-    /// The state that a cell holds.
+    /// The words of the state that a cell holds; none where it holds no state.
     #[inline(always)]
-    pub(crate) fn state(&self, cell: Cell) -> Option<&S>
-        ensures { option_copied result ≡ (held_at self.now cell.cycle cell.component).state }
+    pub(crate) fn words(&self, cycle: u32, component: u32) -> &[u64]
     {
-        state_in(&self.lines, cell)
+        self.rows.words(cycle, component)
     }
 
-    /// One more owner of the state that a cell holds.
-    pub(crate) fn shared(&self, cell: Cell) -> Result<Option<Arc<S>>, NoMemory>
-        ensures { IfOk result (λ o. option_map arc_value o ≡ (held_at self.now cell.cycle cell.component).state) }
+    /// What of that state isn't in its words.
+    #[inline(always)]
+    pub(crate) fn memory(&self, cycle: u32, component: u32) -> Option<&G::Memory>
     {
-        shared_in(&self.lines, cell)
+        self.memories.at(component, cycle)
+    }
+
+    /// The state that a cell holds.
+    pub(crate) fn shared(&self, cell: Cell) -> Result<Option<Arc<G::State>>, NoMemory>
+    {
+        let words = self.words(cell.cycle, cell.component);
+        if words.is_empty() {
+            return Ok(None);
+        }
+        let memory = match self.memory(cell.cycle, cell.component) {
+            Some(memory) => Some(G::share_memory(memory)?),
+            None => None,
+        };
+        let state = G::decode(self.allocator(), words, memory)?;
+        Ok(Some(state))
+    }
+
+    /// Whether a cell holds a state.
+    pub(crate) fn has_state(&self, cell: Cell) -> bool
+    {
+        !self.words(cell.cycle, cell.component).is_empty()
+    }
+
+    /// Whether a cell holds this state, the whole of it.
+    pub(crate) fn holds(&self, cell: Cell, state: &G::State) -> bool
+    {
+        let mut words = Vec::new(self.allocator());
+        if G::encode(state, &mut words).is_err() {
+            return false;
+        }
+        if self.words(cell.cycle, cell.component) != words.as_slice() {
+            return false;
+        }
+        match (G::memory(state), self.memory(cell.cycle, cell.component)) {
+            (Ok(Some(memory)), Some(held)) => G::same_memory(&memory, held),
+            (Ok(None), None) => true,
+            _ => false,
+        }
     }
 
     /// Whether a cell holds the state of the cell one cycle earlier, known without a look at
     /// either; there may be such cells besides.
     #[inline(always)]
     pub(crate) fn stays(&self, cell: Cell) -> bool
-        ensures { result ≡ true → (0 < cell.cycle) × ((held_at self.now (cell.cycle - 1) cell.component).state ≡ (held_at self.now cell.cycle cell.component).state) }
     {
-        stays_in(&self.lines, cell)
+        !self.rows.begins(cell.cycle, cell.component)
+            && !self.memories.begins(cell.component, cell.cycle)
     }
 
-    /// Whether no cell holds a state from a cycle on, known by one look at each component; there may
-    /// be such cycles besides.
-    pub(crate) fn is_empty_from(&self, cycle: u32) -> bool
-        ensures { result ≡ true → (t c : ℕ) → cycle ≤ t → (held_at self.now t c).state ≡ None }
+    /// Whether a cell holds the state of the cell one cycle earlier.
+    pub(crate) fn is_as_before(&self, cell: Cell) -> bool
     {
-        are_empty_from(&self.lines, cycle)
+        let (t, c) = (cell.cycle, cell.component);
+        (!self.rows.begins(t, c) || self.words(t, c) == self.words(t - 1, c))
+            && self.has_memory_before(t, c)
+    }
+
+    /// Whether a cell's memory is that of the cell one cycle earlier.
+    pub(crate) fn has_memory_before(&self, t: u32, c: u32) -> bool
+    {
+        if !self.memories.begins(c, t) {
+            return true;
+        }
+        match (self.memory(t, c), self.memory(t - 1, c)) {
+            (Some(a), Some(b)) => G::same_memory(a, b),
+            _ => false,
+        }
+    }
+
+    /// Whether a memory begins at a cell.
+    pub(crate) fn memory_begins(&self, t: u32, c: u32) -> bool
+    {
+        self.memories.begins(c, t)
+    }
+
+    /// Whether no cell holds a state from a cycle on; there may be such cycles besides.
+    pub(crate) fn is_empty_from(&self, cycle: u32) -> bool
+    {
+        for component in 0..self.rows.width() {
+            if !self.rows.words(cycle, component).is_empty() {
+                return false;
+            }
+        }
+        let end = self.cycles();
+        self.rows.next_change(cycle + 1, end, self.all.words()) >= end
     }
 
     pub(crate) fn is_due(&self, cell: Cell) -> bool
-        ensures { result ≡ (held_at self.now cell.cycle cell.component).is_due }
     {
         self.due.has(cell.cycle, cell.component)
     }
 
     /// The version of a due cell, 0 of any other.
     pub(crate) fn version(&self, cell: Cell) -> u64
-        ensures { result ≡ (held_at self.now cell.cycle cell.component).version }
     {
         if self.is_due(cell) {
             version_in(&self.versions, cell.cycle, cell.component)
@@ -133,105 +179,114 @@ impl<S: Drop> Cells<S> {
 
     /// How many cells of a cycle are due; no cell is looked at.
     pub(crate) fn due_count(&self, cycle: u32) -> u32
-        ensures { result ≡ due_in_row (row_at self.now cycle) }
     {
         self.due.row_count(cycle)
     }
 
     /// How many cells are due; one number tells it.
     pub(crate) fn due_total(&self) -> u64
-        ensures { result ≡ due_up_to self.now (length self.now) }
     {
         self.due.total()
     }
 
     /// How many cells are due at the cycles up to t.
     pub(crate) fn due_to(&self, t: u32) -> u64
-        ensures { result ≡ due_up_to self.now (t + 1) }
     {
         self.due.count_to(t)
     }
 
     /// The first due cell of a cycle, at or after that component.
     pub(crate) fn next_due(&self, cycle: u32, from: u32) -> Option<u32>
-        ensures { MatchOption result
-            ((k : ℕ) → from ≤ k → (held_at self.now cycle k).is_due ≡ false)
-            (λ c. IsNextDueInRow (row_at self.now cycle) from c × (c < length (row_at self.now cycle))) }
     {
         self.due.first_from(cycle, from)
     }
 
+    /// The marks of the due cells of a cycle.
+    pub(crate) fn due_row(&self, cycle: u32) -> &Row
+    {
+        self.due.row(cycle)
+    }
+
     /// Whether the components that are due at a cycle, or among those, are just those due at another one; 64 in one step.
     pub(crate) fn is_due_alike(&self, cycle: u32, among: &Row, other: u32) -> bool
-        requires cycle { cycle < length self.now }
-        requires other { other < length self.now }
-        requires width { length among.now ≡ length (row_at self.now cycle) }
-        ensures { result ≡ true → (c : ℕ) → c < length among.now → ((held_at self.now cycle c).is_due || is_awake among.now c) ≡ (held_at self.now other c).is_due }
     {
         self.due.is_alike(cycle, among, other)
     }
 
-    /// Gets these components ready for looks at what they hold at a cycle and the one before. No cell changes.
-    pub(crate) fn bring_to(&mut self, cycle: u32, components: &[u32])
-        requires cycle { cycle < length self.old }
-        requires there { All (λ c. c < length (row_at self.old cycle)) components.now }
-        ensures { self.new ≡ self.old }
+    /// The first cycle from t on, and before `to`, at which one of these components may begin to hold another state, or `to`.
+    pub(crate) fn next_begin(&self, t: u32, to: u32, set: &Row) -> u32
     {
-        bring_to(&mut self.lines, components, cycle);
+        let mut end = self.rows.next_change(t, to, set.words());
+        let mut from = 0;
+        while let Some(c) = set.first_from(from) {
+            end = self.memories.next(c, t, end);
+            from = c + 1;
+        }
+        end
+    }
+
+    /// Whether a component begins no other words at the cycles from t on to before one.
+    pub(crate) fn goes_on_to(&self, t: u32, to: u32, c: u32) -> bool
+    {
+        self.rows.next_of(t, to, c) >= to
     }
 
     /// Puts another state for a cell, which isn't due then. Where memory is wanting, nothing is
     /// changed, and the state comes back.
-    pub(crate) fn put(&mut self, cell: Cell, state: Arc<S>) -> Result<(), Arc<S>>
-        requires cycle { cell.cycle < length self.old }
-        requires component { cell.component < length (row_at self.old cell.cycle) }
-        ensures ok { OnOk result (IsOtherCell self.old self.new cell.cycle cell.component (stored (arc_value state))) }
-        ensures err { OnErr result (self.new ≡ self.old) }
-        ensures back { IfErr result (λ back. arc_value back ≡ arc_value state) }
+    pub(crate) fn put(&mut self, cell: Cell, state: Arc<G::State>) -> Result<(), Arc<G::State>>
     {
-        match put_state(&mut self.lines, cell, state) {
+        match self.try_put(cell, &state) {
             Ok(()) => {
                 self.due.clear(cell.cycle, cell.component);
                 Ok(())
             }
-            Err(state) => Err(state),
+            Err(_) => Err(state),
+        }
+    }
+
+    fn try_put(&mut self, cell: Cell, state: &G::State) -> Result<(), NoMemory>
+    {
+        let alloc = self.allocator();
+        let len = self.cycles();
+        self.words.clear();
+        G::encode(state, &mut self.words)?;
+        self.draft.clear();
+        self.draft.push(cell.component, self.words.as_slice())?;
+        let memory = G::memory(state)?;
+        self.rows.put_row(alloc, cell.cycle, &self.draft)?;
+        match memory {
+            Some(memory) => {
+                self.memories
+                    .put::<G>(cell.component, cell.cycle, len, Some(memory))?;
+                Ok(())
+            }
+            None => Ok(()),
         }
     }
 
     /// Gives a cell the state of the cell one cycle earlier, and then it isn't due. Where memory is
     /// wanting, nothing is changed.
     pub(crate) fn repeat(&mut self, cell: Cell) -> Result<(), NoMemory>
-        requires cycle { cell.cycle < length self.old }
-        requires component { cell.component < length (row_at self.old cell.cycle) }
-        requires later { 0 < cell.cycle }
-        ensures ok { OnOk result (IsOtherCell self.old self.new cell.cycle cell.component
-            (cleared (held_at self.old (cell.cycle - 1) cell.component).state)) }
-        ensures err { OnErr result (self.new ≡ self.old) }
     {
-        match repeat_state(&mut self.lines, cell) {
-            Ok(()) => {
-                self.due.clear(cell.cycle, cell.component);
-                Ok(())
-            }
-            Err(_) => Err(NoMemory),
-        }
+        let alloc = self.allocator();
+        let len = self.cycles();
+        let (t, c) = (cell.cycle, cell.component);
+        self.draft.clear();
+        self.draft.push(c, self.rows.words(t - 1, c))?;
+        self.rows.put_row(alloc, t, &self.draft)?;
+        self.memories.put::<G>(c, t, len, None)?;
+        self.due.clear(t, c);
+        Ok(())
     }
 
     /// Lets a cell keep its state, and then it isn't due.
     pub(crate) fn keep(&mut self, cell: Cell)
-        requires cycle { cell.cycle < length self.old }
-        requires component { cell.component < length (row_at self.old cell.cycle) }
-        ensures { IsOtherCell self.old self.new cell.cycle cell.component
-            (cleared (held_at self.old cell.cycle cell.component).state) }
     {
         self.due.clear(cell.cycle, cell.component);
     }
 
     /// Makes a cell due, with that version.
     pub(crate) fn mark(&mut self, cell: Cell, version: u64)
-        requires cycle { cell.cycle < length self.old }
-        requires component { cell.component < length (row_at self.old cell.cycle) }
-        ensures { IsOtherCell self.old self.new cell.cycle cell.component (marked (held_at self.old cell.cycle cell.component) version) }
     {
         self.due.set(cell.cycle, cell.component);
         set_version(&mut self.versions, cell.cycle, cell.component, version);
@@ -239,42 +294,46 @@ impl<S: Drop> Cells<S> {
 
     /// Makes cells of a cycle due, with that version: those of the components that are marked, which are listed too.
     pub(crate) fn mark_row(&mut self, cycle: u32, row: &Row, list: &[u32], version: u64)
-        requires cycle { cycle < length self.old }
-        requires width { length row.now ≡ length (row_at self.old cycle) }
-        requires listed { (c : ℕ) → is_awake row.now c ≡ has list.now c }
-        requires there { All (λ c. c < length (row_at self.old cycle)) list.now }
-        ensures len { length self.new ≡ length self.old }
-        ensures lens { (t : ℕ) → length (row_at self.new t) ≡ length (row_at self.old t) }
-        ensures at { (t c : ℕ) → held_at self.new t c
-            ≡ (if (t == cycle) && has list.now c then marked (held_at self.old t c) version else held_at self.old t c) }
     {
         self.due.set_all(cycle, row);
         set_versions(&mut self.versions, cycle, list, version);
     }
 
+    /// Makes cells of a cycle due.
+    pub(crate) fn mark_all(&mut self, cycle: u32, row: &Row)
+    {
+        self.due.set_all(cycle, row);
+    }
+
+    /// The versions of some cells of a cycle.
+    pub(crate) fn set_versions(&mut self, cycle: u32, list: &[u32], version: u64)
+    {
+        set_versions(&mut self.versions, cycle, list, version);
+    }
+
+    /// No cell of these rows is due any more.
+    pub(crate) fn clear_rows(&mut self, from: u32, to: u32)
+    {
+        for t in from..to {
+            self.due.clear_row(t);
+        }
+    }
+
     /// Removes the cycles from n on.
     pub(crate) fn truncate(&mut self, n: u32)
-        ensures { self.new ≡ take n self.old }
     {
-        cut_ends(&mut self.lines, n);
+        self.rows.truncate(n);
+        self.memories.truncate(n);
         self.due.truncate(n);
         self.versions.truncate(n as usize);
     }
 
     /// Adds m cycles of new cells, which are due; where memory is wanting, nothing is changed.
     pub(crate) fn grow(&mut self, m: u32, version: u64) -> Result<(), NoMemory>
-        requires some { 0 < length self.old }
-        requires fits { length self.old + m < 2 ^ 32 }
-        ensures ok { OnOk result (self.new ≡ self.old ++ replicate m (replicate (length (row_at self.old 0)) (fresh version))) }
-        ensures err { OnErr result (self.new ≡ self.old) }
     {
-        let alloc = *self.lines.allocator();
-        let count = self.lines.len() as u32;
+        let alloc = self.allocator();
+        let count = self.rows.width();
         let n = self.due.len();
-        match reserve_ends(&mut self.lines, n) {
-            Ok(()) => {}
-            Err(_) => return Err(NoMemory),
-        }
         match self.due.grow(alloc, m, true) {
             Ok(()) => {}
             Err(_) => return Err(NoMemory),
@@ -286,17 +345,22 @@ impl<S: Drop> Cells<S> {
                 return Err(NoMemory);
             }
         }
-        grow_ends(&mut self.lines, n, m);
-        Ok(())
+        match self.rows.grow(alloc, m) {
+            Ok(()) => Ok(()),
+            Err(_) => {
+                self.due.truncate(n);
+                self.versions.truncate(n as usize);
+                Err(NoMemory)
+            }
+        }
     }
 
     /// Whether all these components have a state at a cycle.
     pub(crate) fn has_states(&self, cycle: u32, near: &[u32]) -> bool
-        ensures { result ≡ is_some (states_of (row_at self.now cycle) near.now) }
     {
         for component in near {
             let component = *component;
-            if self.state(Cell { cycle, component }).is_none() {
+            if !self.has_state(Cell { cycle, component }) {
                 return false;
             }
         }
@@ -308,9 +372,8 @@ impl<S: Drop> Cells<S> {
         &self,
         cycle: u32,
         near: &[u32],
-        states: &mut Vec<Arc<S>>,
+        states: &mut Vec<Arc<G::State>>,
     ) -> Result<bool, NoMemory>
-        ensures { IfOk result (λ all. (if all then Some (map arc_value states.new.items) else None) ≡ states_of (row_at self.now cycle) near.now) }
     {
         states.clear();
         states.reserve(near.len())?;
@@ -328,7 +391,6 @@ impl<S: Drop> Cells<S> {
     /// without a look at any state.
     #[inline(always)]
     pub(crate) fn all_stay(&self, cycle: u32, near: &[u32]) -> bool
-        ensures { result ≡ true → All (λ c. (held_at self.now (cycle - 1) c).state ≡ (held_at self.now cycle c).state) near.now }
     {
         for component in near {
             let component = *component;
@@ -338,135 +400,93 @@ impl<S: Drop> Cells<S> {
         }
         true
     }
+
+    /// Lets the components that change keep the state of the cycle before `from` to before `to`, where none of them begins another state
+    /// at the cycles between, and no cell of these cycles is due then. Where memory is wanting, nothing is changed.
+    pub(crate) fn repeat_all(&mut self, changes: &Row, from: u32, to: u32) -> Result<(), NoMemory>
+    {
+        let alloc = self.allocator();
+        let len = self.cycles();
+        if changes.count() > 0 {
+            self.rows.repeat(alloc, from, to, changes.words())?;
+            let mut next = 0;
+            while let Some(c) = changes.first_from(next) {
+                self.memories.go_on(c, from, to, len);
+                next = c + 1;
+            }
+        }
+        self.clear_rows(from, to);
+        Ok(())
+    }
+
+    /// The due cells of a cycle hold what a source has; tells which held other words.
+    pub(crate) fn put_due<S: Source>(
+        &mut self,
+        cycle: u32,
+        source: &S,
+        changed: &mut [u64],
+    ) -> Result<(), NoMemory>
+    {
+        self.rows
+            .put_from(cycle, self.due.row(cycle).words(), source, changed)?;
+        Ok(())
+    }
+
+    /// The cells of a draft hold its words.
+    pub(crate) fn put_draft(&mut self, cycle: u32, draft: &Draft) -> Result<(), NoMemory>
+    {
+        let alloc = self.allocator();
+        self.rows.put_row(alloc, cycle, draft)?;
+        Ok(())
+    }
+
+    /// All components.
+    pub(crate) fn all_row(&self) -> Result<Row, NoMemory>
+    {
+        Ok(Row::new(self.allocator(), self.rows.width(), true)?)
+    }
+
+    /// A cell's memory is this one, and so is that of the cells behind it, which hold nothing yet.
+    pub(crate) fn fill_memory(
+        &mut self,
+        cycle: u32,
+        component: u32,
+        memory: G::Memory,
+    ) -> Result<(), NoMemory>
+    {
+        self.memories.put::<G>(component, cycle, cycle + 1, Some(memory))?;
+        Ok(())
+    }
+
+    /// A cell's memory is this one, or that of the cell before: whether what stood there goes on at the next cycle.
+    pub(crate) fn put_memory(
+        &mut self,
+        cycle: u32,
+        component: u32,
+        new: Option<G::Memory>,
+    ) -> Result<bool, NoMemory>
+    {
+        let len = self.cycles();
+        self.memories.put::<G>(component, cycle, len, new)
+    }
 }
 
 /// Whether these components hold these states at a cycle.
 pub(crate) fn are_held<G: Grid>(
-    cells: &Cells<G::State>,
+    cells: &Cells<G>,
     cycle: u32,
     near: &[u32],
     states: &[Arc<G::State>],
 ) -> bool
-    ensures { IsTrue result ↔ (states_of (row_at cells.now cycle) near.now ≡ Some (map arc_value states.now)) }
 {
     if near.len() != states.len() {
         return false;
     }
     for i in 0..near.len() {
         let component = near[i];
-        match cells.state(Cell { cycle, component }) {
-            Some(state) => {
-                if !G::same(state, &states[i]) {
-                    return false;
-                }
-            }
-            None => return false,
+        if !cells.holds(Cell { cycle, component }, &states[i]) {
+            return false;
         }
     }
     true
-}
-
-/// Takes the marks of these rows away.
-fn clear_rows(due: &mut Marks, from: u32, to: u32)
-    requires after { from ≤ to }
-    requires end { to ≤ length due.old.rows }
-    ensures width { due.new.width ≡ due.old.width }
-    ensures len { length due.new.rows ≡ length due.old.rows }
-    ensures cleared { (t : ℕ) → from ≤ t → t < to → slice_index_or due.new.rows t [] ≡ replicate due.old.width false }
-    ensures earlier { (t : ℕ) → t < from → slice_index_or due.new.rows t [] ≡ slice_index_or due.old.rows t [] }
-    ensures later { (t : ℕ) → to ≤ t → slice_index_or due.new.rows t [] ≡ slice_index_or due.old.rows t [] }
-{
-    for t in from..to {
-        due.clear_row(t);
-    }
-}
-
-/// Fills the cells, which hold the run to before a cycle and nothing from there on, with the run, to before `end`: to
-/// before which cycle. What is filled isn't due. Where memory is wanting, it ends earlier.
-pub(crate) fn fill_cells<G: Grid>(
-    cells: &mut Cells<G::State>,
-    slots: &G::Slots,
-    neighbours: &Neighbours,
-    readers: &Readers,
-    from: u32,
-    end: u32,
-) -> u32
-    requires near { AreNear G.rules slots.now neighbours.now }
-    requires from { from < end }
-    requires within { end ≤ length cells.old }
-    requires whole { (t : ℕ) → t < length cells.old → length (row_at cells.old t) ≡ G.rules.components slots.now }
-    requires index { IsIndex G.rules slots.now readers.now }
-    requires known { (t c : ℕ) → c < G.rules.components slots.now → t < from → (held_at cells.old t c).state ≡ Some (run G.rules slots.now t c) }
-    requires none { (t c : ℕ) → c < G.rules.components slots.now → from ≤ t → t < length cells.old → (held_at cells.old t c).state ≡ None }
-    ensures len { length cells.new ≡ length cells.old }
-    ensures lens { (t : ℕ) → t < length cells.old → length (row_at cells.new t) ≡ G.rules.components slots.now }
-    ensures from { from ≤ result }
-    ensures end { result ≤ end }
-    ensures earlier { (t c : ℕ) → c < G.rules.components slots.now → t < from → held_at cells.new t c ≡ held_at cells.old t c }
-    ensures passed { (t c : ℕ) → c < G.rules.components slots.now → from ≤ t → t < result → held_at cells.new t c ≡ stored (run G.rules slots.now t c) }
-    ensures rest { (t c : ℕ) → c < G.rules.components slots.now → result ≤ t → t < length cells.old → held_at cells.new t c ≡ held_at cells.old t c }
-    ensures versions { (t c : ℕ) → (held_at cells.old t c).is_due ≡ false → (held_at cells.old t c).version ≡ 0 }
-{
-    let to = fill_lines::<G>(&mut cells.lines, slots, neighbours, readers, from, end);
-    clear_rows(&mut cells.due, from, to);
-    to
-}
-
-/// Lets the components that change keep the state of the cycle before `from` to before `to`, and no cell of these cycles
-/// is due then. Where memory is wanting, nothing is changed.
-pub(crate) fn repeat_cells<S: Drop>(
-    cells: &mut Cells<S>,
-    changes: &Row,
-    from: u32,
-    to: u32,
-) -> Result<(), NoMemory>
-    requires later { 0 < from }
-    requires after { from ≤ to }
-    requires within { to ≤ length cells.old }
-    requires width { (t : ℕ) → t < length cells.old → length (row_at cells.old t) ≡ length changes.now }
-    ensures len { length cells.new ≡ length cells.old }
-    ensures lens { (t : ℕ) → t < length cells.old → length (row_at cells.new t) ≡ length changes.now }
-    ensures repeated { OnOk result ((t c : ℕ) → c < length changes.now → from ≤ t → t < to → held_at cells.new t c ≡ cleared (held_at cells.old (if is_awake changes.now c then from - 1 else t) c).state) }
-    ensures earlier { OnOk result ((t c : ℕ) → t < from → held_at cells.new t c ≡ held_at cells.old t c) }
-    ensures later { OnOk result ((t c : ℕ) → to ≤ t → held_at cells.new t c ≡ held_at cells.old t c) }
-    ensures versions { (t c : ℕ) → (held_at cells.old t c).is_due ≡ false → (held_at cells.old t c).version ≡ 0 }
-    ensures err { OnErr result (cells.new ≡ cells.old) }
-{
-    match reserve_changed(&mut cells.lines, changes, from) {
-        Ok(()) => {}
-        Err(_) => return Err(NoMemory),
-    }
-    extend_changed(&mut cells.lines, changes, from, to);
-    clear_rows(&mut cells.due, from, to);
-    Ok(())
-}
-
-/// Puts what is new for each component that changes at a cycle, or where nothing is new the state of the cycle before, and no cell of
-/// that cycle is due then. Where memory is wanting, nothing is changed.
-pub(crate) fn put_cells<S: Drop>(
-    cells: &mut Cells<S>,
-    changes: &Row,
-    news: &mut Vec<Option<Arc<S>>>,
-    cycle: u32,
-) -> Result<(), NoMemory>
-    requires later { 0 < cycle }
-    requires within { cycle < length cells.old }
-    requires width { (t : ℕ) → t < length cells.old → length (row_at cells.old t) ≡ length changes.now }
-    requires news { length news.old.items ≡ length changes.now }
-    ensures len { length cells.new ≡ length cells.old }
-    ensures lens { (t : ℕ) → t < length cells.old → length (row_at cells.new t) ≡ length changes.now }
-    ensures len_news { length news.new.items ≡ length news.old.items }
-    ensures put { OnOk result ((c : ℕ) → c < length changes.now → held_at cells.new cycle c
-        ≡ cleared (if is_awake changes.now c then option_or (option_map arc_value (slice_index_or news.old.items c None)) (held_at cells.old (cycle - 1) c).state else (held_at cells.old cycle c).state)) }
-    ensures others { OnOk result ((t c : ℕ) → (t ≡ cycle → ⊥) → held_at cells.new t c ≡ held_at cells.old t c) }
-    ensures versions { (t c : ℕ) → (held_at cells.old t c).is_due ≡ false → (held_at cells.old t c).version ≡ 0 }
-    ensures err { OnErr result (cells.new ≡ cells.old) }
-{
-    match reserve_changed(&mut cells.lines, changes, cycle) {
-        Ok(()) => {}
-        Err(_) => return Err(NoMemory),
-    }
-    put_changed(&mut cells.lines, changes, news, cycle);
-    clear_rows(&mut cells.due, cycle, cycle + 1);
-    Ok(())
 }

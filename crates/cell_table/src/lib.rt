@@ -59,16 +59,15 @@
 //! `arrayvec` for lists of near components, and on `smallvec` for short lists of versions.
 #![tactic(auto)]
 
+mod beside;
 mod cell;
 mod cells;
 mod claim;
 mod components;
 mod cone;
-mod fill;
 mod given;
-mod lines;
 mod marks;
-mod near;
+mod memories;
 mod neighbours;
 mod ranges;
 mod readers;
@@ -79,7 +78,9 @@ mod watcher;
 mod whole_row;
 mod work;
 
+pub use beside::Beside;
 pub use cell::{Cell, CellRange};
+pub use cells::standing::Standing;
 pub use claim::{Claim, Done};
 pub use given::{Given, SettleFault, Settled, StoreFault, TouchFault};
 pub use table::Table;

@@ -3,6 +3,7 @@ ghost use Rattle.std.specs.Prelude.{◌≡◌, ℕ, ◌<◌, IfOk, OnOk, length,
 ghost use Rattle.cell_table.specs.Readers.{has, readers_at, IsIndex};
 
 use crate::components::Components;
+use cell_marks::Row;
 use grid_law::{Grid, NoMemory};
 use std::alloc::Global;
 use std::marker::Model;
@@ -11,6 +12,7 @@ use std::marker::Model;
 #[derive(Drop)]
 pub struct Readers {
     lists: Vec<Components>,
+    rows: Vec<Row>,
 }
 
 impl Model for Readers {
@@ -58,6 +60,24 @@ fn lists_of<G: Grid>(alloc: Global, slots: &G::Slots) -> Result<Vec<Components>,
     Ok(lists)
 }
 
+/// The marks of each list.
+fn rows_of(alloc: Global, lists: &Vec<Components>) -> Result<Vec<Row>, NoMemory>
+{
+    let count = lists.len() as u32;
+    let mut rows = Vec::with_capacity(alloc, lists.len())?;
+    for c in 0..lists.len() {
+        let mut row = Row::new(alloc, count, false)?;
+        for k in lists[c].as_slice() {
+            row.set(*k);
+        }
+        match rows.push(row) {
+            Ok(()) => {}
+            Err(_) => return Err(NoMemory),
+        }
+    }
+    Ok(rows)
+}
+
 impl Readers {
     /// One look at each component's near ones.
     ///
@@ -68,7 +88,14 @@ impl Readers {
         ensures { IfOk result (λ lists. IsIndex G.rules slots.now lists) }
     {
         let lists = lists_of::<G>(alloc, slots)?;
-        Ok(Readers { lists })
+        let rows = rows_of(alloc, &lists)?;
+        Ok(Readers { lists, rows })
+    }
+
+    /// The components that read `c`, as marks.
+    pub fn row(&self, c: u32) -> &Row
+    {
+        &self.rows[c as usize]
     }
 
     /// The components that read `c`.

@@ -15,7 +15,7 @@ use grid_law::{Grid, NoMemory};
 use std::sync::Arc;
 
 /// Marks the cells of these components at a cycle.
-pub(crate) fn mark_each<S: Drop>(cells: &mut Cells<S>, cycle: u32, components: &[u32], version: u64)
+pub(crate) fn mark_each<G: Grid>(cells: &mut Cells<G>, cycle: u32, components: &[u32], version: u64)
     requires cycle { cycle < length cells.old }
     requires within { All (λ k. k < length (row_at cells.old cycle)) components.now }
     ensures len { length cells.new ≡ length cells.old }
@@ -30,7 +30,7 @@ pub(crate) fn mark_each<S: Drop>(cells: &mut Cells<S>, cycle: u32, components: &
 }
 
 /// Marks the cells that read a cell, one cycle later.
-fn mark_readers<S: Drop>(cells: &mut Cells<S>, readers: &Readers, cell: Cell, version: u64)
+fn mark_readers<G: Grid>(cells: &mut Cells<G>, readers: &Readers, cell: Cell, version: u64)
     requires cycle { cell.cycle < length cells.old }
     requires within { (t : ℕ) → t < length cells.old → All (λ k. k < length (row_at cells.old t)) (readers_at readers.now cell.component) }
     ensures len { length cells.new ≡ length cells.old }
@@ -40,13 +40,13 @@ fn mark_readers<S: Drop>(cells: &mut Cells<S>, readers: &Readers, cell: Cell, ve
 {
     let cycles = cells.cycles();
     if cell.cycle + 1 < cycles {
-        mark_each(cells, cell.cycle + 1, readers.of(cell.component), version);
+        mark_each::<G>(cells, cell.cycle + 1, readers.of(cell.component), version);
     }
 }
 
 /// Marks the cells one cycle later, as the stores of so many components in turn do, the clock being `clock` before them.
 pub(crate) fn mark_cycle<G: Grid>(
-    cells: &mut Cells<G::State>,
+    cells: &mut Cells<G>,
     slots: &G::Slots,
     readers: &Readers,
     cycle: u32,
@@ -67,17 +67,18 @@ pub(crate) fn mark_cycle<G: Grid>(
     let _ = slots;
     for component in 0..count {
         let version = clock + u64::from(component) + 1;
-        mark_readers(cells, readers, Cell { cycle, component }, version);
+        mark_readers::<G>(cells, readers, Cell { cycle, component }, version);
     }
 }
 
 /// Marks the cells one cycle later, as the stores of the components that change do one after another, the clock being
 /// `clock` before them.
 pub(crate) fn mark_changed<G: Grid>(
-    cells: &mut Cells<G::State>,
+    cells: &mut Cells<G>,
     slots: &G::Slots,
     readers: &Readers,
     changes: &Row,
+    reached: &mut Row,
     cycle: u32,
     clock: u64,
 )
@@ -93,15 +94,20 @@ pub(crate) fn mark_changed<G: Grid>(
         → held_at cells.new (cycle + 1) c ≡ woken G.rules slots.now cells.old (λ t k. is_awake changes.now k) clock cycle (G.rules.components slots.now) c }
 {
     let _ = slots;
-    // The number of a component is below this one, so that of the next fits.
-    let _count = changes.len();
+    let cycles = cells.cycles();
+    if cycle + 1 >= cycles {
+        return;
+    }
+    reached.clear_all();
     let mut version = clock;
     let mut from = 0;
     while let Some(component) = changes.first_from(from) {
         version += 1;
-        mark_readers(cells, readers, Cell { cycle, component }, version);
+        reached.add(readers.row(component));
+        cells.set_versions(cycle + 1, readers.of(component), version);
         from = component + 1;
     }
+    cells.mark_all(cycle + 1, reached);
 }
 
 /// The clock after so many cycles of so many cells.
@@ -114,7 +120,7 @@ pub(crate) fn clock_filled(clock: u64, cycles: u32, count: u32) -> u64
 
 /// As `mark_filled`, where there is such a cycle and one behind it.
 fn mark_behind<G: Grid>(
-    cells: &mut Cells<G::State>,
+    cells: &mut Cells<G>,
     slots: &G::Slots,
     readers: &Readers,
     from: u32,
@@ -142,7 +148,7 @@ fn mark_behind<G: Grid>(
 /// Marks the cells behind filled cycles, as their last stores do: those of cycles `from` to before `to`, in order, the
 /// clock being `clock` before them.
 pub(crate) fn mark_filled<G: Grid>(
-    cells: &mut Cells<G::State>,
+    cells: &mut Cells<G>,
     slots: &G::Slots,
     readers: &Readers,
     from: u32,
@@ -184,7 +190,7 @@ pub(crate) fn clock_after(clock: u64, changed: bool) -> u64
 /// Stores a state; where it changed, marks the cells one cycle later that read it. Where memory is
 /// wanting, nothing is changed, and the state comes back.
 pub(crate) fn store_in<G: Grid>(
-    cells: &mut Cells<G::State>,
+    cells: &mut Cells<G>,
     slots: &G::Slots,
     readers: &Readers,
     cell: Cell,
@@ -207,7 +213,7 @@ pub(crate) fn store_in<G: Grid>(
     }
     match cells.put(cell, state) {
         Ok(()) => {
-            mark_readers(cells, readers, cell, version);
+            mark_readers::<G>(cells, readers, cell, version);
             Ok(())
         }
         Err(state) => Err(state),
@@ -218,7 +224,7 @@ pub(crate) fn store_in<G: Grid>(
 /// changed, marks the cells one cycle later that read it. Where memory is wanting, nothing is
 /// changed.
 pub(crate) fn repeat_in<G: Grid>(
-    cells: &mut Cells<G::State>,
+    cells: &mut Cells<G>,
     slots: &G::Slots,
     readers: &Readers,
     cell: Cell,
@@ -244,7 +250,7 @@ pub(crate) fn repeat_in<G: Grid>(
     match cells.repeat(cell) {
         Ok(()) => {
             if changed {
-                mark_readers(cells, readers, cell, version);
+                mark_readers::<G>(cells, readers, cell, version);
             }
             Ok(())
         }

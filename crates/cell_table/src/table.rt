@@ -39,7 +39,7 @@ pub struct Table<G: Grid> {
     slots: G::Slots,
     horizon: u32,
     clock: u64,
-    cells: Cells<G::State>,
+    cells: Cells<G>,
     readers: Readers,
     neighbours: Neighbours,
     /// Before which cycle each cell is known to hold a state; there may be more of them.
@@ -146,10 +146,10 @@ impl<G: Grid> Table<G> {
 
     /// The state that the cell holds, up to date or not; a cell that isn't there has none.
     #[inline(always)]
-    pub fn state(&self, cell: Cell) -> Option<&G::State>
+    pub fn state(&self, cell: Cell) -> Option<Arc<G::State>>
         ensures { option_copied result ≡ (held_at self.now.rows cell.cycle cell.component).state }
     {
-        self.cells.state(cell)
+        self.cells.shared(cell).unwrap_or(None)
     }
 
     /// One more owner of the state that the cell holds, up to date or not; none for a cell that

@@ -1,76 +1,67 @@
 //! All components of a grid at one cycle, stepped together.
-ghost use Rattle.std.specs.Prelude.{◌≡◌, ℕ, ◌<◌, ◌↔◌, IsTrue, IfSome, IfOk, map, true, false};
-ghost use Rattle.std.specs.Arc.{arc_value};
 
 use grid_law::{Grid, NoMemory};
-use std::alloc::Global;
-use std::sync::Arc;
+use std::alloc::{AllocError, Global};
 
-/// The states of all components of a grid at one cycle, which are stepped together. Where many cells of a cycle are due, a table loads
-/// such a row once, and then it goes along from cycle to cycle; where a call gives none, the table steps component by component.
+/// The states of all components of a grid at one cycle, as whoever steps them keeps them. They come in and go out as words. A table
+/// that settles many cells of a cycle has all components stepped together, and the row goes along from cycle to cycle; of few it asks
+/// for what the row's step would make of each.
 pub trait WholeRow<G: Grid>: Drop {
-    ghost use Rattle.std.specs.Prelude.{ℕ, Bool};
-
     /// What is known of a step beside the states after it.
     type Step: Drop;
 
-    /// It is a row of these slots.
-    ghost stands: { Self → G.Slots → Type 0 };
+    /// The row of cycle 0 of these slots; none where a growth was refused, or the grid has no such row.
+    fn new(alloc: Global, s: &G::Slots) -> Option<Self>;
 
-    /// It holds that state for a component.
-    ghost holds: { Self → ℕ → G.State → Type 0 };
+    /// The row stands for other slots of the same shape. It holds what it held.
+    fn follow(&mut self, s: &G::Slots);
 
-    /// Whether a component is known to be after a step as it was before.
-    ghost is_still: { Self.Step → G.Slots → ℕ → Bool };
+    /// Puts the state that has these words in the place of a component's; its memory stays. It answers false where the row can't hold
+    /// that; it then holds any state for that component.
+    fn load(&mut self, c: u32, words: &[u64]) -> bool;
 
-    /// A row of these slots, of whatever states; none where a growth was refused, or the grid has no such row.
-    fn new(alloc: Global, s: &G::Slots) -> Option<Self>
-        ensures { IfSome result (λ row. stands row s.now) };
-
-    /// Puts a component's state. It answers false where the row can't hold that, or a growth was refused; it then holds any state for
-    /// that component.
-    fn load(&mut self, s: &G::Slots, c: u32, x: &G::State) -> bool
-        requires stands { stands self.old s.now }
-        requires component { c < G.rules.components s.now }
-        ensures stands { stands self.new s.now }
-        ensures loaded { result ≡ true → holds self.new c x.now }
-        ensures others { (d : ℕ) (y : G.State) → d < G.rules.components s.now → (d ≡ c → ⊥) → holds self.old d y → holds self.new d y };
+    /// Puts a component's memory, if it is another one. It answers false where the row can't hold that, or a growth was refused.
+    fn load_memory(&mut self, alloc: Global, c: u32, memory: &G::Memory) -> bool;
 
     /// One cycle of all components. Where it answers none, a growth was refused, and the row is to be let go.
-    fn step(&mut self, s: &G::Slots) -> Option<Self::Step>
-        requires { stands self.old s.now }
-        ensures stands { IfSome result (λ step. stands self.new s.now) }
-        ensures states { IfSome result (λ step. (f : ℕ → G.State) → ((c : ℕ) → c < G.rules.components s.now → holds self.old c (f c))
-            → (c : ℕ) → c < G.rules.components s.now → holds self.new c (G.rules.step s.now (map f (G.rules.near s.now c)) c)) }
-        ensures still { IfSome result (λ step. (f : ℕ → G.State) → ((c : ℕ) → c < G.rules.components s.now → holds self.old c (f c))
-            → (c : ℕ) → c < G.rules.components s.now → is_still step s.now c ≡ true → G.rules.step s.now (map f (G.rules.near s.now c)) c ≡ f c) };
+    fn step(&mut self, s: &G::Slots) -> Option<Self::Step>;
 
-    /// Whether a component is known to be as it was before the step.
-    fn is_still(step: &Self::Step, s: &G::Slots, c: u32) -> bool
-        requires { c < G.rules.components s.now }
-        ensures { result ≡ is_still step.now s.now c };
+    /// Whether a component is known to be as it was before the step, but for its memory.
+    fn is_still(step: &Self::Step, row: &Self, c: u32) -> bool;
 
-    /// Whether it holds this state for a component.
-    fn is_held(&self, s: &G::Slots, c: u32, x: &G::State) -> bool
-        requires stands { stands self.now s.now }
-        requires component { c < G.rules.components s.now }
-        ensures { (y : G.State) → holds self.now c y → IsTrue result ↔ (x.now ≡ y) };
+    /// Whether every component is known to be as it was before the step.
+    fn is_all_still(step: &Self::Step) -> bool;
 
-    /// The state that it holds for a component, which was `own` one cycle earlier.
+    /// Whether a component's memory may be another than before the last step.
+    fn has_written(&self, c: u32) -> bool;
+
+    /// Appends the words of the state that it holds for a component.
     ///
     /// # Errors
     ///
-    /// Where a growth was refused.
-    fn read(
-        &self,
+    /// Where a growth was refused. Nothing is changed.
+    fn words(&self, c: u32, words: &mut Vec<u64>) -> Result<(), AllocError>;
+
+    /// Whether it has this memory for a component.
+    fn has_memory(&self, c: u32, memory: &G::Memory) -> bool;
+
+    /// The memory that it has for a component, where that has any.
+    fn memory(&self, alloc: Global, c: u32) -> Result<Option<G::Memory>, NoMemory>;
+
+    /// Appends the words that `step` would make of a component's state, where its memory is this one, and tells its memory then, if that
+    /// is another. The row holds what it held.
+    ///
+    /// # Errors
+    ///
+    /// Where a growth was refused. Nothing was appended.
+    fn next_words(
+        &mut self,
         alloc: Global,
         s: &G::Slots,
         c: u32,
-        own: &G::State,
-    ) -> Result<Arc<G::State>, NoMemory>
-        requires stands { stands self.now s.now }
-        requires component { c < G.rules.components s.now }
-        ensures { (y : G.State) → holds self.now c y → IfOk result (λ x. arc_value x ≡ y) };
+        memory: Option<&G::Memory>,
+        words: &mut Vec<u64>,
+    ) -> Result<Option<G::Memory>, NoMemory>;
 }
 
 /// No row: each component is stepped by itself.
@@ -80,22 +71,26 @@ pub(crate) struct NoRow;
 impl<G: Grid> WholeRow<G> for NoRow {
     type Step = ();
 
-    ghost stands = { λ row s. Unit {0} };
-
-    ghost holds = { λ row c x. ⊥ };
-
-    ghost is_still = { λ step s c. false };
-
     fn new(alloc: Global, s: &G::Slots) -> Option<NoRow> {
         let _ = alloc;
         let _ = s;
         None
     }
 
-    fn load(&mut self, s: &G::Slots, c: u32, x: &G::State) -> bool {
+    fn follow(&mut self, s: &G::Slots) {
         let _ = s;
+    }
+
+    fn load(&mut self, c: u32, words: &[u64]) -> bool {
         let _ = c;
-        let _ = x;
+        let _ = words;
+        false
+    }
+
+    fn load_memory(&mut self, alloc: Global, c: u32, memory: &G::Memory) -> bool {
+        let _ = alloc;
+        let _ = c;
+        let _ = memory;
         false
     }
 
@@ -104,31 +99,54 @@ impl<G: Grid> WholeRow<G> for NoRow {
         None
     }
 
-    fn is_still(step: &(), s: &G::Slots, c: u32) -> bool {
+    fn is_still(step: &(), row: &NoRow, c: u32) -> bool {
         let _ = step;
-        let _ = s;
+        let _ = row;
         let _ = c;
         false
     }
 
-    fn is_held(&self, s: &G::Slots, c: u32, x: &G::State) -> bool {
-        let _ = s;
-        let _ = c;
-        let _ = x;
+    fn is_all_still(step: &()) -> bool {
+        let _ = step;
         false
     }
 
-    fn read(
-        &self,
+    fn has_written(&self, c: u32) -> bool {
+        let _ = c;
+        true
+    }
+
+    fn words(&self, c: u32, words: &mut Vec<u64>) -> Result<(), AllocError> {
+        let _ = c;
+        let _ = words;
+        Err(AllocError)
+    }
+
+    fn has_memory(&self, c: u32, memory: &G::Memory) -> bool {
+        let _ = c;
+        let _ = memory;
+        false
+    }
+
+    fn memory(&self, alloc: Global, c: u32) -> Result<Option<G::Memory>, NoMemory> {
+        let _ = alloc;
+        let _ = c;
+        Err(NoMemory)
+    }
+
+    fn next_words(
+        &mut self,
         alloc: Global,
         s: &G::Slots,
         c: u32,
-        own: &G::State,
-    ) -> Result<Arc<G::State>, NoMemory> {
+        memory: Option<&G::Memory>,
+        words: &mut Vec<u64>,
+    ) -> Result<Option<G::Memory>, NoMemory> {
         let _ = alloc;
         let _ = s;
         let _ = c;
-        let _ = own;
+        let _ = memory;
+        let _ = words;
         Err(NoMemory)
     }
 }

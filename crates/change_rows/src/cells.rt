@@ -5,6 +5,7 @@ ghost use Rattle.change_rows.specs.declared.cells.Head.{Head};
 ghost use Rattle.change_rows.specs.Packed.{head_at, start_at, moved, cell_at, cells_of, IsPacked, IsPlace};
 ghost use Rattle.change_rows.specs.Cells.{Held, no_cell, found, end_of, component_at, IsAscending};
 
+use crate::source::Source;
 use std::alloc::{AllocError, Global};
 use std::marker::Model;
 
@@ -167,6 +168,39 @@ impl Cells {
         }
         self.words.extend_from_slice(words)?;
         Ok(())
+    }
+
+    /// A cell more, behind all others, with the words that its source has.
+    ///
+    /// # Errors
+    ///
+    /// Where a growth was refused, and at 2^32 words. Nothing is changed.
+    pub(crate) fn push_from<S: Source>(
+        &mut self,
+        component: u32,
+        source: &S,
+    ) -> Result<(), AllocError>
+    {
+        let Ok(from) = u32::try_from(self.words.len()) else {
+            return Err(AllocError);
+        };
+        self.heads.reserve(1)?;
+        match source.write(component, &mut self.words) {
+            Ok(()) => {
+                self.heads.push_reserved(Head { component, from });
+                Ok(())
+            }
+            Err(e) => Err(e),
+        }
+    }
+
+    /// Removes the last cell.
+    pub(crate) fn pop(&mut self)
+    {
+        match self.heads.pop() {
+            Some(head) => self.words.truncate(head.from as usize),
+            None => {}
+        }
     }
 
     /// A cell more, behind all others.

@@ -107,13 +107,30 @@ pub(crate) fn begins_in(s: &Changes, t: usize, c: u32) -> bool
     t == s.at && s.seam.has(c)
 }
 
+/// Whether there is a cell of a component of a set.
+fn seam_has_any(seam: &Cells, set: &[u64]) -> bool
+{
+    for i in 0..seam.len() {
+        let c = seam.component(i);
+        match set.get(c as usize / 64) {
+            Some(word) => {
+                if (*word >> (c % 64)) & 1 == 1 {
+                    return true;
+                }
+            }
+            None => {}
+        }
+    }
+    false
+}
+
 /// Whether something may begin at a cell of a set of components; one word tells it of 64 of them.
 fn may_begin(s: &Changes, t: usize, set: &[u64]) -> bool
     requires changes { IsChanges s.now.width s.now.rows.items s.now.marks.items s.now.seam s.now.at }
     requires row { t < length s.now.rows.items }
     ensures { result ≡ false → (c : ℕ) → c < s.now.width → is_in set.now c ≡ true → begins_at s.now.rows.items s.now.seam s.now.at c t ≡ None }
 {
-    if t == s.at && !s.seam.is_empty() {
+    if t == s.at && seam_has_any(&s.seam, set) {
         return true;
     }
     has_any(&s.marks, t, set)

@@ -7,7 +7,8 @@ ghost use Rattle.change_rows.specs.Changes.{row_at, begins_at, IsChanges};
 
 use crate::cells::Cells;
 use crate::changes::{Changes, is_change, lay, words_in};
-use crate::merge::{behind, seek, unite, words_or};
+use crate::merge::{behind, is_at, seek, unite, words_or};
+use crate::source::Source;
 use std::alloc::{AllocError, Global};
 use std::mem;
 
@@ -244,6 +245,125 @@ pub(crate) fn put(
 {
     settle_for(s, t, &mut b.row)?;
     row_of(s, t, draft, b)?;
+    lay(&mut s.rows, &mut s.marks, t, &b.row)?;
+    mem::swap(&mut s.seam, &mut b.seam);
+    s.at = t + 1;
+    Ok(())
+}
+
+/// What a cell of a source is for its row, and what stood there for the row behind it, where that has none of its component: whether it
+/// held other words.
+fn put_source<S: Source>(
+    s: &Changes,
+    t: usize,
+    c: u32,
+    source: &S,
+    under: &Cells,
+    place: usize,
+    row: &mut Cells,
+    seam: &mut Cells,
+) -> Result<bool, AllocError>
+{
+    let here = is_at(under, place, c);
+    if source.is_still(c) {
+        if !here {
+            return Ok(false);
+        }
+        let before = words_before(s, t, c);
+        let stood = under.words(place);
+        if same_words(stood, before) {
+            return Ok(false);
+        }
+        if goes_on(s, t, c) {
+            seam.push(c, stood)?;
+        }
+        return Ok(true);
+    }
+    row.push_from(c, source)?;
+    let words = row.words(row.len() - 1);
+    if here {
+        let stood = under.words(place);
+        if same_words(stood, words) {
+            return Ok(false);
+        }
+        if goes_on(s, t, c) {
+            seam.push(c, stood)?;
+        }
+        return Ok(true);
+    }
+    let before = words_before(s, t, c);
+    if same_words(before, words) {
+        row.pop();
+        return Ok(false);
+    }
+    if goes_on(s, t, c) {
+        seam.push(c, before)?;
+    }
+    Ok(true)
+}
+
+/// The cells of a source at a row over those that begin there: the row once it is put, the seam behind it, and which hold other words
+/// then.
+fn lay_from<S: Source>(
+    s: &Changes,
+    t: usize,
+    under: &Cells,
+    set: &[u64],
+    source: &S,
+    row: &mut Cells,
+    seam: &mut Cells,
+    changed: &mut [u64],
+) -> Result<(), AllocError>
+{
+    row.clear();
+    seam.clear();
+    let mut from = 0;
+    for w in 0..set.len() {
+        let mut rest = set[w];
+        let mut other = 0u64;
+        while rest != 0 {
+            let k = rest.trailing_zeros();
+            rest &= rest - 1;
+            let c = w as u32 * 64 + k;
+            if c < s.width {
+                let place = seek(under, from, c);
+                row.append(under, from, place)?;
+                if put_source(s, t, c, source, under, place, row, seam)? {
+                    other |= 1 << k;
+                }
+                from = behind(under, place, c);
+            }
+        }
+        changed[w] = other;
+    }
+    row.append(under, from, under.len())?;
+    Ok(())
+}
+
+/// The cells of a set hold at row t what their source has; all other cells of all rows hold what they held. Tells which cells of the set
+/// held other words.
+///
+/// # Errors
+///
+/// Where a growth was refused. All cells hold what they held.
+pub(crate) fn put_all<S: Source>(
+    s: &mut Changes,
+    b: &mut Buffers,
+    t: usize,
+    set: &[u64],
+    source: &S,
+    changed: &mut [u64],
+) -> Result<(), AllocError>
+{
+    settle_for(s, t, &mut b.row)?;
+    if s.seam.is_empty() || s.at != t {
+        lay_from(s, t, &s.rows[t], set, source, &mut b.row, &mut b.seam, changed)?;
+    } else if s.rows[t].is_empty() {
+        lay_from(s, t, &s.seam, set, source, &mut b.row, &mut b.seam, changed)?;
+    } else {
+        unite(&s.rows[t], &s.seam, &mut b.under)?;
+        lay_from(s, t, &b.under, set, source, &mut b.row, &mut b.seam, changed)?;
+    }
     lay(&mut s.rows, &mut s.marks, t, &b.row)?;
     mem::swap(&mut s.seam, &mut b.seam);
     s.at = t + 1;

@@ -21,6 +21,8 @@ mod marks;
 mod merge;
 mod rows;
 mod run;
+mod source;
 
 pub use cells::Cells;
 pub use rows::Rows;
+pub use source::Source;

@@ -6,7 +6,8 @@ ghost use Rattle.change_rows.specs.Rows.{Table, words_at, overlaid, repeated, Is
 
 use crate::cells::Cells;
 use crate::changes::{Changes, begins_in, next_begin, words_in};
-use crate::edit::{Buffers, put};
+use crate::edit::{Buffers, put, put_all};
+use crate::source::Source;
 use crate::grow::{cut, grow};
 use crate::marks::Marks;
 use crate::run::repeat;
@@ -162,6 +163,46 @@ impl Rows {
             set,
         )?;
         Ok(())
+    }
+
+    /// The cells of a set hold in row t what their source has, and all other cells of all rows hold what they held. Each word of `changed`
+    /// tells which of 64 cells of the set held other words. The set has a bit for each component, 64 in a word. Of a component that is
+    /// still the source has the words that are held a cycle before.
+    ///
+    /// # Errors
+    ///
+    /// Where a growth was refused. All cells hold what they held.
+    pub fn put_from<S: Source>(
+        &mut self,
+        t: u32,
+        set: &[u64],
+        source: &S,
+        changed: &mut [u64],
+    ) -> Result<(), AllocError>
+    {
+        put_all(
+            &mut self.changes,
+            &mut self.buffers,
+            t as usize,
+            set,
+            source,
+            changed,
+        )?;
+        Ok(())
+    }
+
+    /// The first row from t on, and before `to`, at which a component may begin, or else `to`.
+    pub fn next_of(&self, t: u32, to: u32, c: u32) -> u32
+    {
+        let end = to.min(self.changes.rows.len() as u32);
+        let mut u = t;
+        while u < end {
+            if begins_in(&self.changes, u as usize, c) {
+                return u;
+            }
+            u += 1;
+        }
+        u
     }
 
     /// The cells of a draft hold its words in row t, and all other cells of all rows hold what they held.

@@ -160,7 +160,7 @@ fn shown(low: &Level<Request>, comb: &Level<Request>, p: u32) -> Option<Outgoing
 }
 
 /// A processor one cycle later, where what leaves has left.
-fn acted(project: &Project, p: u32, own: ProcState, replies: [Option<Reply>; 2]) -> ProcState
+pub(crate) fn acted(project: &Project, p: u32, own: ProcState, replies: [Option<Reply>; 2]) -> ProcState
     requires { p < lines project.now.k }
     ensures acted { result ≡ acted project.now p (message_at replies 0) (message_at replies 1) own }
     ensures issued { HasIssued own.out result }
@@ -227,7 +227,7 @@ fn issued(next: &ProcState) -> Option<Outgoing>
 }
 
 /// What a processor reads of a project where its script has come to that index.
-fn proc_settings(project: &Project, proc: u8, index: u16) -> ProcSettings
+pub(crate) fn proc_settings(project: &Project, proc: u8, index: u16) -> ProcSettings
     ensures { result ≡ proc_settings project.now proc index }
 {
     let entry = project.entry(u32::from(proc), u32::from(index));

@@ -105,6 +105,31 @@ impl<T: Routed> Level<T> {
         self.marks = with_shown(self.marks, x, shown);
     }
 
+    /// Puts these messages in the place of a queue's.
+    pub(crate) fn copy(&mut self, x: u32, messages: &[T])
+    {
+        let queue = &mut self.queues[x as usize];
+        queue.clear();
+        for message in messages {
+            queue.join(*message);
+        }
+        let shown = shown_by(self.rule, queue.as_slice());
+        self.marks = with_shown(self.marks, x, shown);
+    }
+
+    /// Asks the queues by another rule.
+    pub(crate) fn follow(&mut self, rule: Rule)
+    {
+        if rule == self.rule {
+            return;
+        }
+        self.rule = rule;
+        for x in 0..self.queues.len() {
+            let shown = shown_by(rule, self.queues[x].as_slice());
+            self.marks = with_shown(self.marks, x as u32, shown);
+        }
+    }
+
     /// Puts another message in the place of one.
     pub fn set(&mut self, x: u32, index: usize, message: T)
         requires there { x < length self.old.queues }

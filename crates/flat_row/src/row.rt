@@ -29,6 +29,8 @@ pub struct Row {
     pub(crate) words: Vec<Words>,
     pub(crate) module_turns: u64,
     pub(crate) served: u64,
+    /// The modules in which the last step left another word.
+    pub(crate) wrote: u64,
     /// The processors that stay as they are until a reply comes or what they show leaves.
     pub(crate) rests: u64,
     /// What modules answer in a step and what processors receive in it. Between two steps it means nothing.
@@ -90,6 +92,7 @@ impl Row {
             words,
             module_turns: 0,
             served: 0,
+            wrote: 0,
             rests: 0,
             low_answers: [Reply::default(); 64],
             comb_answers: [Reply::default(); 64],

@@ -8,6 +8,7 @@ ghost use Rattle.flat_row.specs.Combining.{SameLevel};
 ghost use Rattle.flat_row.specs.Ends.{AllServed, AreAnswered};
 
 use crate::level::Level;
+use crate::marks::with_mark;
 use crate::moving::first_from;
 use grid_law::NoMemory;
 use mem_module::Words;
@@ -23,7 +24,7 @@ pub(crate) fn serve(
     words: &mut Vec<Words>,
     modules: u64,
     answers: &mut [Reply; 64],
-) -> Result<(), NoMemory>
+) -> Result<u64, NoMemory>
     requires some { (m : ℕ) → m < 64 → has modules m ≡ true → IsSome (head (queue_at level.old.queues m)) }
     requires there { length level.old.queues ≤ length words.old.items }
     ensures shape { SameLevel level.old level.new }
@@ -31,18 +32,20 @@ pub(crate) fn serve(
     ensures served { OnOk result (AllServed modules level.old level.new words.old.items words.new.items answers.new) }
 {
     let mut next = 0;
+    let mut wrote = 0;
     while let Some(m) = first_from(modules, next) {
         let request = level.take(m);
         let stored = &mut words[m as usize];
-        let reply = serve_request(stored, request)?;
+        let (reply, other) = serve_request(stored, request)?;
+        wrote = with_mark(wrote, m, other);
         answers[m as usize] = reply;
         next = m + 1;
     }
-    Ok(())
+    Ok(wrote)
 }
 
 /// A module does a request: the word that it leaves, and the reply, which is the word before.
-fn serve_request(words: &mut Words, request: Request) -> Result<Reply, NoMemory>
+fn serve_request(words: &mut Words, request: Request) -> Result<(Reply, bool), NoMemory>
     ensures words { OnOk result (words.new ≡ words_after words.old (Some request)) }
     ensures answer { IfOk result (λ reply. Some reply ≡ answer_to words.old (Some request)) }
 {
@@ -52,10 +55,11 @@ fn serve_request(words: &mut Words, request: Request) -> Result<Reply, NoMemory>
     if new != old {
         words.put(row, new)?;
     }
-    Ok(Reply {
+    let reply = Reply {
         tag: request.tag,
         word: old,
-    })
+    };
+    Ok((reply, new != old))
 }
 
 /// The answers of modules go last into their replies on a network.

@@ -46,6 +46,21 @@ impl Side {
     }
 }
 
+impl Side {
+    /// The same queues, asked by the rules of a project.
+    pub(crate) fn follow(&mut self, project: &Project, net: Net)
+    {
+        for level in 0..self.requests.len() {
+            let queues = &mut self.requests[level];
+            queues.follow(request_rule(project, net, level as u32));
+        }
+        for level in 0..self.replies.len() {
+            let queues = &mut self.replies[level];
+            queues.follow(reply_rule(project, net, level as u32));
+        }
+    }
+}
+
 /// The levels of requests of a network.
 fn request_levels(
     alloc: Global,

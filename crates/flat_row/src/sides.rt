@@ -36,7 +36,7 @@ impl Side {
         words: &mut Vec<Words>,
         modules: u64,
         answers: &mut [Reply; 64],
-    ) -> Result<(), NoMemory>
+    ) -> Result<u64, NoMemory>
         requires levels { HasLevels (shape + 2) (lines shape) self.old.requests }
         requires some { (m : ℕ) → m < 64 → has modules m ≡ true → IsSome (head (queue_of self.old.requests (suc shape) m)) }
         requires there { lines shape ≤ length words.old.items }
@@ -233,7 +233,7 @@ pub(crate) fn serve_both(
     served: &Served,
     low_answers: &mut [Reply; 64],
     comb_answers: &mut [Reply; 64],
-) -> Result<(), NoMemory>
+) -> Result<u64, NoMemory>
     requires low { HasLevels (shape + 2) (lines shape) low.old.requests }
     requires comb { HasLevels (shape + 2) (lines shape) comb.old.requests }
     requires low_some { (m : ℕ) → m < 64 → has served.now.low m ≡ true → IsSome (head (queue_of low.old.requests (suc shape) m)) }
@@ -244,8 +244,9 @@ pub(crate) fn serve_both(
     ensures many { length words.new.items ≡ length words.old.items }
     ensures both { OnOk result (BothServed shape served.now.low served.now.comb low.old low.new comb.old comb.new words.old.items words.new.items low_answers.new comb_answers.new) }
 {
-    low.serve(shape, words, served.low, low_answers)?;
-    comb.serve(shape, words, served.comb, comb_answers)
+    let first = low.serve(shape, words, served.low, low_answers)?;
+    let second = comb.serve(shape, words, served.comb, comb_answers)?;
+    Ok(first | second)
 }
 
 /// The processors that may act do, and show on both networks: which processors have stayed as they were, and rest.

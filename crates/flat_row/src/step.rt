@@ -38,7 +38,7 @@ impl Row {
         let comb = self.plan(project, Net::Comb);
         let touched = self.touched(&served, &low, &comb);
         let shape = self.shape;
-        serve_both(
+        self.wrote = serve_both(
             shape,
             &mut self.low,
             &mut self.comb,

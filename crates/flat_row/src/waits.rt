@@ -66,6 +66,18 @@ impl Waits {
         }
     }
 
+    /// Puts these entries in the place of a switch's; it has combined nothing.
+    pub(crate) fn copy(&mut self, x: u32, waiting: &[Waiting])
+    {
+        let entries = &mut self.entries[x as usize];
+        entries.clear();
+        for one in waiting {
+            entries.join(*one);
+        }
+        self.once = with_mark(self.once, x, false);
+        self.twice = with_mark(self.twice, x, false);
+    }
+
     /// An entry waits at a switch, where there is a place.
     pub(crate) fn join(&mut self, x: u32, waiting: Waiting)
         requires { x < length self.old.entries }

@@ -109,6 +109,33 @@ pub trait Grid {
         requires { c < rules.components s.now }
         ensures { IfOk result (λ next. IsNext rules s.now (map (λ state. state.now) near.now) c (option_map arc_value next)) };
 
+    /// What of a state isn't in its words: something large that few steps change, shared by the states that have the same.
+    type Memory: Drop;
+
+    /// Appends the words of a state. They tell it but for its memory: two states have the same words and the same memory exactly where
+    /// they are equal. No state has no words.
+    ///
+    /// # Errors
+    ///
+    /// Where the growth was refused. Then nothing was appended.
+    fn encode(x: &Self::State, words: &mut Vec<u64>) -> Result<(), NoMemory>;
+
+    /// One more owner of a state's memory, where it has any.
+    fn memory(x: &Self::State) -> Result<Option<Self::Memory>, NoMemory>;
+
+    /// The state that has these words and this memory.
+    fn decode(
+        alloc: Global,
+        words: &[u64],
+        memory: Option<Self::Memory>,
+    ) -> Result<Arc<Self::State>, NoMemory>;
+
+    /// One more owner of a memory.
+    fn share_memory(memory: &Self::Memory) -> Result<Self::Memory, NoMemory>;
+
+    /// Whether two memories are equal.
+    fn same_memory(a: &Self::Memory, b: &Self::Memory) -> bool;
+
     /// Whether two states are equal.
     fn same(a: &Self::State, b: &Self::State) -> bool
         ensures { IsTrue result ↔ (a.now ≡ b.now) };

@@ -26,6 +26,8 @@ impl Grid for Line {
 
     type Slot = LineSlot;
 
+    type Memory = u32;
+
     ghost rules = { line_rules };
 
     ghost laws = { line_laws };
@@ -100,6 +102,30 @@ impl Grid for Line {
             Some(own) if **own == next => Ok(None),
             _ => Ok(Some(Arc::new(alloc, next)?)),
         }
+    }
+
+    fn encode(x: &u32, words: &mut Vec<u64>) -> Result<(), NoMemory> {
+        words.push(u64::from(*x))?;
+        Ok(())
+    }
+
+    fn memory(_x: &u32) -> Result<Option<u32>, NoMemory> {
+        Ok(None)
+    }
+
+    fn decode(alloc: Global, words: &[u64], _memory: Option<u32>) -> Result<Arc<u32>, NoMemory> {
+        match words.first() {
+            Some(word) => Ok(Arc::new(alloc, *word as u32)?),
+            None => Err(NoMemory),
+        }
+    }
+
+    fn share_memory(memory: &u32) -> Result<u32, NoMemory> {
+        Ok(*memory)
+    }
+
+    fn same_memory(a: &u32, b: &u32) -> bool {
+        *a == *b
     }
 
     fn same(a: &u32, b: &u32) -> bool {

@@ -14,8 +14,10 @@ use crate::readers::readers;
 use crate::reads::{fixed_reads, later_reads, start_reads};
 use crate::start::start_of;
 use crate::step::{moved, pulled};
+use crate::words::{decode, encode};
 use arrayvec::ArrayVec;
 use grid_law::{Grid, NoMemory, Reader};
+use mem_module::SharedWords;
 use omega_net::{Component, Shape};
 use project_book::{Project, Slot};
 use std::alloc::Global;
@@ -60,6 +62,8 @@ impl Grid for Rp3 {
     type Slots = Project;
 
     type Slot = Slot;
+
+    type Memory = SharedWords;
 
     ghost rules = { rp3_rules };
 
@@ -134,6 +138,35 @@ impl Grid for Rp3 {
             Some(own) => moved(alloc, s, shape, near, component, own),
             None => first_state(alloc, s, component).map(|state| Some(state)),
         }
+    }
+
+    fn encode(x: &MachineState, words: &mut Vec<u64>) -> Result<(), NoMemory> {
+        encode(x, words)?;
+        Ok(())
+    }
+
+    fn memory(x: &MachineState) -> Result<Option<SharedWords>, NoMemory> {
+        match x {
+            MachineState::Module(module) => Ok(Some(module.words.share()?)),
+            _ => Ok(None),
+        }
+    }
+
+    fn decode(
+        alloc: Global,
+        words: &[u64],
+        memory: Option<SharedWords>,
+    ) -> Result<Arc<MachineState>, NoMemory> {
+        let state = decode(alloc, words, memory)?;
+        Ok(Arc::new(alloc, state)?)
+    }
+
+    fn share_memory(memory: &SharedWords) -> Result<SharedWords, NoMemory> {
+        memory.share()
+    }
+
+    fn same_memory(a: &SharedWords, b: &SharedWords) -> bool {
+        a.same(b)
     }
 
     fn same(a: &MachineState, b: &MachineState) -> bool {

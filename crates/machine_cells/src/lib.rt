@@ -49,6 +49,7 @@ mod state;
 mod step;
 mod switch;
 mod text;
+mod words;
 
 pub use grid::Rp3;
 pub use laws::{messages_stay, no_message_is_lost, runs_are_one, steps_are_parts};

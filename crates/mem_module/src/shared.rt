@@ -92,6 +92,18 @@ impl SharedWords {
         Ok((old, SharedWords::new(alloc, words)?))
     }
 
+    /// These words with another one in a row.
+    ///
+    /// # Errors
+    ///
+    /// Where a growth was refused. The words are as before.
+    pub fn with(&self, alloc: Global, stored: Stored) -> Result<SharedWords, NoMemory>
+    {
+        let mut words = self.words.copy(alloc)?;
+        words.put(stored.row, stored.word)?;
+        SharedWords::new(alloc, words)
+    }
+
     /// Whether both are the same words.
     pub fn same(&self, other: &SharedWords) -> bool
         ensures { IsTrue result ↔ (self.now ≡ other.now) }

@@ -5,7 +5,6 @@
 //! still is as it was; and a state is compared, put and read exactly (`specs/Rows.antt`).
 #![tactic(auto)]
 
-mod memory;
 mod row;
 
 pub use row::MachineRow;

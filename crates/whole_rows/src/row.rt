@@ -1,157 +1,213 @@
 //! The machine's row beside the cells of a table.
-ghost use Rattle.std.specs.Prelude.{◌≡◌, ◌≢◌, ◌<◌, ℕ, List, true, Some};
-ghost use Rattle.omega_net.specs.declared.component.Component.TheVariants.{Module as ModuleAt};
-ghost use Rattle.omega_net.specs.Numbers.{components, component_of, number_of, lines, Exists};
-ghost use Rattle.project_book.specs.Project.{Project};
-ghost use Rattle.mem_module.specs.declared.words.Stored.{Stored as Memory};
-ghost use Rattle.state_words.specs.States.{with_memory, words_of};
-ghost use Rattle.flat_row.specs.Row.{IsRowOf, state_of};
-ghost use Rattle.flat_row.specs.Loading.{CanHold, OnlyState};
 
-use crate::memory::is_ascending;
 use cell_table::WholeRow;
-use flat_row::{Changed, Row, can_hold};
+use flat_row::{Changed, Row};
 use grid_law::NoMemory;
-use machine_cells::{MachineState, Rp3};
-use mem_module::Stored;
-use omega_net::{Component, Shape};
+use machine_cells::Rp3;
+use mem_module::SharedWords;
+use omega_net::{Component, Net, Shape};
 use project_book::Project;
-use state_words::{encode, is_state};
-use std::alloc::Global;
-use std::marker::Model;
-use std::sync::Arc;
+use std::alloc::{AllocError, Global};
 
 /// The states of all cells of a machine at a cycle, by levels of queues and sets of labels.
 #[derive(Drop)]
 pub struct MachineRow {
     row: Row,
-    /// The words of the state that is put.
-    words: Vec<u64>,
+    /// Where one component a cycle later is put together.
+    beside: Row,
+    /// By number, each component and where it is in the sets of what changed.
+    components: Vec<Component>,
+    places: Vec<At>,
+    lines: u32,
 }
 
-impl Model for MachineRow {
-    ghost use Rattle.flat_row.specs.Row.{Arrays};
+/// A set of those of a step, and a label in it.
+#[derive(Clone, Copy)]
+struct At {
+    set: u8,
+    bit: u8,
+}
 
-    ghost Value = { Arrays };
+/// The sets of what changed, behind one another.
+#[derive(Clone, Copy)]
+pub struct Sets {
+    sets: [u64; 14],
+}
 
-    ghost view = { λ r. r.row };
+fn sets_of(changed: &Changed) -> [u64; 14]
+{
+    let (l, c) = (&changed.low, &changed.comb);
+    [
+        changed.procs, changed.modules, l[0], l[1], l[2], l[3], l[4], l[5], c[0], c[1], c[2], c[3],
+        c[4], c[5],
+    ]
+}
+
+fn place_of(shape: Shape, component: Component) -> At
+{
+    match component {
+        Component::Proc(p) => At { set: 0, bit: p },
+        Component::Module(m) => At { set: 1, bit: m },
+        Component::Switch { net, stage, index } => {
+            let first = match net {
+                Net::Low => 2,
+                Net::Comb => 8,
+            };
+            let label = flat_row::label_of(shape, u32::from(stage), u32::from(index));
+            At {
+                set: first + stage,
+                bit: label as u8,
+            }
+        }
+    }
+}
+
+/// Whether a row can hold the state of a component that has these words.
+fn can_hold(component: Component, words: &[u64]) -> bool
+{
+    let head = match words.first() {
+        Some(head) => *head,
+        None => return false,
+    };
+    let small = head >> 27;
+    match component {
+        Component::Proc(_) => head % 4 == 0,
+        Component::Module(_) => head % 4 == 1,
+        Component::Switch { net: Net::Low, .. } => head % 4 == 2 && small & 0xfefe_fefe == 0,
+        Component::Switch { net: Net::Comb, .. } => {
+            head % 4 == 3 && small & 0x00fe_fefe == 0 && (small >> 24) & 0xff <= 2
+        }
+    }
+}
+
+impl MachineRow {
+    fn made(alloc: Global, s: &Project) -> Result<MachineRow, NoMemory>
+    {
+        let shape = s.shape();
+        let row = Row::start(alloc, s)?;
+        let beside = Row::start(alloc, s)?;
+        let mut components = Vec::new(alloc);
+        let mut places = Vec::new(alloc);
+        for c in 0..shape.components() {
+            let component = shape.component(c).unwrap();
+            components.push(component)?;
+            places.push(place_of(shape, component))?;
+        }
+        Ok(MachineRow {
+            row,
+            beside,
+            components,
+            places,
+            lines: shape.lines(),
+        })
+    }
+
+    /// The module of a number, if it is one.
+    fn module(&self, c: u32) -> Option<u32>
+    {
+        if self.lines <= c && c < 2 * self.lines {
+            Some(c - self.lines)
+        } else {
+            None
+        }
+    }
 }
 
 impl WholeRow<Rp3> for MachineRow {
-    ghost use Rattle.flat_row.specs.Row.{IsRowOf};
-    ghost use Rattle.whole_rows.specs.Rows.{Holds, is_still};
-
-    type Step = Changed;
-
-    ghost stands = { λ row P. IsRowOf P row };
-
-    ghost holds = { Holds };
-
-    ghost is_still = { is_still };
+    type Step = Sets;
 
     fn new(alloc: Global, s: &Project) -> Option<MachineRow> {
-        match Row::start(alloc, s) {
-            Ok(row) => Some(MachineRow {
-                row,
-                words: Vec::new(alloc),
+        match MachineRow::made(alloc, s) {
+            Ok(row) => Some(row),
+            Err(_) => None,
+        }
+    }
+
+    fn follow(&mut self, s: &Project) {
+        self.row.follow(s);
+        self.beside.follow(s);
+    }
+
+    fn load(&mut self, c: u32, words: &[u64]) -> bool {
+        let component = self.components[c as usize];
+        if !can_hold(component, words) {
+            return false;
+        }
+        self.row.load(component, words);
+        true
+    }
+
+    fn load_memory(&mut self, alloc: Global, c: u32, memory: &SharedWords) -> bool {
+        match self.module(c) {
+            Some(m) => {
+                self.row.has_memory(m, memory.as_slice())
+                    || self
+                        .row
+                        .load_memory(alloc, m, memory.as_slice())
+                        .is_ok()
+            }
+            None => false,
+        }
+    }
+
+    fn step(&mut self, s: &Project) -> Option<Sets> {
+        match self.row.step(s) {
+            Ok(changed) => Some(Sets {
+                sets: sets_of(&changed),
             }),
             Err(_) => None,
         }
     }
 
-    fn load(&mut self, s: &Project, c: u32, x: &MachineState) -> bool {
-        let component = component_at(s.shape(), c);
-        self.words.clear();
-        if !can_hold(component, x) || encode(x, &mut self.words).is_err() {
-            return false;
+    fn is_still(step: &Sets, row: &MachineRow, c: u32) -> bool {
+        let at = row.places[c as usize];
+        (step.sets[at.set as usize] >> at.bit) & 1 == 0
+    }
+
+    fn is_all_still(step: &Sets) -> bool {
+        step.sets.iter().all(|set| *set == 0)
+    }
+
+    fn has_written(&self, c: u32) -> bool {
+        match self.module(c) {
+            Some(m) => (self.row.wrote() >> m) & 1 == 1,
+            None => false,
         }
-        let alloc = *self.words.allocator();
-        put(&mut self.row, alloc, component, x, self.words.as_slice())
     }
 
-    fn step(&mut self, s: &Project) -> Option<Changed> {
-        let Ok(changed) = self.row.step(s) else {
-            return None;
-        };
-        Some(changed)
+    fn words(&self, c: u32, words: &mut Vec<u64>) -> Result<(), AllocError> {
+        self.row.words(self.components[c as usize], words)
     }
 
-    fn is_still(step: &Changed, s: &Project, c: u32) -> bool {
-        let shape = s.shape();
-        !step.has(shape, component_at(shape, c))
+    fn has_memory(&self, c: u32, memory: &SharedWords) -> bool {
+        match self.module(c) {
+            Some(m) => self.row.has_memory(m, memory.as_slice()),
+            None => false,
+        }
     }
 
-    fn is_held(&self, s: &Project, c: u32, x: &MachineState) -> bool {
-        self.row.is_state(component_at(s.shape(), c), x)
+    fn memory(&self, alloc: Global, c: u32) -> Result<Option<SharedWords>, NoMemory> {
+        match self.module(c) {
+            Some(m) => Ok(Some(self.row.shared_memory(alloc, m)?)),
+            None => Ok(None),
+        }
     }
 
-    fn read(
-        &self,
+    fn next_words(
+        &mut self,
         alloc: Global,
         s: &Project,
         c: u32,
-        own: &MachineState,
-    ) -> Result<Arc<MachineState>, NoMemory> {
-        let state = self
+        memory: Option<&SharedWords>,
+        words: &mut Vec<u64>,
+    ) -> Result<Option<SharedWords>, NoMemory> {
+        let component = self.components[c as usize];
+        let wrote = self
             .row
-            .read_beside(alloc, component_at(s.shape(), c), own)?;
-        Ok(Arc::new(alloc, state)?)
-    }
-}
-
-/// The component of a number that is below their number.
-fn component_at(shape: Shape, c: u32) -> Component
-    requires { c < components shape }
-    ensures is { component_of shape c ≡ Some result }
-    ensures there { Exists shape result }
-    ensures number { number_of shape result ≡ c }
-{
-    shape.component(c).unwrap()
-}
-
-/// Puts a state that the row can hold, of which these are the words. It answers false where a growth was refused.
-fn put(
-    row: &mut Row,
-    alloc: Global,
-    component: Component,
-    state: &MachineState,
-    words: &[u64],
-) -> bool
-    requires there { Exists row.old.k component }
-    requires words { words.now ≡ words_of state.now }
-    requires can { CanHold component state.now }
-    ensures loaded { result ≡ true → state_of row.new (Some component) ≡ state.now }
-    ensures only { OnlyState component row.old row.new }
-{
-    is_state(state);
-    row.load(component, words);
-    remember(row, alloc, component, state)
-}
-
-/// Puts a module's words of memory.
-fn remember(row: &mut Row, alloc: Global, component: Component, state: &MachineState) -> bool
-    requires there { Exists row.old.k component }
-    requires can { CanHold component state.now }
-    ensures loaded { (memory : List Memory) → state_of row.old (Some component) ≡ with_memory memory state.now → result ≡ true → state_of row.new (Some component) ≡ state.now }
-    ensures only { OnlyState component row.old row.new }
-{
-    match (component, state) {
-        (Component::Module(m), MachineState::Module(module)) => {
-            put_memory(row, alloc, u32::from(m), module.words.as_slice())
+            .next_words(s, component, memory, &mut self.beside, words)?;
+        match (wrote, memory) {
+            (Some(stored), Some(memory)) => Ok(Some(memory.with(alloc, stored)?)),
+            _ => Ok(None),
         }
-        _ => true,
     }
-}
-
-/// Puts words of memory in the place of a module's, if they are others. It answers false where they aren't in the order of their rows, or
-/// a growth was refused.
-fn put_memory(row: &mut Row, alloc: Global, m: u32, words: &[Stored]) -> bool
-    requires { m < lines row.old.k }
-    ensures loaded { result ≡ true → state_of row.new (Some (ModuleAt m)) ≡ with_memory words.now (state_of row.old (Some (ModuleAt m))) }
-    ensures only { OnlyState (ModuleAt m) row.old row.new }
-{
-    if row.has_memory(m, words) {
-        return true;
-    }
-    is_ascending(words) && row.load_memory(alloc, m, words).is_ok()
 }

@@ -11,6 +11,7 @@ ghost use Rattle.bench_core.specs.Seeking.{replied_in};
 
 use super::Bench;
 use crate::Asked;
+use crate::counters::lent;
 use cell_table::Cell;
 use grid_law::NoMemory;
 use machine_cells::MachineState;
@@ -35,13 +36,11 @@ impl Bench {
         let component = proc;
         let mut count = 0;
         let mut cycle = 0;
-        let mut hint = 0;
         while cycle <= last && count <= issue {
-            let part = self.table.standing(Cell { cycle, component }, hint);
+            let part = self.table.standing(Cell { cycle, component });
             let end = part.end.min(last + 1);
-            count += sent_in(part.state, end - cycle);
+            count += sent_in(lent(&part.state), end - cycle);
             cycle = end;
-            hint = part.stretch.saturating_add(1);
         }
         count > issue
     }
@@ -56,14 +55,12 @@ impl Bench {
         self.is_bench();
         let component = proc;
         let mut cycle = 0;
-        let mut hint = 0;
         while cycle <= last {
-            let part = self.table.standing(Cell { cycle, component }, hint);
-            match word_got(part.state, issue) {
+            let part = self.table.standing(Cell { cycle, component });
+            match word_got(lent(&part.state), issue) {
                 Some(word) => return Some(Received { cycle, word }),
                 None => cycle = part.end.min(last + 1),
             }
-            hint = part.stretch.saturating_add(1);
         }
         None
     }
@@ -111,6 +108,6 @@ impl Bench {
         ensures { TellsAs (version_of self.now) (found_in (held self.now.table) (project_of self.now) (MemoryAt address cycle)) result }
     {
         let state = self.table.state(self.module_cell(address, cycle));
-        self.answered(Body::Word(word_in(state, self.place(address).row)))
+        self.answered(Body::Word(word_in(lent(&state), self.place(address).row)))
     }
 }

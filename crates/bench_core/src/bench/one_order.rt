@@ -4,10 +4,9 @@ ghost use Rattle.serial_order.specs.OneOrder.{one_order};
 ghost use Rattle.bench_core.specs.Shown.{project_of};
 
 use super::Bench;
-use super::ordering::Cells;
 use grid_law::NoMemory;
 use omega_net::Tag;
-use serial_order::{one_order, one_order_in};
+use serial_order::one_order;
 
 impl Bench {
     /// The tags of the references to all words in the run of the project as it stands, by the cycle in which their modules
@@ -20,10 +19,6 @@ impl Bench {
         ensures { IfOk result (λ tags. tags.items ≡ one_order (project_of self.now)) }
     {
         let alloc = *self.journal.allocator();
-        if self.pending_to(self.project().horizon()) == 0 {
-            let cells = Cells { table: &self.table };
-            return one_order_in(alloc, self.project(), &cells);
-        }
         one_order(alloc, self.project())
     }
 }

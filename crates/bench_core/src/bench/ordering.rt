@@ -4,23 +4,7 @@ ghost use Rattle.serial_order.specs.Answers.{AnswersOrder, AnswerExplains, Answe
 ghost use Rattle.bench_core.specs.Shown.{project_of, held};
 
 use super::Bench;
-use cell_table::{Cell, Table};
-use machine_cells::{MachineState, Rp3};
-use serial_order::{Ordered, States, order, order_in};
-
-/// The states that a table holds.
-#[derive(Clone, Copy)]
-pub(super) struct Cells<'a> {
-    pub(super) table: &'a Table<Rp3>,
-}
-
-impl<'a> States for Cells<'a> {
-    ghost at = { λ s t c. held s.table.now t c };
-
-    fn state(&self, cycle: u32, component: u32) -> Option<&MachineState> {
-        self.table.state(Cell { cycle, component })
-    }
-}
+use serial_order::{Ordered, order};
 
 impl Bench {
     /// The references to the word of an address, in their serial order, in the run of the project as it stands: what
@@ -34,10 +18,6 @@ impl Bench {
         ensures timely { AnswerIsTimely (project_of self.now) address result }
     {
         let alloc = *self.journal.allocator();
-        if self.pending_to(self.project().horizon()) == 0 {
-            let cells = Cells { table: &self.table };
-            return order_in(alloc, self.project(), &cells, address);
-        }
         order(alloc, self.project(), address)
     }
 }

@@ -18,7 +18,30 @@ use monitor_sums::Counter;
 use omega_net::Net;
 use run_queries::Body;
 use saturation::{level, tree};
+use std::sync::Arc;
 use std::thread::Threads;
+
+/// States, lent.
+fn lent_row(row: &Vec<Arc<MachineState>>) -> Result<Vec<&MachineState>, NoMemory>
+{
+    let mut lent = Vec::new(*row.allocator());
+    for i in 0..row.len() {
+        lent.push(&*row[i])?;
+    }
+    Ok(lent)
+}
+
+fn lent_rows(rows: &Vec<Vec<Arc<MachineState>>>) -> Result<Vec<Vec<&MachineState>>, NoMemory>
+{
+    let mut lent = Vec::new(*rows.allocator());
+    for i in 0..rows.len() {
+        match lent.push(lent_row(&rows[i])?) {
+            Ok(()) => {}
+            Err(_) => return Err(NoMemory),
+        }
+    }
+    Ok(lent)
+}
 
 impl Bench {
     /// The total of a counter over a window of cycles: looked up where the window is the whole run, else added up. The
@@ -60,14 +83,11 @@ impl Bench {
     }
 
     /// The states of a cycle, by component.
-    fn row(&self, cycle: u32) -> Result<Vec<&MachineState>, NoMemory>
-        requires within { cycle ≤ (project_of self.now).horizon }
-        requires there { HoldsRunTo self.now cycle }
-        ensures { IfOk result (λ row. slice_get (run (project_of self.now)) cycle ≡ Some (map (λ r. r.now) row.items)) }
+    fn row(&self, cycle: u32) -> Result<Vec<Arc<MachineState>>, NoMemory>
     {
         let mut row = Vec::new(*self.journal.allocator());
         for component in 0..Rp3::components(self.project()) {
-            match self.table.state(Cell { cycle, component }) {
+            match self.table.shared(Cell { cycle, component })? {
                 Some(state) => row.push(state)?,
                 None => unreachable!(),
             }
@@ -76,13 +96,14 @@ impl Bench {
     }
 
     /// The states of each cycle, by component.
-    fn rows(&self) -> Result<Vec<Vec<&MachineState>>, NoMemory>
-        requires { HoldsRunTo self.now (project_of self.now).horizon }
-        ensures { IfOk result (λ rows. map (λ row. map (λ r. r.now) row.items) rows.items ≡ run (project_of self.now)) }
+    fn rows(&self) -> Result<Vec<Vec<Arc<MachineState>>>, NoMemory>
     {
         let mut rows = Vec::new(*self.journal.allocator());
         for cycle in 0..self.project().horizon() + 1 {
-            rows.push(self.row(cycle)?)?;
+            match rows.push(self.row(cycle)?) {
+                Ok(()) => {}
+                Err(_) => return Err(NoMemory),
+            }
         }
         Ok(rows)
     }
@@ -93,7 +114,11 @@ impl Bench {
         requires there { HoldsRunTo self.now cycle }
         ensures { TellsRun self.now (LevelOf net «module» cycle) result }
     {
-        match self.row(cycle) {
+        let row = match self.row(cycle) {
+            Ok(row) => row,
+            Err(NoMemory) => return Asked::Memory,
+        };
+        match lent_row(&row) {
             Ok(row) => {
                 let level = level(self.project(), row.as_slice(), net, module);
                 self.answered(Body::Level(level))
@@ -112,6 +137,10 @@ impl Bench {
             Err(NoMemory) => return Asked::Memory,
         };
         let alloc = *self.journal.allocator();
+        let rows = match lent_rows(&rows) {
+            Ok(rows) => rows,
+            Err(NoMemory) => return Asked::Memory,
+        };
         match tree(rt, alloc, self.project(), rows.as_slice(), net, module) {
             Ok(tree) => self.answered(Body::Tree(tree)),
             Err(NoMemory) => Asked::Memory,

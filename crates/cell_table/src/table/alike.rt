@@ -10,13 +10,12 @@ ghost use Rattle.cell_table.specs.Repeating.{any_changes, BeginsAlike, StaysBefo
 
 use super::Table;
 use super::filling::has_room;
-use crate::cells::repeat_cells;
-use crate::fill::wake;
 use crate::ranges::ranges_of;
 use crate::rows::{clock_filled, mark_changed};
 use crate::watcher::Watcher;
 use crate::{Cell, CellRange};
 use cell_marks::Row;
+use change_rows::Cells as Draft;
 use grid_law::{Grid, NoMemory};
 use std::alloc::Global;
 
@@ -27,6 +26,12 @@ pub(super) struct Spare {
     pub changes: Row,
     pub reached: Row,
     pub ranges: Vec<CellRange>,
+    /// Those near the due ones that don't change.
+    around: Row,
+    /// The marks of what changes, and what is put together on the way to a row.
+    pub changed: Vec<u64>,
+    pub draft: Draft,
+    pub words: Vec<u64>,
     /// How many cycles in a row were tried in vain, and how many are to be let by before the next try.
     failed: u32,
     wait: u32,
@@ -45,6 +50,10 @@ impl Spare {
             changes: Row::new(alloc, count, false)?,
             reached: Row::new(alloc, count, false)?,
             ranges: Vec::new(alloc),
+            around: Row::new(alloc, count, false)?,
+            changed: vec![in alloc; 0; count as usize / 64 + 1]?,
+            draft: Draft::new(alloc),
+            words: Vec::new(alloc),
             failed: 0,
             wait: 0,
         })
@@ -114,56 +123,23 @@ impl<G: Grid> Table<G> {
         true
     }
 
-    /// To before which cycle, `end` at most, a cell that reads a component gets what it got before, where that component doesn't
-    /// change.
-    fn alike_near(&self, component: u32, cycle: u32, changes: &Row, end: u32) -> u32
-        requires there { cycle ≤ self.now.horizon }
-        requires component { component < G.rules.components self.now.slots }
-        requires later { 2 ≤ cycle }
-        ensures before { result ≤ end }
-        ensures stays { StaysBefore G.rules self.now cycle changes.now result component }
+    /// To before which cycle, `end` at most, the components due at a cycle hold the states that they hold there, and those near them that
+    /// don't change what they held a cycle earlier.
+    fn alike_end(&self, cycle: u32, changes: &Row, around: &mut Row, end: u32) -> u32
     {
-        if changes.has(component) {
-            return end;
-        }
-        let cycle = cycle - 1;
-        let last = self.cells.standing(Cell { cycle, component }, 0).end;
-        if last < end { last + 1 } else { end }
-    }
-
-    /// To before which cycle, `end` at most, a due cell's component holds the state that it holds here, and those near it
-    /// that don't change what they held a cycle earlier.
-    fn alike_to(&self, cell: Cell, changes: &Row, end: u32) -> u32
-        requires there { IsThere G.rules self.now cell.cycle cell.component }
-        requires later { 2 ≤ cell.cycle }
-        requires end { end ≤ self.now.horizon + 1 }
-        ensures before { result ≤ end }
-        ensures stays { StaysAlikeTo G.rules self.now cell.cycle changes.now cell.component result }
-    {
-        let mut to = end.min(self.cells.standing(cell, 0).end);
-        for component in self.near(cell.component) {
-            to = self.alike_near(*component, cell.cycle, changes, to);
-        }
-        to
-    }
-
-    /// The same of all due cells of a cycle.
-    fn alike_end(&self, cycle: u32, changes: &Row, end: u32) -> u32
-        requires there { cycle ≤ self.now.horizon }
-        requires later { 2 ≤ cycle }
-        requires width { length changes.now ≡ G.rules.components self.now.slots }
-        requires within { end ≤ self.now.horizon + 1 }
-        ensures before { result ≤ end }
-        ensures stays { StaysAlike G.rules self.now cycle changes.now result }
-    {
-        let _count = changes.len();
-        let mut to = end;
+        around.clear_all();
         let mut from = 0;
         while let Some(component) = self.cells.next_due(cycle, from) {
-            to = self.alike_to(Cell { cycle, component }, changes, to);
+            for near in self.near(component) {
+                if !changes.has(*near) {
+                    around.set(*near);
+                }
+            }
             from = component + 1;
         }
-        to
+        let to = self.cells.next_begin(cycle + 1, end, self.cells.due_row(cycle));
+        let to = self.cells.next_begin(cycle, to, around) + 1;
+        to.min(end)
     }
 
     /// Marks the components that read one that changes.
@@ -178,7 +154,7 @@ impl<G: Grid> Table<G> {
         let _count = changes.len();
         let mut from = 0;
         while let Some(component) = changes.first_from(from) {
-            wake(reached, self.readers.of(component));
+            reached.add(self.readers.row(component));
             from = component + 1;
         }
     }
@@ -225,7 +201,7 @@ impl<G: Grid> Table<G> {
         if !self.begins_alike(cycle, &mut spare.changes) {
             return None;
         }
-        let end = self.alike_end(cycle, &spare.changes, end);
+        let end = self.alike_end(cycle, &spare.changes, &mut spare.around, end);
         if end.saturating_sub(cycle) < 2 {
             return None;
         }
@@ -241,7 +217,7 @@ impl<G: Grid> Table<G> {
         }
         let changed = spare.changes.count();
         let due = self.cells.due_count(cycle);
-        match repeat_cells(&mut self.cells, &spare.changes, cycle, end) {
+        match self.cells.repeat_all(&spare.changes, cycle, end) {
             Ok(()) => {}
             Err(_) => return None,
         }
@@ -251,6 +227,7 @@ impl<G: Grid> Table<G> {
             &self.slots,
             &self.readers,
             &spare.changes,
+            &mut spare.reached,
             end - 1,
             before,
         );
@@ -287,7 +264,7 @@ impl<G: Grid> Table<G> {
     /// where to go on, and how many cells were computed.
     pub(super) fn settle_on<W: Watcher<G>>(
         &mut self,
-        from: Cell,
+        cycle: u32,
         end: u32,
         spare: &mut Spare,
         watcher: &mut W,
@@ -311,10 +288,6 @@ impl<G: Grid> Table<G> {
             spare.wait -= 1;
             return None;
         }
-        let cycle = match self.row_ahead(from, end) {
-            Some(cycle) => cycle,
-            None => return None,
-        };
         let alike = match self.settle_alike(cycle, end, spare) {
             Some(alike) => alike,
             None => {

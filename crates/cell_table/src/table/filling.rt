@@ -5,10 +5,9 @@ ghost use Rattle.cell_table.specs.Filling.{AllNew};
 ghost use Rattle.cell_table.specs.Passing.{HoldsOutside};
 
 use super::Table;
-use crate::cells::fill_cells;
 use crate::rows::{clock_filled, mark_filled};
 use crate::watcher::Watcher;
-use crate::{Cell, SettleFault, Settled};
+use crate::{Beside, Cell, SettleFault, Settled, WholeRow};
 use grid_law::Grid;
 
 /// Whether the clock has room for so many cells in each of so many cycles.
@@ -70,7 +69,7 @@ impl<G: Grid> Table<G> {
 
     /// Settles the cells from a cycle on to before `end`, where all from there on are new: how many cycles. There are
     /// fewer than there could be where memory was wanting.
-    fn fill(&mut self, from: u32, end: u32) -> u32
+    fn fill<M: WholeRow<G>>(&mut self, from: u32, end: u32, beside: &mut Beside<M>) -> u32
         requires there { from < end }
         requires within { end ≤ self.old.horizon + 1 }
         requires none { NoneDueBefore G.rules self.old from 0 }
@@ -80,16 +79,13 @@ impl<G: Grid> Table<G> {
         ensures outside { HoldsOutside G.rules self.old self.new from result }
         ensures at { IsAt G.rules self.old self.new (from + result) 0 (result * G.rules.components self.old.slots) }
     {
-        let to = fill_cells::<G>(
-            &mut self.cells,
-            &self.slots,
-            &self.neighbours,
-            &self.readers,
-            from,
-            end,
-        );
-        let cycles = to - from;
         let count = G::components(&self.slots);
+        let mut changed = match vec![in self.cells.allocator(); 0; count as usize / 64 + 1] {
+            Ok(changed) => changed,
+            Err(_) => return 0,
+        };
+        let to = self.fill_rows(from, end, beside, &mut changed);
+        let cycles = to - from;
         mark_filled::<G>(
             &mut self.cells,
             &self.slots,
@@ -105,10 +101,11 @@ impl<G: Grid> Table<G> {
     }
 
     /// As `settle_before`, where all cells from a cycle on are new and none is due before it.
-    pub(super) fn settle_new<W: Watcher<G>>(
+    pub(super) fn settle_new<M: WholeRow<G>, W: Watcher<G>>(
         &mut self,
         from: u32,
         end: u32,
+        beside: &mut Beside<M>,
         watcher: &mut W,
     ) -> Result<Settled, SettleFault>
         requires watched { W.keeps watcher.old self.old }
@@ -122,7 +119,7 @@ impl<G: Grid> Table<G> {
         ensures stops { IfErr result (λ f. StopsBefore G.rules end self.old self.new (computed_of f)) }
         ensures spent { IfErr result (λ f. IsClockSpent f → IsSpentBefore G.rules end self.new 0 0) }
     {
-        let cycles = self.fill(from, end);
+        let cycles = self.fill(from, end, beside);
         watcher.filled(self, from, cycles);
         let count = G::components(&self.slots);
         came_to(cycles, end - from, count)

@@ -14,12 +14,9 @@ ghost use Rattle.cell_table.specs.Cost.{Settles, SettlesTo, SettlesFirst, Settle
 
 use super::Table;
 use super::alike::{Passed, Spare};
-use super::wide::Wide;
-use crate::fill::no_news;
-use crate::near::{first, five_lent};
 use crate::watcher::{Nobody, Watcher};
 use crate::whole_row::NoRow;
-use crate::{Cell, SettleFault, Settled, StoreFault, WholeRow};
+use crate::{Beside, Cell, SettleFault, Settled, StoreFault, WholeRow};
 use grid_law::{Grid, NoMemory};
 use std::sync::Arc;
 
@@ -106,18 +103,16 @@ impl<G: Grid> Table<G> {
     {
         let alloc = self.cells.allocator();
         let near = self.near(cell.component);
-        let before = Cell {
-            cycle: cell.cycle - 1,
-            component: cell.component,
-        };
-        match self.cells.state(before) {
-            Some(own) => {
-                let five = five_lent(&self.cells, before.cycle, near, own);
-                let lent = first(&five, near.len());
-                G::next(alloc, &self.slots, lent, cell.component)
-            }
-            None => unreachable!(),
+        let mut states = Vec::new(alloc);
+        if !self.cells.share_states(cell.cycle - 1, near, &mut states)? {
+            unreachable!()
         }
+        Ok(Some(G::step(
+            alloc,
+            &self.slots,
+            states.as_slice(),
+            cell.component,
+        )?))
     }
 
     /// The state that the present slots and near states give a cell, or none where it is that of
@@ -146,17 +141,7 @@ impl<G: Grid> Table<G> {
         ensures holds { (x : G.State) → (held_at self.now.rows (cell.cycle - 1) cell.component).state ≡ Some x
             → IsTrue result ↔ ((held_at self.now.rows cell.cycle cell.component).state ≡ Some x) }
     {
-        if stays {
-            return true;
-        }
-        let before = Cell {
-            cycle: cell.cycle - 1,
-            component: cell.component,
-        };
-        match self.state(before) {
-            Some(state) => self.holds(cell, state),
-            None => false,
-        }
+        stays || self.cells.is_as_before(cell)
     }
 
     /// Stores what was computed, as `settle_cell` does.
@@ -210,17 +195,6 @@ impl<G: Grid> Table<G> {
         }
     }
 
-    /// Gets the components near a cell ready for a look at them: their states a cycle earlier are found at once then. To move a
-    /// line along costs a step for each stretch that it is moved over, but mostly it is there, from the cycle before or from the
-    /// edit before.
-    fn bring_near(&mut self, cell: Cell)
-        requires { IsThere G.rules self.old cell.cycle cell.component }
-        ensures { self.new ≡ self.old }
-    {
-        self.cells
-            .bring_to(cell.cycle, self.neighbours.of(cell.component));
-    }
-
     /// Computes the cell and stores its state; tells whether the cell held no state or another one.
     pub(super) fn settle_cell(&mut self, cell: Cell) -> Result<bool, StoreFault>
         requires there { IsThere G.rules self.old cell.cycle cell.component }
@@ -232,7 +206,6 @@ impl<G: Grid> Table<G> {
         ensures spent { result ≡ Err StoreFault.ClockSpent → (self.old.clock ≡ 2 ^ 64 - 1)
             × ((held_at self.old.rows cell.cycle cell.component).state ≢ Some (current_of G.rules self.old.slots self.old.rows cell.cycle cell.component)) }
     {
-        self.bring_near(cell);
         match self.computed(cell) {
             Ok(Some(state)) => self.settle_state(cell, state),
             Ok(None) => self.settle_again(cell),
@@ -284,7 +257,7 @@ impl<G: Grid> Table<G> {
         from: Cell,
         end: u32,
         spare: &mut Spare,
-        wide: &mut Wide<G::State, M>,
+        beside: &mut Beside<M>,
         watcher: &mut W,
     ) -> Result<Option<Passed>, StoreFault>
         requires within { end ≤ self.old.horizon + 1 }
@@ -306,7 +279,7 @@ impl<G: Grid> Table<G> {
         ensures err { OnErr result (self.new ≡ self.old) }
         ensures spent { result ≡ Err StoreFault.ClockSpent → IsSpentBefore G.rules end self.old from.cycle from.component }
     {
-        match self.settle_at_once(from, end, spare, wide, watcher) {
+        match self.settle_at_once(from, end, spare, beside, watcher) {
             Some(passed) => return Ok(Some(passed)),
             None => {}
         }
@@ -328,6 +301,7 @@ impl<G: Grid> Table<G> {
     fn settle_each<M: WholeRow<G>, W: Watcher<G>>(
         &mut self,
         end: u32,
+        beside: &mut Beside<M>,
         watcher: &mut W,
     ) -> Result<Settled, SettleFault>
         requires within { end ≤ self.old.horizon + 1 }
@@ -351,13 +325,9 @@ impl<G: Grid> Table<G> {
             Ok(spare) => spare,
             Err(_) => return Err(SettleFault::Memory { computed }),
         };
-        let news = match no_news(self.cells.allocator(), count as usize) {
-            Ok(news) => news,
-            Err(_) => return Err(SettleFault::Memory { computed }),
-        };
-        let mut wide: Wide<G::State, M> = Wide { along: None, news };
+        self.get_row(beside);
         loop {
-            match self.settle_more(from, end, &mut spare, &mut wide, watcher) {
+            match self.settle_more(from, end, &mut spare, beside, watcher) {
                 Ok(Some(passed)) => {
                     computed += passed.computed;
                     from = passed.to;
@@ -395,6 +365,7 @@ impl<G: Grid> Table<G> {
     fn settle_before<M: WholeRow<G>, W: Watcher<G>>(
         &mut self,
         end: u32,
+        beside: &mut Beside<M>,
         watcher: &mut W,
     ) -> Result<Settled, SettleFault>
         requires within { end ≤ self.old.horizon + 1 }
@@ -404,7 +375,7 @@ impl<G: Grid> Table<G> {
         ensures stops { IfErr result (λ f. StopsBefore G.rules end self.old self.new (computed_of f)) }
         ensures spent { IfErr result (λ f. IsClockSpent f → IsSpentBefore G.rules end self.new 0 0) }
     {
-        let settled = self.settle_due::<M, W>(end, watcher)?;
+        let settled = self.settle_due::<M, W>(end, beside, watcher)?;
         self.note_held(end);
         Ok(settled)
     }
@@ -413,6 +384,7 @@ impl<G: Grid> Table<G> {
     fn settle_due<M: WholeRow<G>, W: Watcher<G>>(
         &mut self,
         end: u32,
+        beside: &mut Beside<M>,
         watcher: &mut W,
     ) -> Result<Settled, SettleFault>
         requires within { end ≤ self.old.horizon + 1 }
@@ -423,8 +395,8 @@ impl<G: Grid> Table<G> {
         ensures spent { IfErr result (λ f. IsClockSpent f → IsSpentBefore G.rules end self.new 0 0) }
     {
         match self.first_new(end) {
-            Some(from) => self.settle_new(from, end, watcher),
-            None => self.settle_each::<M, W>(end, watcher),
+            Some(from) if self.get_row(beside) => self.settle_new(from, end, beside, watcher),
+            _ => self.settle_each::<M, W>(end, beside, watcher),
         }
     }
 
@@ -437,6 +409,7 @@ impl<G: Grid> Table<G> {
     pub fn settle_rows_to<M: WholeRow<G>, W: Watcher<G>>(
         &mut self,
         last: u32,
+        beside: &mut Beside<M>,
         watcher: &mut W,
     ) -> Result<Settled, SettleFault>
         requires { W.keeps watcher.old self.old }
@@ -454,7 +427,7 @@ impl<G: Grid> Table<G> {
         ensures differs { IfErr result (λ f. IsClockSpent f → (spent : IsSpent G.rules self.new 0 0) × (spent.cell.cycle ≤ last)) }
     {
         let end = self.end_of(last);
-        self.settle_before::<M, W>(end, watcher)
+        self.settle_before::<M, W>(end, beside, watcher)
     }
 
     /// `settle_to`, where `watcher` is told of what is stored as soon as it is.
@@ -481,7 +454,8 @@ impl<G: Grid> Table<G> {
         ensures spent { IfErr result (λ f. IsClockSpent f → self.new.clock ≡ 2 ^ 64 - 1) }
         ensures differs { IfErr result (λ f. IsClockSpent f → (spent : IsSpent G.rules self.new 0 0) × (spent.cell.cycle ≤ last)) }
     {
-        self.settle_rows_to::<NoRow, W>(last, watcher)
+        let mut beside = Beside::none(self.cells.allocator());
+        self.settle_rows_to::<NoRow, W>(last, &mut beside, watcher)
     }
 
     /// `settle`, where `watcher` is told of what is stored as soon as it is, and cycles of which many cells are due are settled by a row of
@@ -492,6 +466,7 @@ impl<G: Grid> Table<G> {
     /// As `settle`. The watcher was told of just those cells that stay stored.
     pub fn settle_rows<M: WholeRow<G>, W: Watcher<G>>(
         &mut self,
+        beside: &mut Beside<M>,
         watcher: &mut W,
     ) -> Result<Settled, SettleFault>
         requires { W.keeps watcher.old self.old }
@@ -509,7 +484,7 @@ impl<G: Grid> Table<G> {
         ensures differs { IfErr result (λ f. IsClockSpent f → IsSpent G.rules self.new 0 0) }
     {
         let last = self.horizon();
-        self.settle_rows_to::<M, W>(last, watcher)
+        self.settle_rows_to::<M, W>(last, beside, watcher)
     }
 
     /// `settle`, where `watcher` is told of what is stored as soon as it is.
@@ -532,7 +507,8 @@ impl<G: Grid> Table<G> {
         ensures spent { IfErr result (λ f. IsClockSpent f → self.new.clock ≡ 2 ^ 64 - 1) }
         ensures differs { IfErr result (λ f. IsClockSpent f → IsSpent G.rules self.new 0 0) }
     {
-        self.settle_rows::<NoRow, W>(watcher)
+        let mut beside = Beside::none(self.cells.allocator());
+        self.settle_rows::<NoRow, W>(&mut beside, watcher)
     }
 
     /// Settles the cells up to a cycle as `settle` settles all. The cells stored are exactly those of that cycle or an

@@ -18,6 +18,15 @@ use grid_law::{Changed, Grid, NoMemory, Reader};
 use std::alloc::Global;
 use std::sync::Arc;
 
+/// A state, lent.
+fn lent<S>(state: &Option<Arc<S>>) -> Option<&S>
+{
+    match state {
+        Some(state) => Some(&**state),
+        None => None,
+    }
+}
+
 impl<G: Grid> Table<G> {
     /// Whether a component reads the slot at cycle 0.
     fn reads_first(&self, component: u32, slot: &G::Slot) -> bool
@@ -138,12 +147,11 @@ impl<G: Grid> Table<G> {
         // The cycles are at most this many, so the next cycle's number fits.
         let _cycles = self.cells.cycles();
         let mut from = self.add_always(component, slot, last, ready, ranges)?;
-        let mut hint = 0;
         while from <= last {
             let cycle = from - 1;
-            let own = self.standing(Cell { cycle, component }, hint);
+            let own = self.standing(Cell { cycle, component });
             let to = own.end.min(last) + 1;
-            let reads = self.reads_by(own.state, component, slot);
+            let reads = self.reads_by(lent(&own.state), component, slot);
             let range = CellRange {
                 component,
                 from,
@@ -151,7 +159,6 @@ impl<G: Grid> Table<G> {
             };
             self.add_ready(range, reads, ready, ranges)?;
             from = to;
-            hint = own.stretch.saturating_add(1);
         }
         Ok(())
     }

@@ -1,330 +1,376 @@
-//! Settling a cycle at once where many of its cells are due, by a row of all components.
-ghost use Rattle.std.specs.Prelude.{◌≡◌, ℕ, ◌+◌, ◌-◌, ◌<◌, ◌≤◌, ◌^◌, IfNone, IfSome, OnOk, MatchOption, true, false, length, option_map, slice_index_or, None};
-ghost use Rattle.std.specs.Arc.{arc_value};
-ghost use Rattle.cell_table.specs.Seen.{Seen, held_at};
-ghost use Rattle.cell_table.specs.Cells.{IsThere, AtOrAfter};
-ghost use Rattle.cell_table.specs.Filling.{is_awake};
-ghost use Rattle.cell_table.specs.Settling.{NoneDueBefore, IsAt, IsFurther};
-ghost use Rattle.cell_table.specs.Passing.{HoldsBut};
-ghost use Rattle.cell_table.specs.WholeRows.{HoldsRow, StillAt, IsFound};
+//! Settling the due cells of a cycle at once, by a row of all components: many of them by its step, few one by one out of it.
 
 use super::Table;
 use super::alike::{Passed, Spare};
 use super::filling::has_room;
-use crate::cells::put_cells;
 use crate::ranges::ranges_of;
 use crate::rows::mark_changed;
 use crate::watcher::Watcher;
-use crate::{Cell, WholeRow};
+use crate::{Beside, Cell, WholeRow};
 use cell_marks::Row;
+use change_rows::Source;
 use grid_law::{Grid, NoMemory};
-use std::sync::Arc;
+use std::alloc::AllocError;
+use std::marker::PhantomData;
 
-/// How many cells of a cycle are due at least where a row is loaded to settle it. It was set by a measurement on machines of 224
-/// components: with 32 to 64 due cells, most of which get the state of the cell before, one by one is as fast.
+/// How many cells of a cycle are due at least where all components are loaded to settle it.
 const WIDE: u32 = 72;
 
 /// The same where the row holds the cycle before already.
 const STILL_WIDE: u32 = 16;
 
-/// A row, and the cycle whose states it holds.
+/// What is known of a memory beside the one that the table held.
+const UNKNOWN: u8 = 0;
+const SAME: u8 = 1;
+const OTHER: u8 = 2;
+
+/// A row after a step, as the source of the words of its cycle.
 #[derive(Drop)]
-pub(super) struct Along<M> {
-    pub row: M,
-    pub cycle: u32,
+struct Stepped<'a, G: Grid, M: WholeRow<G>> {
+    row: &'a M,
+    step: &'a M::Step,
+    grid: PhantomData<G>,
 }
 
-/// What settling a cycle at once takes beside the table: the row that goes along, if there is one, and by component the states that are
-/// new at a cycle.
-#[derive(Drop)]
-pub(super) struct Wide<S, M> {
-    pub along: Option<Along<M>>,
-    pub news: Vec<Option<Arc<S>>>,
-}
+impl<'a, G: Grid, M: WholeRow<G>> Source for Stepped<'a, G, M> {
+    fn is_still(&self, c: u32) -> bool {
+        M::is_still(self.step, self.row, c)
+    }
 
-/// Nothing is new any more.
-fn clear_news<S: Drop>(news: &mut Vec<Option<Arc<S>>>)
-    ensures len { length news.new.items ≡ length news.old.items }
-    ensures none { (c : ℕ) → option_map arc_value (slice_index_or news.new.items c None) ≡ None }
-{
-    for c in 0..news.len() {
-        news[c] = None;
+    fn write(&self, c: u32, words: &mut Vec<u64>) -> Result<(), AllocError> {
+        self.row.words(c, words)
     }
 }
 
-/// How many cells of a cycle are due at least where a row settles it.
-fn least_due<M>(along: &Option<Along<M>>, cycle: u32) -> u32 {
-    match along {
-        Some(a) => {
-            if cycle > 0 && a.cycle == cycle - 1 {
-                STILL_WIDE
-            } else {
-                WIDE
-            }
-        }
-        None => WIDE,
+/// A row as the source of the words of its cycle.
+#[derive(Drop)]
+struct Whole<'a, G: Grid, M: WholeRow<G>> {
+    row: &'a M,
+    grid: PhantomData<G>,
+}
+
+impl<'a, G: Grid, M: WholeRow<G>> Source for Whole<'a, G, M> {
+    fn is_still(&self, c: u32) -> bool {
+        let _ = c;
+        false
+    }
+
+    fn write(&self, c: u32, words: &mut Vec<u64>) -> Result<(), AllocError> {
+        self.row.words(c, words)
     }
 }
 
 impl<G: Grid> Table<G> {
-    /// The row, with the states of a cycle; none where it can't hold one of them, or a growth was refused.
-    fn loaded<M: WholeRow<G>>(&self, row: M, cycle: u32) -> Option<M>
-        requires there { cycle ≤ self.now.horizon }
-        requires none { NoneDueBefore G.rules self.now (cycle + 1) 0 }
-        requires stands { M.stands row self.now.slots }
-        ensures { IfSome result (λ row. HoldsRow G.rules M.stands M.holds self.now.slots row cycle) }
+    /// Whether a row holds what a component holds at a cycle. It notes so where it does.
+    fn is_loaded<M>(&self, beside: &mut Beside<M>, c: u32, cycle: u32) -> bool
     {
-        let count = G::components(&self.slots);
-        let mut row = row;
-        for component in 0..count {
-            match self.state(Cell { cycle, component }) {
-                Some(x) => {
-                    if !row.load(&self.slots, component, x) {
-                        return None;
-                    }
-                }
-                None => return None,
-            }
+        let at = beside.at[c as usize].max(beside.base);
+        if at == cycle + 1 {
+            return true;
         }
-        Some(row)
+        if at == 0 || at > cycle + 1 || !self.cells.goes_on_to(at, cycle + 1, c) {
+            return false;
+        }
+        beside.at[c as usize] = cycle + 1;
+        true
     }
 
-    /// Brings a row to a cycle: whether there is one there then.
-    fn bring<M: WholeRow<G>>(&self, along: &mut Option<Along<M>>, cycle: u32) -> bool
-        requires there { cycle ≤ self.now.horizon }
-        requires none { NoneDueBefore G.rules self.now (cycle + 1) 0 }
-        requires along { IfSome along.old (λ a. HoldsRow G.rules M.stands M.holds self.now.slots a.row a.cycle) }
-        ensures along { IfSome along.new (λ a. HoldsRow G.rules M.stands M.holds self.now.slots a.row a.cycle) }
-        ensures there { result ≡ true → MatchOption along.new ⊥ (λ a. a.cycle ≡ cycle) }
+    /// Loads what a component holds at a cycle, if the row doesn't hold that: whether it holds it then.
+    fn load_one<M: WholeRow<G>>(&self, beside: &mut Beside<M>, c: u32, cycle: u32) -> bool
     {
-        match along {
-            Some(a) => {
-                if a.cycle == cycle {
-                    return true;
-                }
-            }
-            None => {}
+        if self.is_loaded(beside, c, cycle) {
+            return true;
         }
-        let row = match along.take() {
-            Some(a) => a.row,
-            None => match M::new(self.cells.allocator(), &self.slots) {
-                Some(row) => row,
-                None => return false,
-            },
+        let words = self.cells.words(cycle, c);
+        let loaded = match &mut beside.row {
+            Some(row) => !words.is_empty() && row.load(c, words),
+            None => false,
         };
-        match self.loaded(row, cycle) {
+        beside.at[c as usize] = if loaded { cycle + 1 } else { 0 };
+        loaded
+    }
+
+    /// Gets a row ready for a pass: whether there is one.
+    pub(super) fn get_row<M: WholeRow<G>>(&self, beside: &mut Beside<M>) -> bool
+    {
+        let count = G::components(&self.slots) as usize;
+        if beside.row.is_none() {
+            beside.row = M::new(self.cells.allocator(), &self.slots);
+        }
+        while beside.at.len() < count {
+            if beside.at.push(0).is_err() || beside.known.push(UNKNOWN).is_err() {
+                return false;
+            }
+        }
+        beside.forget();
+        match &mut beside.row {
             Some(row) => {
-                *along = Some(Along { row, cycle });
+                row.follow(&self.slots);
                 true
             }
             None => false,
         }
     }
 
-    /// The row goes on to a cycle from the one before, to which it is brought; none where it can't, and then it is let go.
-    fn go_along<M: WholeRow<G>>(&self, along: &mut Option<Along<M>>, cycle: u32) -> Option<M::Step>
-        requires later { 0 < cycle }
-        requires there { cycle ≤ self.now.horizon }
-        requires none { NoneDueBefore G.rules self.now cycle 0 }
-        requires along { IfSome along.old (λ a. HoldsRow G.rules M.stands M.holds self.now.slots a.row a.cycle) }
-        ensures along { IfSome along.new (λ a. HoldsRow G.rules M.stands M.holds self.now.slots a.row a.cycle) }
-        ensures there { IfSome result (λ step. MatchOption along.new ⊥ (λ a. a.cycle ≡ cycle)) }
-        ensures still { IfSome result (λ step. StillAt G.rules (λ c. M.is_still step self.now.slots c) self.now.slots cycle) }
+    /// Brings all components of a row to a cycle before which none is due: whether they are there.
+    pub(super) fn bring<M: WholeRow<G>>(&self, beside: &mut Beside<M>, cycle: u32) -> bool
     {
-        if !self.bring(along, cycle - 1) {
-            return None;
-        }
-        let step = match along {
-            Some(a) => self.step_on(&mut a.row, &mut a.cycle, cycle),
-            None => None,
-        };
-        if step.is_none() {
-            *along = None;
-        }
-        step
-    }
-
-    /// The row goes on to a cycle from the one before.
-    fn step_on<M: WholeRow<G>>(&self, row: &mut M, at: &mut u32, cycle: u32) -> Option<M::Step>
-        requires later { 0 < cycle }
-        requires row { HoldsRow G.rules M.stands M.holds self.now.slots row.old (cycle - 1) }
-        ensures row { IfSome result (λ step. HoldsRow G.rules M.stands M.holds self.now.slots row.new at.new) }
-        ensures at { at.new ≡ cycle }
-        ensures still { IfSome result (λ step. StillAt G.rules (λ c. M.is_still step self.now.slots c) self.now.slots cycle) }
-    {
-        *at = cycle;
-        row.step(&self.slots)
-    }
-
-    /// Looks whether a due cell holds the run's state, which a row has: where it doesn't, its component is marked, and the state is among
-    /// those that are new unless it is the one of the cycle before.
-    fn find_change<M: WholeRow<G>>(
-        &self,
-        row: &M,
-        step: &M::Step,
-        cell: Cell,
-        changes: &mut Row,
-        news: &mut Vec<Option<Arc<G::State>>>,
-    ) -> Result<(), NoMemory>
-        requires there { IsThere G.rules self.now cell.cycle cell.component }
-        requires later { 0 < cell.cycle }
-        requires none { NoneDueBefore G.rules self.now cell.cycle 0 }
-        requires row { HoldsRow G.rules M.stands M.holds self.now.slots row.now cell.cycle }
-        requires still { StillAt G.rules (λ c. M.is_still step.now self.now.slots c) self.now.slots cell.cycle }
-        requires width { cell.component < length changes.old }
-        requires news { length news.old.items ≡ G.rules.components self.now.slots }
-        requires unmarked { is_awake changes.old cell.component ≡ false }
-        requires nothing { option_map arc_value (slice_index_or news.old.items cell.component None) ≡ None }
-        ensures len { length changes.new ≡ length changes.old }
-        ensures len_news { length news.new.items ≡ length news.old.items }
-        ensures others { (c : ℕ) → (c ≡ cell.component → ⊥) → is_awake changes.new c ≡ is_awake changes.old c }
-        ensures other_news { (c : ℕ) → (c ≡ cell.component → ⊥) → option_map arc_value (slice_index_or news.new.items c None) ≡ option_map arc_value (slice_index_or news.old.items c None) }
-        ensures found { OnOk result (IsFound G.rules self.now cell.cycle cell.component (is_awake changes.new cell.component) (option_map arc_value (slice_index_or news.new.items cell.component None))) }
-    {
-        if M::is_still(step, &self.slots, cell.component) {
-            let stays = self.cells.stays(cell);
-            if !self.holds_as_before(cell, stays) {
-                changes.set(cell.component);
-            }
-            return Ok(());
-        }
-        match self.state(cell) {
-            Some(held) => {
-                if row.is_held(&self.slots, cell.component, held) {
-                    return Ok(());
+        let count = G::components(&self.slots);
+        if beside.base != cycle + 1 {
+            for c in 0..count {
+                if !self.load_one(beside, c, cycle) {
+                    return false;
                 }
             }
-            None => {}
+            beside.base = cycle + 1;
         }
-        let before = Cell {
-            cycle: cell.cycle - 1,
-            component: cell.component,
-        };
-        match self.state(before) {
-            Some(own) => {
-                let alloc = self.cells.allocator();
-                let state = row.read(alloc, &self.slots, cell.component, own)?;
-                news[cell.component as usize] = Some(state);
-                changes.set(cell.component);
-                Ok(())
+        if beside.memories != cycle + 1 {
+            for c in 0..count {
+                if !self.bring_memory(beside, c, cycle) {
+                    return false;
+                }
+                beside.known[c as usize] = UNKNOWN;
             }
-            None => unreachable!(),
+            beside.memories = cycle + 1;
+        }
+        true
+    }
+
+    fn bring_memory<M: WholeRow<G>>(&self, beside: &mut Beside<M>, c: u32, cycle: u32) -> bool
+    {
+        match (&mut beside.row, self.cells.memory(cycle, c)) {
+            (Some(row), Some(memory)) => {
+                row.load_memory(self.cells.allocator(), c, memory)
+            }
+            (Some(_), None) => true,
+            _ => false,
         }
     }
 
-    /// Looks at all due cells of a cycle.
-    fn find_all<M: WholeRow<G>>(
-        &self,
+    /// Puts the memory of a due cell, which a row has after its step: whether the cell held another one.
+    fn settle_memory<M: WholeRow<G>>(
+        &mut self,
         row: &M,
-        step: &M::Step,
+        known: &mut u8,
+        cell: Cell,
+    ) -> Result<bool, NoMemory>
+    {
+        let (t, c) = (cell.cycle, cell.component);
+        let wrote = row.has_written(c);
+        let same = match *known {
+            SAME if !wrote && !self.cells.memory_begins(t, c) => true,
+            OTHER if !wrote => false,
+            _ => match self.cells.memory(t, c) {
+                Some(held) => row.has_memory(c, held),
+                None => return Ok(false),
+            },
+        };
+        if same {
+            *known = SAME;
+            return Ok(false);
+        }
+        let new = if wrote {
+            row.memory(self.cells.allocator(), c)?
+        } else {
+            None
+        };
+        let goes_on = self.cells.put_memory(t, c, new)?;
+        *known = if goes_on { OTHER } else { UNKNOWN };
+        Ok(true)
+    }
+
+    /// The same of all due cells of a cycle; those that held another one are marked.
+    fn settle_memories<M: WholeRow<G>>(
+        &mut self,
+        beside: &mut Beside<M>,
         cycle: u32,
         changes: &mut Row,
-        news: &mut Vec<Option<Arc<G::State>>>,
     ) -> Result<(), NoMemory>
-        requires there { cycle ≤ self.now.horizon }
-        requires later { 0 < cycle }
-        requires none { NoneDueBefore G.rules self.now cycle 0 }
-        requires row { HoldsRow G.rules M.stands M.holds self.now.slots row.now cycle }
-        requires still { StillAt G.rules (λ c. M.is_still step.now self.now.slots c) self.now.slots cycle }
-        requires width { length changes.old ≡ G.rules.components self.now.slots }
-        requires news { length news.old.items ≡ G.rules.components self.now.slots }
-        requires unmarked { (c : ℕ) → is_awake changes.old c ≡ false }
-        requires nothing { (c : ℕ) → option_map arc_value (slice_index_or news.old.items c None) ≡ None }
-        ensures len { length changes.new ≡ length changes.old }
-        ensures len_news { length news.new.items ≡ length news.old.items }
-        ensures found { OnOk result ((c : ℕ) → c < G.rules.components self.now.slots → (held_at self.now.rows cycle c).is_due ≡ true
-            → IsFound G.rules self.now cycle c (is_awake changes.new c) (option_map arc_value (slice_index_or news.new.items c None))) }
-        ensures others { OnOk result ((c : ℕ) → c < G.rules.components self.now.slots → (held_at self.now.rows cycle c).is_due ≡ false → is_awake changes.new c ≡ false) }
     {
-        // The number of a component is below this one, so that of the next fits.
-        let _count = changes.len();
-        let mut from = 0;
-        while let Some(component) = self.cells.next_due(cycle, from) {
-            self.find_change(row, step, Cell { cycle, component }, changes, news)?;
-            from = component + 1;
+        let row = match &beside.row {
+            Some(row) => row,
+            None => return Ok(()),
+        };
+        for c in 0..G::components(&self.slots) {
+            if self.cells.memory(cycle - 1, c).is_some() {
+                let cell = Cell {
+                    cycle,
+                    component: c,
+                };
+                let known = &mut beside.known[c as usize];
+                if !self.cells.is_due(cell) {
+                    *known = SAME;
+                } else if self.settle_memory(row, known, cell)? {
+                    changes.set(c);
+                }
+            }
         }
         Ok(())
     }
 
-    /// Finds what changes at a cycle before which no cell is due.
-    fn find_changes<M: WholeRow<G>>(
-        &self,
+    /// The due cells of a cycle hold the run, by a step of all components; those that held another state are marked.
+    fn put_stepped<M: WholeRow<G>>(
+        &mut self,
         cycle: u32,
-        changes: &mut Row,
-        wide: &mut Wide<G::State, M>,
+        beside: &mut Beside<M>,
+        spare: &mut Spare,
     ) -> bool
-        requires there { cycle ≤ self.now.horizon }
-        requires later { 0 < cycle }
-        requires none { NoneDueBefore G.rules self.now cycle 0 }
-        requires width { length changes.old ≡ G.rules.components self.now.slots }
-        requires news { length wide.old.news.items ≡ G.rules.components self.now.slots }
-        requires along { IfSome wide.old.along (λ a. HoldsRow G.rules M.stands M.holds self.now.slots a.row a.cycle) }
-        ensures len { length changes.new ≡ length changes.old }
-        ensures news { length wide.new.news.items ≡ length wide.old.news.items }
-        ensures along { IfSome wide.new.along (λ a. HoldsRow G.rules M.stands M.holds self.now.slots a.row a.cycle) }
-        ensures found { result ≡ true → (c : ℕ) → c < G.rules.components self.now.slots → (held_at self.now.rows cycle c).is_due ≡ true
-            → IsFound G.rules self.now cycle c (is_awake changes.new c) (option_map arc_value (slice_index_or wide.new.news.items c None)) }
-        ensures others { result ≡ true → (c : ℕ) → c < G.rules.components self.now.slots → (held_at self.now.rows cycle c).is_due ≡ false → is_awake changes.new c ≡ false }
     {
-        changes.clear_all();
-        clear_news(&mut wide.news);
-        let step = match self.go_along(&mut wide.along, cycle) {
-            Some(step) => step,
-            None => return false,
-        };
-        match &wide.along {
-            Some(a) => self
-                .find_all(&a.row, &step, cycle, changes, &mut wide.news)
-                .is_ok(),
-            None => false,
+        if !self.bring(beside, cycle - 1) {
+            return false;
         }
+        let step = match &mut beside.row {
+            Some(row) => row.step(&self.slots),
+            None => None,
+        };
+        beside.base = cycle + 1;
+        beside.memories = cycle + 1;
+        let step = match step {
+            Some(step) => step,
+            None => {
+                beside.row = None;
+                return false;
+            }
+        };
+        let put = match &beside.row {
+            Some(row) => {
+                let source: Stepped<'_, G, M> = Stepped {
+                    row,
+                    step: &step,
+                    grid: PhantomData,
+                };
+                self.cells.put_due(cycle, &source, spare.changed.as_mut_slice())
+            }
+            None => Err(NoMemory),
+        };
+        if put.is_err() {
+            return false;
+        }
+        spare.changes.assign(spare.changed.as_slice());
+        self.settle_memories(beside, cycle, &mut spare.changes).is_ok()
     }
 
-    /// Settles the cells of a cycle before which no cell is due, at once, where many of them are: how many were computed. Only cells of
+    /// Finds what a due cell gets, which is the state of the cell before: its words go into the draft where it holds another one.
+    fn repeat_one(&mut self, cell: Cell, spare: &mut Spare) -> Result<(), NoMemory>
+    {
+        let (t, c) = (cell.cycle, cell.component);
+        if self.cells.stays(cell) {
+            return Ok(());
+        }
+        let before = self.cells.words(t - 1, c);
+        if before != self.cells.words(t, c) {
+            spare.draft.push(c, before)?;
+            spare.changes.set(c);
+        }
+        if !self.cells.has_memory_before(t, c) {
+            self.cells.put_memory(t, c, None)?;
+            spare.changes.set(c);
+        }
+        Ok(())
+    }
+
+    /// Finds what a due cell gets by the states near it: its words go into the draft where it holds other ones.
+    fn step_one<M: WholeRow<G>>(
+        &mut self,
+        cell: Cell,
+        beside: &mut Beside<M>,
+        spare: &mut Spare,
+    ) -> Result<bool, NoMemory>
+    {
+        let (t, c) = (cell.cycle, cell.component);
+        for n in self.neighbours.of(c) {
+            if !self.load_one(beside, *n, t - 1) {
+                return Ok(false);
+            }
+        }
+        let alloc = self.cells.allocator();
+        spare.words.clear();
+        let memory = self.cells.memory(t - 1, c);
+        let has_memory = memory.is_some();
+        let new = match &mut beside.row {
+            Some(row) => row.next_words(alloc, &self.slots, c, memory, &mut spare.words)?,
+            None => return Ok(false),
+        };
+        if spare.words.as_slice() != self.cells.words(t, c) {
+            spare.draft.push(c, spare.words.as_slice())?;
+            spare.changes.set(c);
+        }
+        if !has_memory {
+            return Ok(true);
+        }
+        let same = match (&new, self.cells.memory(t, c)) {
+            (Some(memory), Some(held)) => G::same_memory(memory, held),
+            _ => self.cells.has_memory_before(t, c),
+        };
+        if !same {
+            self.cells.put_memory(t, c, new)?;
+            spare.changes.set(c);
+        }
+        Ok(true)
+    }
+
+    /// The due cells of a cycle hold the run, one after another; those that held another state are marked.
+    fn put_each<M: WholeRow<G>>(
+        &mut self,
+        cycle: u32,
+        beside: &mut Beside<M>,
+        spare: &mut Spare,
+    ) -> Result<bool, NoMemory>
+    {
+        spare.draft.clear();
+        spare.changes.clear_all();
+        let mut from = 0;
+        while let Some(component) = self.cells.next_due(cycle, from) {
+            let cell = Cell { cycle, component };
+            if cycle > 1 && self.cells.all_stay(cycle - 1, self.neighbours.of(component)) {
+                self.repeat_one(cell, spare)?;
+            } else if !self.step_one(cell, beside, spare)? {
+                return Ok(false);
+            }
+            from = component + 1;
+        }
+        if !spare.draft.is_empty() {
+            self.cells.put_draft(cycle, &spare.draft)?;
+        }
+        Ok(true)
+    }
+
+    /// Settles the cells of a cycle before which no cell is due, at once: how many were computed. Only cells of
     /// the ranges may hold other states then.
     fn settle_row<M: WholeRow<G>>(
         &mut self,
         cycle: u32,
         spare: &mut Spare,
-        wide: &mut Wide<G::State, M>,
+        beside: &mut Beside<M>,
     ) -> Option<u32>
-        requires there { cycle ≤ self.old.horizon }
-        requires none { NoneDueBefore G.rules self.old cycle 0 }
-        requires changes { length spare.old.changes ≡ G.rules.components self.old.slots }
-        requires news { length wide.old.news.items ≡ G.rules.components self.old.slots }
-        requires along { IfSome wide.old.along (λ a. HoldsRow G.rules M.stands M.holds self.old.slots a.row a.cycle) }
-        ensures changes { length spare.new.changes ≡ length spare.old.changes }
-        ensures reached { spare.new.reached ≡ spare.old.reached }
-        ensures news { length wide.new.news.items ≡ length wide.old.news.items }
-        ensures along { IfSome wide.new.along (λ a. HoldsRow G.rules M.stands M.holds self.new.slots a.row a.cycle) }
-        ensures none { IfNone result (self.new ≡ self.old) }
-        ensures on { IfSome result (λ n. (first : Seen G.State G.Slots) (k : ℕ) → IsAt G.rules first self.old cycle 0 k → IsAt G.rules first self.new (cycle + 1) 0 (k + n)) }
-        ensures but { IfSome result (λ n. HoldsBut G.rules self.old self.new spare.new.ranges.items) }
     {
         // There are fewer cycles than 2^32, so the next one's number fits.
         let _cycles = self.cells.cycles();
         let count = G::components(&self.slots);
         let due = self.cells.due_count(cycle);
-        if cycle == 0 || due < least_due(&wide.along, cycle) || !has_room(self.clock, 1, count) {
+        if cycle == 0 || beside.row.is_none() || !has_room(self.clock, 1, count) {
             return None;
         }
-        if !self.find_changes(cycle, &mut spare.changes, wide) {
+        let least = if beside.base == cycle { STILL_WIDE } else { WIDE };
+        let put = if due >= least {
+            self.put_stepped(cycle, beside, spare)
+        } else {
+            match self.put_each(cycle, beside, spare) {
+                Ok(put) => put,
+                Err(_) => false,
+            }
+        };
+        if !put || ranges_of(&spare.changes, cycle, cycle + 1, &mut spare.ranges).is_err() {
             return None;
-        }
-        match ranges_of(&spare.changes, cycle, cycle + 1, &mut spare.ranges) {
-            Ok(()) => {}
-            Err(_) => return None,
         }
         let changed = spare.changes.count();
-        match put_cells(&mut self.cells, &spare.changes, &mut wide.news, cycle) {
-            Ok(()) => {}
-            Err(_) => return None,
-        }
+        self.cells.clear_rows(cycle, cycle + 1);
         mark_changed::<G>(
             &mut self.cells,
             &self.slots,
             &self.readers,
             &spare.changes,
+            &mut spare.reached,
             cycle,
             self.clock,
         );
@@ -334,86 +380,40 @@ impl<G: Grid> Table<G> {
     }
 
     /// Settles at once the cycles that come next, where the cycle of `from` begins there or has no due cell any more: those in which the
-    /// same happens as in the one before, or one of which many cells are due. Tells a watcher: where to go on, and how many cells were
+    /// same happens as in the one before, or one. Tells a watcher: where to go on, and how many cells were
     /// computed.
     pub(super) fn settle_at_once<M: WholeRow<G>, W: Watcher<G>>(
         &mut self,
         from: Cell,
         end: u32,
         spare: &mut Spare,
-        wide: &mut Wide<G::State, M>,
+        beside: &mut Beside<M>,
         watcher: &mut W,
     ) -> Option<Passed>
-        requires within { end ≤ self.old.horizon + 1 }
-        requires none { NoneDueBefore G.rules self.old from.cycle from.component }
-        requires changes { length spare.old.changes ≡ G.rules.components self.old.slots }
-        requires reached { length spare.old.reached ≡ G.rules.components self.old.slots }
-        requires news { length wide.old.news.items ≡ G.rules.components self.old.slots }
-        requires along { IfSome wide.old.along (λ a. HoldsRow G.rules M.stands M.holds self.old.slots a.row a.cycle) }
-        requires watched { W.keeps watcher.old self.old }
-        ensures changes { length spare.new.changes ≡ length spare.old.changes }
-        ensures reached { length spare.new.reached ≡ length spare.old.reached }
-        ensures news { length wide.new.news.items ≡ length wide.old.news.items }
-        ensures along { IfSome wide.new.along (λ a. HoldsRow G.rules M.stands M.holds self.new.slots a.row a.cycle) }
-        ensures watched { W.keeps watcher.new self.new }
-        ensures none { IfNone result (self.new ≡ self.old) }
-        ensures on { IfSome result (λ p. (first : Seen G.State G.Slots) (n : ℕ) → IsAt G.rules first self.old from.cycle from.component n → IsAt G.rules first self.new p.to.cycle p.to.component (n + p.computed)) }
-        ensures further { IfSome result (λ p. IsFurther self.old.horizon from.cycle from.component p.to.cycle p.to.component) }
-        ensures before { IfSome result (λ p. AtOrAfter p.to.cycle p.to.component end 0) }
     {
         if from.cycle >= end || (from.component > 0 && self.is_row_due(from.cycle)) {
-            return None;
-        }
-        match self.settle_on(from, end, spare, watcher) {
-            Some(passed) => Some(passed),
-            None => self.settle_wide(from, end, spare, wide, watcher),
-        }
-    }
-
-    /// Where nothing is due any more at a cycle, or it begins there, and many cells of the next due one are, settles those at once as
-    /// `settle_row` does, and tells a watcher: where to go on, and how many cells were computed.
-    fn settle_wide<M: WholeRow<G>, W: Watcher<G>>(
-        &mut self,
-        from: Cell,
-        end: u32,
-        spare: &mut Spare,
-        wide: &mut Wide<G::State, M>,
-        watcher: &mut W,
-    ) -> Option<Passed>
-        requires within { end ≤ self.old.horizon + 1 }
-        requires none { NoneDueBefore G.rules self.old from.cycle from.component }
-        requires changes { length spare.old.changes ≡ G.rules.components self.old.slots }
-        requires reached { length spare.old.reached ≡ G.rules.components self.old.slots }
-        requires news { length wide.old.news.items ≡ G.rules.components self.old.slots }
-        requires along { IfSome wide.old.along (λ a. HoldsRow G.rules M.stands M.holds self.old.slots a.row a.cycle) }
-        requires watched { W.keeps watcher.old self.old }
-        ensures changes { length spare.new.changes ≡ length spare.old.changes }
-        ensures reached { length spare.new.reached ≡ length spare.old.reached }
-        ensures news { length wide.new.news.items ≡ length wide.old.news.items }
-        ensures along { IfSome wide.new.along (λ a. HoldsRow G.rules M.stands M.holds self.new.slots a.row a.cycle) }
-        ensures watched { W.keeps watcher.new self.new }
-        ensures none { IfNone result (self.new ≡ self.old) }
-        ensures on { IfSome result (λ p. (first : Seen G.State G.Slots) (n : ℕ) → IsAt G.rules first self.old from.cycle from.component n → IsAt G.rules first self.new p.to.cycle p.to.component (n + p.computed)) }
-        ensures further { IfSome result (λ p. IsFurther self.old.horizon from.cycle from.component p.to.cycle p.to.component) }
-        ensures before { IfSome result (λ p. AtOrAfter p.to.cycle p.to.component end 0) }
-    {
-        if from.cycle >= end {
-            return None;
-        }
-        // Mostly few cells are due at the cycle that comes next, and one number tells it.
-        let next = if from.component == 0 {
-            from.cycle
-        } else {
-            from.cycle + 1
-        };
-        if self.cells.due_count(next) < STILL_WIDE {
             return None;
         }
         let cycle = match self.row_ahead(from, end) {
             Some(cycle) => cycle,
             None => return None,
         };
-        let computed = match self.settle_row(cycle, spare, wide) {
+        match self.settle_on(cycle, end, spare, watcher) {
+            Some(passed) => Some(passed),
+            None => self.settle_wide(cycle, spare, beside, watcher),
+        }
+    }
+
+    /// Settles a cycle at once, as `settle_row` does, and tells a watcher: where to go on, and how many cells were computed.
+    fn settle_wide<M: WholeRow<G>, W: Watcher<G>>(
+        &mut self,
+        cycle: u32,
+        spare: &mut Spare,
+        beside: &mut Beside<M>,
+        watcher: &mut W,
+    ) -> Option<Passed>
+    {
+        let computed = match self.settle_row(cycle, spare, beside) {
             Some(computed) => computed,
             None => return None,
         };
@@ -425,5 +425,128 @@ impl<G: Grid> Table<G> {
             },
             computed: u64::from(computed),
         })
+    }
+
+    /// Fills the cells from a cycle on to before `end`, which hold nothing there, with the run, where those before hold it: to before
+    /// which cycle. What is filled isn't due. Where memory is wanting, it ends earlier.
+    pub(super) fn fill_rows<M: WholeRow<G>>(
+        &mut self,
+        from: u32,
+        end: u32,
+        beside: &mut Beside<M>,
+        changed: &mut Vec<u64>,
+    ) -> u32
+    {
+        let first = if from == 0 {
+            match M::new(self.cells.allocator(), &self.slots) {
+                Some(row) => {
+                    beside.row = Some(row);
+                    match self.fill_first(beside, changed) {
+                        Ok(()) => 1,
+                        Err(_) => return 0,
+                    }
+                }
+                None => return 0,
+            }
+        } else {
+            if !self.bring(beside, from - 1) {
+                return from;
+            }
+            from
+        };
+        let mut cycle = first;
+        while cycle < end {
+            let step = match &mut beside.row {
+                Some(row) => row.step(&self.slots),
+                None => None,
+            };
+            let step = match step {
+                Some(step) => step,
+                None => {
+                    beside.row = None;
+                    return cycle;
+                }
+            };
+            if M::is_all_still(&step) && end - cycle > 1 {
+                // As it is now the machine stays.
+                let all = self.cells.all_row();
+                match all {
+                    Ok(all) => {
+                        if self.cells.repeat_all(&all, cycle, end).is_ok() {
+                            return end;
+                        }
+                    }
+                    Err(_) => {}
+                }
+            }
+            if self.fill_one(cycle, &step, beside, changed).is_err() {
+                return cycle;
+            }
+            cycle += 1;
+        }
+        beside.base = end;
+        beside.memories = end;
+        end
+    }
+
+    fn fill_first<M: WholeRow<G>>(
+        &mut self,
+        beside: &mut Beside<M>,
+        changed: &mut Vec<u64>,
+    ) -> Result<(), NoMemory>
+    {
+        let row = match &beside.row {
+            Some(row) => row,
+            None => return Err(NoMemory),
+        };
+        let source: Whole<'_, G, M> = Whole {
+            row,
+            grid: PhantomData,
+        };
+        self.cells.put_due(0, &source, changed.as_mut_slice())?;
+        let alloc = self.cells.allocator();
+        for c in 0..G::components(&self.slots) {
+            match row.memory(alloc, c)? {
+                Some(memory) => {
+                    self.cells.put_memory(0, c, Some(memory))?;
+                }
+                None => {}
+            }
+        }
+        self.cells.clear_rows(0, 1);
+        Ok(())
+    }
+
+    fn fill_one<M: WholeRow<G>>(
+        &mut self,
+        cycle: u32,
+        step: &M::Step,
+        beside: &mut Beside<M>,
+        changed: &mut Vec<u64>,
+    ) -> Result<(), NoMemory>
+    {
+        let row = match &beside.row {
+            Some(row) => row,
+            None => return Err(NoMemory),
+        };
+        let source: Stepped<'_, G, M> = Stepped {
+            row,
+            step,
+            grid: PhantomData,
+        };
+        self.cells.put_due(cycle, &source, changed.as_mut_slice())?;
+        let alloc = self.cells.allocator();
+        for c in 0..G::components(&self.slots) {
+            if row.has_written(c) {
+                match row.memory(alloc, c)? {
+                    Some(memory) => {
+                        self.cells.fill_memory(cycle, c, memory)?;
+                    }
+                    None => {}
+                }
+            }
+        }
+        self.cells.clear_rows(cycle, cycle + 1);
+        Ok(())
     }
 }

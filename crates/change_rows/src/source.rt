@@ -1,0 +1,16 @@
+//! Cells whose words somebody writes.
+
+use std::alloc::AllocError;
+
+/// Who has the words of cells of one row.
+pub trait Source {
+    /// Whether a component is known to hold what it holds a cycle before.
+    fn is_still(&self, c: u32) -> bool;
+
+    /// Appends a component's words. It changes nothing where the growth was refused.
+    ///
+    /// # Errors
+    ///
+    /// Where a growth was refused.
+    fn write(&self, c: u32, words: &mut Vec<u64>) -> Result<(), AllocError>;
+}

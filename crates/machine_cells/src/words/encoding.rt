@@ -1,0 +1,59 @@
+//! Components written as words, all of them or none.
+
+use crate::words::heads::{comb_head, low_head, module_head, one_if, proc_head, sizes};
+use crate::words::writing::{write_messages, write_option, write_ports, write_word};
+use comb_switch::CombState;
+use low_switch::LowState;
+use mem_module::ModuleState;
+use ref_proc::ProcState;
+use std::alloc::AllocError;
+
+/// Appends a processor's words.
+pub(crate) fn write_proc(words: &mut Vec<u64>, s: &ProcState) -> Result<(), AllocError>
+{
+    let messages = one_if(s.out.is_some())
+        + one_if(s.got[0].is_some())
+        + one_if(s.got[1].is_some());
+    words.reserve(2 + 2 * messages as usize)?;
+    write_word(words, proc_head(s));
+    write_word(words, s.spent as u64 + ((s.issued as u64) << 32));
+    write_option(words, &s.out);
+    write_option(words, &s.got[0]);
+    write_option(words, &s.got[1]);
+    Ok(())
+}
+
+/// Appends a module's words, those of its memory left out.
+pub(crate) fn write_module(words: &mut Vec<u64>, s: &ModuleState) -> Result<(), AllocError>
+{
+    let (requests, replies) = (sizes(&s.requests), sizes(&s.replies));
+    words.reserve(1 + 2 * (requests.0 + requests.1 + replies.0 + replies.1))?;
+    write_word(words, module_head(s));
+    write_ports(words, &s.requests);
+    write_ports(words, &s.replies);
+    Ok(())
+}
+
+/// Appends a low switch's words.
+pub(crate) fn write_low(words: &mut Vec<u64>, s: &LowState) -> Result<(), AllocError>
+{
+    let (requests, replies) = (sizes(&s.fwd), sizes(&s.rev));
+    words.reserve(1 + 2 * (requests.0 + requests.1 + replies.0 + replies.1))?;
+    write_word(words, low_head(s));
+    write_ports(words, &s.fwd);
+    write_ports(words, &s.rev);
+    Ok(())
+}
+
+/// Appends a combining switch's words.
+pub(crate) fn write_comb(words: &mut Vec<u64>, s: &CombState) -> Result<(), AllocError>
+{
+    let (requests, replies) = (sizes(&s.fwd), sizes(&s.rev));
+    let waits = s.wait.len();
+    words.reserve(1 + 2 * (requests.0 + requests.1 + replies.0 + replies.1 + waits))?;
+    write_word(words, comb_head(s));
+    write_ports(words, &s.fwd);
+    write_ports(words, &s.rev);
+    write_messages(words, s.wait.as_slice());
+    Ok(())
+}
