@@ -137,6 +137,16 @@ impl Marks {
         self.total = moved(self.total, before, after);
     }
 
+    /// Marks the cells of a row that are in a set, 64 in a word.
+    pub fn set_words(&mut self, t: u32, set: &[u64])
+    {
+        let marked = &mut self.rows[t as usize];
+        let before = marked.count();
+        marked.add_words(set);
+        let after = marked.count();
+        self.total = moved(self.total, before, after);
+    }
+
     /// Takes a cell's mark away.
     pub fn clear(&mut self, t: u32, c: u32)
         requires row { t < length self.old.rows }

@@ -137,6 +137,13 @@ impl Row {
         self.count += added;
     }
 
+    /// Marks all components of a set, 64 in a word.
+    pub fn add_words(&mut self, other: &[u64])
+    {
+        let added = add_in(&mut self.words, other, self.len);
+        self.count += added;
+    }
+
     /// Takes a component's mark away.
     pub fn clear(&mut self, c: u32)
         requires { c < length self.old }

@@ -144,6 +144,12 @@ impl<G: Grid> Cells<G> {
         }
     }
 
+    /// Whether other words may begin at a cell.
+    pub(crate) fn words_begin(&self, t: u32, c: u32) -> bool
+    {
+        self.rows.begins(t, c)
+    }
+
     /// Whether a memory begins at a cell.
     pub(crate) fn memory_begins(&self, t: u32, c: u32) -> bool
     {
@@ -168,10 +174,10 @@ impl<G: Grid> Cells<G> {
     }
 
     /// The version of a due cell, 0 of any other.
-    pub(crate) fn version(&self, cell: Cell) -> u64
+    pub(crate) fn version(&self, cell: Cell, near: &[u32]) -> u64
     {
         if self.is_due(cell) {
-            version_in(&self.versions, cell.cycle, cell.component)
+            version_in(&self.versions, cell.cycle, cell.component, near)
         } else {
             0
         }
@@ -299,6 +305,27 @@ impl<G: Grid> Cells<G> {
         set_versions(&mut self.versions, cycle, list, version);
     }
 
+    /// Makes cells of a cycle due: those of a set, 64 in a word.
+    pub(crate) fn mark_words(&mut self, cycle: u32, set: &[u64])
+    {
+        self.due.set_words(cycle, set);
+    }
+
+    /// The versions of the cells of a cycle that read one of the components that change are those of the stores of these components in
+    /// turn, the clock being `clock` before them. It answers false where they can't be noted at once; then nothing is changed.
+    pub(crate) fn set_wave(&mut self, cycle: u32, clock: u64, changes: &Row) -> bool
+    {
+        let row = &mut self.versions[cycle as usize];
+        row.set_wave(clock, changes.words())
+    }
+
+    /// Whether a component has memory at some cycle.
+    #[inline(always)]
+    pub(crate) fn has_memories(&self, component: u32) -> bool
+    {
+        !self.memories.has_none(component)
+    }
+
     /// Makes cells of a cycle due.
     pub(crate) fn mark_all(&mut self, cycle: u32, row: &Row)
     {
@@ -316,6 +343,8 @@ impl<G: Grid> Cells<G> {
     {
         for t in from..to {
             self.due.clear_row(t);
+            let row = &mut self.versions[t as usize];
+            row.let_go();
         }
     }
 

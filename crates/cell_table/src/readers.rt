@@ -13,6 +13,9 @@ use std::marker::Model;
 pub struct Readers {
     lists: Vec<Components>,
     rows: Vec<Row>,
+    /// The marks of all lists, behind one another, and how many words those of one have.
+    masks: Vec<u64>,
+    long: usize,
 }
 
 impl Model for Readers {
@@ -89,7 +92,34 @@ impl Readers {
     {
         let lists = lists_of::<G>(alloc, slots)?;
         let rows = rows_of(alloc, &lists)?;
-        Ok(Readers { lists, rows })
+        let mut masks = Vec::new(alloc);
+        for c in 0..rows.len() {
+            masks.extend_from_slice(rows[c].words())?;
+        }
+        let long = lists.len() / 64 + 1;
+        Ok(Readers {
+            lists,
+            rows,
+            masks,
+            long,
+        })
+    }
+
+    /// Adds the components that read one of a set to another set.
+    pub fn add_of(&self, set: &[u64], to: &mut [u64])
+    {
+        let long = self.long;
+        for w in 0..set.len().min(long) {
+            let mut rest = set[w];
+            while rest != 0 {
+                let c = w * 64 + rest.trailing_zeros() as usize;
+                rest &= rest - 1;
+                let from = c * long;
+                for i in 0..long {
+                    to[i] |= self.masks[from + i];
+                }
+            }
+        }
     }
 
     /// The components that read `c`, as marks.

@@ -78,7 +78,7 @@ pub(crate) fn mark_changed<G: Grid>(
     slots: &G::Slots,
     readers: &Readers,
     changes: &Row,
-    reached: &mut Row,
+    reached: &mut Vec<u64>,
     cycle: u32,
     clock: u64,
 )
@@ -98,16 +98,22 @@ pub(crate) fn mark_changed<G: Grid>(
     if cycle + 1 >= cycles {
         return;
     }
-    reached.clear_all();
+    for w in 0..reached.len() {
+        reached[w] = 0;
+    }
+    readers.add_of(changes.words(), reached.as_mut_slice());
+    if cells.set_wave(cycle + 1, clock, changes) {
+        cells.mark_words(cycle + 1, reached.as_slice());
+        return;
+    }
     let mut version = clock;
     let mut from = 0;
     while let Some(component) = changes.first_from(from) {
         version += 1;
-        reached.add(readers.row(component));
         cells.set_versions(cycle + 1, readers.of(component), version);
         from = component + 1;
     }
-    cells.mark_all(cycle + 1, reached);
+    cells.mark_words(cycle + 1, reached.as_slice());
 }
 
 /// The clock after so many cycles of so many cells.

@@ -202,7 +202,7 @@ impl<G: Grid> Table<G> {
     fn version(&self, cell: Cell) -> u64
         ensures { result ≡ (held_at self.now.rows cell.cycle cell.component).version }
     {
-        self.cells.version(cell)
+        self.cells.version(cell, self.neighbours.of(cell.component))
     }
 
     /// Each cell that isn't due holds its first state, or the step of the present slots and the

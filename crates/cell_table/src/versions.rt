@@ -4,7 +4,7 @@ ghost use Rattle.cell_table.specs.Layout.{version_at};
 ghost use Rattle.cell_table.specs.Readers.{has};
 
 use grid_law::NoMemory;
-use smallvec::SmallVec;
+use smallvec::{SmallVec, smallvec};
 use std::alloc::Global;
 use std::marker::Model;
 
@@ -15,6 +15,11 @@ pub(crate) struct Versions {
     count: u32,
     all: u64,
     each: SmallVec<u64, 8>,
+    /// Components that changed a cycle before, one after another, the clock being `clock` before: a cell that reads one of them has the
+    /// version of the last of its, if that is above the one that stands here. They count while `live`.
+    wave: SmallVec<u64, 4>,
+    clock: u64,
+    live: bool,
 }
 
 impl Model for Versions {
@@ -60,7 +65,56 @@ impl Versions {
             count,
             all: version,
             each,
+            wave: smallvec![in alloc; 0; count as usize / 64 + 1]?,
+            clock: 0,
+            live: false,
         })
+    }
+
+    /// Notes the changes of a cycle, where none are noted that count.
+    pub(crate) fn set_wave(&mut self, clock: u64, changes: &[u64]) -> bool
+    {
+        if self.live {
+            return false;
+        }
+        for w in 0..self.wave.len().min(changes.len()) {
+            self.wave[w] = changes[w];
+        }
+        self.clock = clock;
+        self.live = true;
+        true
+    }
+
+    /// No cell is due any more.
+    pub(crate) fn let_go(&mut self)
+    {
+        self.live = false;
+    }
+
+    /// The version of a cell by the changes noted, 0 where it reads none of them.
+    fn by_wave(&self, near: &[u32]) -> u64
+    {
+        let mut last = 0;
+        if !self.live {
+            return 0;
+        }
+        for c in near {
+            let c = *c as usize;
+            if (self.wave[c / 64] >> (c % 64)) & 1 == 1 {
+                last = last.max(c + 1);
+            }
+        }
+        if last == 0 {
+            return 0;
+        }
+        let mut rank = 0;
+        for w in 0..self.wave.len() {
+            let bits = (last.saturating_sub(w * 64)).min(64);
+            if bits > 0 {
+                rank += u64::from((self.wave[w] & (u64::MAX >> (64 - bits))).count_ones());
+            }
+        }
+        self.clock + rank
     }
 
     pub(crate) fn of(&self, c: u32) -> u64
@@ -149,11 +203,11 @@ pub(crate) fn grow_rows(
 }
 
 /// The version of a cell.
-pub(crate) fn version_in(rows: &Vec<Versions>, t: u32, c: u32) -> u64
+pub(crate) fn version_in(rows: &Vec<Versions>, t: u32, c: u32, near: &[u32]) -> u64
     ensures { result ≡ version_at rows.now.items t c }
 {
     match rows.get(t as usize) {
-        Some(row) => row.of(c),
+        Some(row) => row.of(c).max(row.by_wave(near)),
         None => 0,
     }
 }

@@ -7,7 +7,7 @@ ghost use Rattle.change_rows.specs.Changes.{row_at, begins_at, IsChanges};
 
 use crate::cells::Cells;
 use crate::changes::{Changes, is_change, lay, words_in};
-use crate::merge::{behind, is_at, seek, unite, words_or};
+use crate::merge::{behind, seek, unite, words_or};
 use crate::source::Source;
 use std::alloc::{AllocError, Global};
 use std::mem;
@@ -21,6 +21,7 @@ pub(crate) struct Buffers {
     pub under: Cells,
     pub row: Cells,
     pub seam: Cells,
+    pub none: Cells,
 }
 
 impl Buffers {
@@ -30,6 +31,7 @@ impl Buffers {
             under: Cells::new(alloc),
             row: Cells::new(alloc),
             seam: Cells::new(alloc),
+            none: Cells::new(alloc),
         }
     }
 }
@@ -251,73 +253,165 @@ pub(crate) fn put(
     Ok(())
 }
 
+/// Whether a source has these words. The row is used on the way, and is as before.
+fn has_words<S: Source>(
+    c: u32,
+    source: &S,
+    words: &[u64],
+    row: &mut Cells,
+) -> Result<bool, AllocError>
+{
+    row.push_from(c, source)?;
+    let same = same_words(row.words(row.len() - 1), words);
+    row.pop();
+    Ok(same)
+}
+
 /// What a cell of a source is for its row, and what stood there for the row behind it, where that has none of its component: whether it
-/// held other words.
+/// held other words. What began there, if anything, is passed.
 fn put_source<S: Source>(
     s: &Changes,
     t: usize,
     c: u32,
     source: &S,
-    under: &Cells,
-    place: usize,
+    stood: Option<&[u64]>,
     row: &mut Cells,
     seam: &mut Cells,
 ) -> Result<bool, AllocError>
 {
-    let here = is_at(under, place, c);
     if source.is_still(c) {
-        if !here {
-            return Ok(false);
-        }
-        let before = words_before(s, t, c);
-        let stood = under.words(place);
-        if same_words(stood, before) {
-            return Ok(false);
-        }
-        if goes_on(s, t, c) {
-            seam.push(c, stood)?;
-        }
-        return Ok(true);
+        // What is held a cycle before is what the source has: that is found without a walk back.
+        return match stood {
+            Some(stood) => {
+                if !stood.is_empty() && has_words(c, source, stood, row)? {
+                    return Ok(false);
+                }
+                if goes_on(s, t, c) {
+                    seam.push(c, stood)?;
+                }
+                Ok(true)
+            }
+            None => Ok(false),
+        };
     }
     row.push_from(c, source)?;
-    let words = row.words(row.len() - 1);
-    if here {
-        let stood = under.words(place);
-        if same_words(stood, words) {
-            return Ok(false);
+    match stood {
+        Some(stood) => {
+            if same_words(stood, row.words(row.len() - 1)) {
+                return Ok(false);
+            }
+            if goes_on(s, t, c) {
+                seam.push(c, stood)?;
+            }
+            Ok(true)
         }
-        if goes_on(s, t, c) {
-            seam.push(c, stood)?;
+        None => {
+            let before = words_before(s, t, c);
+            if same_words(before, row.words(row.len() - 1)) {
+                row.pop();
+                return Ok(false);
+            }
+            if goes_on(s, t, c) {
+                seam.push(c, before)?;
+            }
+            Ok(true)
         }
-        return Ok(true);
     }
-    let before = words_before(s, t, c);
-    if same_words(before, words) {
-        row.pop();
-        return Ok(false);
+}
+
+/// Two lists of cells of one row, and how far each was passed. Of those with one component the first's counts.
+#[derive(Clone, Copy)]
+struct Both<'a> {
+    own: &'a Cells,
+    old: &'a Cells,
+    i: usize,
+    j: usize,
+}
+
+/// The component at a place, or one above all.
+fn at_or_end(cells: &Cells, i: usize) -> u64
+{
+    if i < cells.len() {
+        u64::from(cells.component(i))
+    } else {
+        u64::MAX
     }
-    if goes_on(s, t, c) {
-        seam.push(c, before)?;
+}
+
+impl<'a> Both<'a> {
+    /// The cells below a component are copied behind a row's: how far both are passed then.
+    fn copy_below(self, c: u64, row: &mut Cells) -> Result<Both<'a>, AllocError>
+    {
+        let mut at = self;
+        loop {
+            let own = at_or_end(at.own, at.i);
+            let old = at_or_end(at.old, at.j);
+            if own >= c && old >= c {
+                return Ok(at);
+            }
+            if own <= old {
+                let end = old.min(c);
+                let mut to = at.i + 1;
+                while at_or_end(at.own, to) < end {
+                    to += 1;
+                }
+                row.append(at.own, at.i, to)?;
+                at.i = to;
+                if own == old {
+                    at.j += 1;
+                }
+            } else {
+                row.push(old as u32, at.old.words(at.j))?;
+                at.j += 1;
+            }
+        }
     }
-    Ok(true)
+
+    /// What a component has, which is passed.
+    fn pass(&mut self, c: u32) -> Option<&'a [u64]>
+    {
+        let own = at_or_end(self.own, self.i) == u64::from(c);
+        let old = at_or_end(self.old, self.j) == u64::from(c);
+        let i = self.i;
+        let j = self.j;
+        if own {
+            self.i += 1;
+        }
+        if old {
+            self.j += 1;
+        }
+        if own {
+            Some(self.own.words(i))
+        } else if old {
+            Some(self.old.words(j))
+        } else {
+            None
+        }
+    }
 }
 
 /// The cells of a source at a row over those that begin there: the row once it is put, the seam behind it, and which hold other words
-/// then.
+/// then; whether there are any of those.
 fn lay_from<S: Source>(
     s: &Changes,
     t: usize,
-    under: &Cells,
+    old: &Cells,
     set: &[u64],
     source: &S,
     row: &mut Cells,
     seam: &mut Cells,
     changed: &mut [u64],
-) -> Result<(), AllocError>
+) -> Result<bool, AllocError>
 {
     row.clear();
     seam.clear();
-    let mut from = 0;
+    let mut at = Both {
+        own: &s.rows[t],
+        old,
+        i: 0,
+        j: 0,
+    };
+    let mut any = 0;
     for w in 0..set.len() {
         let mut rest = set[w];
         let mut other = 0u64;
@@ -326,18 +420,18 @@ fn lay_from<S: Source>(
             rest &= rest - 1;
             let c = w as u32 * 64 + k;
             if c < s.width {
-                let place = seek(under, from, c);
-                row.append(under, from, place)?;
-                if put_source(s, t, c, source, under, place, row, seam)? {
+                at = at.copy_below(u64::from(c), row)?;
+                let stood = at.pass(c);
+                if put_source(s, t, c, source, stood, row, seam)? {
                     other |= 1 << k;
                 }
-                from = behind(under, place, c);
             }
         }
         changed[w] = other;
+        any |= other;
     }
-    row.append(under, from, under.len())?;
-    Ok(())
+    at.copy_below(u64::MAX, row)?;
+    Ok(any != 0)
 }
 
 /// The cells of a set hold at row t what their source has; all other cells of all rows hold what they held. Tells which cells of the set
@@ -356,13 +450,9 @@ pub(crate) fn put_all<S: Source>(
 ) -> Result<(), AllocError>
 {
     settle_for(s, t, &mut b.row)?;
-    if s.seam.is_empty() || s.at != t {
-        lay_from(s, t, &s.rows[t], set, source, &mut b.row, &mut b.seam, changed)?;
-    } else if s.rows[t].is_empty() {
-        lay_from(s, t, &s.seam, set, source, &mut b.row, &mut b.seam, changed)?;
-    } else {
-        unite(&s.rows[t], &s.seam, &mut b.under)?;
-        lay_from(s, t, &b.under, set, source, &mut b.row, &mut b.seam, changed)?;
+    let old = if s.at == t { &s.seam } else { &b.none };
+    if !lay_from(s, t, old, set, source, &mut b.row, &mut b.seam, changed)? {
+        return Ok(());
     }
     lay(&mut s.rows, &mut s.marks, t, &b.row)?;
     mem::swap(&mut s.seam, &mut b.seam);

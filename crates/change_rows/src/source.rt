@@ -4,7 +4,7 @@ use std::alloc::AllocError;
 
 /// Who has the words of cells of one row.
 pub trait Source {
-    /// Whether a component is known to hold what it holds a cycle before.
+    /// Whether a component is known to hold what it holds a cycle before. Its words are those, and there are some.
     fn is_still(&self, c: u32) -> bool;
 
     /// Appends a component's words. It changes nothing where the growth was refused.

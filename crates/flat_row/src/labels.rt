@@ -33,8 +33,8 @@ fn rotated_right(shape: Shape, by: u32, number: u32) -> u32
     requires there { number < lines shape }
     ensures { result ≡ rotated_right shape by number }
 {
-    let low = 1 << by;
-    number / low + number % low * (1 << (shape.k() - by))
+    let low = (1u32 << by) - 1;
+    (number >> by) + ((number & low) << (shape.k() - by))
 }
 
 /// On every machine, lines and labels name each other, a switch has two labels that differ in the bit by which its stage

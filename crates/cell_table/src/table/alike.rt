@@ -30,8 +30,10 @@ pub(super) struct Spare {
     around: Row,
     /// The marks of what changes, and what is put together on the way to a row.
     pub changed: Vec<u64>,
+    pub marked: Vec<u64>,
     pub draft: Draft,
     pub words: Vec<u64>,
+    pub before: Vec<u64>,
     /// How many cycles in a row were tried in vain, and how many are to be let by before the next try.
     failed: u32,
     wait: u32,
@@ -52,8 +54,10 @@ impl Spare {
             ranges: Vec::new(alloc),
             around: Row::new(alloc, count, false)?,
             changed: vec![in alloc; 0; count as usize / 64 + 1]?,
+            marked: vec![in alloc; 0; count as usize / 64 + 1]?,
             draft: Draft::new(alloc),
             words: Vec::new(alloc),
+            before: Vec::new(alloc),
             failed: 0,
             wait: 0,
         })
@@ -227,7 +231,7 @@ impl<G: Grid> Table<G> {
             &self.slots,
             &self.readers,
             &spare.changes,
-            &mut spare.reached,
+            &mut spare.marked,
             end - 1,
             before,
         );

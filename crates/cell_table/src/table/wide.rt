@@ -192,7 +192,7 @@ impl<G: Grid> Table<G> {
             None => return Ok(()),
         };
         for c in 0..G::components(&self.slots) {
-            if self.cells.memory(cycle - 1, c).is_some() {
+            if self.cells.has_memories(c) {
                 let cell = Cell {
                     cycle,
                     component: c,
@@ -291,7 +291,18 @@ impl<G: Grid> Table<G> {
             Some(row) => row.next_words(alloc, &self.slots, c, memory, &mut spare.words)?,
             None => return Ok(false),
         };
-        if spare.words.as_slice() != self.cells.words(t, c) {
+        let same = if self.cells.words_begin(t, c) {
+            spare.words.as_slice() == self.cells.words(t, c)
+        } else {
+            // It holds what it holds a cycle before, which the row has: that is found without a walk back.
+            spare.before.clear();
+            match &beside.row {
+                Some(row) => row.words(c, &mut spare.before)?,
+                None => return Ok(false),
+            }
+            spare.words.as_slice() == spare.before.as_slice()
+        };
+        if !same {
             spare.draft.push(c, spare.words.as_slice())?;
             spare.changes.set(c);
         }
@@ -370,7 +381,7 @@ impl<G: Grid> Table<G> {
             &self.slots,
             &self.readers,
             &spare.changes,
-            &mut spare.reached,
+            &mut spare.marked,
             cycle,
             self.clock,
         );
