@@ -437,7 +437,15 @@ impl<G: Grid> Cells<G> {
         let alloc = self.allocator();
         let len = self.cycles();
         if changes.count() > 0 {
-            self.rows.repeat(alloc, from, to, changes.words())?;
+            let mut next = 0;
+            let mut words = false;
+            while let Some(c) = changes.first_from(next) {
+                words = words || self.rows.begins(from, c);
+                next = c + 1;
+            }
+            if words {
+                self.rows.repeat(alloc, from, to, changes.words())?;
+            }
             let mut next = 0;
             while let Some(c) = changes.first_from(next) {
                 self.memories.go_on(c, from, to, len);
@@ -458,6 +466,14 @@ impl<G: Grid> Cells<G> {
     {
         self.rows
             .put_from(cycle, self.due.row(cycle).words(), source, changed)?;
+        Ok(())
+    }
+
+    /// All cells of a cycle hold what a source has, where they and those behind it hold no state, and none of them is due then.
+    pub(crate) fn fill<S: Source>(&mut self, cycle: u32, source: &S) -> Result<(), NoMemory>
+    {
+        self.rows.fill(cycle, source)?;
+        self.clear_rows(cycle, cycle + 1);
         Ok(())
     }
 

@@ -6,7 +6,7 @@ ghost use Rattle.change_rows.specs.Standing.{standing};
 ghost use Rattle.change_rows.specs.Changes.{row_at, begins_at, IsChanges};
 
 use crate::cells::Cells;
-use crate::marks::{Marks, has_any, mark_row, rank};
+use crate::marks::{Marks, block_has_any, has_any, mark_row, rank};
 use std::alloc::{AllocError, Global};
 
 /// For each row the cells at which other words begin than a cycle before; all others go on.
@@ -147,12 +147,45 @@ pub(crate) fn next_begin(s: &Changes, t: u32, end: u32, set: &[u64]) -> u32
 {
     let mut u = t;
     while u < end {
-        if may_begin(s, u as usize, set) {
+        if u % 64 == 0
+            && u + 64 <= end
+            && (s.at < u as usize || u as usize + 64 <= s.at)
+            && !block_has_any(&s.marks, u as usize, set)
+        {
+            u += 64;
+        } else {
+            if may_begin(s, u as usize, set) {
+                return u;
+            }
+            u += 1;
+        }
+    }
+    u
+}
+
+/// The first row from t on, and before `end`, at which something of a component may begin.
+pub(crate) fn next_of(s: &Changes, t: u32, end: u32, c: u32) -> u32
+{
+    let mut u = t;
+    while u < end {
+        if begins_in(s, u as usize, c) {
             return u;
         }
         u += 1;
+        while u % 64 == 0
+            && u + 64 <= end
+            && (s.at < u as usize || u as usize + 64 <= s.at)
+            && !has_block(&s.marks, u as usize, c)
+        {
+            u += 64;
+        }
     }
     u
+}
+
+fn has_block(marks: &Vec<Marks>, t: usize, c: u32) -> bool
+{
+    (marks[c as usize / 64].block(t) >> (c % 64)) & 1 == 1
 }
 
 /// Other cells for a row, with their marks.

@@ -339,6 +339,14 @@ fn at_or_end(cells: &Cells, i: usize) -> u64
 }
 
 impl<'a> Both<'a> {
+    /// Whether one has a cell below a component that wasn't passed.
+    #[inline(always)]
+    fn has_below(&self, c: u32) -> bool
+    {
+        (self.i < self.own.len() && self.own.component(self.i) < c)
+            || (self.j < self.old.len() && self.old.component(self.j) < c)
+    }
+
     /// The cells below a component are copied behind a row's: how far both are passed then.
     fn copy_below(self, c: u64, row: &mut Cells) -> Result<Both<'a>, AllocError>
     {
@@ -420,7 +428,9 @@ fn lay_from<S: Source>(
             rest &= rest - 1;
             let c = w as u32 * 64 + k;
             if c < s.width {
-                at = at.copy_below(u64::from(c), row)?;
+                if at.has_below(c) {
+                    at = at.copy_below(u64::from(c), row)?;
+                }
                 let stood = at.pass(c);
                 if put_source(s, t, c, source, stood, row, seam)? {
                     other |= 1 << k;
@@ -456,6 +466,41 @@ pub(crate) fn put_all<S: Source>(
     }
     lay(&mut s.rows, &mut s.marks, t, &b.row)?;
     mem::swap(&mut s.seam, &mut b.seam);
+    s.at = t + 1;
+    Ok(())
+}
+
+/// All cells of a row hold what a source has, where it and those behind it held no words.
+///
+/// # Errors
+///
+/// Where a growth was refused. All cells hold what they held.
+pub(crate) fn fill<S: Source>(
+    s: &mut Changes,
+    b: &mut Buffers,
+    t: usize,
+    source: &S,
+) -> Result<(), AllocError>
+{
+    settle_for(s, t, &mut b.row)?;
+    let width = s.width;
+    let blank = s.at == t && s.seam.len() == width as usize;
+    if !blank {
+        b.seam.clear();
+        for c in 0..width {
+            b.seam.push(c, &[])?;
+        }
+    }
+    b.row.clear();
+    for c in 0..width {
+        if t == 0 || !source.is_still(c) {
+            b.row.push_from(c, source)?;
+        }
+    }
+    lay(&mut s.rows, &mut s.marks, t, &b.row)?;
+    if !blank {
+        mem::swap(&mut s.seam, &mut b.seam);
+    }
     s.at = t + 1;
     Ok(())
 }

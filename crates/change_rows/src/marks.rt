@@ -11,6 +11,8 @@ use std::marker::Model;
 #[derive(Drop)]
 pub(crate) struct Marks {
     words: Vec<u64>,
+    /// For 64 cycles a word with at least the marks of each.
+    blocks: Vec<u64>,
 }
 
 impl Model for Marks {
@@ -28,6 +30,7 @@ impl Marks {
     {
         Marks {
             words: Vec::new(alloc),
+            blocks: Vec::new(alloc),
         }
     }
 
@@ -38,6 +41,13 @@ impl Marks {
         ensures { result ≡ slice_index_or self.now t 0 }
     {
         self.words[t]
+    }
+
+    /// At least the marks of the 64 cycles that a cycle is among.
+    #[inline]
+    pub fn block(&self, t: usize) -> u64
+    {
+        self.blocks[t / 64]
     }
 
     /// Whether a component is marked at a cycle.
@@ -58,7 +68,7 @@ impl Marks {
             ((u : ℕ) → u ≤ t → is_set self.now u k ≡ false)
             (λ b. (b ≤ t) × (is_set self.now b k ≡ true) × ((u : ℕ) → b < u → u ≤ t → is_set self.now u k ≡ false)) }
     {
-        last_in(self.words.as_slice(), t, k)
+        last_in(self.words.as_slice(), self.blocks.as_slice(), t, k)
     }
 
     /// No component is marked at a cycle any more.
@@ -79,6 +89,8 @@ impl Marks {
     {
         let word = with_bit(self.words[t], k);
         self.words[t] = word;
+        let block = with_bit(self.blocks[t / 64], k);
+        self.blocks[t / 64] = block;
     }
 
     /// Room for n cycles; nothing is marked at those that come in addition.
@@ -94,6 +106,10 @@ impl Marks {
         let len = self.words.len();
         if n <= len {
             return Ok(());
+        }
+        let blocks = self.blocks.len();
+        if n.div_ceil(64) > blocks {
+            grow_by(&mut self.blocks, n.div_ceil(64) - blocks)?;
         }
         grow_by(&mut self.words, n - len)
     }
@@ -163,7 +179,7 @@ fn with_bit(word: u64, k: u32) -> u64
 }
 
 /// The last cycle up to t at which a component is marked.
-fn last_in(words: &[u64], t: usize, k: u32) -> Option<usize>
+fn last_in(words: &[u64], blocks: &[u64], t: usize, k: u32) -> Option<usize>
     requires cycle { t < length words.now }
     requires component { k < 64 }
     ensures { MatchOption result
@@ -175,6 +191,12 @@ fn last_in(words: &[u64], t: usize, k: u32) -> Option<usize>
         at -= 1;
         if has_bit(words[at], k) {
             return Some(at);
+        }
+        if at % 64 == 0 {
+            // No cycle of a block without the mark is looked at.
+            while at > 0 && !has_bit(blocks[at / 64 - 1], k) {
+                at -= 64;
+            }
         }
     }
     None
@@ -193,6 +215,17 @@ pub(crate) fn has_any(lines: &Vec<Marks>, t: usize, set: &[u64]) -> bool
 {
     for w in 0..lines.len().min(set.len()) {
         if has_both(lines[w].word(t), set[w]) {
+            return true;
+        }
+    }
+    false
+}
+
+/// Whether a component of a set may be marked at one of the 64 cycles that a cycle is among.
+pub(crate) fn block_has_any(lines: &Vec<Marks>, t: usize, set: &[u64]) -> bool
+{
+    for w in 0..lines.len().min(set.len()) {
+        if has_both(lines[w].block(t), set[w]) {
             return true;
         }
     }

@@ -5,8 +5,8 @@ ghost use Rattle.change_rows.specs.Marks.{is_in};
 ghost use Rattle.change_rows.specs.Rows.{Table, words_at, overlaid, repeated, IsWhole};
 
 use crate::cells::Cells;
-use crate::changes::{Changes, begins_in, next_begin, words_in};
-use crate::edit::{Buffers, put, put_all};
+use crate::changes::{Changes, begins_in, next_begin, next_of, words_in};
+use crate::edit::{Buffers, fill, put, put_all};
 use crate::source::Source;
 use crate::grow::{cut, grow};
 use crate::marks::Marks;
@@ -195,14 +195,18 @@ impl Rows {
     pub fn next_of(&self, t: u32, to: u32, c: u32) -> u32
     {
         let end = to.min(self.changes.rows.len() as u32);
-        let mut u = t;
-        while u < end {
-            if begins_in(&self.changes, u as usize, c) {
-                return u;
-            }
-            u += 1;
-        }
-        u
+        next_of(&self.changes, t, end, c)
+    }
+
+    /// All cells of row t hold what a source has, where that row and those behind it held no words. Those behind it hold none.
+    ///
+    /// # Errors
+    ///
+    /// Where a growth was refused. All cells hold what they held.
+    pub fn fill<S: Source>(&mut self, t: u32, source: &S) -> Result<(), AllocError>
+    {
+        fill(&mut self.changes, &mut self.buffers, t as usize, source)?;
+        Ok(())
     }
 
     /// The cells of a draft hold its words in row t, and all other cells of all rows hold what they held.

@@ -14,7 +14,7 @@ use std::alloc::AllocError;
 use std::marker::PhantomData;
 
 /// How many cells of a cycle are due at least where all components are loaded to settle it.
-const WIDE: u32 = 72;
+const WIDE: u32 = 24;
 
 /// The same where the row holds the cycle before already.
 const STILL_WIDE: u32 = 16;
@@ -514,7 +514,8 @@ impl<G: Grid> Table<G> {
             row,
             grid: PhantomData,
         };
-        self.cells.put_due(0, &source, changed.as_mut_slice())?;
+        let _ = changed;
+        self.cells.fill(0, &source)?;
         let alloc = self.cells.allocator();
         for c in 0..G::components(&self.slots) {
             match row.memory(alloc, c)? {
@@ -524,7 +525,6 @@ impl<G: Grid> Table<G> {
                 None => {}
             }
         }
-        self.cells.clear_rows(0, 1);
         Ok(())
     }
 
@@ -545,7 +545,8 @@ impl<G: Grid> Table<G> {
             step,
             grid: PhantomData,
         };
-        self.cells.put_due(cycle, &source, changed.as_mut_slice())?;
+        let _ = changed;
+        self.cells.fill(cycle, &source)?;
         let alloc = self.cells.allocator();
         for c in 0..G::components(&self.slots) {
             if row.has_written(c) {
@@ -557,7 +558,6 @@ impl<G: Grid> Table<G> {
                 }
             }
         }
-        self.cells.clear_rows(cycle, cycle + 1);
         Ok(())
     }
 }
