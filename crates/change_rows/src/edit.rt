@@ -501,6 +501,9 @@ pub(crate) fn fill<S: Source>(
     if !blank {
         mem::swap(&mut s.seam, &mut b.seam);
     }
+    if t + 1 >= s.rows.len() {
+        s.seam.clear();
+    }
     s.at = t + 1;
     Ok(())
 }
