@@ -430,6 +430,24 @@ impl<G: Grid> Cells<G> {
         true
     }
 
+    /// Whether each of these components has at a cycle the words of the cycle before, and one of them its memory, known without a look at
+    /// any.
+    pub(crate) fn near_stay(&self, cycle: u32, near: &[u32], own: u32) -> bool
+    {
+        for component in near {
+            if self.rows.begins(cycle, *component) {
+                return false;
+            }
+        }
+        !self.memories.begins(own, cycle)
+    }
+
+    /// Of 64 components those at which other words may begin in a row.
+    pub(crate) fn begin_word(&self, t: u32, w: usize) -> u64
+    {
+        self.rows.begin_word(t, w)
+    }
+
     /// Lets the components that change keep the state of the cycle before `from` to before `to`, where none of them begins another state
     /// at the cycles between, and no cell of these cycles is due then. Where memory is wanting, nothing is changed.
     pub(crate) fn repeat_all(&mut self, changes: &Row, from: u32, to: u32) -> Result<(), NoMemory>

@@ -42,6 +42,9 @@ pub trait WholeRow<G: Grid>: Drop {
     /// Where a growth was refused. Nothing is changed.
     fn words(&self, c: u32, words: &mut Vec<u64>) -> Result<(), AllocError>;
 
+    /// The first of these words.
+    fn first(&self, c: u32) -> u64;
+
     /// Whether it has this memory for a component.
     fn has_memory(&self, c: u32, memory: &G::Memory) -> bool;
 
@@ -120,6 +123,10 @@ impl<G: Grid> WholeRow<G> for NoRow {
         let _ = c;
         let _ = words;
         Err(AllocError)
+    }
+
+    fn first(&self, c: u32) -> u64 {
+        u64::from(c)
     }
 
     fn has_memory(&self, c: u32, memory: &G::Memory) -> bool {

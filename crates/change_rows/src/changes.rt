@@ -94,6 +94,21 @@ pub(crate) fn is_change(marks: &Vec<Marks>, t: usize, c: u32) -> bool
     marks[c as usize / 64].has(t, c % 64)
 }
 
+/// Of 64 components those at which something begins in a row.
+pub(crate) fn begin_word(s: &Changes, t: usize, w: usize) -> u64
+{
+    let mut word = s.marks[w].word(t);
+    if t == s.at {
+        for i in 0..s.seam.len() {
+            let c = s.seam.component(i);
+            if c as usize / 64 == w {
+                word |= 1 << (c % 64);
+            }
+        }
+    }
+    word
+}
+
 /// Whether something begins at a cell.
 pub(crate) fn begins_in(s: &Changes, t: usize, c: u32) -> bool
     requires changes { IsChanges s.now.width s.now.rows.items s.now.marks.items s.now.seam s.now.at }

@@ -261,10 +261,15 @@ fn has_words<S: Source>(
     row: &mut Cells,
 ) -> Result<bool, AllocError>
 {
-    row.push_from(c, source)?;
-    let same = same_words(row.words(row.len() - 1), words);
-    row.pop();
-    Ok(same)
+    match words.first() {
+        Some(first) if *first == source.first(c) => {
+            row.push_from(c, source)?;
+            let same = same_words(row.words(row.len() - 1), words);
+            row.pop();
+            Ok(same)
+        }
+        _ => Ok(false),
+    }
 }
 
 /// What a cell of a source is for its row, and what stood there for the row behind it, where that has none of its component: whether it

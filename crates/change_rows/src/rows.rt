@@ -5,7 +5,7 @@ ghost use Rattle.change_rows.specs.Marks.{is_in};
 ghost use Rattle.change_rows.specs.Rows.{Table, words_at, overlaid, repeated, IsWhole};
 
 use crate::cells::Cells;
-use crate::changes::{Changes, begins_in, next_begin, next_of, words_in};
+use crate::changes::{Changes, begin_word, begins_in, next_begin, next_of, words_in};
 use crate::edit::{Buffers, fill, put, put_all};
 use crate::source::Source;
 use crate::grow::{cut, grow};
@@ -196,6 +196,12 @@ impl Rows {
     {
         let end = to.min(self.changes.rows.len() as u32);
         next_of(&self.changes, t, end, c)
+    }
+
+    /// Of 64 components those at which other words may begin in row t.
+    pub fn begin_word(&self, t: u32, w: usize) -> u64
+    {
+        begin_word(&self.changes, t as usize, w)
     }
 
     /// All cells of row t hold what a source has, where that row and those behind it held no words. Those behind it hold none.

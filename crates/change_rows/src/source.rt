@@ -7,6 +7,9 @@ pub trait Source {
     /// Whether a component is known to hold what it holds a cycle before. Its words are those, and there are some.
     fn is_still(&self, c: u32) -> bool;
 
+    /// The first of a component's words.
+    fn first(&self, c: u32) -> u64;
+
     /// Appends a component's words. It changes nothing where the growth was refused.
     ///
     /// # Errors

@@ -18,10 +18,147 @@ use crate::row::Row;
 use comb_switch::Waiting;
 use machine_cells::MachineState;
 use omega_net::{Component, Net, Reply, Request};
-use state_words::{bytes, encode, queues_head, write_messages};
+use state_words::{bytes, encode, proc_head, queues_head, write_messages};
 use std::alloc::AllocError;
 
 impl Row {
+    /// The first of a component's words, where x and y are the labels of its ports.
+    pub fn first_word(&self, component: Component, x: u32, y: u32) -> u64
+    {
+        match component {
+            Component::Proc(p) => proc_head(&self.processor(u32::from(p))),
+            Component::Module(m) => {
+                let m = u32::from(m);
+                let k = self.shape.k() as usize;
+                let turn = bit_in(self.module_turns, m) as u64;
+                let served = bit_in(self.served, m) as u64;
+                queues_head(
+                    1,
+                    (
+                        messages_at(&self.low.requests, k + 1, m).len(),
+                        messages_at(&self.comb.requests, k + 1, m).len(),
+                    ),
+                    (
+                        messages_at(&self.low.replies, k, m).len(),
+                        messages_at(&self.comb.replies, k, m).len(),
+                    ),
+                    0,
+                    turn + 2 * served,
+                )
+            }
+            Component::Switch {
+                net: Net::Low,
+                stage,
+                ..
+            } => {
+                let s = stage as usize;
+                let side = &self.low;
+                let (turns, back) = (side.turns[s], side.back_turns[s]);
+                queues_head(
+                    2,
+                    side.many_forth(s, x, y),
+                    side.many_back(s, x, y),
+                    0,
+                    bytes(
+                        bit_in(turns, x),
+                        bit_in(turns, y),
+                        bit_in(back, x),
+                        bit_in(back, y),
+                    ),
+                )
+            }
+            Component::Switch {
+                net: Net::Comb,
+                stage,
+                ..
+            } => {
+                let s = stage as usize;
+                let side = &self.comb;
+                let waits = &self.waits[s];
+                queues_head(
+                    3,
+                    side.many_forth(s, x, y),
+                    side.many_back(s, x, y),
+                    waits.at(x).len(),
+                    bytes(
+                        bit_in(side.turns[s], x),
+                        bit_in(side.turns[s], y),
+                        bit_in(side.back_turns[s], x),
+                        bit_in(waits.once, x) + bit_in(waits.twice, x),
+                    ),
+                )
+            }
+        }
+    }
+
+    /// As `words`, where x and y are the labels of the component's ports.
+    pub fn words_at(
+        &self,
+        component: Component,
+        x: u32,
+        y: u32,
+        words: &mut Vec<u64>,
+    ) -> Result<(), AllocError>
+    {
+        match component {
+            Component::Proc(p) => self.proc_words(u32::from(p), words),
+            Component::Module(m) => self.module_words(u32::from(m), words),
+            Component::Switch {
+                net: Net::Low,
+                stage,
+                ..
+            } => {
+                let s = stage as usize;
+                let side = &self.low;
+                let requests = &side.requests[s + 1];
+                let replies = &side.replies[s];
+                let (turns, back) = (side.turns[s], side.back_turns[s]);
+                let turns = bytes(
+                    bit_in(turns, x),
+                    bit_in(turns, y),
+                    bit_in(back, x),
+                    bit_in(back, y),
+                );
+                write_parts(
+                    words,
+                    2,
+                    requests.messages(x),
+                    requests.messages(y),
+                    replies.messages(x),
+                    replies.messages(y),
+                    &[],
+                    turns,
+                )
+            }
+            Component::Switch {
+                net: Net::Comb,
+                stage,
+                ..
+            } => {
+                let s = stage as usize;
+                let side = &self.comb;
+                let waits = &self.waits[s];
+                let requests = &side.requests[s + 1];
+                let replies = &side.replies[s];
+                let small = bytes(
+                    bit_in(side.turns[s], x),
+                    bit_in(side.turns[s], y),
+                    bit_in(side.back_turns[s], x),
+                    bit_in(waits.once, x) + bit_in(waits.twice, x),
+                );
+                write_parts(
+                    words,
+                    3,
+                    requests.messages(x),
+                    requests.messages(y),
+                    replies.messages(x),
+                    replies.messages(y),
+                    waits.at(x),
+                    small,
+                )
+            }
+        }
+    }
     /// Appends the words of a component's state, as [`state_words::encode`] writes them: a module's memory is not among them. It takes
     /// memory only where there is no room for them.
     ///

@@ -47,6 +47,20 @@ impl Side {
 }
 
 impl Side {
+    /// How many requests wait at the ports of a stage.
+    pub(crate) fn many_forth(&self, s: usize, x: u32, y: u32) -> (usize, usize)
+    {
+        let level = &self.requests[s + 1];
+        (level.messages(x).len(), level.messages(y).len())
+    }
+
+    /// How many replies wait there.
+    pub(crate) fn many_back(&self, s: usize, x: u32, y: u32) -> (usize, usize)
+    {
+        let level = &self.replies[s];
+        (level.messages(x).len(), level.messages(y).len())
+    }
+
     /// The same queues, asked by the rules of a project.
     pub(crate) fn follow(&mut self, project: &Project, net: Net)
     {

@@ -123,6 +123,9 @@ pub trait Grid {
     /// One more owner of a state's memory, where it has any.
     fn memory(x: &Self::State) -> Result<Option<Self::Memory>, NoMemory>;
 
+    /// `reads_later`, where its own state has these words.
+    fn words_read(s: &Self::Slots, words: &[u64], c: u32, slot: &Self::Slot) -> bool;
+
     /// The state that has these words and this memory.
     fn decode(
         alloc: Global,

@@ -109,6 +109,13 @@ impl Grid for Line {
         Ok(())
     }
 
+    fn words_read(s: &Numbers, words: &[u64], c: u32, slot: &LineSlot) -> bool {
+        match words.first() {
+            Some(word) => Line::reads_later(s, &(*word as u32), c, slot),
+            None => false,
+        }
+    }
+
     fn memory(_x: &u32) -> Result<Option<u32>, NoMemory> {
         Ok(None)
     }

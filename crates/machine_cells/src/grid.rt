@@ -14,7 +14,7 @@ use crate::readers::readers;
 use crate::reads::{fixed_reads, later_reads, start_reads};
 use crate::start::start_of;
 use crate::step::{moved, pulled};
-use crate::words::{decode, encode};
+use crate::words::{decode, encode, read_of_proc};
 use arrayvec::ArrayVec;
 use grid_law::{Grid, NoMemory, Reader};
 use mem_module::SharedWords;
@@ -143,6 +143,18 @@ impl Grid for Rp3 {
     fn encode(x: &MachineState, words: &mut Vec<u64>) -> Result<(), NoMemory> {
         encode(x, words)?;
         Ok(())
+    }
+
+    fn words_read(s: &Project, words: &[u64], c: u32, slot: &Slot) -> bool {
+        let component = component_at(s.shape(), c);
+        match slot {
+            Slot::Shape => true,
+            _ => match read_of_proc(words) {
+                Some(own) => later_reads(s, component, &own, *slot),
+                // What the others read doesn't hang on their states.
+                None => fixed_reads(s.k(), component, *slot),
+            },
+        }
     }
 
     fn memory(x: &MachineState) -> Result<Option<SharedWords>, NoMemory> {

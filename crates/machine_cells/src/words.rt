@@ -9,4 +9,4 @@ mod reading;
 mod state;
 mod writing;
 
-pub(crate) use state::{decode, encode};
+pub(crate) use state::{decode, encode, read_of_proc};

@@ -26,6 +26,8 @@ pub struct MachineRow {
 struct At {
     set: u8,
     bit: u8,
+    /// The label of port 1 of a switch.
+    other: u8,
 }
 
 /// The sets of what changed, behind one another.
@@ -46,8 +48,16 @@ fn sets_of(changed: &Changed) -> [u64; 14]
 fn place_of(shape: Shape, component: Component) -> At
 {
     match component {
-        Component::Proc(p) => At { set: 0, bit: p },
-        Component::Module(m) => At { set: 1, bit: m },
+        Component::Proc(p) => At {
+            set: 0,
+            bit: p,
+            other: p,
+        },
+        Component::Module(m) => At {
+            set: 1,
+            bit: m,
+            other: m,
+        },
         Component::Switch { net, stage, index } => {
             let first = match net {
                 Net::Low => 2,
@@ -57,6 +67,7 @@ fn place_of(shape: Shape, component: Component) -> At
             At {
                 set: first + stage,
                 bit: label as u8,
+                other: (label + (1 << shape.deciding_bit(stage))) as u8,
             }
         }
     }
@@ -176,7 +187,22 @@ impl WholeRow<Rp3> for MachineRow {
     }
 
     fn words(&self, c: u32, words: &mut Vec<u64>) -> Result<(), AllocError> {
-        self.row.words(self.components[c as usize], words)
+        let at = self.places[c as usize];
+        self.row.words_at(
+            self.components[c as usize],
+            u32::from(at.bit),
+            u32::from(at.other),
+            words,
+        )
+    }
+
+    fn first(&self, c: u32) -> u64 {
+        let at = self.places[c as usize];
+        self.row.first_word(
+            self.components[c as usize],
+            u32::from(at.bit),
+            u32::from(at.other),
+        )
     }
 
     fn has_memory(&self, c: u32, memory: &SharedWords) -> bool {

@@ -92,7 +92,7 @@ impl<G: Grid> Table<G> {
         ensures alike { result ≡ true → IsAlike G.rules self.now cell.cycle cell.component (is_awake changes.new cell.component) }
     {
         let near = self.near(cell.component);
-        if !self.cells.all_stay(cell.cycle - 1, near) {
+        if !self.cells.near_stay(cell.cycle - 1, near, cell.component) {
             return false;
         }
         let stays = self.cells.stays(cell);

@@ -18,15 +18,6 @@ use grid_law::{Changed, Grid, NoMemory, Reader};
 use std::alloc::Global;
 use std::sync::Arc;
 
-/// A state, lent.
-fn lent<S>(state: &Option<Arc<S>>) -> Option<&S>
-{
-    match state {
-        Some(state) => Some(&**state),
-        None => None,
-    }
-}
-
 impl<G: Grid> Table<G> {
     /// Whether a component reads the slot at cycle 0.
     fn reads_first(&self, component: u32, slot: &G::Slot) -> bool
@@ -39,14 +30,10 @@ impl<G: Grid> Table<G> {
 
     /// Whether a component reads the slot after cycle 0, where its own state one cycle earlier was this
     /// and the other near states are there.
-    fn reads_by(&self, own: Option<&G::State>, component: u32, slot: &G::Slot) -> bool
-        requires { component < G.rules.components self.now.slots }
-        ensures { result ≡ reads_by G.rules self.now.slots component slot.now (option_copied own.entry) }
+    fn reads_by(&self, cell: Cell, slot: &G::Slot) -> bool
     {
-        match own {
-            Some(state) => G::reads_later(&self.slots, state, component, slot),
-            None => false,
-        }
+        let words = self.cells.words(cell.cycle, cell.component);
+        !words.is_empty() && G::words_read(&self.slots, words, cell.component, slot)
     }
 
     /// Before which cycle each cell's near states are known to be there, as far as `end`; no cell is looked at.
@@ -149,9 +136,9 @@ impl<G: Grid> Table<G> {
         let mut from = self.add_always(component, slot, last, ready, ranges)?;
         while from <= last {
             let cycle = from - 1;
-            let own = self.standing(Cell { cycle, component });
-            let to = own.end.min(last) + 1;
-            let reads = self.reads_by(lent(&own.state), component, slot);
+            let own = Cell { cycle, component };
+            let to = self.cells.end_of(own).min(last) + 1;
+            let reads = self.reads_by(own, slot);
             let range = CellRange {
                 component,
                 from,

@@ -37,6 +37,10 @@ impl<'a, G: Grid, M: WholeRow<G>> Source for Stepped<'a, G, M> {
         M::is_still(self.step, self.row, c)
     }
 
+    fn first(&self, c: u32) -> u64 {
+        self.row.first(c)
+    }
+
     fn write(&self, c: u32, words: &mut Vec<u64>) -> Result<(), AllocError> {
         self.row.words(c, words)
     }
@@ -55,38 +59,54 @@ impl<'a, G: Grid, M: WholeRow<G>> Source for Whole<'a, G, M> {
         false
     }
 
+    fn first(&self, c: u32) -> u64 {
+        self.row.first(c)
+    }
+
     fn write(&self, c: u32, words: &mut Vec<u64>) -> Result<(), AllocError> {
         self.row.words(c, words)
     }
 }
 
 impl<G: Grid> Table<G> {
-    /// Whether a row holds what a component holds at a cycle. It notes so where it does.
-    fn is_loaded<M>(&self, beside: &mut Beside<M>, c: u32, cycle: u32) -> bool
+    /// The row goes on to a later cycle: what began at the cycles between isn't loaded any more.
+    fn go_to<M>(&self, beside: &mut Beside<M>, cycle: u32)
     {
-        let at = beside.at[c as usize].max(beside.base);
+        let at = beside.at;
         if at == cycle + 1 {
-            return true;
+            return;
         }
-        if at == 0 || at > cycle + 1 || !self.cells.goes_on_to(at, cycle + 1, c) {
-            return false;
+        beside.all = false;
+        let near = at > 0 && at <= cycle && cycle - at < 64;
+        for w in 0..beside.loaded.len() {
+            let mut begun = if near { 0 } else { u64::MAX };
+            if near {
+                for t in at..cycle + 1 {
+                    begun |= self.cells.begin_word(t, w);
+                }
+            }
+            beside.loaded[w] &= !begun;
         }
-        beside.at[c as usize] = cycle + 1;
-        true
+        beside.at = cycle + 1;
     }
 
-    /// Loads what a component holds at a cycle, if the row doesn't hold that: whether it holds it then.
+    /// Loads what a component holds at the row's cycle, if the row doesn't hold that: whether it holds it then.
+    #[inline(always)]
     fn load_one<M: WholeRow<G>>(&self, beside: &mut Beside<M>, c: u32, cycle: u32) -> bool
     {
-        if self.is_loaded(beside, c, cycle) {
-            return true;
-        }
+        beside.has(c) || self.load_new(beside, c, cycle)
+    }
+
+    fn load_new<M: WholeRow<G>>(&self, beside: &mut Beside<M>, c: u32, cycle: u32) -> bool
+    {
         let words = self.cells.words(cycle, c);
         let loaded = match &mut beside.row {
             Some(row) => !words.is_empty() && row.load(c, words),
             None => false,
         };
-        beside.at[c as usize] = if loaded { cycle + 1 } else { 0 };
+        if loaded {
+            beside.add(c);
+        }
         loaded
     }
 
@@ -97,8 +117,13 @@ impl<G: Grid> Table<G> {
         if beside.row.is_none() {
             beside.row = M::new(self.cells.allocator(), &self.slots);
         }
-        while beside.at.len() < count {
-            if beside.at.push(0).is_err() || beside.known.push(UNKNOWN).is_err() {
+        while beside.known.len() < count {
+            if beside.known.push(UNKNOWN).is_err() {
+                return false;
+            }
+        }
+        while beside.loaded.len() < count.div_ceil(64) {
+            if beside.loaded.push(0).is_err() {
                 return false;
             }
         }
@@ -116,13 +141,14 @@ impl<G: Grid> Table<G> {
     pub(super) fn bring<M: WholeRow<G>>(&self, beside: &mut Beside<M>, cycle: u32) -> bool
     {
         let count = G::components(&self.slots);
-        if beside.base != cycle + 1 {
+        self.go_to(beside, cycle);
+        if !beside.all {
             for c in 0..count {
                 if !self.load_one(beside, c, cycle) {
                     return false;
                 }
             }
-            beside.base = cycle + 1;
+            beside.all = true;
         }
         if beside.memories != cycle + 1 {
             for c in 0..count {
@@ -223,7 +249,7 @@ impl<G: Grid> Table<G> {
             Some(row) => row.step(&self.slots),
             None => None,
         };
-        beside.base = cycle + 1;
+        beside.at = cycle + 1;
         beside.memories = cycle + 1;
         let step = match step {
             Some(step) => step,
@@ -330,10 +356,11 @@ impl<G: Grid> Table<G> {
     {
         spare.draft.clear();
         spare.changes.clear_all();
+        self.go_to(beside, cycle - 1);
         let mut from = 0;
         while let Some(component) = self.cells.next_due(cycle, from) {
             let cell = Cell { cycle, component };
-            if cycle > 1 && self.cells.all_stay(cycle - 1, self.neighbours.of(component)) {
+            if cycle > 1 && self.cells.near_stay(cycle - 1, self.neighbours.of(component), component) {
                 self.repeat_one(cell, spare)?;
             } else if !self.step_one(cell, beside, spare)? {
                 return Ok(false);
@@ -362,7 +389,7 @@ impl<G: Grid> Table<G> {
         if cycle == 0 || beside.row.is_none() || !has_room(self.clock, 1, count) {
             return None;
         }
-        let least = if beside.base == cycle { STILL_WIDE } else { WIDE };
+        let least = if beside.all && beside.at == cycle { STILL_WIDE } else { WIDE };
         let put = if due >= least {
             self.put_stepped(cycle, beside, spare)
         } else {
@@ -495,8 +522,7 @@ impl<G: Grid> Table<G> {
             }
             cycle += 1;
         }
-        beside.base = end;
-        beside.memories = end;
+        beside.forget();
         end
     }
 

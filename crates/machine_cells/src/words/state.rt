@@ -54,3 +54,14 @@ fn read_state(alloc: Global, words: &[u64], memory: Option<SharedWords>) -> Resu
     }
 }
 
+
+/// The processor that has these words, if they are one's.
+pub(crate) fn read_of_proc(words: &[u64]) -> Option<MachineState>
+{
+    let (head, body) = split_first(words);
+    if head % 4 == 0 && !words.is_empty() {
+        Some(MachineState::Proc(read_proc(head, body)))
+    } else {
+        None
+    }
+}
