@@ -503,6 +503,12 @@ impl<G: Grid> Cells<G> {
         Ok(())
     }
 
+    /// Removes what stands for memories from a cycle on, where no cell holds a state.
+    pub(crate) fn forget_memories(&mut self, from: u32)
+    {
+        self.memories.truncate(from);
+    }
+
     /// All components.
     pub(crate) fn all_row(&self) -> Result<Row, NoMemory>
     {

@@ -475,6 +475,7 @@ impl<G: Grid> Table<G> {
         changed: &mut Vec<u64>,
     ) -> u32
     {
+        self.cells.forget_memories(from);
         let first = if from == 0 {
             match M::new(self.cells.allocator(), &self.slots) {
                 Some(row) => {
