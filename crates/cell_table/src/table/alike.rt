@@ -142,8 +142,8 @@ impl<G: Grid> Table<G> {
             from = component + 1;
         }
         let to = self.cells.next_begin(cycle + 1, end, self.cells.due_row(cycle));
-        let to = self.cells.next_begin(cycle, to, around) + 1;
-        to.min(end)
+        let near = self.cells.next_begin(cycle, to, around);
+        if near < to { near + 1 } else { to }
     }
 
     /// Marks the components that read one that changes.
