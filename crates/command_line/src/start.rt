@@ -145,7 +145,8 @@ fn stopped<'a>(served: Result<Served, NoStart>) -> Stop<'a>
 }
 
 /// The program but for its texts on standard error: it opens a bench as the words say, with as many workers beside it, and
-/// answers what is read from the reader until the input ends. With help, the version or a refusal nothing is read.
+/// answers what is read from the reader until the input ends. With help, the version or a refusal nothing is read. The memory of
+/// the bench isn't given back: it is for a process that ends then.
 #[tactic(auto, using(crate::proofs::Starting::no_start, crate::proofs::Starting::has_served))]
 pub fn serve_words<'a, H: Hall, F: Folder, R: Source, W: Sink>(
     rt: &H,

@@ -17,10 +17,10 @@ use Rattle.monitor_sums.specs.declared.counter.Counter.TheVariants.{Answered, Se
 use Rattle.monitor_sums.proofs.Adding.{sum_more, sum_below-all, sum_below-cut, sum_below-split}
 use Rattle.saturation.proofs.Below.{map-next}
 use Rattle.flat_row.specs.Row.{Arrays, state_of, proc_of, module_of}
-use Rattle.experiments.specs.declared.runner.Runner.{Runner}
+use Rattle.run_reports.specs.declared.runner.Runner.{Runner}
 use Rattle.experiments.specs.Flows.{counted_at}
-use Rattle.experiments.specs.Runners.{IsAt}
-use Rattle.experiments.proofs.Runners.{shows_at, proc_shows, module_shows}
+use Rattle.run_reports.specs.Runners.{IsAt}
+use Rattle.run_reports.proofs.Runners.{shows_at, proc_shows, module_shows}
 
 -- no component but a processor receives replies, and none but a module serves
 none_answered : (R : Arrays) (k n : ℕ) → lines k ≤ n → answered (state_of R (component_of k n)) ≡ 0

@@ -21,13 +21,13 @@ use Rattle.flat_row.specs.Row.{Arrays, state_of}
 use Rattle.experiments.specs.declared.map.Kept.{Kept}
 use Rattle.experiments.specs.declared.map.Scope.{Scope}
 use Rattle.experiments.specs.declared.map.Window.{Window}
-use Rattle.experiments.specs.declared.runner.Runner.{Runner}
+use Rattle.run_reports.specs.declared.runner.Runner.{Runner}
 use Rattle.experiments.specs.Lengths.{cycles_of, length_there, lengths_now, lengths_of, states_from, AreLengths, IsKept}
 use Rattle.experiments.specs.Maps.{has_served, length_in, length_on, queues_at}
-use Rattle.experiments.specs.Runners.{IsAt}
+use Rattle.run_reports.specs.Runners.{IsAt}
 use Rattle.experiments.proofs.Lines.{switch_there}
 use Rattle.experiments.proofs.Places.{length_stands}
-use Rattle.experiments.proofs.Runners.{switch_shows}
+use Rattle.run_reports.proofs.Runners.{switch_shows}
 use Rattle.experiments.proofs.Waits.{flat-next}
 
 -- the two ways to say the length of a switch's queue

@@ -11,6 +11,5 @@ pub mod Numbered
 pub mod Places
 pub mod Refusals
 pub mod Rows
-pub mod Runners
 pub mod Steadying
 pub mod Waits

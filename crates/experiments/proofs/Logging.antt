@@ -23,11 +23,11 @@ use Rattle.flat_row.specs.Row.{proc_of}
 use Rattle.experiments.specs.declared.delays.Came.{Came}
 use Rattle.experiments.specs.declared.delays.Issue.{Issue}
 use Rattle.experiments.specs.declared.delays.Log.{Log}
-use Rattle.experiments.specs.declared.runner.Runner.{Runner}
+use Rattle.run_reports.specs.declared.runner.Runner.{Runner}
 use Rattle.experiments.specs.Delays.{entry_of, is_cold, issue_at, issues, waited, waits_in, waits_of}
 use Rattle.experiments.specs.Logs.{all_came, came_at, came_from, came_in, issued_now, wait_of, AreLogs, IsLog}
-use Rattle.experiments.specs.Runners.{IsAt}
-use Rattle.experiments.proofs.Runners.{proc_shows}
+use Rattle.run_reports.specs.Runners.{IsAt}
+use Rattle.run_reports.proofs.Runners.{proc_shows}
 use Rattle.experiments.proofs.Waits.{flat-next}
 
 module _ (P : Project) (r : Runner) (at : IsAt P r) (p : ℕ) (there : p < lines P.k) where

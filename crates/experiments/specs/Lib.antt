@@ -8,4 +8,3 @@ pub mod Maps
 pub mod Orders
 pub mod Steady
 pub mod Told
-pub mod Runners

@@ -9,15 +9,15 @@ ghost use Rattle.machine_cells.specs.Runs.{state_in};
 ghost use Rattle.flat_row.specs.Row.{proc_of};
 ghost use Rattle.experiments.specs.Delays.{is_cold, since, waits, IsWaitedBy};
 ghost use Rattle.experiments.specs.Logs.{came_at, came_in, issued_now, wait_of, AreLogs};
-ghost use Rattle.experiments.specs.Runners.{IsAt};
+ghost use Rattle.run_reports.specs.Runners.{IsAt};
 
-use crate::runner::Runner;
-use crate::{Fault, HOT_ADDRESS, Load, Window, project_of};
+use crate::{Fault, Load, Window, project_of};
 use grid_law::NoMemory;
 use omega_net::{Reply, ScriptEntry};
 use page_map::MAX_K;
 use project_book::{MAX_HORIZON, Project};
 use rayon::prelude::*;
+use run_reports::{HOT_ADDRESS, Runner};
 use std::alloc::{AllocError, Global};
 use std::thread::Threads;
 

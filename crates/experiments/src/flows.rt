@@ -7,14 +7,14 @@ ghost use Rattle.machine_cells.specs.Runs.{state_in};
 ghost use Rattle.monitor_sums.specs.Counts.{one};
 ghost use Rattle.monitor_sums.specs.declared.counter.Counter.TheVariants.{Answered, Served};
 ghost use Rattle.experiments.specs.Flows.{counted_at, AreFlows, IsFlow};
-ghost use Rattle.experiments.specs.Runners.{IsAt};
+ghost use Rattle.run_reports.specs.Runners.{IsAt};
 
-use crate::runner::Runner;
 use crate::{Fault, Load, project_of};
 use grid_law::NoMemory;
 use omega_net::Reply;
 use page_map::MAX_K;
 use project_book::{MAX_HORIZON, Project};
+use run_reports::Runner;
 use std::alloc::{AllocError, Global};
 
 /// For each cycle of a run, from 0 on, how many references were answered, and how many requests served, in the step to it.

@@ -11,7 +11,7 @@
 //!   [`lane_counts`], [`lane_of`]: where their bars stand in a space-time diagram.
 //! - [`told`], [`told_each`], [`sweep_row`]: what a bench is told after one edit more.
 //!
-//! The crate stands on `machine_cells` for runs, on `flat_row` for those that are counted cycle by cycle and not kept, on
+//! The crate stands on `machine_cells` for runs, on `run_reports` for one that is counted cycle by cycle and not kept, on
 //! `serial_order` and `memory_order` for the one order, on `bench_core` and
 //! `run_queries` for questions and their answers, on `saturation` for levels, on `project_book` for projects, on `rand_pcg`
 //! for drawing, and on `rayon` for threads. It promises that each figure is that of the run of the project from cycle 0
@@ -28,7 +28,6 @@ mod load;
 mod map;
 mod order;
 mod queues;
-mod runner;
 mod series;
 mod steady;
 mod sweep;
@@ -37,7 +36,7 @@ pub use delays::{ColdWaits, cold_waits, waited_each};
 pub use fault::Fault;
 pub use flows::{Flows, flows_of};
 pub use lanes::{lane_counts, lane_of};
-pub use load::{HOT_ADDRESS, Load, MOST_CYCLES, SPREAD_ADDRESS, drawn, project_of};
+pub use load::{Load, MOST_CYCLES, SPREAD_ADDRESS, drawn, project_of};
 pub use map::{SaturationMap, StageLengths, Window, saturation_map};
 pub use order::{Issue, OrderRow, order_rows, rows_shown};
 pub use series::{QueueLengths, Queues, Series};

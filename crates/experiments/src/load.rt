@@ -14,11 +14,9 @@ use project_book::{
 };
 use rand_pcg::Pcg32;
 use rand_pcg::rand_core::utils::NextWord;
+use run_reports::HOT_ADDRESS;
 use std::alloc::{AllocError, Global};
 use word_ops::{Kind, Op};
-
-/// The hot word.
-pub const HOT_ADDRESS: u32 = 0;
 
 /// The first address of the page that the other references are spread over; every page is spread over all modules.
 pub const SPREAD_ADDRESS: u32 = 256;

@@ -6,6 +6,7 @@
 //! - [`latencies_of`]: how many of those that meet a condition took each number of cycles, and how many have no reply
 //!   ([`Latencies`]), with the figures of that histogram: their number, mean, least, greatest and percentiles.
 //! - [`latency_text`]: these figures as lines, and the histogram as a table.
+//! - [`Runner`]: the run that they are counted from, one cycle at a time; nothing of it is kept.
 //!
 //! The crate stands on `flat_row` for a run that is stepped cycle by cycle and not kept, and on `machine_cells` and `project_book`
 //! for what a run is. It promises that each report is that of the run of the project from cycle 0 (`specs/References.antt`,
@@ -23,3 +24,4 @@ pub use condition::{Condition, HOT_ADDRESS, Window, meets};
 pub use latency::{Latencies, latencies_of};
 pub use reference::{Reference, references};
 pub use report::{Summary, latency_text};
+pub use runner::Runner;

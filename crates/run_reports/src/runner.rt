@@ -9,9 +9,9 @@ use std::alloc::Global;
 
 /// A run that has come to a cycle. It holds the states of that cycle and of no other.
 #[derive(Drop)]
-pub(crate) struct Runner {
-    pub(crate) row: Row,
-    pub(crate) cycle: u32,
+pub struct Runner {
+    pub row: Row,
+    pub cycle: u32,
 }
 
 impl Runner {
@@ -20,7 +20,7 @@ impl Runner {
     /// # Errors
     ///
     /// Where a growth was refused. What was taken is given back.
-    pub(crate) fn start(alloc: Global, project: &Project) -> Result<Runner, NoMemory>
+    pub fn start(alloc: Global, project: &Project) -> Result<Runner, NoMemory>
         ensures at { IfOk result (IsAt project.now) }
         ensures first { IfOk result (λ r. r.cycle ≡ 0) }
     {
@@ -33,7 +33,7 @@ impl Runner {
     /// # Errors
     ///
     /// Where a growth was refused. Then it is to be let go.
-    pub(crate) fn step(&mut self, project: &Project) -> Result<(), NoMemory>
+    pub fn step(&mut self, project: &Project) -> Result<(), NoMemory>
         requires at { IsAt project.now self.old }
         requires within { self.old.cycle < project.now.horizon }
         ensures at { OnOk result (IsAt project.now self.new) }

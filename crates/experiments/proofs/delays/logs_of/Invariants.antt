@@ -1,6 +1,6 @@
 use Rattle.std.proofs.Common.{◌≡◌}
 use Rattle.experiments.specs.Logs.{AreLogs}
-use Rattle.experiments.specs.Runners.{IsAt}
+use Rattle.run_reports.specs.Runners.{IsAt}
 use Rattle.experiments.proofs.delays.logs_of.Given as goal
 
 abbrev pub invariant-loop-cycle : goal.invariant-loop-cycle

@@ -5,7 +5,7 @@ use Rattle.machine_cells.specs.Run.{run}
 use Rattle.machine_cells.specs.Runs.{state_in}
 use Rattle.monitor_sums.specs.declared.counter.Counter.TheVariants.{Answered, Served}
 use Rattle.experiments.specs.Flows.{counted_at}
-use Rattle.experiments.specs.Runners.{IsAt}
+use Rattle.run_reports.specs.Runners.{IsAt}
 use Rattle.experiments.proofs.flows.flows_of.Given as goal
 
 abbrev pub invariant-loop-cycle : goal.invariant-loop-cycle

@@ -5,7 +5,7 @@ use Rattle.machine_cells.specs.Runs.{state_in}
 use Rattle.saturation.specs.Levels.{level}
 use Rattle.experiments.specs.Maps.{has_served}
 use Rattle.experiments.proofs.Keeping.{lengths_next, one_more, served_next}
-use Rattle.experiments.proofs.Runners.{module_shows}
+use Rattle.run_reports.proofs.Runners.{module_shows}
 use Rattle.experiments.proofs.map.Kept.add.Goals as goal
 
 pub has_served-requires : goal.has_served-requires

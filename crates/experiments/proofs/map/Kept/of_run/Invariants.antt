@@ -1,6 +1,6 @@
 use Rattle.std.proofs.Common.{◌≡◌, ◌+◌}
 use Rattle.experiments.specs.Lengths.{IsKept}
-use Rattle.experiments.specs.Runners.{IsAt}
+use Rattle.run_reports.specs.Runners.{IsAt}
 use Rattle.experiments.proofs.map.Kept.of_run.Given as goal
 
 abbrev pub invariant-loop-cycle : goal.invariant-loop-cycle
