@@ -16,6 +16,7 @@ mod lines;
 mod memory_orders;
 mod passes;
 mod projects;
+mod reports;
 mod rows;
 mod runs;
 mod workers;
@@ -53,6 +54,7 @@ fn main(rt: HostRuntime) -> ExitCode {
     held &= tell(&rt, "Rp3::readers", cells::listed(alloc));
     held &= tell(&rt, "Row::start, step, read", rows::stepped(alloc));
     held &= tell(&rt, "encode, decode", rows::told(alloc));
+    held &= tell(&rt, "references, latencies_of", reports::reported(alloc));
     held &= tell(&rt, "tree", cells::reported(&rt, alloc));
     held &= tell(&rt, "Bench::new", benches::made(alloc));
     held &= tell(&rt, "Bench::edit", benches::edited(alloc));
