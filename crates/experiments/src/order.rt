@@ -16,12 +16,12 @@ use crate::queues::state_at;
 use grid_law::NoMemory;
 use machine_cells::{MachineState, from_scratch};
 use memory_order::one_orders;
-use omega_net::Tag;
+use omega_net::{Net, Request, Tag};
 use page_map::{PAGE_WORDS, Place};
 use project_book::Project;
 use ref_proc::Outgoing;
 use run_queries::{Received, word_got};
-use serial_order::{States, served_in_step};
+use serial_order::{States, second_of, served_by, served_in_step};
 use std::alloc::{AllocError, Global};
 use std::sync::Arc;
 
@@ -64,8 +64,12 @@ struct Rows<'a> {
 impl<'a> States for Rows<'a> {
     ghost at = { λ s t c. state_in (map (λ row. map arc_value row.items) s.rows.now) t c };
 
-    fn state(&self, cycle: u32, component: u32) -> Option<&MachineState> {
-        state_at(self.rows, cycle, component)
+    fn served(&self, cycle: u32, component: u32, depth: u32) -> Option<(Net, Request)> {
+        served_by(state_at(self.rows, cycle, component), depth)
+    }
+
+    fn second(&self, cycle: u32, component: u32, tag: Tag) -> Option<Tag> {
+        second_of(state_at(self.rows, cycle, component), tag)
     }
 }
 

@@ -5,8 +5,9 @@ ghost use Rattle.bench_core.specs.Shown.{project_of, held};
 
 use super::Bench;
 use cell_table::{Cell, Table};
-use machine_cells::{MachineState, Rp3};
-use serial_order::{Ordered, States, order, order_in};
+use machine_cells::Rp3;
+use omega_net::{Net, Request, Tag};
+use serial_order::{Ordered, States, order, order_in, second_of, served_by};
 
 /// The states that a table holds.
 #[derive(Clone, Copy)]
@@ -17,8 +18,12 @@ pub(super) struct Cells<'a> {
 impl<'a> States for Cells<'a> {
     ghost at = { λ s t c. held s.table.now t c };
 
-    fn state(&self, cycle: u32, component: u32) -> Option<&MachineState> {
-        self.table.state(Cell { cycle, component })
+    fn served(&self, cycle: u32, component: u32, depth: u32) -> Option<(Net, Request)> {
+        served_by(self.table.state(Cell { cycle, component }), depth)
+    }
+
+    fn second(&self, cycle: u32, component: u32, tag: Tag) -> Option<Tag> {
+        second_of(self.table.state(Cell { cycle, component }), tag)
     }
 }
 
