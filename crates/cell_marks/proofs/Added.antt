@@ -1,19 +1,19 @@
 -- Words to which the bits of others are added.
-use Rattle.std.proofs.Common.{◌≡◌, ℕ, zero, suc, ◌+◌, ◌-◌, ◌*◌, ◌/◌, ◌%◌, ◌^◌, ◌<◌, ◌≤◌, ◌∙◌, sym, ap, refl, subst, arith, min, max, w64, Bool, false, eqb, ◌||◌, ◌⊎◌, inl, inr, List, length, get_or}
+use Rattle.std.proofs.Common.{◌≡◌, ℕ, zero, suc, ◌+◌, ◌-◌, ◌*◌, ◌/◌, ◌%◌, ◌^◌, ◌<◌, ◌≤◌, ◌∙◌, sym, ap, refl, subst, arith, min, max, w64, Bool, true, false, eqb, ◌||◌, ◌&&◌, ◌⊎◌, inl, inr, List, [], ◌∷◌, length, get_or, take}
 use Rattle.std.proofs.Math.ListN.{set}
 use Rattle.std.specs.Int.{bit_at}
 use Rattle.std.specs.Int.Bits.{bit_and, bit_or}
 use Rattle.std.specs.Int.Count.{ones}
 use Rattle.std.proofs.lemmas.Bool.{cases_lt, cases_eq}
-use Rattle.std.proofs.lemmas.List.{get_or-set_same, get_or-set_other}
+use Rattle.std.proofs.lemmas.List.{get_or-set_same, get_or-set_other, get_or-take, length-take}
 use Rattle.std.proofs.lemmas.List.Sums.{count_by-le-length}
 use Rattle.std.proofs.lemmas.List.FromFn.{length-map-range_with_len, get_or-map-range_with_len}
 use Rattle.std.proofs.lemmas.Nat.{and_mask, mod_below, pow_pos}
-use Rattle.std.proofs.lemmas.Nat.Bits.{bit_at_and, bit_at_or, bit_at_not, bit_at_ones, bit_at-lt, bit_at_above, ones_shr}
+use Rattle.std.proofs.lemmas.Nat.Bits.{bit_at_and, bit_at_or, bit_at_not, bit_at_ones, bit_at-lt, bit_at-zero, bit_at_above, ones_shr}
 use Rattle.cell_marks.specs.Bits.{bit_in, bits_of}
-use Rattle.cell_marks.specs.Marked.{is_set, count_in, union}
+use Rattle.cell_marks.specs.Marked.{is_set, count_in, union, row_at, any_marks}
 use Rattle.cell_marks.proofs.Bits.{length_bits, at_bits, bits_are, bit_of_word}
-use Rattle.cell_marks.proofs.Counts.{count_added, ones_counted}
+use Rattle.cell_marks.proofs.Counts.{count_added, count_joined, ones_counted}
 use Rattle.cell_marks.proofs.Unions.{is_one, bit, of_bit}
 
 pub length_union : (a b : List Bool) → length (union a b) ≡ length a
@@ -144,3 +144,74 @@ pub count_le : (words : List ℕ) (n : ℕ) → count_in (bits_of words n) ≤ n
 count_le words n =
     let most : count_in (bits_of words n) ≤ length (bits_of words n) = count_by-le-length (λ b. b) (bits_of words n) in
     omega (arith, length_bits words n)
+
+-- the words up to that one have the bits of both, all of them
+pub joined_more : (words olds other : List ℕ) (at : ℕ) → at < length words → ((c : ℕ) → c < 64 * at → bit_in words c ≡ (bit_in olds c || bit_in other c)) → ((c : ℕ) → 64 * at ≤ c → bit_in words c ≡ bit_in olds c) → (c : ℕ) → c < 64 * (at + 1) → bit_in (set words at (bit_or (get_or words at 0) (get_or other at 0))) c ≡ (bit_in olds c || bit_in other c)
+joined_more words olds other at there done rest c h = by_word (cases_lt c (64 * at))
+  where
+    w : ℕ
+    w = get_or words at 0
+
+    o : ℕ
+    o = get_or other at 0
+
+    in_word : c / 64 ≡ at → bit_in (set words at (bit_or w o)) c ≡ (bit_in olds c || bit_in other c)
+    in_word e =
+        let i = c % 64 in
+        here words at (bit_or w o) c there e
+        ∙ ap (λ b. eqb b 1) (bit_at_or w o i)
+        ∙ either (bit_at w i) (bit_at o i) (bit_at-lt w i) (bit_at-lt o i)
+        ∙ ap (λ u. is_one (get_or words u 0) i || is_one (get_or other u 0) i) (sym e)
+        ∙ ap (λ b. b || bit_in other c) (rest c (omega (arith, e)))
+
+    by_word : (c < 64 * at) ⊎ (64 * at ≤ c) → bit_in (set words at (bit_or w o)) c ≡ (bit_in olds c || bit_in other c)
+    by_word (inl l) = elsewhere words at (bit_or w o) c (λ e. absurd (omega (arith, e, l))) ∙ done c l
+    by_word (inr l) = in_word (omega (arith, l, h))
+
+-- the bits of one word more are counted
+pub counted_more : (words : List ℕ) (at low m : ℕ) → m ≤ 64 → low < 2 ^ m → Misses 0 (get_or words at 0) low m → count_in (bits_of words (64 * at + m)) ≡ count_in (bits_of words (64 * at)) + ones low
+counted_more words at low m within small same =
+    count_joined (bit_in words) (is_one low) (64 * at) m each ∙ ap (λ k. count_in (bits_of words (64 * at)) + k) (ones_counted m low small)
+  where
+    each : (i : ℕ) → i < m → bit_in words (64 * at + i) ≡ is_one low i
+    each i h =
+        bit_of_word words at i (omega (arith, h, within))
+        ∙ ap (λ b. eqb b 1) (let e : bit_at (get_or words at 0) i ≡ bit_at low i = omega (arith, same i h, bit_at-zero i) in e)
+
+-- the first bits of a row
+pub taken_bits : (words : List ℕ) (n m : ℕ) → m ≤ n → bits_of words m ≡ take m (bits_of words n)
+taken_bits words n m h =
+    sym (bits_are words m (take m (bits_of words n)) (length-take m (bits_of words n) ∙ omega (arith, h, length_bits words n)) (λ c k. get_or-take m (bits_of words n) c false k ∙ at_bits words n c (omega (arith, h, k))))
+
+-- what stands at a place hangs on no default
+pub same_get : {X : Type 0} (xs : List X) (i : ℕ) (d e : X) → i < length xs → get_or xs i d ≡ get_or xs i e
+same_get [] i d e h = absurd (omega (arith, h))
+same_get (x ∷ xs) zero d e h = refl
+same_get (x ∷ xs) (suc i) d e h = same_get xs i d e (omega (arith, h))
+
+-- marks of rows whose components are marked, one more of them
+or_swapped : (a b : Bool) → (a || b) ≡ (b || a)
+or_swapped true true = refl
+or_swapped true false = refl
+or_swapped false true = refl
+or_swapped false false = refl
+
+module _ (marks : List Bool) (rows : List (List Bool)) (c : ℕ) where
+  any_over : (n m : ℕ) → n ≤ m → ((k : ℕ) → n ≤ k → k < m → is_set marks k ≡ false) → any_marks marks rows c m ≡ any_marks marks rows c n
+  any_over n zero h none = let e : n ≡ 0 = omega (arith, h) in ap (any_marks marks rows c) (sym e)
+  any_over n (suc m) h none = by_place (cases_lt m n) (λ l. any_over n m l (λ k i j. none k i (omega (arith, j))))
+    where
+      by_place : (m < n) ⊎ (n ≤ m) → (n ≤ m → any_marks marks rows c m ≡ any_marks marks rows c n) → any_marks marks rows c (suc m) ≡ any_marks marks rows c n
+      by_place (inl l) before = let e : suc m ≡ n = omega (arith, h, l) in ap (any_marks marks rows c) e
+      by_place (inr l) before = ap (λ b. (b && is_set (row_at rows m) c) || any_marks marks rows c m) (none m l (omega arith)) ∙ before l
+
+  pub any_end : (n m : ℕ) → n ≤ m → ((k : ℕ) → n ≤ k → is_set marks k ≡ false) → any_marks marks rows c m ≡ any_marks marks rows c n
+  any_end n m h none = any_over n m h (λ k i j. none k i)
+
+  pub any_more : (n k : ℕ) → n ≤ k → is_set marks k ≡ true → ((j : ℕ) → n ≤ j → j < k → is_set marks j ≡ false) → (any_marks marks rows c n || is_set (row_at rows k) c) ≡ any_marks marks rows c (k + 1)
+  any_more n k h here none =
+      let one : suc k ≡ k + 1 = omega arith in
+      or_swapped (any_marks marks rows c n) (is_set (row_at rows k) c)
+      ∙ ap (λ b. is_set (row_at rows k) c || b) (sym (any_over n k h none))
+      ∙ ap (λ b. (b && is_set (row_at rows k) c) || any_marks marks rows c k) (sym here)
+      ∙ ap (any_marks marks rows c) one

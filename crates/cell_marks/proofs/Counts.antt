@@ -80,3 +80,10 @@ ones_counted (suc m) n h =
     let last : bit_at n m ≡ bit (is_one n m) = of_bit (bit_at n m) (bit_at-lt n m) in
     let bit_is : bit_at n m ≡ high = omega (arith, top) in
     omega (arith, count_more (is_one n) m, parts, rest, last, bit_is, ones_of_bit high top, ones_counted m low small)
+
+-- places behind others are counted apart
+pub count_joined : (f h : ℕ → Bool) (a m : ℕ) → ((i : ℕ) → i < m → f (a + i) ≡ h i) → count f (a + m) ≡ count f a + count h m
+count_joined f h a zero same = let e : a + 0 ≡ a = omega arith in ap (count f) e ∙ omega arith
+count_joined f h a (suc m) same =
+    let next : a + suc m ≡ suc (a + m) = omega arith in
+    ap (count f) next ∙ omega (arith, count_more f (a + m), count_more h m, ap bit (same m (omega arith)), count_joined f h a m (λ i k. same i (omega arith)))

@@ -96,7 +96,7 @@ len_of words n row e = sym (ap length e) ∙ length_bits words n
 pub shown : (words seen : List ℕ) (n m : ℕ) (row : List Bool) → seen ≡ words → m ≡ n → bits_of words n ≡ row → bits_of seen m ≡ row
 shown words seen n m row e f g = ap (λ ws. bits_of ws m) e ∙ ap (bits_of words) f ∙ g
 
-bit_of_row : (words : List ℕ) (n : ℕ) (row : List Bool) → bits_of words n ≡ row → (c : ℕ) → c < n → is_set row c ≡ bit_in words c
+pub bit_of_row : (words : List ℕ) (n : ℕ) (row : List Bool) → bits_of words n ≡ row → (c : ℕ) → c < n → is_set row c ≡ bit_in words c
 bit_of_row words n row e c h = ap (λ r. is_set r c) (sym e) ∙ at_bits words n c h
 
 -- the rows are alike where the first bits of their words are

@@ -1,9 +1,12 @@
 //! One row of marks.
-ghost use Rattle.std.specs.Prelude.{◌≡◌, ℕ, ◌<◌, ◌≤◌, ◌+◌, ◌^◌, ◌↔◌, ◌||◌, true, false, IsTrue, MatchOption, IfOk, length, replicate, slice_set, if◌then◌else◌};
-ghost use Rattle.cell_marks.specs.Marked.{is_set, count_in, union, IsFirstFrom};
+ghost use Rattle.std.specs.Prelude.{◌≡◌, ℕ, ◌<◌, ◌≤◌, ◌+◌, ◌*◌, ◌^◌, ◌↔◌, ◌||◌, true, false, IsTrue, MatchOption, IfOk, length, replicate, slice_set, take, if◌then◌else◌};
+ghost use Rattle.cell_marks.specs.Bits.{bit_in};
+ghost use Rattle.cell_marks.specs.Marked.{is_set, count_in, union, row_at, any_marks, IsFirstFrom};
 
 use crate::word::word_of;
-use crate::words::{add_in, clear_all_in, clear_in, first_in, has_in, is_union_in, set_in};
+use crate::words::{
+    add_in, clear_all_in, clear_in, counted_in, first_in, has_in, is_union_in, join_in, set_in,
+};
 use smallvec::{SmallVec, smallvec};
 use std::alloc::{AllocError, Global};
 use std::marker::Model;
@@ -108,15 +111,36 @@ impl Row {
         set_in(&mut self.words, self.len, c);
     }
 
+    /// How many of the first n are marked; 64 in one step.
+    pub fn count_to(&self, n: u32) -> u32
+        requires { n ≤ length self.now }
+        ensures { result ≡ count_in (take n self.now) }
+    {
+        let _len = self.len;
+        counted_in(&self.words, n)
+    }
+
     /// Marks all components that another row marks, too; 64 of them in one step.
     #[tactic(auto, using(crate::proofs::Added::count_le))]
-    pub(crate) fn add(&mut self, other: &Row)
+    pub fn add(&mut self, other: &Row)
         requires { length other.now ≡ length self.old }
         ensures { self.new ≡ union self.old other.now }
     {
         let _len = other.len;
         let added = add_in(&mut self.words, &other.words, self.len);
         self.count += added;
+    }
+
+    /// Marks just the components that some row of the list marks, of those rows whose own component is marked in `set`: 64 of
+    /// them in one step, and they are counted once.
+    pub fn gather(&mut self, rows: &[Row], set: &Row)
+        requires rows { length rows.now ≡ length set.now }
+        requires width { (c : ℕ) → c < length set.now → length (row_at rows.now c) ≡ length self.old }
+        ensures len { length self.new ≡ length self.old }
+        ensures marks { (k : ℕ) → k < length self.old → is_set self.new k ≡ any_marks set.now rows.now k (length set.now) }
+    {
+        gather_in(&mut self.words, self.len, rows, set);
+        self.count = counted_in(&self.words, self.len);
     }
 
     /// Takes a component's mark away.
@@ -135,6 +159,35 @@ impl Row {
     {
         clear_all_in(&mut self.words);
         self.count = 0;
+    }
+}
+
+/// Sets the bits among the first n that a row marks.
+fn join_row(words: &mut [u64], n: u32, row: &Row)
+    requires room { n ≤ 64 * length words.old }
+    requires width { length row.now ≡ n }
+    ensures len { length words.new ≡ length words.old }
+    ensures bits { (k : ℕ) → k < n → bit_in words.new k ≡ (bit_in words.old k || is_set row.now k) }
+{
+    let _len = row.len;
+    join_in(words, &row.words, n);
+}
+
+/// Sets just the bits among the first n that some row of the list marks, of those whose own component is marked in `set`.
+fn gather_in(words: &mut [u64], n: u32, rows: &[Row], set: &Row)
+    requires room { n ≤ 64 * length words.old }
+    requires rows { length rows.now ≡ length set.now }
+    requires width { (c : ℕ) → c < length set.now → length (row_at rows.now c) ≡ n }
+    ensures len { length words.new ≡ length words.old }
+    ensures bits { (k : ℕ) → k < n → bit_in words.new k ≡ any_marks set.now rows.now k (length set.now) }
+{
+    clear_all_in(words);
+    // The number of a component is below this one, so that of the next fits.
+    let _count = set.len();
+    let mut from = 0;
+    while let Some(c) = set.first_from(from) {
+        join_row(words, n, &rows[c as usize]);
+        from = c + 1;
     }
 }
 

@@ -36,3 +36,5 @@ pub mod Cones
 pub mod ConeRuns
 pub mod Counted
 pub mod Waves
+pub mod Noted
+pub mod NotedRows

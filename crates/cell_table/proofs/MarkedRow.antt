@@ -93,6 +93,12 @@ module _ {State : Type 0} where
         by_cycle (inl k) = length_row lines due1 versions1 u (omega (arith, k, cycles)) ∙ width ∙ sym (seen_length lines due versions rows e u k)
         by_cycle (inr k) = lens_past lines due1 versions1 u (omega (arith, k, cycles)) ∙ sym (ap (λ r. length (row_at r u)) (sym e) ∙ lens_past lines due versions u k)
 
+    -- what is held then for each cell
+    pub joined_row : (u c : ℕ) → held_at (rows_of lines due1 versions1) u c ≡ kept (state_at lines u c) (has_mark due.rows u c || ((eqb u t) && is_set row c)) (version_at versions1 u c)
+    joined_row u c =
+        held_kept lines due1 versions1 layout_joined u c
+        ∙ ap (λ b. kept (state_at lines u c) b (version_at versions1 u c)) (ap (λ (m : Marked). has_mark m.rows u c) joins ∙ has_joined due.rows t row there wide u c)
+
     pub marked_row : (has : ℕ → Bool) → ((c : ℕ) → is_set row c ≡ has c) → ((u c : ℕ) → version_at versions1 u c ≡ cond ((eqb u t) && has c) version (version_at versions u c)) → (u c : ℕ) → held_at (rows_of lines due1 versions1) u c ≡ cond ((eqb u t) && has c) (marked (held_at rows u c) version) (held_at rows u c)
     marked_row has same at u c =
         held_kept lines due1 versions1 layout_joined u c

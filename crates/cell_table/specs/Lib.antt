@@ -24,3 +24,4 @@ pub mod Filling
 pub mod Passing
 pub mod Repeating
 pub mod WholeRows
+pub mod Noted

@@ -1,6 +1,7 @@
 -- Which components read which, and what a table keeps of it.
 use Rattle.std.specs.Prelude.{◌≡◌, ℕ, ◌<◌, ◌≤◌, ◌+◌, ◌==◌, Bool, true, is_some, List, [], length, slice_index_or, All}
 use Rattle.std.specs.List.{list_any}
+use Rattle.cell_marks.specs.Marked.{is_set, row_at}
 use Rattle.grid_law.specs.Rules.{Rules}
 use Rattle.cell_table.specs.Seen.{Held, held_at}
 use Rattle.cell_table.specs.Consistent.{IsTable}
@@ -16,6 +17,16 @@ readers_at lists c = slice_index_or lists c []
 -- the list of the components near one
 abbrev pub near_at : List (List ℕ) → ℕ → List ℕ
 near_at lists c = slice_index_or lists c []
+
+-- for each component, the marks are those of its list
+pub record AreMasks (lists : List (List ℕ)) (masks : List (List Bool)) : Type 0 where
+  pub one_each : length masks ≡ length lists
+  pub width : (c : ℕ) → c < length lists → length (row_at masks c) ≡ length lists
+  pub same : (c k : ℕ) → c < length lists → k < length lists → is_set (row_at masks c) k ≡ has (readers_at lists c) k
+
+-- near each component are those in whose lists it is
+abbrev pub AreTurned : List (List ℕ) → List (List ℕ) → Type 0
+AreTurned lists near = (c k : ℕ) → c < length lists → k < length lists → has (near_at near k) c ≡ has (readers_at lists c) k
 
 module _ {State Slots Slot : Type 0} (R : Rules State Slots Slot) where
   -- for each component, the list has the components that have it among their near ones, and no others

@@ -4,10 +4,13 @@ ghost use Rattle.std.specs.Option.{option_copied, option_or};
 ghost use Rattle.std.specs.Arc.{arc_value};
 ghost use Rattle.cell_table.specs.Seen.{fresh, stored, marked, held_at, row_at, due_in_row, due_up_to};
 ghost use Rattle.cell_table.specs.Inputs.{states_of};
-ghost use Rattle.cell_table.specs.Readers.{has, IsIndex, AreNear};
+ghost use Rattle.cell_table.specs.Readers.{has, near_at, IsIndex, AreNear};
 ghost use Rattle.grid_law.specs.Run.{run};
 ghost use Rattle.cell_table.specs.Settling.{IsNextDueInRow};
-ghost use Rattle.cell_table.specs.Layout.{cleared, IsOtherCell};
+ghost use Rattle.cell_table.specs.Layout.{cleared, version_at, IsOtherCell};
+ghost use Rattle.cell_table.specs.Repeating.{any_changes};
+ghost use Rattle.cell_table.specs.Noted.{noted};
+ghost use Rattle.cell_marks.specs.Marked.{has as has_mark};
 ghost use Rattle.cell_table.specs.Filling.{is_awake};
 
 mod standing;
@@ -20,7 +23,10 @@ use crate::lines::{
 };
 use crate::neighbours::Neighbours;
 use crate::readers::Readers;
-use crate::versions::{Versions, grow_rows, rows_of, set_version, set_versions, version_in};
+use crate::versions::{
+    Versions, forget_in, grow_rows, is_noted_in, note_in, rows_of, set_version, set_versions,
+    version_in,
+};
 use cell_marks::{Marks, Row};
 use grid_law::{Grid, NoMemory};
 use state_line::Line;
@@ -233,6 +239,7 @@ impl<S: Drop> Cells<S> {
         requires component { cell.component < length (row_at self.old cell.cycle) }
         ensures { IsOtherCell self.old self.new cell.cycle cell.component (marked (held_at self.old cell.cycle cell.component) version) }
     {
+        forget_idle(&mut self.versions, &self.due, cell.cycle);
         self.due.set(cell.cycle, cell.component);
         set_version(&mut self.versions, cell.cycle, cell.component, version);
     }
@@ -248,8 +255,40 @@ impl<S: Drop> Cells<S> {
         ensures at { (t c : ℕ) → held_at self.new t c
             ≡ (if (t == cycle) && has list.now c then marked (held_at self.old t c) version else held_at self.old t c) }
     {
+        forget_idle(&mut self.versions, &self.due, cycle);
         self.due.set_all(cycle, row);
         set_versions(&mut self.versions, cycle, list, version);
+    }
+
+    /// Makes cells of a cycle due, as the stores of the components that changed one cycle earlier do one after another, the clock being
+    /// `clock` before them. That they changed is noted, and no version is written. Where changes are noted already of which cells are
+    /// due, or what is near has as many owners as can be counted, nothing is changed.
+    pub(crate) fn note(
+        &mut self,
+        cycle: u32,
+        near: &Arc<Neighbours>,
+        changes: &Row,
+        reached: &Row,
+        clock: u64,
+    ) -> bool
+        requires cycle { cycle < length self.old }
+        requires width { length changes.now ≡ length (row_at self.old cycle) }
+        requires reached_width { length reached.now ≡ length (row_at self.old cycle) }
+        requires reached { (c : ℕ) → c < length changes.now → is_awake reached.now c ≡ any_changes changes.now (near_at (arc_value near.now) c) (length changes.now) }
+        requires room { clock + length changes.now < 2 ^ 64 }
+        ensures len { length self.new ≡ length self.old }
+        ensures lens { (t : ℕ) → length (row_at self.new t) ≡ length (row_at self.old t) }
+        ensures others { (t c : ℕ) → (t ≡ cycle → ⊥) → held_at self.new t c ≡ held_at self.old t c }
+        ensures no { result ≡ false → self.new ≡ self.old }
+        ensures noted { result ≡ true → (c : ℕ) → c < length changes.now
+            → held_at self.new cycle c ≡ noted (held_at self.old cycle c) changes.now (near_at (arc_value near.now) c) clock (length changes.now) }
+    {
+        forget_idle(&mut self.versions, &self.due, cycle);
+        if !note_in(&mut self.versions, cycle, near, changes, clock) {
+            return false;
+        }
+        self.due.set_all(cycle, reached);
+        true
     }
 
     /// Removes the cycles from n on.
@@ -364,6 +403,21 @@ pub(crate) fn are_held<G: Grid>(
         }
     }
     true
+}
+
+/// Lets go of the changes that are noted at a cycle of which no cell is due: no version counts there.
+fn forget_idle(versions: &mut Vec<Versions>, due: &Marks, t: u32)
+    ensures len { length versions.new.items ≡ length versions.old.items }
+    ensures lens { (u : ℕ) → length (slice_index_or versions.new.items u []) ≡ length (slice_index_or versions.old.items u []) }
+    ensures due { (u c : ℕ) → has_mark due.now.rows u c ≡ true → version_at versions.new.items u c ≡ version_at versions.old.items u c }
+{
+    if !is_noted_in(versions, t) {
+        return;
+    }
+    if due.row_count(t) > 0 {
+        return;
+    }
+    forget_in(versions, t);
 }
 
 /// Takes the marks of these rows away.

@@ -1,24 +1,38 @@
 //! Which components read which.
-ghost use Rattle.std.specs.Prelude.{◌≡◌, ℕ, ◌<◌, IfOk, OnOk, length, [], false, replicate, All};
-ghost use Rattle.cell_table.specs.Readers.{has, readers_at, IsIndex};
+ghost use Rattle.std.specs.Prelude.{◌≡◌, ℕ, ◌<◌, IfOk, OnOk, length, List, [], false, replicate, All};
+ghost use Rattle.std.specs.Arc.{arc_value};
+ghost use Rattle.cell_table.specs.Readers.{has, readers_at, IsIndex, AreMasks, AreTurned, AreNear};
+ghost use Rattle.cell_table.specs.Filling.{is_awake};
+ghost use Rattle.cell_table.specs.Repeating.{any_changes};
 
 use crate::components::Components;
+use crate::fill::wake;
+use crate::neighbours::Neighbours;
+use cell_marks::Row;
 use grid_law::{Grid, NoMemory};
 use std::alloc::Global;
 use std::marker::Model;
+use std::sync::Arc;
 
-/// For each component, those that read it.
+/// For each component, those that read it: as a list, and as marks. Beside them stands the same turned round, which components are near
+/// each, for whoever keeps it.
 #[derive(Drop)]
 pub struct Readers {
     lists: Vec<Components>,
+    masks: Vec<Row>,
+    near: Arc<Neighbours>,
 }
 
 impl Model for Readers {
     ghost use Rattle.std.specs.Prelude.{List, ℕ};
+    ghost use Rattle.std.specs.Arc.{arc_value};
+    ghost use Rattle.cell_table.specs.Readers.{AreMasks, AreTurned};
 
     ghost Value = { List (List ℕ) };
 
     ghost view = { λ r. r.lists.items };
+
+    ghost invariant = { λ r. AreMasks r.lists.items r.masks.items × AreTurned r.lists.items (arc_value r.near) };
 }
 
 fn empty_lists(alloc: Global, count: u32) -> Result<Vec<Components>, NoMemory>
@@ -58,6 +72,35 @@ fn lists_of<G: Grid>(alloc: Global, slots: &G::Slots) -> Result<Vec<Components>,
     Ok(lists)
 }
 
+/// The marks of each list.
+fn masks_of(alloc: Global, lists: &Vec<Components>, count: u32) -> Result<Vec<Row>, NoMemory>
+    requires count { length lists.now.items ≡ count }
+    requires within { (c : ℕ) → c < count → All (λ k. k < count) (readers_at lists.now.items c) }
+    ensures { IfOk result (λ masks. AreMasks lists.now.items masks.items) }
+{
+    let mut masks = Vec::with_capacity(alloc, count as usize)?;
+    for c in 0..count {
+        let mut row = Row::new(alloc, count, false)?;
+        wake(&mut row, lists[c as usize].as_slice());
+        match masks.push(row) {
+            Ok(()) => {}
+            Err(_) => return Err(NoMemory),
+        }
+    }
+    Ok(masks)
+}
+
+/// What is near each component, to be owned by several.
+fn near_of<G: Grid>(alloc: Global, slots: &G::Slots) -> Result<Arc<Neighbours>, NoMemory>
+    ensures { IfOk result (λ near. AreNear G.rules slots.now (arc_value near)) }
+{
+    let near = Neighbours::new::<G>(alloc, slots)?;
+    match Arc::new(alloc, near) {
+        Ok(near) => Ok(near),
+        Err(_) => Err(NoMemory),
+    }
+}
+
 impl Readers {
     /// One look at each component's near ones.
     ///
@@ -68,7 +111,28 @@ impl Readers {
         ensures { IfOk result (λ lists. IsIndex G.rules slots.now lists) }
     {
         let lists = lists_of::<G>(alloc, slots)?;
-        Ok(Readers { lists })
+        let masks = masks_of(alloc, &lists, G::components(slots))?;
+        let near = near_of::<G>(alloc, slots)?;
+        Ok(Readers { lists, masks, near })
+    }
+
+    /// What is near each component.
+    pub(crate) fn near(&self) -> &Arc<Neighbours>
+        ensures { AreTurned self.now (arc_value result.now) }
+    {
+        &self.near
+    }
+
+    /// Marks just the components that read one of those marked; 64 of them in one step.
+    pub(crate) fn gather(&self, changes: &Row, reached: &mut Row)
+        requires width { length changes.now ≡ length self.now }
+        requires reached { length reached.old ≡ length self.now }
+        ensures len { length reached.new ≡ length reached.old }
+        ensures reached { (k : ℕ) → k < length self.now → (near : List ℕ)
+            → ((c : ℕ) → c < length self.now → has (readers_at self.now c) k ≡ has near c)
+            → is_awake reached.new k ≡ any_changes changes.now near (length self.now) }
+    {
+        reached.gather(self.masks.as_slice(), changes);
     }
 
     /// The components that read `c`.

@@ -6,6 +6,7 @@ ghost use Rattle.cell_table.specs.Filling.{version_after, is_awake};
 ghost use Rattle.cell_table.specs.Passing.{woken};
 ghost use Rattle.cell_table.specs.Readers.{has, readers_at, IsIndex};
 ghost use Rattle.cell_table.specs.Gives.{Stores};
+ghost use Rattle.cell_table.specs.Repeating.{any_changes};
 
 use crate::Cell;
 use crate::cells::Cells;
@@ -71,9 +72,8 @@ pub(crate) fn mark_cycle<G: Grid>(
     }
 }
 
-/// Marks the cells one cycle later, as the stores of the components that change do one after another, the clock being
-/// `clock` before them.
-pub(crate) fn mark_changed<G: Grid>(
+/// As `mark_changed`, by the list of readers of each component.
+fn mark_in_turn<G: Grid>(
     cells: &mut Cells<G::State>,
     slots: &G::Slots,
     readers: &Readers,
@@ -102,6 +102,40 @@ pub(crate) fn mark_changed<G: Grid>(
         mark_readers(cells, readers, Cell { cycle, component }, version);
         from = component + 1;
     }
+}
+
+/// Marks the cells one cycle later, as the stores of the components that change do one after another, the clock being
+/// `clock` before them. Which cells read one of them is known.
+pub(crate) fn mark_changed<G: Grid>(
+    cells: &mut Cells<G::State>,
+    slots: &G::Slots,
+    readers: &Readers,
+    changes: &Row,
+    reached: &Row,
+    cycle: u32,
+    clock: u64,
+)
+    requires cycle { cycle < length cells.old }
+    requires whole { (t : ℕ) → t < length cells.old → length (row_at cells.old t) ≡ G.rules.components slots.now }
+    requires index { IsIndex G.rules slots.now readers.now }
+    requires width { length changes.now ≡ G.rules.components slots.now }
+    requires reached_width { length reached.now ≡ G.rules.components slots.now }
+    requires reached { (c : ℕ) → c < G.rules.components slots.now → is_awake reached.now c ≡ any_changes changes.now (G.rules.near slots.now c) (G.rules.components slots.now) }
+    requires room { clock + length changes.now < 2 ^ 64 }
+    ensures len { length cells.new ≡ length cells.old }
+    ensures lens { (t : ℕ) → length (row_at cells.new t) ≡ length (row_at cells.old t) }
+    ensures others { (t c : ℕ) → t < length cells.old → (t ≡ cycle + 1 → ⊥) → held_at cells.new t c ≡ held_at cells.old t c }
+    ensures marked { cycle + 1 < length cells.old → (c : ℕ) → c < G.rules.components slots.now
+        → held_at cells.new (cycle + 1) c ≡ woken G.rules slots.now cells.old (λ t k. is_awake changes.now k) clock cycle (G.rules.components slots.now) c }
+{
+    let cycles = cells.cycles();
+    if cycle + 1 >= cycles {
+        return;
+    }
+    if cells.note(cycle + 1, readers.near(), changes, reached, clock) {
+        return;
+    }
+    mark_in_turn::<G>(cells, slots, readers, changes, cycle, clock);
 }
 
 /// The clock after so many cycles of so many cells.

@@ -11,7 +11,6 @@ ghost use Rattle.cell_table.specs.Repeating.{any_changes, BeginsAlike, StaysBefo
 use super::Table;
 use super::filling::has_room;
 use crate::cells::repeat_cells;
-use crate::fill::wake;
 use crate::ranges::ranges_of;
 use crate::rows::{clock_filled, mark_changed};
 use crate::watcher::Watcher;
@@ -166,21 +165,15 @@ impl<G: Grid> Table<G> {
         to
     }
 
-    /// Marks the components that read one that changes.
-    fn reach(&self, changes: &Row, reached: &mut Row)
+    /// Marks just the components that read one that changes.
+    pub(super) fn reach(&self, changes: &Row, reached: &mut Row)
         requires width { length changes.now ≡ G.rules.components self.now.slots }
         requires len { length reached.old ≡ G.rules.components self.now.slots }
-        requires unmarked { (c : ℕ) → is_awake reached.old c ≡ false }
         ensures len { length reached.new ≡ length reached.old }
         ensures reached { (c : ℕ) → c < G.rules.components self.now.slots
             → is_awake reached.new c ≡ any_changes changes.now (G.rules.near self.now.slots c) (G.rules.components self.now.slots) }
     {
-        let _count = changes.len();
-        let mut from = 0;
-        while let Some(component) = changes.first_from(from) {
-            wake(reached, self.readers.of(component));
-            from = component + 1;
-        }
+        self.readers.gather(changes, reached);
     }
 
     /// To before which cycle, `end` at most, the components due, or among those, are those due at a cycle.
@@ -221,7 +214,6 @@ impl<G: Grid> Table<G> {
     {
         let count = G::components(&self.slots);
         spare.changes.clear_all();
-        spare.reached.clear_all();
         if !self.begins_alike(cycle, &mut spare.changes) {
             return None;
         }
@@ -251,6 +243,7 @@ impl<G: Grid> Table<G> {
             &self.slots,
             &self.readers,
             &spare.changes,
+            &spare.reached,
             end - 1,
             before,
         );

@@ -291,10 +291,11 @@ impl<G: Grid> Table<G> {
         requires there { cycle ≤ self.old.horizon }
         requires none { NoneDueBefore G.rules self.old cycle 0 }
         requires changes { length spare.old.changes ≡ G.rules.components self.old.slots }
+        requires reached { length spare.old.reached ≡ G.rules.components self.old.slots }
         requires news { length wide.old.news.items ≡ G.rules.components self.old.slots }
         requires along { IfSome wide.old.along (λ a. HoldsRow G.rules M.stands M.holds self.old.slots a.row a.cycle) }
         ensures changes { length spare.new.changes ≡ length spare.old.changes }
-        ensures reached { spare.new.reached ≡ spare.old.reached }
+        ensures reached { length spare.new.reached ≡ length spare.old.reached }
         ensures news { length wide.new.news.items ≡ length wide.old.news.items }
         ensures along { IfSome wide.new.along (λ a. HoldsRow G.rules M.stands M.holds self.new.slots a.row a.cycle) }
         ensures none { IfNone result (self.new ≡ self.old) }
@@ -315,6 +316,7 @@ impl<G: Grid> Table<G> {
             Ok(()) => {}
             Err(_) => return None,
         }
+        self.reach(&spare.changes, &mut spare.reached);
         let changed = spare.changes.count();
         match put_cells(&mut self.cells, &spare.changes, &mut wide.news, cycle) {
             Ok(()) => {}
@@ -325,6 +327,7 @@ impl<G: Grid> Table<G> {
             &self.slots,
             &self.readers,
             &spare.changes,
+            &spare.reached,
             cycle,
             self.clock,
         );

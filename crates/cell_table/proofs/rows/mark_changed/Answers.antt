@@ -1,45 +1,39 @@
-use Rattle.std.proofs.Common.{ℕ, ◌+◌, ◌<◌, ◌∙◌, sym, arith}
+use Rattle.std.proofs.Common.{◌≡◌, ℕ, ◌+◌, ◌<◌, ◌≤◌, ◌∙◌, sym, ap, arith, length}
+use Rattle.std.specs.Arc.{arc_value}
 use Rattle.cell_table.specs.Seen.{held_at}
-use Rattle.cell_table.specs.Readers.{has, readers_at}
+use Rattle.cell_table.specs.Readers.{has, near_at}
 use Rattle.cell_table.specs.Filling.{is_awake}
-use Rattle.cell_table.specs.Passing.{differing, woken}
-use Rattle.cell_table.proofs.Passing.{differing_le}
-use Rattle.cell_table.proofs.MarkedCycle.{marked_again, marked_other, differing_next, woken_next, woken_all}
+use Rattle.cell_table.specs.Repeating.{any_changes}
+use Rattle.cell_table.specs.Noted.{noted}
+use Rattle.cell_table.proofs.Noted.{any_same, woken_noted}
 use Rattle.cell_table.proofs.rows.mark_changed.Goals as goal
 
-pub overflow_add-version : goal.overflow_add-version
-overflow_add-version g c =
-    let few = differing_le (λ t k. is_awake c.args.changes.now k) c.args.cycle c.loop-component.from in
-    omega (arith, few, c.loop-component.invariant.version, c.in-Some.ensures.0.0, c.in-Some.ensures.1, c.requires.room)
-
-pub loop-component-preserved : goal.loop-component-preserved
-loop-component-preserved g c =
+pub note-requires-clause-reached : goal.note-requires-clause-reached
+note-requires-clause-reached g c = λ d h.
     let R = g.G.Grid.rules in
     let s = c.args.slots.now in
-    let inv = c.loop-component.invariant in
-    let e = c.mark_readers.ensures in
-    let found = c.in-Some.ensures in
-    let cur = c.in-Some.component in
-    let from = c.loop-component.from in
-    let t = c.args.cycle in
-    let clock = c.args.clock in
-    let differs = λ (t k : ℕ). is_awake c.args.changes.now k in
-    let within : cur < R.components s = omega (arith, found.1, c.requires.width) in
-    record {
-      within = omega (arith, found.1);
-      len = e.len ∙ inv.len;
-      lens = λ u. e.lens u ∙ inv.lens u;
-      others = λ u k h n. e.at u k (omega (arith, h, inv.len)) ∙ marked_other u t (has (readers_at c.args.readers.now cur) k) (held_at c.loop-component.cells u k) _ n ∙ inv.others u k h n;
-      version = omega (arith, inv.version, differing_next differs t from cur found.0.0 found.0.1 found.0.2);
-      marked = λ m k h. (
-          e.at (t + 1) k (omega (arith, m, inv.len))
-          ∙ marked_again t (has (readers_at c.args.readers.now cur) k) (has (R.near s k) cur) (held_at c.loop-component.cells (t + 1) k) (woken R s c.args.cells.now differs clock t from k) _ (clock + (differing differs t from + 1)) (c.requires.index.readers cur k within h) (inv.marked m k h) (omega (arith, inv.version))
-          ∙ sym (woken_next differs t from cur found.0.0 found.0.1 found.0.2 R s c.args.cells.now clock k)
-          );
-    }
+    let n = R.components s in
+    let changes = c.args.changes.now in
+    let width = c.requires.width in
+    let index = c.requires.index in
+    let near = near_at (arc_value c.near.result.now) d in
+    let inside : d < n = omega (arith, h, width) in
+    let same : (k : ℕ) → k < n → has (R.near s d) k ≡ has near k = λ k l. sym (index.readers k d l inside) ∙ sym (c.near.ensures k d (omega (arith, l, index.one_each)) (omega (arith, inside, index.one_each))) in
+    c.requires.reached d inside
+    ∙ any_same changes (R.near s d) near n same
+    ∙ ap (any_changes changes near) (sym width)
 
-pub returns-clause-marked : goal.returns-clause-marked
-returns-clause-marked g c = λ m k h.
-    let inv = c.loop-component.invariant in
-    inv.marked m k h
-    ∙ sym (woken_all (λ t k. is_awake c.args.changes.now k) c.args.cycle c.loop-component.from g.G.Grid.rules c.args.slots.now c.args.cells.now c.args.clock k (g.G.Grid.rules.components c.args.slots.now) (omega (arith, inv.within, c.requires.width)) c.in_default.ensures)
+pub returns-then-note-clause-marked : goal.returns-then-note-clause-marked
+returns-then-note-clause-marked g c = λ m d inside.
+    let R = g.G.Grid.rules in
+    let s = c.args.slots.now in
+    let n = R.components s in
+    let t = c.args.cycle in
+    let changes = c.args.changes.now in
+    let width = c.requires.width in
+    let index = c.requires.index in
+    let near = near_at (arc_value c.near.result.now) d in
+    let same : (k : ℕ) → k < n → has near k ≡ has (R.near s d) k = λ k l. c.near.ensures k d (omega (arith, l, index.one_each)) (omega (arith, inside, index.one_each)) ∙ index.readers k d l inside in
+    c.note.ensures.noted c.if-note.true d (omega (arith, inside, width))
+    ∙ ap (noted (held_at c.args.cells.now (t + 1) d) changes near c.args.clock) width
+    ∙ sym (woken_noted R s c.args.cells.now changes t c.args.clock d near n (omega (arith, width)) same)

@@ -31,6 +31,14 @@ mark_changed-requires-clause-room g c =
     let is_before : c.clock_filled-before.result ≡ i.clock + (m - 1) * count_in changes = c.clock_filled-before.ensures ∙ ap (λ k. i.clock + (m - 1) * k) c.count-changed.ensures in
     omega (arith, is_before, width, room_changed i.clock m n (count_in changes) some few room)
 
+pub mark_changed-requires-clause-reached_width : goal.mark_changed-requires-clause-reached_width
+mark_changed-requires-clause-reached_width g c =
+    let wide : length c.args.spare.now.reached ≡ g.G.Grid.rules.components c.self.inside.slots = rw (← c.self.view_is) at c.requires.reached in
+    c.reach.ensures.len ∙ wide
+
+pub mark_changed-requires-clause-reached : goal.mark_changed-requires-clause-reached
+mark_changed-requires-clause-reached g c = rw (← c.self.view_is) at c.reach.ensures.reached
+
 pub invariant_of-self-2 : goal.invariant_of-self-2
 invariant_of-self-2 g c =
     let R = g.G.Grid.rules in

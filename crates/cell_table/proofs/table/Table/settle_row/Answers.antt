@@ -19,6 +19,14 @@ overflow_add-cycle g c =
     let there : c.args.cycle ≤ c.self.inside.horizon = rw (← c.self.view_is) at c.requires.there in
     omega (arith, there, c.self.invariant.table.whole.cycles, c.cycles-cycles.ensures)
 
+pub mark_changed-requires-clause-reached_width : goal.mark_changed-requires-clause-reached_width
+mark_changed-requires-clause-reached_width g c =
+    let wide : length c.args.spare.now.reached ≡ g.G.Grid.rules.components c.self.inside.slots = rw (← c.self.view_is) at c.requires.reached in
+    c.reach.ensures.len ∙ wide
+
+pub mark_changed-requires-clause-reached : goal.mark_changed-requires-clause-reached
+mark_changed-requires-clause-reached g c = rw (← c.self.view_is) at c.reach.ensures.reached
+
 pub invariant_of-self-2 : goal.invariant_of-self-2
 invariant_of-self-2 g c =
     let R = g.G.Grid.rules in

@@ -2,7 +2,7 @@ use Rattle.std.proofs.Common.{◌≡◌, ℕ, ◌+◌, ◌-◌, ◌<◌, ◌≤�
 use Rattle.cell_table.specs.Seen.{row_at, held_at}
 use Rattle.cell_table.specs.Filling.{is_awake}
 use Rattle.cell_table.specs.Passing.{differing, woken}
-use Rattle.cell_table.proofs.rows.mark_changed.Given as goal
+use Rattle.cell_table.proofs.rows.mark_in_turn.Given as goal
 
 abbrev pub invariant-loop-component : goal.invariant-loop-component
 invariant-loop-component g l = record {
