@@ -1,7 +1,7 @@
 -- Versions of a table's cells that follow from what is noted, or are let go.
-use Rattle.std.proofs.Common.{◌≡◌, ℕ, ◌<◌, ◌≤◌, ◌∙◌, sym, ap, refl, arith, Bool, true, false, cond, eqb, eq-eqb, ◌&&◌, ◌||◌, ◌⊎◌, inl, inr, Option, List, [], length, get_or}
+use Rattle.std.proofs.Common.{◌≡◌, ℕ, ◌<◌, ◌≤◌, ◌∙◌, sym, ap, refl, arith, Bool, true, false, eq-eqb, ◌&&◌, ◌||◌, ◌⊎◌, inl, inr, Option, List, [], length, get_or}
 use Rattle.std.proofs.Math.ListN.{set}
-use Rattle.std.proofs.lemmas.Bool.{cases_eq, ne_eqb, true≢false, false≢true}
+use Rattle.std.proofs.lemmas.Bool.{cases_eq, ne_eqb, true≢false}
 use Rattle.state_line.specs.Lined.{Lined}
 use Rattle.cell_marks.specs.Marked.{Marked, is_set, union, count_in, row_at as marks_at, has as has_mark}
 use Rattle.cell_table.specs.Seen.{Held, held_at}

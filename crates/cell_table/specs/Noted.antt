@@ -1,5 +1,5 @@
 -- Versions that follow from which components changed one cycle earlier.
-use Rattle.std.specs.Prelude.{◌≡◌, ℕ, zero, suc, ◌+◌, ◌&&◌, ◌||◌, if◌then◌else◌, Bool, Option, None, Some, List, length, map, take, slice_index_or}
+use Rattle.std.specs.Prelude.{ℕ, zero, suc, ◌+◌, ◌&&◌, ◌||◌, if◌then◌else◌, Bool, Option, None, Some, List, length, map, take, slice_index_or}
 use Rattle.std.specs.List.{range_with_len}
 use Rattle.cell_marks.specs.Marked.{count_in}
 use Rattle.cell_table.specs.Seen.{Held}

@@ -53,7 +53,8 @@
 //! a step; and where nothing is due, one number tells it. Cycles that are all new are filled: each is
 //! computed before it is stored, and only components near one that changed are looked at. Cycles in which
 //! the same happens as in the one before, since each due cell gets the state of the cell before it, are
-//! settled at once.
+//! settled at once. What a cycle that is settled at once makes due is marked 64 cells in a step, and the next
+//! cycle's versions are not written: which components changed is noted there, and they follow from it.
 //!
 //! The crate stands on `grid_law` for grids and their laws, on `state_line` and `cell_marks`, on
 //! `arrayvec` for lists of near components, and on `smallvec` for short lists of versions.

@@ -1,4 +1,4 @@
-use Rattle.std.proofs.Common.{◌≡◌, ◌∙◌, ◌||◌, sym, ap, arith, length}
+use Rattle.std.proofs.Common.{◌∙◌, ◌||◌, sym, ap, arith, length}
 use Rattle.cell_marks.specs.Bits.{bit_in}
 use Rattle.cell_marks.proofs.Unions.{len_of, bit_of_row}
 use Rattle.cell_marks.proofs.row.join_row.Goals as goal

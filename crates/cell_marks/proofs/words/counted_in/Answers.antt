@@ -1,4 +1,4 @@
-use Rattle.std.proofs.Common.{◌≡◌, ◌+◌, ◌*◌, ◌≤◌, ◌∙◌, ap, arith, min}
+use Rattle.std.proofs.Common.{◌≡◌, ◌+◌, ◌*◌, ◌∙◌, ap, arith, min}
 use Rattle.std.proofs.lemmas.Nat.{ones-le}
 use Rattle.cell_marks.specs.Bits.{bits_of}
 use Rattle.cell_marks.specs.Marked.{count_in}

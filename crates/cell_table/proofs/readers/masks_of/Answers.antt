@@ -1,4 +1,4 @@
-use Rattle.std.proofs.Common.{◌≡◌, ℕ, ◌+◌, ◌<◌, ◌||◌, ◌∙◌, [], sym, ap, arith, ◌∷◌, length, length-append, get_or, false}
+use Rattle.std.proofs.Common.{◌≡◌, ◌<◌, ◌||◌, ◌∙◌, [], ap, arith, ◌∷◌, length, length-append, get_or, false}
 use Rattle.std.proofs.lemmas.List.{get_or_default, length-replicate}
 use Rattle.cell_marks.specs.Marked.{is_set}
 use Rattle.cell_table.specs.Readers.{has, readers_at}

@@ -1,4 +1,4 @@
-use Rattle.std.proofs.Common.{◌≡◌, ℕ, ◌<◌, length, []}
+use Rattle.std.proofs.Common.{◌≡◌, ℕ, ◌<◌, length}
 use Rattle.cell_marks.specs.Marked.{is_set, row_at}
 use Rattle.cell_table.specs.Readers.{has, readers_at}
 use Rattle.cell_table.proofs.readers.masks_of.Given as goal

@@ -1,8 +1,7 @@
-use Rattle.std.proofs.Common.{◌≡◌, ℕ, ◌+◌, ◌<◌, ◌≤◌, ◌∙◌, sym, ap, arith, length}
+use Rattle.std.proofs.Common.{◌≡◌, ℕ, ◌+◌, ◌<◌, ◌∙◌, sym, ap, arith}
 use Rattle.std.specs.Arc.{arc_value}
 use Rattle.cell_table.specs.Seen.{held_at}
 use Rattle.cell_table.specs.Readers.{has, near_at}
-use Rattle.cell_table.specs.Filling.{is_awake}
 use Rattle.cell_table.specs.Repeating.{any_changes}
 use Rattle.cell_table.specs.Noted.{noted}
 use Rattle.cell_table.proofs.Noted.{any_same, woken_noted}

@@ -1,7 +1,5 @@
-use Rattle.std.proofs.Common.{◌≡◌, ℕ, ◌+◌, ◌-◌, ◌<◌, ◌≤◌, ◌&&◌, ◌∙◌, sym, ap, subst, arith, false, take}
+use Rattle.std.proofs.Common.{◌≡◌, ◌+◌, ◌-◌, ◌<◌, ◌∙◌, sym, ap, arith, take}
 use Rattle.cell_marks.specs.Marked.{count_in}
-use Rattle.cell_table.specs.Readers.{has}
-use Rattle.cell_table.specs.Filling.{is_awake}
 use Rattle.cell_table.proofs.Noted.{version_unseen, version_last}
 use Rattle.cell_table.proofs.versions.version_near.Goals as goal
 

@@ -1,4 +1,4 @@
-use Rattle.std.proofs.Common.{◌≡◌, ◌≤◌, ◌∙◌, ap, arith, length, take}
+use Rattle.std.proofs.Common.{◌≤◌, ◌∙◌, ap, arith, length, take}
 use Rattle.cell_marks.specs.Bits.{bits_of}
 use Rattle.cell_marks.specs.Marked.{count_in}
 use Rattle.cell_marks.proofs.Added.{taken_bits}

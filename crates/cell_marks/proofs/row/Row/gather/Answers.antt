@@ -1,4 +1,4 @@
-use Rattle.std.proofs.Common.{◌≡◌, ◌∙◌, sym, ap, arith, length}
+use Rattle.std.proofs.Common.{◌∙◌, ap, arith, length}
 use Rattle.smallvec.proofs.SmallVecLemmas.{items-with_items}
 use Rattle.cell_marks.specs.Bits.{bits_of}
 use Rattle.cell_marks.specs.Marked.{is_set}

@@ -1,4 +1,4 @@
-use Rattle.std.proofs.Common.{◌≡◌, ◌<◌, ◌∙◌, sym, arith, length, true}
+use Rattle.std.proofs.Common.{◌∙◌, sym, arith, length}
 use Rattle.std.specs.Arc.{arc_value}
 use Rattle.cell_table.specs.Readers.{near_at}
 use Rattle.cell_table.proofs.Keeping.{seen_cycle, seen_length}

@@ -1,4 +1,4 @@
-use Rattle.std.proofs.Common.{◌≡◌, ◌<◌, ◌∙◌, ap, subst, sym, arith, length}
+use Rattle.std.proofs.Common.{◌≡◌, ◌∙◌, ap, arith, length}
 use Rattle.cell_marks.specs.Marked.{any_marks}
 use Rattle.cell_table.specs.Readers.{has, readers_at}
 use Rattle.cell_table.specs.Repeating.{any_changes}

@@ -1,4 +1,4 @@
-use Rattle.std.proofs.Common.{◌≡◌, ◌<◌, ◌∙◌, ap, arith, length}
+use Rattle.std.proofs.Common.{◌≡◌, ◌∙◌, ap, arith, length}
 use Rattle.cell_table.specs.Readers.{IsIndex}
 use Rattle.cell_table.specs.Repeating.{any_changes}
 use Rattle.cell_table.proofs.table.Table.reach.Goals as goal

@@ -1,4 +1,4 @@
-use Rattle.std.proofs.Common.{◌≡◌, ◌∙◌, ◌+◌, ◌<◌, ◌^◌, false, Err, ap, sym, subst}
+use Rattle.std.proofs.Common.{◌≡◌, ◌+◌, ◌<◌, ◌^◌, false, Err, ap, sym, subst}
 use Rattle.cell_table.specs.declared.given.StoreFault.TheVariants.{ClockSpent}
 use Rattle.cell_table.specs.Gives.{HoldsSame}
 use Rattle.cell_table.specs.Settling.{SettlesNext, IsSpentBefore, IsAt}

@@ -1,4 +1,4 @@
-use Rattle.std.proofs.Common.{◌≡◌, ◌<◌, ◌∙◌, sym, ap, arith, length, slice_index_or, Some, option_map}
+use Rattle.std.proofs.Common.{◌<◌, ◌∙◌, sym, ap, arith, length, slice_index_or, option_map}
 use Rattle.std.specs.Arc.{arc_value}
 use Rattle.cell_table.specs.Layout.{versions_of}
 use Rattle.cell_table.specs.Readers.{near_at}
