@@ -1,5 +1,5 @@
 -- States are told by their words, but for a module's memory.
-use Rattle.std.proofs.Common.{◌≡◌, ℕ, suc, ◌+◌, ◌%◌, ◌^◌, ◌<◌, ◌==◌, if◌then◌else◌, Bool, true, false, cond, nat_eq, List, [], ◌∷◌, length, drop, slice_index, ◌≢◌, refl, sym, ap, ◌∙◌, Option, Some, None, All, arith, Result, Ok, Err, IfOk}
+use Rattle.std.proofs.Common.{◌≡◌, ℕ, suc, ◌+◌, ◌%◌, ◌^◌, ◌==◌, if◌then◌else◌, Bool, true, false, cond, nat_eq, List, length, drop, slice_index, ◌≢◌, refl, sym, ap, ◌∙◌, Some, arith, Result, Ok, Err, IfOk}
 use Rattle.std.proofs.lemmas.Bool.{eqb-true}
 use Rattle.omega_net.specs.declared.component.Component.TheVariants.{Proc as ProcAt}
 use Rattle.mem_module.specs.declared.words.Stored.{Stored}

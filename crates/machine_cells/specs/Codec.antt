@@ -1,9 +1,9 @@
 -- The machine's states as words and memory: a module's memory is not among its words.
-use Rattle.std.specs.Prelude.{ℕ, List, [], Option, None, Some}
+use Rattle.std.specs.Prelude.{List, [], Option, None, Some}
 use Rattle.mem_module.specs.declared.words.Stored.{Stored}
 use Rattle.grid_law.specs.Codec.{Codec}
 use Rattle.machine_cells.specs.declared.state.MachineState.{MachineState}
-use Rattle.machine_cells.specs.declared.state.MachineState.TheVariants.{Proc, Module, Low, Comb}
+use Rattle.machine_cells.specs.declared.state.MachineState.TheVariants.{Module}
 use Rattle.machine_cells.specs.Words.{words_of, state_from}
 
 -- a module's memory; others have none

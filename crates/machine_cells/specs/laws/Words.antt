@@ -1,11 +1,10 @@
 -- No state has no words, and only a module's words leave something out.
-use Rattle.std.proofs.Common.{◌≡◌, ◌≢◌, ℕ, ◌%◌, ◌^◌, ◌==◌, if◌then◌else◌, Bool, true, false, cond, refl, List, [], ◌∷◌, drop, slice_index, Option, None, Some, nat_eq, rules}
+use Rattle.std.proofs.Common.{◌≡◌, ℕ, ◌%◌, ◌^◌, Bool, true, false, cond, refl, List, drop, slice_index, Option, None, nat_eq, rules}
 use Rattle.mem_module.specs.declared.words.Stored.{Stored}
 use Rattle.grid_law.specs.Codec.{CodecLaws}
-use Rattle.machine_cells.specs.declared.state.MachineState.{MachineState}
 use Rattle.machine_cells.specs.declared.state.MachineState.TheVariants.{Proc, Module, Low, Comb}
 use Rattle.state_words.specs.Reading.{proc_from, module_from, low_from, comb_from}
-use Rattle.machine_cells.specs.Words.{state_with, state_from}
+use Rattle.machine_cells.specs.Words.{state_from}
 use Rattle.machine_cells.specs.Codec.{memory_in, or_none, rp3_codec}
 
 -- by the kind that the head has
