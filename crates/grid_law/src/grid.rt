@@ -151,7 +151,7 @@ pub trait Grid {
     ///
     /// # Errors
     ///
-    /// Where a growth was refused. The memory is dropped.
+    /// Where a growth was refused, or the memory has as many owners as can be counted.
     fn decode(
         alloc: Global,
         words: &[u64],
