@@ -6,7 +6,7 @@ ghost use Rattle.omega_net.specs.declared.component.Component.TheVariants.{Proc 
 ghost use Rattle.omega_net.specs.declared.component.Net.TheVariants.{Low as LowNet, Comb as CombNet};
 ghost use Rattle.omega_net.specs.Wires.{net_number};
 ghost use Rattle.ref_proc.specs.RefProc.{net_for};
-ghost use Rattle.state_words.specs.States.{words_of};
+ghost use Rattle.machine_cells.specs.Words.{words_of};
 ghost use Rattle.state_words.specs.Words.{one_if};
 ghost use Rattle.flat_row.specs.Masks.{has};
 ghost use Rattle.flat_row.specs.Parts.{parts_body, parts_words};
@@ -16,13 +16,13 @@ use crate::bits::bit_in;
 use crate::read::{messages_at, ports};
 use crate::row::Row;
 use comb_switch::Waiting;
-use machine_cells::MachineState;
+use machine_cells::{MachineState, encode};
 use omega_net::{Component, Net, Reply, Request};
-use state_words::{bytes, encode, queues_head, write_messages};
+use state_words::{bytes, queues_head, write_messages};
 use std::alloc::AllocError;
 
 impl Row {
-    /// Appends the words of a component's state, as [`state_words::encode`] writes them: a module's memory is not among them. It takes
+    /// Appends the words of a component's state, as [`machine_cells::encode`] writes them: a module's memory is not among them. It takes
     /// memory only where there is no room for them.
     ///
     /// # Errors

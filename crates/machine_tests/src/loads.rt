@@ -5,10 +5,9 @@ ghost use Rattle.flat_row.specs.Row.{IsRowOf};
 
 use crate::rows::has;
 use flat_row::Row;
-use machine_cells::{MachineState, from_scratch};
+use machine_cells::{MachineState, encode, from_scratch};
 use omega_net::{Component, ScriptEntry};
 use project_book::{Edit, Project};
-use state_words::encode;
 use std::alloc::Global;
 use std::sync::Arc;
 use std::test::Fail;

@@ -1,5 +1,5 @@
-use Rattle.state_words.proofs.Saying as laws
-use Rattle.state_words.proofs.laws.words_tell.Goals as goal
+use Rattle.machine_cells.proofs.Telling as laws
+use Rattle.machine_cells.proofs.laws.words_tell.Goals as goal
 
 pub returns-clause-states : goal.returns-clause-states
 returns-clause-states c = laws.words_tell

@@ -1,4 +1,4 @@
--- The states of components as words.
+-- The states of components as words, and the state that words are.
 use Rattle.std.specs.Prelude.{ℕ, ◌%◌, ◌^◌, ◌==◌, if◌then◌else◌, List, [], ◌∷◌, drop, slice_index}
 use Rattle.mem_module.specs.declared.words.Stored.{Stored}
 use Rattle.machine_cells.specs.declared.state.MachineState.{MachineState}
