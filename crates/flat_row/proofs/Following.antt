@@ -1,16 +1,12 @@
 -- A row under another project has the states that it had.
-use Rattle.std.proofs.Common.{◌≡◌, ℕ, suc, ◌+◌, ◌<◌, ◌≤◌, Bool, true, false, List, [], ◌∷◌, length, get_or, refl, ap, sym, ◌∙◌, subst, ◌⊎◌, inl, inr, Option, Some, arith}
-use Rattle.std.proofs.Math.ListN.{set, length-set}
-use Rattle.std.proofs.lemmas.List.{get_or-set_same, get_or-set_other, get_or_past, get_or_default}
+use Rattle.std.proofs.Common.{◌≡◌, ℕ, suc, ◌<◌, ◌≤◌, List, length, refl, ap, sym, ◌∙◌, ◌⊎◌, inl, inr, Some, arith}
+use Rattle.std.proofs.lemmas.List.{get_or_past}
 use Rattle.std.proofs.lemmas.Bool.{cases_lt}
 use Rattle.arrayvec.specs.ArrayVec.{ArrayVec}
 use Rattle.omega_net.specs.declared.component.Net.{Net}
 use Rattle.omega_net.specs.declared.component.Net.TheVariants.{Low as LowNet, Comb as CombNet}
 use Rattle.omega_net.specs.declared.component.Component.{Component}
 use Rattle.omega_net.specs.declared.component.Component.TheVariants.{Proc as ProcAt, Module as ModuleAt, Switch}
-use Rattle.omega_net.specs.declared.message.Request.{Request}
-use Rattle.omega_net.specs.declared.message.Reply.{Reply}
-use Rattle.omega_net.specs.Numbers.{lines}
 use Rattle.omega_net.specs.Queues.{head}
 use Rattle.omega_net.specs.Ports.{queue_at}
 use Rattle.comb_switch.specs.declared.waiting.Waiting.{Waiting}
@@ -18,11 +14,9 @@ use Rattle.machine_cells.specs.declared.state.MachineState.TheVariants.{Proc, Mo
 use Rattle.project_book.specs.Project.{Project}
 use Rattle.flat_row.specs.declared.marks.Rule.{Rule}
 use Rattle.flat_row.specs.Labels.{switch_label}
-use Rattle.flat_row.specs.Masks.{has}
 use Rattle.flat_row.specs.Queues.{Queues}
-use Rattle.flat_row.specs.Row.{Network, Arrays, IsRow, IsRowOf, IsNetworkOf, HasLevels, HasNetwork, no_queues, level_at, queue_of, port_label, turn_of, low_of, comb_of, module_of, proc_of, out_from, state_of, states_of, buffers_at, wait_of, combined_of, request_rule, reply_rule}
+use Rattle.flat_row.specs.Row.{Network, Arrays, no_queues, level_at, queue_of, port_label, turn_of, low_of, comb_of, proc_of, state_of, states_of, buffers_at, wait_of, combined_of, request_rule, reply_rule}
 use Rattle.flat_row.specs.Follow.{Follows, NetworkFollows}
-use Rattle.flat_row.proofs.Starting.{none_in}
 use Rattle.flat_row.proofs.Loading.{low_same, comb_same, module_same, showing}
 use Rattle.flat_row.proofs.Cycling.{states_alike}
 
@@ -42,15 +36,6 @@ module _ {T : Type 0} (rule : ℕ → Rule) (old new : List (Queues T)) (follows
       by_place (inr h) =
           ap (λ (q : Queues T). queue_at q.queues x) (get_or_past new l no_queues (omega (arith, h, follows.many)) ∙ sym (get_or_past old l no_queues h))
 
-  pub levels_kept : (count most : ℕ) → HasLevels count most old → HasLevels count most new
-  levels_kept count most there = record {
-    many = follows.many ∙ there.many;
-    each = λ l h. ap (λ (q : Queues T). length q.queues) (follows.each l (omega (arith, h, there.many))) ∙ there.each l h;
-  }
-
-  pub rule_is : (l : ℕ) → l < length old → (level_at new l).rule ≡ rule l
-  rule_is l h = ap (λ (q : Queues T). q.rule) (follows.each l h)
-
 module _ (P : Project) (net : Net) (old new : Network) (follows : NetworkFollows P net old new) where
   requests_kept : (l x : ℕ) → queue_of new.requests l x ≡ queue_of old.requests l x
   requests_kept = queue_kept (request_rule P net) old.requests new.requests follows.requests
@@ -63,20 +48,6 @@ module _ (P : Project) (net : Net) (old new : Network) (follows : NetworkFollows
 
   back_kept : (s x : ℕ) → turn_of new.back_turns s x ≡ turn_of old.back_turns s x
   back_kept s x = ap (λ ts. turn_of ts s x) follows.back_turns
-
-  network_kept : (k : ℕ) → HasNetwork k old → HasNetwork k new
-  network_kept k there = record {
-    requests = levels_kept (request_rule P net) old.requests new.requests follows.requests (k + 2) (lines k) there.requests;
-    replies = levels_kept (reply_rule P net) old.replies new.replies follows.replies (k + 1) (lines k) there.replies;
-    turns = ap length follows.turns ∙ there.turns;
-    back_turns = ap length follows.back_turns ∙ there.back_turns;
-  }
-
-  network_of : HasNetwork P.k old → IsNetworkOf P net new
-  network_of there = record {
-    requests = λ l h. rule_is (request_rule P net) old.requests new.requests follows.requests l (omega (arith, h, there.requests.many));
-    replies = λ l h. rule_is (reply_rule P net) old.replies new.replies follows.replies l (omega (arith, h, there.replies.many));
-  }
 
   low_kept : (k s j : ℕ) → low_of k new s j ≡ low_of k old s j
   low_kept k s j =
@@ -91,7 +62,7 @@ module _ (P : Project) (net : Net) (old new : Network) (follows : NetworkFollows
       (back_kept s (port_label k s j 0)) refl
 
 -- both networks of a row follow, and nobody rests
-module _ (P : Project) (R : Arrays) (L C : Network) (row : IsRow R) (size : R.k ≡ P.k) (low : NetworkFollows P LowNet R.low L) (comb : NetworkFollows P CombNet R.comb C) where
+module _ (P : Project) (R : Arrays) (L C : Network) (low : NetworkFollows P LowNet R.low L) (comb : NetworkFollows P CombNet R.comb C) where
   abbrev pub following : Arrays
   following = record R { low = L; comb = C; rests = 0 }
 
@@ -100,26 +71,6 @@ module _ (P : Project) (R : Arrays) (L C : Network) (row : IsRow R) (size : R.k 
 
   shown_comb : (p : ℕ) → queue_of C.requests 0 p ≡ queue_of R.comb.requests 0 p
   shown_comb p = requests_kept P CombNet R.comb C comb 0 p
-
-  pub following_is_row : IsRow following
-  following_is_row = record {
-    small = row.small;
-    low = network_kept P LowNet R.low L low R.k row.low;
-    comb = network_kept P CombNet R.comb C comb R.k row.comb;
-    buffers = row.buffers;
-    entries = row.entries;
-    procs = row.procs;
-    words = row.words;
-    one_out = λ p. omega (arith, row.one_out p, ap (λ q. length q.items) (shown_low p), ap (λ q. length q.items) (shown_comb p));
-  }
-
-  pub following_is_of : IsRowOf P following
-  following_is_of = record {
-    size = size;
-    low = network_of P LowNet R.low L low (subst (λ k. HasNetwork k R.low) size row.low);
-    comb = network_of P CombNet R.comb C comb (subst (λ k. HasNetwork k R.comb) size row.comb);
-    rest = λ p h so. absurd (none_in p so);
-  }
 
   pub following_each : (c : Component) → state_of following (Some c) ≡ state_of R (Some c)
   following_each (ProcAt p) = ap Proc (
