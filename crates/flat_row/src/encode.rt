@@ -158,7 +158,8 @@ impl Row {
         ensures fits { result < 2 ^ 32 }
     {
         self.is_row();
-        let (turns, back) = (self.low.turns[s], self.low.back_turns[s]);
+        let side = &self.low;
+        let (turns, back) = (side.turns[s], side.back_turns[s]);
         bytes(
             bit_in(turns, x),
             bit_in(turns, y),
