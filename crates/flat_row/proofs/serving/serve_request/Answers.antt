@@ -1,4 +1,4 @@
-use Rattle.std.proofs.Common.{◌≡◌, true, false, ap, sym, ◌∙◌, eq-eqb}
+use Rattle.std.proofs.Common.{ap, sym, ◌∙◌, eq-eqb}
 use Rattle.std.specs.Prelude.{not}
 use Rattle.std.proofs.lemmas.Bool.{false≢true}
 use Rattle.flat_row.proofs.Writing.{other_words}
