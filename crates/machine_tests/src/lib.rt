@@ -6,6 +6,8 @@
 #[cfg(test)]
 mod cells;
 #[cfg(test)]
+mod edits;
+#[cfg(test)]
 mod loads;
 #[cfg(test)]
 mod rows;

@@ -29,7 +29,7 @@ const ENTRIES: [(u32, bool, Kind, u32, u32); 8] = [
 const CYCLES: usize = 60;
 
 /// Eight processors that ask for words 0 and 3 through both networks.
-fn eight(alloc: Global) -> Result<Project, Fail> {
+pub(crate) fn eight(alloc: Global) -> Result<Project, Fail> {
     let mut project = Project::new(alloc, 3, 60)?.ok_or("no such project")?;
     for (proc, sync, kind, address, times) in ENTRIES {
         let entry = ScriptEntry::Reference {
@@ -71,7 +71,9 @@ fn words_are_states(alloc: Global, project: &Project, row: &Row) -> Result<bool,
         encode(&row.read(alloc, component)?, &mut told)?;
         let mut words = Vec::new(alloc);
         row.words(component, &mut words)?;
-        if words.as_slice() != told.as_slice() {
+        if words.as_slice() != told.as_slice()
+            || words.first() != Some(&row.first_word(component))
+        {
             return Ok(false);
         }
     }
@@ -123,7 +125,12 @@ fn load_memory(
 }
 
 /// Loads all components out of another row.
-fn load_all(alloc: Global, project: &Project, from: &Row, to: &mut Row) -> Result<(), Fail>
+pub(crate) fn load_all(
+    alloc: Global,
+    project: &Project,
+    from: &Row,
+    to: &mut Row,
+) -> Result<(), Fail>
     requires from { IsRowOf project.now from.now }
     requires to { IsRowOf project.now to.old }
     ensures { IsRowOf project.now to.new }
