@@ -1,11 +1,11 @@
 -- What begins before a place, and from it on.
-use Rattle.std.proofs.Common.{◌≡◌, ℕ, zero, suc, ◌+◌, ◌-◌, ◌<◌, ◌≤◌, ◌∙◌, ◌⊎◌, inl, inr, sym, ap, subst, refl, arith, Bool, true, false, cond, eqb, leb, ◌||◌, min, Option, None, List, [], ◌∷◌, ◌++◌, length, take, drop, get_or}
-use Rattle.std.proofs.lemmas.Bool.{cases_lt, le-leb, lt-leb, eqb-true, eq-eqb, false≢true, or_left, or_right}
+use Rattle.std.proofs.Common.{◌≡◌, ℕ, zero, suc, ◌+◌, ◌-◌, ◌<◌, ◌≤◌, ◌∙◌, ◌⊎◌, inl, inr, sym, ap, subst, refl, arith, Bool, true, false, cond, eqb, ◌||◌, None, List, [], ◌∷◌, ◌++◌, length, take, drop, get_or}
+use Rattle.std.proofs.lemmas.Bool.{cases_lt, le-leb, eqb-true, eq-eqb, false≢true, or_left, or_right}
 use Rattle.std.proofs.lemmas.List.{get_or_default, drop_more, drop_all, take_more, take-append-drop, append-nil, set_split}
 use Rattle.std.proofs.Math.ListN.{set}
 use Rattle.change_lists.specs.declared.begun.Begun.{Begun}
 use Rattle.change_lists.specs.Changes.{standing, begins, starts, first_or, Rises, IsPlace}
-use Rattle.change_lists.proofs.Standing.{rises_le, rises_append, standing_append, standing_late, standing_begun, begins_append, begins_early, begins_first, begins_late, rises_later}
+use Rattle.change_lists.proofs.Standing.{rises_append, standing_append, standing_late, begins_append, begins_early, begins_first, begins_late, rises_later}
 
 module _ {V : Type 0} where
   from_low : (low high : ℕ) (xs : List (Begun V)) (k : ℕ) (d : Begun V) → Rises low xs high → k < length xs → low ≤ (get_or xs k d).from
@@ -44,12 +44,14 @@ module _ {V : Type 0} where
   pub split_low : (low high t n : ℕ) (xs : List (Begun V)) → Rises low xs high → low ≤ t → IsPlace xs t n → Rises low (take n xs) t
   split_low low high t zero xs h l p = l
   split_low low high t (suc n) [] h l p = absurd (omega (arith, p.within))
-  split_low low high t (suc n) (b ∷ rest) h l p =
-      (h.0, split_low (b.from + 1) high t n rest h.1 (omega (arith, p.before 0 b (omega arith))) (record {
-        within = omega (arith, p.within);
-        before = λ k d m. p.before (suc k) d (omega arith);
-        behind = λ k d m w. p.behind (suc k) d (omega arith) (omega arith);
-      }))
+  split_low low high t (suc n) (b ∷ rest) h l p = (
+    h.0,
+    split_low (b.from + 1) high t n rest h.1 (omega (arith, p.before 0 b (omega arith))) (record {
+      within = omega (arith, p.within);
+      before = λ k d m. p.before (suc k) d (omega arith);
+      behind = λ k d m w. p.behind (suc k) d (omega arith) (omega arith);
+    }),
+  )
 
   pub split_high : (low high t n : ℕ) (xs : List (Begun V)) → Rises low xs high → t ≤ high → IsPlace xs t n → Rises t (drop n xs) high
   split_high low high t zero [] h l p = l
@@ -114,21 +116,23 @@ module _ {V : Type 0} where
       let q : take (n + 1) xs ≡ take n xs ++ get_or xs n d ∷ [] = take_more xs n d f.0 in
       let low : Rises 0 (take n xs) t = split_low 0 high t n xs h (omega arith) p in
       let one : Rises t (get_or xs n d ∷ []) (t + 1) = (omega (arith, f.2), omega (arith, f.2)) in
-      let whole : take (n + 1) xs ++ drop (n + 1) xs ≡ xs = take-append-drop (n + 1) xs in
-      (f.0,
-       subst (λ ys. Rises 0 ys (t + 1)) (sym q) (rises_append 0 t (t + 1) (take n xs) (get_or xs n d ∷ []) low one),
-       sym (ap (λ ys. standing ys t None) (sym whole)
-         ∙ standing_append (take (n + 1) xs) (drop (n + 1) xs) t None
-         ∙ standing_late (t + 1) high t (drop (n + 1) xs) (standing (take (n + 1) xs) t None) f.3 (omega arith)))
+      let whole : take (n + 1) xs ++ drop (n + 1) xs ≡ xs = take-append-drop (n + 1) xs in (
+        f.0,
+        subst (λ ys. Rises 0 ys (t + 1)) (sym q) (rises_append 0 t (t + 1) (take n xs) (get_or xs n d ∷ []) low one),
+        sym (ap (λ ys. standing ys t None) (sym whole)
+            ∙ standing_append (take (n + 1) xs) (drop (n + 1) xs) t None
+            ∙ standing_late (t + 1) high t (drop (n + 1) xs) (standing (take (n + 1) xs) t None) f.3 (omega arith)),
+      )
 
   pub stands_before : (high t n : ℕ) (xs : List (Begun V)) → Rises 0 xs high → t < high → IsPlace xs t n → starts (drop n xs) t ≡ false → Rises 0 (take n xs) (t + 1) × (standing (take n xs) t None ≡ standing xs t None)
   stands_before high t n xs h l p s =
       let low : Rises 0 (take n xs) t = split_low 0 high t n xs h (omega arith) p in
-      let up : Rises (t + 1) (drop n xs) high = rises_later high t (drop n xs) (split_high 0 high t n xs h (omega arith) p) s l in
-      (subst (λ ys. Rises 0 ys (t + 1)) (append_none (take n xs)) (rises_append 0 t (t + 1) (take n xs) [] low (omega arith)),
-       sym (ap (λ ys. standing ys t None) (sym (take-append-drop n xs))
-         ∙ standing_append (take n xs) (drop n xs) t None
-         ∙ standing_late (t + 1) high t (drop n xs) (standing (take n xs) t None) up (omega arith)))
+      let up : Rises (t + 1) (drop n xs) high = rises_later high t (drop n xs) (split_high 0 high t n xs h (omega arith) p) s l in (
+        subst (λ ys. Rises 0 ys (t + 1)) (append_none (take n xs)) (rises_append 0 t (t + 1) (take n xs) [] low (omega arith)),
+        sym (ap (λ ys. standing ys t None) (sym (take-append-drop n xs))
+            ∙ standing_append (take n xs) (drop n xs) t None
+            ∙ standing_late (t + 1) high t (drop n xs) (standing (take n xs) t None) up (omega arith)),
+      )
     where
       append_none : (ys : List (Begun V)) → ys ++ [] ≡ ys
       append_none ys = append-nil ys

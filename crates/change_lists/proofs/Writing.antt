@@ -1,6 +1,6 @@
 -- A change list with another value at some cycles.
-use Rattle.std.proofs.Common.{◌≡◌, ℕ, zero, suc, ◌+◌, ◌-◌, ◌<◌, ◌≤◌, ◌∙◌, ◌⊎◌, inl, inr, sym, ap, subst, refl, arith, Bool, true, false, cond, eqb, leb, ◌||◌, Option, Some, None, List, [], ◌∷◌, ◌++◌, length, take, drop, get_or, length-append, append_assoc}
-use Rattle.std.proofs.lemmas.Bool.{cases_lt, le-leb, lt-leb, eq-eqb, ne_eqb, false≢true, or_left, or_right, or_parts}
+use Rattle.std.proofs.Common.{◌≡◌, ℕ, zero, suc, ◌+◌, ◌-◌, ◌<◌, ◌≤◌, ◌∙◌, ◌⊎◌, inl, inr, sym, ap, subst, refl, arith, Bool, true, false, cond, eqb, ◌||◌, Option, Some, None, List, [], ◌∷◌, ◌++◌, length, take, drop, get_or, length-append, append_assoc}
+use Rattle.std.proofs.lemmas.Bool.{cases_lt, le-leb, eq-eqb, ne_eqb, false≢true, or_left, or_right, or_parts}
 use Rattle.std.proofs.lemmas.List.{take-append-drop, take_at, drop_at, length-take-le}
 use Rattle.change_lists.specs.declared.begun.Begun.{Begun}
 use Rattle.change_lists.specs.Changes.{standing, standing_before, begins, starts, Rises, IsPlace, IsWritten, IsCut}
@@ -58,9 +58,9 @@ module _ {V : Type 0} (before old_here new_here rest : List (Begun V)) (from to 
   old_late t l =
       split_old t
       ∙ ap (λ (o : Option V). standing rest t o)
-        (standing_begun from (from + 1) t (to - 1) old_here (standing before t None) old_is (omega (arith, some)) (omega (arith, some))
-        ∙ ap (λ (o : Option V). standing old_here (to - 1) o) (standing_begun 0 from t (to - 1) before None early (omega (arith, some)) (omega (arith, some)))
-        ∙ stood_is)
+      (standing_begun from (from + 1) t (to - 1) old_here (standing before t None) old_is (omega (arith, some)) (omega (arith, some))
+      ∙ ap (λ (o : Option V). standing old_here (to - 1) o) (standing_begun 0 from t (to - 1) before None early (omega (arith, some)) (omega (arith, some)))
+      ∙ stood_is)
 
   old_last : standing old (to - 1) None ≡ stood
   old_last =
@@ -122,12 +122,13 @@ module _ {V : Type 0} (before old_here new_here rest : List (Begun V)) (from to 
   goes : (again : Bool) → Yes again → again ≡ true → (to < end) × (begins old to ≡ false) × (standing (new again) to None ≡ standing old (to - 1) None)
   goes false on e = absurd (false≢true e)
   goes true on e = (
-      (on e).0,
-      begins_end old_here rest old_is ∙ begins_late (to + 1) high to rest (on e).1 (omega arith),
-      split_new true to
-      ∙ ap (λ (c : Bool). standing rest to (cond c stood (standing new_here to (standing before to None)))) (le-leb to to (omega arith))
-      ∙ standing_late (to + 1) high to rest stood (on e).1 (omega arith)
-      ∙ sym old_last)
+    (on e).0,
+    begins_end old_here rest old_is ∙ begins_late (to + 1) high to rest (on e).1 (omega arith),
+    split_new true to
+        ∙ ap (λ (c : Bool). standing rest to (cond c stood (standing new_here to (standing before to None)))) (le-leb to to (omega arith))
+        ∙ standing_late (to + 1) high to rest stood (on e).1 (omega arith)
+        ∙ sym old_last,
+  )
 
   pub written : (again : Bool) → Yes again → No again → IsWritten old (new again) from to end value again
   written again on off = record {
@@ -142,8 +143,8 @@ module _ {V : Type 0} (before old_here new_here rest : List (Begun V)) (from to 
   pub new_rises : (again : Bool) → Yes again → Rises 0 (new again) high
   new_rises again on =
       rises_append 0 from high before (new_here ++ tail again) early
-        (rises_append from (from + 1) high new_here (tail again) new_is
-          (rises_from (from + 1) to high (tail again) (omega (arith, some)) (tail_rises again on)))
+      (rises_append from (from + 1) high new_here (tail again) new_is
+      (rises_from (from + 1) to high (tail again) (omega (arith, some)) (tail_rises again on)))
 
 module _ {V : Type 0} where
   -- what stands before a cycle is that of those that begin before it
@@ -173,12 +174,13 @@ module _ {V : Type 0} (xs : List (Begun V)) (t i end high : ℕ) (value : V) (st
   back = omega arith
 
   put_over : (here rest : List (Begun V)) → drop i xs ≡ here ++ rest → Rises t here (t + 1) → Rises (t + 1) rest high → (again ≡ true → (t + 1 < end) × (starts rest (t + 1) ≡ false)) → (again ≡ false → t + 1 < end → starts rest (t + 1) ≡ true) → Put (with_value rest)
-  put_over here rest split here_is rest_is on off =
-      (subst (λ ys. IsWritten ys (with_value rest) t (t + 1) end (Some value) again) whole
-         (written (take i xs) here ((record { from = t; value = Some value }) ∷ []) rest t (t + 1) end high (Some value) stood (omega arith) early here_is now_is rest_is value_is stands again goes ends),
-       new_rises (take i xs) here ((record { from = t; value = Some value }) ∷ []) rest t (t + 1) end high (Some value) stood (omega arith) early here_is now_is rest_is value_is stands again goes,
-       begins_append (take i xs) ((record { from = t; value = Some value }) ∷ (cond again ((record { from = t + 1; value = stood }) ∷ rest) rest)) t
-         ∙ or_right (begins (take i xs) t) (eqb t t || begins (cond again ((record { from = t + 1; value = stood }) ∷ rest) rest) t) (or_left (eqb t t) (begins (cond again ((record { from = t + 1; value = stood }) ∷ rest) rest) t) (eq-eqb t t refl)))
+  put_over here rest split here_is rest_is on off = (
+    subst (λ ys. IsWritten ys (with_value rest) t (t + 1) end (Some value) again) whole
+        (written (take i xs) here ((record { from = t; value = Some value }) ∷ []) rest t (t + 1) end high (Some value) stood (omega arith) early here_is now_is rest_is value_is stands again goes ends),
+    new_rises (take i xs) here ((record { from = t; value = Some value }) ∷ []) rest t (t + 1) end high (Some value) stood (omega arith) early here_is now_is rest_is value_is stands again goes,
+    begins_append (take i xs) ((record { from = t; value = Some value }) ∷ (cond again ((record { from = t + 1; value = stood }) ∷ rest) rest)) t
+        ∙ or_right (begins (take i xs) t) (eqb t t || begins (cond again ((record { from = t + 1; value = stood }) ∷ rest) rest) t) (or_left (eqb t t) (begins (cond again ((record { from = t + 1; value = stood }) ∷ rest) rest) t) (eq-eqb t t refl)),
+  )
     where
       now_is : Rises t ((record { from = t; value = Some value }) ∷ []) (t + 1)
       now_is = (omega arith, omega arith)
@@ -192,9 +194,9 @@ module _ {V : Type 0} (xs : List (Begun V)) (t i end high : ℕ) (value : V) (st
       at_t : standing here t (standing (take i xs) t None) ≡ stood
       at_t =
           sym (ap (λ ys. standing ys t None) (sym whole)
-            ∙ standing_append (take i xs) (here ++ rest) t None
-            ∙ standing_append here rest t (standing (take i xs) t None)
-            ∙ standing_late (t + 1) high t rest (standing here t (standing (take i xs) t None)) rest_is (omega arith))
+          ∙ standing_append (take i xs) (here ++ rest) t None
+          ∙ standing_append here rest t (standing (take i xs) t None)
+          ∙ standing_late (t + 1) high t rest (standing here t (standing (take i xs) t None)) rest_is (omega arith))
           ∙ sym stood_is
 
       stands : standing here (t + 1 - 1) (standing (take i xs) (t + 1 - 1) None) ≡ stood
@@ -246,14 +248,17 @@ module _ {V : Type 0} (xs : List (Begun V)) (from to i end high : ℕ)
   none_in front rest e u l m = (or_parts (begins front u) (begins rest u) (sym (begins_append front rest u) ∙ ap (λ ys. begins ys u) (sym e) ∙ none u (omega arith) m)).1
 
   pub go_on_none : starts (drop i xs) from ≡ false → IsWritten xs xs from to end (standing_before xs from) false × (begins xs from ≡ false)
-  go_on_none s = (record {
+  go_on_none s = (
+    record {
       here = λ u l m. stands u l m;
       earlier = λ u l. refl;
       later = λ u l m. refl;
       begin_again = sym (or_none (begins xs to) false refl);
       begin_else = λ u n m. refl;
       goes_on = λ e. absurd (false≢true e);
-    }, begins_at_place high from i xs rises (omega (arith, some, low)) place ∙ s)
+    },
+    begins_at_place high from i xs rises (omega (arith, some, low)) place ∙ s,
+  )
     where
       rest_is : Rises to (drop i xs) high
       rest_is = rises_behind (from + 1) high to (drop i xs) (rises_later high from (drop i xs) high_is s (omega (arith, some, low))) (omega (arith, low)) (none_in (take i xs) (drop i xs) (sym (take-append-drop i xs)))
@@ -270,13 +275,14 @@ module _ {V : Type 0} (xs : List (Begun V)) (from to i end high : ℕ)
   on_again again d = take i xs ++ cond again ((record { from = to; value = (get_or xs i d).value }) ∷ drop (i + 1) xs) (drop (i + 1) xs)
 
   pub go_on_at : (again : Bool) (d : Begun V) → starts (drop i xs) from ≡ true → (again ≡ true → (to < end) × (starts (drop (i + 1) xs) to ≡ false)) → (again ≡ false → to < end → starts (drop (i + 1) xs) to ≡ true) → IsWritten xs (on_again again d) from to end (standing_before xs from) again × Rises 0 (on_again again d) high × (begins (on_again again d) from ≡ false)
-  go_on_at again d s on off =
-      (subst (λ ys. IsWritten ys (on_again again d) from to end (standing_before xs from) again) whole
-         (written (take i xs) (get_or xs i d ∷ []) [] (drop (i + 1) xs) from to end high (standing_before xs from) (get_or xs i d).value some low_is one_is nothing_is rest_is value_is stands again goes ends),
-       new_rises (take i xs) (get_or xs i d ∷ []) [] (drop (i + 1) xs) from to end high (standing_before xs from) (get_or xs i d).value some low_is one_is nothing_is rest_is value_is stands again goes,
-       begins_append (take i xs) (cond again ((record { from = to; value = (get_or xs i d).value }) ∷ drop (i + 1) xs) (drop (i + 1) xs)) from
-         ∙ ap (λ (b : Bool). b || begins (cond again ((record { from = to; value = (get_or xs i d).value }) ∷ drop (i + 1) xs) (drop (i + 1) xs)) from) (begins_early 0 from from (take i xs) low_is (omega arith))
-         ∙ begins_late to high from (cond again ((record { from = to; value = (get_or xs i d).value }) ∷ drop (i + 1) xs) (drop (i + 1) xs)) (tail_is again goes) some)
+  go_on_at again d s on off = (
+    subst (λ ys. IsWritten ys (on_again again d) from to end (standing_before xs from) again) whole
+        (written (take i xs) (get_or xs i d ∷ []) [] (drop (i + 1) xs) from to end high (standing_before xs from) (get_or xs i d).value some low_is one_is nothing_is rest_is value_is stands again goes ends),
+    new_rises (take i xs) (get_or xs i d ∷ []) [] (drop (i + 1) xs) from to end high (standing_before xs from) (get_or xs i d).value some low_is one_is nothing_is rest_is value_is stands again goes,
+    begins_append (take i xs) (cond again ((record { from = to; value = (get_or xs i d).value }) ∷ drop (i + 1) xs) (drop (i + 1) xs)) from
+        ∙ ap (λ (b : Bool). b || begins (cond again ((record { from = to; value = (get_or xs i d).value }) ∷ drop (i + 1) xs) (drop (i + 1) xs)) from) (begins_early 0 from from (take i xs) low_is (omega arith))
+        ∙ begins_late to high from (cond again ((record { from = to; value = (get_or xs i d).value }) ∷ drop (i + 1) xs) (drop (i + 1) xs)) (tail_is again goes) some,
+  )
     where
       f : (i < length xs) × (drop i xs ≡ get_or xs i d ∷ drop (i + 1) xs) × ((get_or xs i d).from ≡ from) × Rises (from + 1) (drop (i + 1) xs) high
       f = first_at high xs i from d high_is s
@@ -320,12 +326,14 @@ module _ {V : Type 0} (xs : List (Begun V)) (from to i end high : ℕ)
 
 -- nothing begins from a cycle on
 pub cut_at : {V : Type 0} (xs : List (Begun V)) (n i high : ℕ) → Rises 0 xs high → n < high → IsPlace xs n i → IsCut xs (take i xs) n × Rises 0 (take i xs) high
-cut_at xs n i high rises l place =
-    (record {
-      earlier = λ t k. sym (ap (λ ys. standing ys t None) (sym (take-append-drop i xs)) ∙ standing_append (take i xs) (drop i xs) t None ∙ standing_late n high t (drop i xs) (standing (take i xs) t None) late k);
-      begin_earlier = λ t k. sym (ap (λ ys. begins ys t) (sym (take-append-drop i xs)) ∙ begins_append (take i xs) (drop i xs) t ∙ or_none (begins (take i xs) t) (begins (drop i xs) t) (begins_late n high t (drop i xs) late k));
-      begin_later = λ t k. begins_early 0 n t (take i xs) early k;
-    }, rises_to 0 n high (take i xs) (omega (arith, l)) early)
+cut_at xs n i high rises l place = (
+  record {
+    earlier = λ t k. sym (ap (λ ys. standing ys t None) (sym (take-append-drop i xs)) ∙ standing_append (take i xs) (drop i xs) t None ∙ standing_late n high t (drop i xs) (standing (take i xs) t None) late k);
+    begin_earlier = λ t k. sym (ap (λ ys. begins ys t) (sym (take-append-drop i xs)) ∙ begins_append (take i xs) (drop i xs) t ∙ or_none (begins (take i xs) t) (begins (drop i xs) t) (begins_late n high t (drop i xs) late k));
+    begin_later = λ t k. begins_early 0 n t (take i xs) early k;
+  },
+  rises_to 0 n high (take i xs) (omega (arith, l)) early,
+)
   where
     early : Rises 0 (take i xs) n
     early = split_low 0 high n i xs rises (omega arith) place
@@ -340,9 +348,9 @@ put_done {V} xs a b d n m t i next end high value stood here again ea eb ed rise
     let q : starts (drop next d) (t + 1) ≡ starts (drop (cond here (i + 1) i) xs) (t + 1) = ap (λ ys. starts (drop next ys) (t + 1)) ed ∙ ap (λ k. starts (drop k xs) (t + 1)) next_is in
     let w = put_at xs t i end high value stood again rises low p stood_is here (here_is ∙ ap (λ ys. starts (drop i ys) t) eb) (λ e. ((on e).0, sym q ∙ (on e).1)) (λ e l. sym q ∙ off e l) in
     let s : m ≡ take i xs ++ (record { from = t; value = Some value }) ∷ cond again ((record { from = t + 1; value = stood }) ∷ drop (cond here (i + 1) i) xs) (drop (cond here (i + 1) i) xs) =
-      m_is
-      ∙ ap (λ zs. take (i + 1) zs ++ cond again ((record { from = t + 1; value = stood }) ∷ drop (i + 1) zs) (drop (i + 1) zs)) n_is
-      ∙ put_twice xs (drop (cond here (i + 1) i) xs) i (record { from = t; value = Some value }) (record { from = t + 1; value = stood }) again p.within in
+    m_is
+    ∙ ap (λ zs. take (i + 1) zs ++ cond again ((record { from = t + 1; value = stood }) ∷ drop (i + 1) zs) (drop (i + 1) zs)) n_is
+    ∙ put_twice xs (drop (cond here (i + 1) i) xs) i (record { from = t; value = Some value }) (record { from = t + 1; value = stood }) again p.within in
     subst (λ (ys : List (Begun V)). IsWritten xs ys t (t + 1) end (Some value) again × Rises 0 ys high × (begins ys t ≡ true)) (sym s) w
 
 pub go_on_done : {V : Type 0} (xs a b d m : List (Begun V)) (from to i end high : ℕ) (again : Bool) → a ≡ xs → b ≡ xs → d ≡ xs → from < to → Rises 0 xs high → to < high → IsPlace a from i → ((u : ℕ) → from < u → u < to → begins xs u ≡ false) → starts (drop i b) from ≡ true → (again ≡ true → (to < end) × (starts (drop (i + 1) d) to ≡ false)) → (again ≡ false → to < end → starts (drop (i + 1) d) to ≡ true) → ((e : Begun V) → m ≡ take i xs ++ cond again ((record { from = to; value = (get_or xs i e).value }) ∷ drop (i + 1) xs) (drop (i + 1) xs)) → IsWritten xs m from to end (standing_before xs from) again × Rises 0 m high × (begins m from ≡ false)

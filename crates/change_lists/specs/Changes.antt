@@ -2,6 +2,11 @@
 use Rattle.std.specs.Prelude.{◌≡◌, ℕ, zero, suc, ◌+◌, ◌-◌, ◌<◌, ◌≤◌, min, cond, nat_le, nat_eq, ◌||◌, Bool, true, false, Option, None, List, [], ◌∷◌, length, slice_index_or}
 use Rattle.change_lists.specs.declared.begun.Begun.{Begun}
 
+-- what begins for a component, and how many changes more there is memory for
+pub record Changes (V : Type 0) : Type 0 where
+  pub begun : List (Begun V)
+  pub room : ℕ
+
 module _ {V : Type 0} where
   -- the value of the last of them that begins at cycle t or before, else o
   abbrev pub standing : List (Begun V) → ℕ → Option V → Option V
@@ -55,16 +60,23 @@ module _ {V : Type 0} where
     pub begin_earlier : (t : ℕ) → t < n → begins new t ≡ begins old t
     pub begin_later : (t : ℕ) → n ≤ t → begins new t ≡ false
 
-  abbrev pub list_at : List (List (Begun V)) → ℕ → List (Begun V)
-  list_at lists c = slice_index_or lists c []
+  -- what there is of a component; nothing where there is no such one
+  abbrev pub changes_at : List (Changes V) → ℕ → Changes V
+  changes_at lists c = slice_index_or lists c (record { begun = []; room = 0 })
+
+  abbrev pub list_at : List (Changes V) → ℕ → List (Begun V)
+  list_at lists c = (changes_at lists c).begun
+
+  abbrev pub room_at : List (Changes V) → ℕ → ℕ
+  room_at lists c = (changes_at lists c).room
 
   -- the value that a cell holds, and what the cell a cycle before it holds
-  abbrev pub held_at : List (List (Begun V)) → ℕ → ℕ → Option V
+  abbrev pub held_at : List (Changes V) → ℕ → ℕ → Option V
   held_at lists c t = standing (list_at lists c) t None
 
-  abbrev pub held_before : List (List (Begun V)) → ℕ → ℕ → Option V
+  abbrev pub held_before : List (Changes V) → ℕ → ℕ → Option V
   held_before lists c t = standing_before (list_at lists c) t
 
   -- whether something begins at a cell
-  abbrev pub begins_at : List (List (Begun V)) → ℕ → ℕ → Bool
+  abbrev pub begins_at : List (Changes V) → ℕ → ℕ → Bool
   begins_at lists c t = begins (list_at lists c) t

@@ -1,5 +1,5 @@
 //! The changes of one component.
-ghost use Rattle.std.specs.Prelude.{◌≡◌, ℕ, ◌+◌, ◌<◌, ◌≤◌, ◌^◌, ◌∷◌, ◌++◌, [], None, Some, true, false, IfOk, OnErr, cond, length, take, drop, slice_index_or, vec_len, vec_capacity, insert};
+ghost use Rattle.std.specs.Prelude.{◌≡◌, ℕ, ◌+◌, ◌<◌, ◌≤◌, ◌^◌, ◌∷◌, ◌++◌, [], None, Some, true, false, OnOk, cond, length, take, drop, slice_index_or, vec_len, vec_capacity, insert};
 ghost use Rattle.std.specs.Option.{option_copied};
 ghost use Rattle.change_lists.specs.declared.begun.Begun.{Begun as Change};
 ghost use Rattle.change_lists.specs.Changes.{standing, standing_before, begins, starts, IsWritten, IsCut};
@@ -15,13 +15,12 @@ pub(crate) struct ChangeList<V> {
 }
 
 impl<V> Model for ChangeList<V> {
-    ghost use Rattle.std.specs.Prelude.{List, ◌^◌};
-    ghost use Rattle.change_lists.specs.declared.begun.Begun.{Begun as Change};
-    ghost use Rattle.change_lists.specs.Changes.{Rises};
+    ghost use Rattle.std.specs.Prelude.{◌-◌, ◌^◌, length, vec_capacity};
+    ghost use Rattle.change_lists.specs.Changes.{Changes, Rises};
 
-    ghost Value = { List (Change V) };
+    ghost Value = { Changes V };
 
-    ghost view = { λ l. l.begun.items };
+    ghost view = { λ l. record { begun = l.begun.items; room = vec_capacity l.begun - length l.begun.items } };
 
     ghost invariant = { λ l. Rises 0 l.begun.items (2 ^ 32) };
 }
@@ -40,13 +39,7 @@ fn insert_at<V: Drop>(begun: &mut Vec<Begun<V>>, i: usize, from: u32, value: Opt
 }
 
 /// One more at a place, where there is room, or none.
-fn insert_if<V: Drop>(
-    begun: &mut Vec<Begun<V>>,
-    again: bool,
-    i: usize,
-    from: u32,
-    value: Option<V>,
-)
+fn insert_if<V: Drop>(begun: &mut Vec<Begun<V>>, again: bool, i: usize, from: u32, value: Option<V>)
     requires place { i ≤ length begun.old.items }
     requires room { length begun.old.items < vec_capacity begun.old }
     ensures { begun.new.items ≡ take i begun.old.items ++ cond again ((record { from = from; value = value }) ∷ drop i begun.old.items) (drop i begun.old.items) }
@@ -121,7 +114,7 @@ fn goes_on<V>(begun: &[Begun<V>], i: usize, to: u32, end: u32) -> bool
 
 impl<V: Drop> ChangeList<V> {
     pub fn new(alloc: Global) -> ChangeList<V>
-        ensures { result ≡ [] }
+        ensures { result.begun ≡ [] }
     {
         ChangeList {
             begun: Vec::new(alloc),
@@ -129,21 +122,21 @@ impl<V: Drop> ChangeList<V> {
     }
 
     pub fn len(&self) -> usize
-        ensures { result ≡ length self.now }
+        ensures { result ≡ length self.now.begun }
     {
         self.begun.len()
     }
 
     /// The value that began last.
     pub fn at(&self, t: u32) -> Option<&V>
-        ensures { option_copied result ≡ standing self.now t None }
+        ensures { option_copied result ≡ standing self.now.begun t None }
     {
         value_at(self.begun.as_slice(), t)
     }
 
     /// Whether one begins at a cycle.
     pub fn begins(&self, t: u32) -> bool
-        ensures { result ≡ begins self.now t }
+        ensures { result ≡ begins self.now.begun t }
     {
         has_begin(self.begun.as_slice(), t)
     }
@@ -152,36 +145,44 @@ impl<V: Drop> ChangeList<V> {
     pub fn next(&self, t: u32, to: u32) -> u32
         ensures from { t ≤ to → t ≤ result }
         ensures to { result ≤ to }
-        ensures none { (u : ℕ) → t ≤ u → u < result → begins self.now u ≡ false }
-        ensures there { result < to → begins self.now result ≡ true }
+        ensures none { (u : ℕ) → t ≤ u → u < result → begins self.now.begun u ≡ false }
+        ensures there { result < to → begins self.now.begun result ≡ true }
     {
         next_begin(self.begun.as_slice(), t, to)
     }
 
-    /// The cell at t holds this value, and each other one before cycle `end` what it held.
-    pub fn put(&mut self, t: u32, end: u32, value: V, stood: Option<V>) -> Result<bool, AllocError>
-        requires within { t < end }
-        requires stood { stood ≡ standing self.old t None }
-        ensures written { IfOk result (λ again. IsWritten self.old self.new t (t + 1) end (Some value) again) }
-        ensures begins { IfOk result (λ _. begins self.new t ≡ true) }
-        ensures err { OnErr result (self.new ≡ self.old) }
+    /// Gets the memory for two changes more.
+    pub fn reserve(&mut self) -> Result<(), AllocError>
+        ensures begun { self.new.begun ≡ self.old.begun }
+        ensures room { OnOk result (2 ≤ self.new.room) }
     {
         self.begun.reserve(2)?;
+        Ok(())
+    }
+
+    /// The cell at t holds this value, and each other one before cycle `end` what it held.
+    pub fn put(&mut self, t: u32, end: u32, value: V, stood: Option<V>) -> bool
+        requires room { 2 ≤ self.old.room }
+        requires within { t < end }
+        requires stood { stood ≡ standing self.old.begun t None }
+        ensures written { IsWritten self.old.begun self.new.begun t (t + 1) end (Some value) result }
+        ensures begins { begins self.new.begun t ≡ true }
+    {
         let i = place(self.begun.as_slice(), t);
         let here = is_at(self.begun.as_slice(), i, t);
         let next = behind(i, here);
         let again = goes_on(self.begun.as_slice(), next, t + 1, end);
         begin_at(&mut self.begun, i, here, t, value);
         insert_if(&mut self.begun, again, i + 1, t + 1, stood);
-        Ok(again)
+        again
     }
 
     /// The cells from one cycle on and before another hold what the cell before them holds.
     pub fn go_on(&mut self, from: u32, to: u32, end: u32) -> bool
         requires some { from < to }
-        requires none { (u : ℕ) → from < u → u < to → begins self.old u ≡ false }
-        ensures written { IsWritten self.old self.new from to end (standing_before self.old from) result }
-        ensures begins { begins self.new from ≡ false }
+        requires none { (u : ℕ) → from < u → u < to → begins self.old.begun u ≡ false }
+        ensures written { IsWritten self.old.begun self.new.begun from to end (standing_before self.old.begun from) result }
+        ensures begins { begins self.new.begun from ≡ false }
     {
         let i = place(self.begun.as_slice(), from);
         if !is_at(self.begun.as_slice(), i, from) {
@@ -194,7 +195,7 @@ impl<V: Drop> ChangeList<V> {
 
     /// Nothing begins from cycle n on.
     pub fn truncate(&mut self, n: u32)
-        ensures { IsCut self.old self.new n }
+        ensures { IsCut self.old.begun self.new.begun n }
     {
         let many = place(self.begun.as_slice(), n);
         self.begun.truncate(many);

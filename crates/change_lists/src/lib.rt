@@ -7,7 +7,8 @@
 //! For values that few cells change. A look at a cell is a search by halves; a change moves the changes behind it.
 //!
 //! A value may be large and shared, so it is never copied: whoever gives a cell another value hands over one more owner of the one that
-//! it held. Memory is got before anything changes, so after an error all cells hold what they held.
+//! it held. What takes memory is apart from what changes a cell: `reserve` gets the memory for a change, and then `put`, `go_on` and
+//! `truncate` can't fail. So whoever changes more than these lists gets all memory first.
 //!
 //! The crate knows of no machine, and stands on `std` alone.
 #![tactic(auto)]

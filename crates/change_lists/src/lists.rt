@@ -1,7 +1,7 @@
 //! The changes of all components.
-ghost use Rattle.std.specs.Prelude.{◌≡◌, ℕ, ◌+◌, ◌<◌, ◌≤◌, [], None, Some, true, false, IfOk, OnErr, ◌==◌, length, replicate};
+ghost use Rattle.std.specs.Prelude.{◌≡◌, ℕ, ◌+◌, ◌<◌, ◌≤◌, [], None, Some, true, false, IfOk, OnOk, ◌==◌, length};
 ghost use Rattle.std.specs.Option.{option_copied};
-ghost use Rattle.change_lists.specs.Changes.{list_at, held_at, held_before, begins_at, IsWritten, IsCut};
+ghost use Rattle.change_lists.specs.Changes.{changes_at, list_at, room_at, held_at, held_before, begins_at, IsWritten, IsCut};
 
 use crate::change_list::ChangeList;
 use std::alloc::{AllocError, Global};
@@ -16,12 +16,14 @@ pub struct Lists<V> {
 }
 
 impl<V> Model for Lists<V> {
-    ghost use Rattle.std.specs.Prelude.{List};
-    ghost use Rattle.change_lists.specs.declared.begun.Begun.{Begun};
+    ghost use Rattle.std.specs.Prelude.{List, ◌<◌, ◌^◌, length};
+    ghost use Rattle.change_lists.specs.Changes.{Changes};
 
-    ghost Value = { List (List (Begun V)) };
+    ghost Value = { List (Changes V) };
 
     ghost view = { λ l. l.lists.items };
+
+    ghost invariant = { λ l. length l.lists.items < 2 ^ 32 };
 }
 
 impl<V: Drop> Lists<V> {
@@ -31,7 +33,8 @@ impl<V: Drop> Lists<V> {
     ///
     /// Where a growth was refused. What was taken is given back.
     pub fn new(alloc: Global, width: u32) -> Result<Lists<V>, AllocError>
-        ensures { IfOk result (λ lists. lists ≡ replicate width []) }
+        ensures width { IfOk result (λ lists. length lists ≡ width) }
+        ensures nothing { IfOk result (λ lists. (c : ℕ) → list_at lists c ≡ []) }
     {
         let mut lists = Vec::with_capacity(alloc, width as usize)?;
         for _c in 0..width {
@@ -41,6 +44,13 @@ impl<V: Drop> Lists<V> {
             }
         }
         Ok(Lists { lists })
+    }
+
+    /// How many components there are.
+    pub fn width(&self) -> u32
+        ensures { result ≡ length self.now }
+    {
+        self.lists.len() as u32
     }
 
     /// Whether nothing begins at any cell of a component; so it is where there is no such component.
@@ -93,28 +103,32 @@ impl<V: Drop> Lists<V> {
         }
     }
 
-    /// A cell holds this value, and all other cells before cycle `end` hold what they held. What stood at the cell has to be handed
-    /// over once more, since it may go on behind it: whether it begins there now.
+    /// Gets the memory for a value more of a component.
     ///
     /// # Errors
     ///
-    /// Where the growth was refused. All cells hold what they held.
-    pub fn put(
-        &mut self,
-        c: u32,
-        t: u32,
-        end: u32,
-        value: V,
-        stood: Option<V>,
-    ) -> Result<bool, AllocError>
+    /// Where the growth was refused. All cells hold what they hold, whatever it answers.
+    pub fn reserve(&mut self, c: u32) -> Result<(), AllocError>
+        requires { c < length self.old }
+        ensures same { list_at self.new c ≡ list_at self.old c }
+        ensures room { OnOk result (2 ≤ room_at self.new c) }
+        ensures width { length self.new ≡ length self.old }
+        ensures others { (d : ℕ) → (d ≡ c → ⊥) → changes_at self.new d ≡ changes_at self.old d }
+    {
+        self.lists[c as usize].reserve()
+    }
+
+    /// A cell holds this value, and all other cells before cycle `end` hold what they held. What stood at the cell has to be handed
+    /// over once more, since it may go on behind it: whether it begins there now. The memory for it was got by `reserve`.
+    pub fn put(&mut self, c: u32, t: u32, end: u32, value: V, stood: Option<V>) -> bool
         requires component { c < length self.old }
+        requires room { 2 ≤ room_at self.old c }
         requires within { t < end }
         requires stood { stood ≡ held_at self.old c t }
-        ensures written { IfOk result (λ again. IsWritten (list_at self.old c) (list_at self.new c) t (t + 1) end (Some value) again) }
-        ensures begins { IfOk result (λ _. begins_at self.new c t ≡ true) }
-        ensures err { OnErr result (self.new ≡ self.old) }
+        ensures written { IsWritten (list_at self.old c) (list_at self.new c) t (t + 1) end (Some value) result }
+        ensures begins { begins_at self.new c t ≡ true }
         ensures width { length self.new ≡ length self.old }
-        ensures others { (d : ℕ) → (d ≡ c → ⊥) → list_at self.new d ≡ list_at self.old d }
+        ensures others { (d : ℕ) → (d ≡ c → ⊥) → changes_at self.new d ≡ changes_at self.old d }
     {
         self.lists[c as usize].put(t, end, value, stood)
     }
@@ -129,7 +143,7 @@ impl<V: Drop> Lists<V> {
         ensures written { IsWritten (list_at self.old c) (list_at self.new c) from to end (held_before self.old c from) result }
         ensures begins { begins_at self.new c from ≡ false }
         ensures width { length self.new ≡ length self.old }
-        ensures others { (d : ℕ) → (d ≡ c → ⊥) → list_at self.new d ≡ list_at self.old d }
+        ensures others { (d : ℕ) → (d ≡ c → ⊥) → changes_at self.new d ≡ changes_at self.old d }
     {
         self.lists[c as usize].go_on(from, to, end)
     }

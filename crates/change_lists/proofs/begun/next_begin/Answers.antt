@@ -1,5 +1,4 @@
-use Rattle.std.proofs.Common.{◌≡◌, ◌^◌, ◌<◌, sym, subst, true, false}
-use Rattle.change_lists.specs.Changes.{begins, first_or}
+use Rattle.std.proofs.Common.{◌^◌}
 use Rattle.change_lists.proofs.Places.{next_from, next_none, next_there}
 use Rattle.change_lists.proofs.begun.next_begin.Goals as goal
 

@@ -1,4 +1,4 @@
-use Rattle.std.proofs.Common.{arith, ap, ◌+◌, ◌-◌, ◌/◌, ◌^◌, ◌<◌, length}
+use Rattle.std.proofs.Common.{arith, ap, ◌+◌, ◌-◌, ◌/◌, ◌^◌, ◌<◌}
 use Rattle.change_lists.specs.declared.begun.Begun.{Begun}
 use Rattle.change_lists.proofs.Places.{before_more}
 use Rattle.change_lists.proofs.begun.place.Goals as goal

@@ -1,4 +1,4 @@
-use Rattle.std.proofs.Common.{arith, ◌∙◌, ◌^◌, sym}
+use Rattle.std.proofs.Common.{◌∙◌, ◌^◌, sym}
 use Rattle.change_lists.proofs.Places.{stands_here, stands_before}
 use Rattle.change_lists.proofs.begun.value_at.Goals as goal
 

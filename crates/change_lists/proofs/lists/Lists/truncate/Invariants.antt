@@ -1,4 +1,4 @@
-use Rattle.std.proofs.Common.{◌≡◌, ℕ, ◌<◌, ◌≤◌, length, [], slice_index_or}
+use Rattle.std.proofs.Common.{◌≡◌, ℕ, ◌<◌, ◌≤◌, length}
 use Rattle.change_lists.specs.Changes.{IsCut, list_at}
 use Rattle.change_lists.proofs.lists.Lists.truncate.Given as goal
 
