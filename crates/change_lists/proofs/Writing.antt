@@ -156,13 +156,13 @@ module _ {V : Type 0} where
       ∙ sym (standing_append xs ys s None ∙ standing_late (suc s) high s ys (standing xs s None) k (omega arith))
 
 -- a value is put
-module _ {V : Type 0} (xs : List (Begun V)) (t i end high : ℕ) (value : V) (stood : Option V) (again : Bool)
+module _ {V : Type 0} (xs : List (Begun V)) (t i end high : ℕ) (value : Option V) (stood : Option V) (again : Bool)
     (rises : Rises 0 xs high) (low : t + 1 < high) (place : IsPlace xs t i) (stood_is : stood ≡ standing xs t None) where
   abbrev with_value : List (Begun V) → List (Begun V)
-  with_value rest = take i xs ++ ((record { from = t; value = Some value }) ∷ (cond again ((record { from = t + 1; value = stood }) ∷ rest) rest))
+  with_value rest = take i xs ++ ((record { from = t; value = value }) ∷ (cond again ((record { from = t + 1; value = stood }) ∷ rest) rest))
 
   abbrev Put : List (Begun V) → Type 0
-  Put new = IsWritten xs new t (t + 1) end (Some value) again × Rises 0 new high × (begins new t ≡ true)
+  Put new = IsWritten xs new t (t + 1) end value again × Rises 0 new high × (begins new t ≡ true)
 
   early : Rises 0 (take i xs) t
   early = split_low 0 high t i xs rises (omega arith) place
@@ -175,21 +175,21 @@ module _ {V : Type 0} (xs : List (Begun V)) (t i end high : ℕ) (value : V) (st
 
   put_over : (here rest : List (Begun V)) → drop i xs ≡ here ++ rest → Rises t here (t + 1) → Rises (t + 1) rest high → (again ≡ true → (t + 1 < end) × (starts rest (t + 1) ≡ false)) → (again ≡ false → t + 1 < end → starts rest (t + 1) ≡ true) → Put (with_value rest)
   put_over here rest split here_is rest_is on off = (
-    subst (λ ys. IsWritten ys (with_value rest) t (t + 1) end (Some value) again) whole
-        (written (take i xs) here ((record { from = t; value = Some value }) ∷ []) rest t (t + 1) end high (Some value) stood (omega arith) early here_is now_is rest_is value_is stands again goes ends),
-    new_rises (take i xs) here ((record { from = t; value = Some value }) ∷ []) rest t (t + 1) end high (Some value) stood (omega arith) early here_is now_is rest_is value_is stands again goes,
-    begins_append (take i xs) ((record { from = t; value = Some value }) ∷ (cond again ((record { from = t + 1; value = stood }) ∷ rest) rest)) t
+    subst (λ ys. IsWritten ys (with_value rest) t (t + 1) end value again) whole
+        (written (take i xs) here ((record { from = t; value = value }) ∷ []) rest t (t + 1) end high value stood (omega arith) early here_is now_is rest_is value_is stands again goes ends),
+    new_rises (take i xs) here ((record { from = t; value = value }) ∷ []) rest t (t + 1) end high value stood (omega arith) early here_is now_is rest_is value_is stands again goes,
+    begins_append (take i xs) ((record { from = t; value = value }) ∷ (cond again ((record { from = t + 1; value = stood }) ∷ rest) rest)) t
         ∙ or_right (begins (take i xs) t) (eqb t t || begins (cond again ((record { from = t + 1; value = stood }) ∷ rest) rest) t) (or_left (eqb t t) (begins (cond again ((record { from = t + 1; value = stood }) ∷ rest) rest) t) (eq-eqb t t refl)),
   )
     where
-      now_is : Rises t ((record { from = t; value = Some value }) ∷ []) (t + 1)
+      now_is : Rises t ((record { from = t; value = value }) ∷ []) (t + 1)
       now_is = (omega arith, omega arith)
 
       whole : take i xs ++ (here ++ rest) ≡ xs
       whole = ap (λ ys. take i xs ++ ys) (sym split) ∙ take-append-drop i xs
 
-      value_is : standing ((record { from = t; value = Some value }) ∷ []) t (standing (take i xs) t None) ≡ Some value
-      value_is = ap (λ (c : Bool). cond c (Some value) (standing (take i xs) t None)) (le-leb t t (omega arith))
+      value_is : standing ((record { from = t; value = value }) ∷ []) t (standing (take i xs) t None) ≡ value
+      value_is = ap (λ (c : Bool). cond c value (standing (take i xs) t None)) (le-leb t t (omega arith))
 
       at_t : standing here t (standing (take i xs) t None) ≡ stood
       at_t =
@@ -342,16 +342,16 @@ cut_at xs n i high rises l place = (
     late = split_high 0 high n i xs rises (omega (arith, l)) place
 
 -- as the code does it: each slice is the list
-pub put_done : {V : Type 0} (xs a b d n m : List (Begun V)) (t i next end high : ℕ) (value : V) (stood : Option V) (here again : Bool) → a ≡ xs → b ≡ xs → d ≡ xs → Rises 0 xs high → t + 1 < high → IsPlace a t i → stood ≡ standing xs t None → here ≡ starts (drop i b) t → next ≡ cond here (i + 1) i → (again ≡ true → (t + 1 < end) × (starts (drop next d) (t + 1) ≡ false)) → (again ≡ false → t + 1 < end → starts (drop next d) (t + 1) ≡ true) → n ≡ take i xs ++ (record { from = t; value = Some value }) ∷ drop (cond here (i + 1) i) xs → m ≡ take (i + 1) n ++ cond again ((record { from = t + 1; value = stood }) ∷ drop (i + 1) n) (drop (i + 1) n) → IsWritten xs m t (t + 1) end (Some value) again × Rises 0 m high × (begins m t ≡ true)
+pub put_done : {V : Type 0} (xs a b d n m : List (Begun V)) (t i next end high : ℕ) (value : Option V) (stood : Option V) (here again : Bool) → a ≡ xs → b ≡ xs → d ≡ xs → Rises 0 xs high → t + 1 < high → IsPlace a t i → stood ≡ standing xs t None → here ≡ starts (drop i b) t → next ≡ cond here (i + 1) i → (again ≡ true → (t + 1 < end) × (starts (drop next d) (t + 1) ≡ false)) → (again ≡ false → t + 1 < end → starts (drop next d) (t + 1) ≡ true) → n ≡ take i xs ++ (record { from = t; value = value }) ∷ drop (cond here (i + 1) i) xs → m ≡ take (i + 1) n ++ cond again ((record { from = t + 1; value = stood }) ∷ drop (i + 1) n) (drop (i + 1) n) → IsWritten xs m t (t + 1) end value again × Rises 0 m high × (begins m t ≡ true)
 put_done {V} xs a b d n m t i next end high value stood here again ea eb ed rises low place stood_is here_is next_is on off n_is m_is =
     let p : IsPlace xs t i = subst (λ ys. IsPlace ys t i) ea place in
     let q : starts (drop next d) (t + 1) ≡ starts (drop (cond here (i + 1) i) xs) (t + 1) = ap (λ ys. starts (drop next ys) (t + 1)) ed ∙ ap (λ k. starts (drop k xs) (t + 1)) next_is in
     let w = put_at xs t i end high value stood again rises low p stood_is here (here_is ∙ ap (λ ys. starts (drop i ys) t) eb) (λ e. ((on e).0, sym q ∙ (on e).1)) (λ e l. sym q ∙ off e l) in
-    let s : m ≡ take i xs ++ (record { from = t; value = Some value }) ∷ cond again ((record { from = t + 1; value = stood }) ∷ drop (cond here (i + 1) i) xs) (drop (cond here (i + 1) i) xs) =
+    let s : m ≡ take i xs ++ (record { from = t; value = value }) ∷ cond again ((record { from = t + 1; value = stood }) ∷ drop (cond here (i + 1) i) xs) (drop (cond here (i + 1) i) xs) =
     m_is
     ∙ ap (λ zs. take (i + 1) zs ++ cond again ((record { from = t + 1; value = stood }) ∷ drop (i + 1) zs) (drop (i + 1) zs)) n_is
-    ∙ put_twice xs (drop (cond here (i + 1) i) xs) i (record { from = t; value = Some value }) (record { from = t + 1; value = stood }) again p.within in
-    subst (λ (ys : List (Begun V)). IsWritten xs ys t (t + 1) end (Some value) again × Rises 0 ys high × (begins ys t ≡ true)) (sym s) w
+    ∙ put_twice xs (drop (cond here (i + 1) i) xs) i (record { from = t; value = value }) (record { from = t + 1; value = stood }) again p.within in
+    subst (λ (ys : List (Begun V)). IsWritten xs ys t (t + 1) end value again × Rises 0 ys high × (begins ys t ≡ true)) (sym s) w
 
 pub go_on_done : {V : Type 0} (xs a b d m : List (Begun V)) (from to i end high : ℕ) (again : Bool) → a ≡ xs → b ≡ xs → d ≡ xs → from < to → Rises 0 xs high → to < high → IsPlace a from i → ((u : ℕ) → from < u → u < to → begins xs u ≡ false) → starts (drop i b) from ≡ true → (again ≡ true → (to < end) × (starts (drop (i + 1) d) to ≡ false)) → (again ≡ false → to < end → starts (drop (i + 1) d) to ≡ true) → ((e : Begun V) → m ≡ take i xs ++ cond again ((record { from = to; value = (get_or xs i e).value }) ∷ drop (i + 1) xs) (drop (i + 1) xs)) → IsWritten xs m from to end (standing_before xs from) again × Rises 0 m high × (begins m from ≡ false)
 go_on_done {V} xs a b d m from to i end high again ea eb ed some rises low place none here_is on off m_is =

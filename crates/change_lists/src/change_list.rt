@@ -70,29 +70,26 @@ fn begin_later_if<V: Drop>(begun: &mut Vec<Begun<V>>, again: bool, i: usize, fro
 }
 
 /// The one at a place is another one.
-fn replace<V: Drop>(begun: &mut Vec<Begun<V>>, i: usize, from: u32, value: V)
+fn replace<V: Drop>(begun: &mut Vec<Begun<V>>, i: usize, from: u32, value: Option<V>)
     requires { i < length begun.old.items }
-    ensures items { begun.new.items ≡ take i begun.old.items ++ (record { from = from; value = Some value }) ∷ drop (i + 1) begun.old.items }
+    ensures items { begun.new.items ≡ take i begun.old.items ++ (record { from = from; value = value }) ∷ drop (i + 1) begun.old.items }
     ensures capacity { vec_capacity begun.new ≡ vec_capacity begun.old }
 {
-    begun[i] = Begun {
-        from,
-        value: Some(value),
-    };
+    begun[i] = Begun { from, value };
 }
 
-/// A value begins at a place: in place of the one that begins there, if one does.
-fn begin_at<V: Drop>(begun: &mut Vec<Begun<V>>, i: usize, here: bool, t: u32, value: V)
+/// A value, or nothing, begins at a place: in place of the one that begins there, if one does.
+fn begin_at<V: Drop>(begun: &mut Vec<Begun<V>>, i: usize, here: bool, t: u32, value: Option<V>)
     requires place { cond here (i + 1) i ≤ length begun.old.items }
     requires room { length begun.old.items < vec_capacity begun.old }
-    ensures items { begun.new.items ≡ take i begun.old.items ++ (record { from = t; value = Some value }) ∷ drop (cond here (i + 1) i) begun.old.items }
+    ensures items { begun.new.items ≡ take i begun.old.items ++ (record { from = t; value = value }) ∷ drop (cond here (i + 1) i) begun.old.items }
     ensures len { length begun.new.items ≤ length begun.old.items + 1 }
     ensures capacity { vec_capacity begun.new ≡ vec_capacity begun.old }
 {
     if here {
         replace(begun, i, t, value);
     } else {
-        insert_at(begun, i, t, Some(value));
+        insert_at(begun, i, t, value);
     }
 }
 
@@ -160,12 +157,12 @@ impl<V: Drop> ChangeList<V> {
         Ok(())
     }
 
-    /// The cell at t holds this value, and each other one before cycle `end` what it held.
-    pub fn put(&mut self, t: u32, end: u32, value: V, stood: Option<V>) -> bool
+    /// The cell at t holds this value, or nothing, and each other one before cycle `end` what it held.
+    pub fn put(&mut self, t: u32, end: u32, value: Option<V>, stood: Option<V>) -> bool
         requires room { 2 ≤ self.old.room }
         requires within { t < end }
         requires stood { stood ≡ standing self.old.begun t None }
-        ensures written { IsWritten self.old.begun self.new.begun t (t + 1) end (Some value) result }
+        ensures written { IsWritten self.old.begun self.new.begun t (t + 1) end value result }
         ensures begins { begins self.new.begun t ≡ true }
     {
         let i = place(self.begun.as_slice(), t);

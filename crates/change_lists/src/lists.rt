@@ -118,14 +118,14 @@ impl<V: Drop> Lists<V> {
         self.lists[c as usize].reserve()
     }
 
-    /// A cell holds this value, and all other cells before cycle `end` hold what they held. What stood at the cell has to be handed
+    /// A cell holds this value, or nothing, and all other cells before cycle `end` hold what they held. What stood at the cell has to be handed
     /// over once more, since it may go on behind it: whether it begins there now. The memory for it was got by `reserve`.
-    pub fn put(&mut self, c: u32, t: u32, end: u32, value: V, stood: Option<V>) -> bool
+    pub fn put(&mut self, c: u32, t: u32, end: u32, value: Option<V>, stood: Option<V>) -> bool
         requires component { c < length self.old }
         requires room { 2 ≤ room_at self.old c }
         requires within { t < end }
         requires stood { stood ≡ held_at self.old c t }
-        ensures written { IsWritten (list_at self.old c) (list_at self.new c) t (t + 1) end (Some value) result }
+        ensures written { IsWritten (list_at self.old c) (list_at self.new c) t (t + 1) end value result }
         ensures begins { begins_at self.new c t ≡ true }
         ensures width { length self.new ≡ length self.old }
         ensures others { (d : ℕ) → (d ≡ c → ⊥) → changes_at self.new d ≡ changes_at self.old d }

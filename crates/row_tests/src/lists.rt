@@ -12,37 +12,39 @@ const END: u32 = 7;
 /// What is done to the lists.
 #[derive(Clone, Copy, Debug)]
 enum Step {
-    /// This cell, a component at a cycle, holds this value.
-    Put(u32, u32, u64),
+    /// This cell, a component at a cycle, holds this value, or nothing.
+    Put(u32, u32, Option<u64>),
     /// The cells of this component from this cycle on and before that one hold what the cell before them holds.
     GoOn(u32, u32, u32),
     /// Nothing begins from this cycle on.
     Truncate(u32),
 }
 
-/// Values at the first and the last cycle, over others, before others, behind others and between them; runs from the first cycle,
+/// Values at the first and the last cycle, over others, before others, behind others and between them, nothing over a value and where there is none; runs from the first cycle,
 /// behind it, up to where something begins, up to the end, where nothing begins; fewer cycles, and none.
-const STORY: [Step; 20] = [
-    Step::Put(0, 0, 1),
-    Step::Put(0, 3, 2),
-    Step::Put(0, 3, 3),
-    Step::Put(0, 2, 4),
-    Step::Put(0, 4, 5),
-    Step::Put(2, 6, 6),
+const STORY: [Step; 22] = [
+    Step::Put(0, 0, Some(1)),
+    Step::Put(0, 3, Some(2)),
+    Step::Put(0, 3, Some(3)),
+    Step::Put(0, 2, Some(4)),
+    Step::Put(0, 4, Some(5)),
+    Step::Put(2, 6, Some(6)),
     Step::GoOn(2, 3, 5),
     Step::GoOn(0, 4, 5),
     Step::GoOn(0, 0, 2),
-    Step::Put(0, 1, 7),
-    Step::Put(0, 0, 8),
+    Step::Put(0, 1, Some(7)),
+    Step::Put(0, 0, Some(8)),
     Step::GoOn(0, 5, 7),
     Step::GoOn(2, 6, 7),
-    Step::Put(2, 5, 9),
-    Step::Put(1, 4, 10),
+    Step::Put(2, 5, Some(9)),
+    Step::Put(1, 4, Some(10)),
     Step::GoOn(1, 5, 6),
+    Step::Put(0, 1, None),
+    Step::Put(2, 2, None),
     Step::Truncate(4),
-    Step::Put(0, 6, 11),
+    Step::Put(0, 6, Some(11)),
     Step::Truncate(0),
-    Step::Put(1, 0, 12),
+    Step::Put(1, 0, Some(12)),
 ];
 
 /// The cells kept one by one.
@@ -87,7 +89,7 @@ impl Plain {
 
     fn play(&mut self, step: Step) {
         match step {
-            Step::Put(c, t, value) => self.set(c, t, Some(value)),
+            Step::Put(c, t, value) => self.set(c, t, value),
             Step::GoOn(c, from, to) => self.go_on(c, from, to),
             Step::Truncate(n) => {
                 for c in 0..WIDTH {
@@ -115,7 +117,7 @@ fn held(lists: &Lists<u64>, c: u32, t: u32) -> Option<u64> {
     lists.at(c, t).copied()
 }
 
-fn put(lists: &mut Lists<u64>, c: u32, t: u32, value: u64) -> Result<(), Fail> {
+fn put(lists: &mut Lists<u64>, c: u32, t: u32, value: Option<u64>) -> Result<(), Fail> {
     if c >= lists.width() || t >= END {
         return Err(Fail::from("no such cell"));
     }
@@ -175,7 +177,7 @@ fn lists_are_as_cell_by_cell(rt: HostRuntime) -> Result<(), Fail> {
 fn next_begin_is_found(rt: HostRuntime) -> Result<(), Fail> {
     let mut lists = Lists::new(rt.alloc(), WIDTH)?;
     assert!(&rt; equal(&rt, lists.is_empty(1), true));
-    put(&mut lists, 1, 2, 5)?;
+    put(&mut lists, 1, 2, Some(5))?;
     assert!(&rt; equal(&rt, lists.is_empty(1), false));
     assert!(&rt; equal(&rt, lists.next(1, 0, END), 2));
     assert!(&rt; equal(&rt, lists.next(1, 3, END), 3));
