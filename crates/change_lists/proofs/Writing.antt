@@ -1,6 +1,6 @@
 -- A change list with another value at some cycles.
-use Rattle.std.proofs.Common.{◌≡◌, ℕ, zero, suc, ◌+◌, ◌-◌, ◌<◌, ◌≤◌, ◌∙◌, ◌⊎◌, inl, inr, sym, ap, subst, refl, arith, Bool, true, false, cond, eqb, ◌||◌, Option, Some, None, List, [], ◌∷◌, ◌++◌, length, take, drop, get_or, length-append, append_assoc}
-use Rattle.std.proofs.lemmas.Bool.{cases_lt, le-leb, eq-eqb, ne_eqb, false≢true, or_left, or_right, or_parts}
+use Rattle.std.proofs.Common.{◌≡◌, ℕ, zero, suc, ◌+◌, ◌-◌, ◌<◌, ◌≤◌, ◌∙◌, ◌⊎◌, inl, inr, sym, ap, subst, refl, arith, Bool, true, false, cond, eqb, ◌||◌, Option, None, List, [], ◌∷◌, ◌++◌, length, take, drop, get_or, length-append, append_assoc}
+use Rattle.std.proofs.lemmas.Bool.{cases_lt, cases_order, le-leb, eq-eqb, ne_eqb, false≢true, or_left, or_right, or_parts}
 use Rattle.std.proofs.lemmas.List.{take-append-drop, take_at, drop_at, length-take-le}
 use Rattle.change_lists.specs.declared.begun.Begun.{Begun}
 use Rattle.change_lists.specs.Changes.{standing, standing_before, begins, starts, Rises, IsPlace, IsWritten, IsCut}
@@ -119,6 +119,9 @@ module _ {V : Type 0} (before old_here new_here rest : List (Begun V)) (from to 
   tail_else true t n = ap (λ (b : Bool). b || begins rest t) (ne_eqb to t (λ e. n (sym e)))
   tail_else false t n = refl
 
+  begin_else : (again : Bool) (t : ℕ) → (t ≡ from → ⊥) → (t ≡ to → ⊥) → begins (new again) t ≡ begins old t
+  begin_else again t n m = begins_of new_here (tail again) t new_is n ∙ ap (λ (b : Bool). begins before t || b) (tail_else again t m) ∙ sym (begins_of old_here rest t old_is n)
+
   goes : (again : Bool) → Yes again → again ≡ true → (to < end) × (begins old to ≡ false) × (standing (new again) to None ≡ standing old (to - 1) None)
   goes false on e = absurd (false≢true e)
   goes true on e = (
@@ -136,7 +139,9 @@ module _ {V : Type 0} (before old_here new_here rest : List (Begun V)) (from to 
     earlier = at_early again on;
     later = at_late again off;
     begin_again = begins_end new_here (tail again) new_is ∙ again_is again ∙ ap (λ (b : Bool). b || again) (sym (begins_end old_here rest old_is));
-    begin_else = λ t n m. begins_of new_here (tail again) t new_is n ∙ ap (λ (b : Bool). begins before t || b) (tail_else again t m) ∙ sym (begins_of old_here rest t old_is n);
+    begin_earlier = λ t l. begin_else again t (λ e. absurd (omega (arith, e, l))) (λ e. absurd (omega (arith, e, l, some)));
+    begin_within = λ t l m. begins_of new_here (tail again) t new_is (λ e. absurd (omega (arith, e, l))) ∙ ap (λ (b : Bool). b || begins (tail again) t) (begins_early 0 from t before early (omega (arith, l))) ∙ begins_late to high t (tail again) (tail_rises again on) m;
+    begin_later = λ t l. begin_else again t (λ e. absurd (omega (arith, e, l, some))) (λ e. absurd (omega (arith, e, l)));
     goes_on = goes again on;
   }
 
@@ -254,7 +259,9 @@ module _ {V : Type 0} (xs : List (Begun V)) (from to i end high : ℕ)
       earlier = λ u l. refl;
       later = λ u l m. refl;
       begin_again = sym (or_none (begins xs to) false refl);
-      begin_else = λ u n m. refl;
+      begin_earlier = λ u l. refl;
+      begin_within = λ u l m. none u l m;
+      begin_later = λ u l. refl;
       goes_on = λ e. absurd (false≢true e);
     },
     begins_at_place high from i xs rises (omega (arith, some, low)) place ∙ s,
@@ -360,3 +367,32 @@ go_on_done {V} xs a b d m from to i end high again ea eb ed some rises low place
     let q : starts (drop (i + 1) d) to ≡ starts (drop (i + 1) xs) to = ap (λ ys. starts (drop (i + 1) ys) to) ed in
     let w = go_on_at xs from to i end high some rises low p none again e (ap (λ ys. starts (drop i ys) from) (sym eb) ∙ here_is) (λ k. ((on k).0, sym q ∙ (on k).1)) (λ k l. sym q ∙ off k l) in
     subst (λ (ys : List (Begun V)). IsWritten xs ys from to end (standing_before xs from) again × Rises 0 ys high × (begins ys from ≡ false)) (sym (m_is e)) w
+
+-- what goes on to a cycle goes on behind it too
+pub on_further : {V : Type 0} (a b d : List (Begun V)) (from mid to end : ℕ) (one two : Bool) → from < mid → mid < to → begins b from ≡ false → begins d mid ≡ false → IsWritten a b from mid end (standing_before a from) one → IsWritten b d mid to end (standing_before b mid) two → IsWritten a d from to end (standing_before a from) two × (begins d from ≡ false)
+on_further {V} a b d from mid to end one two low high first second ab bd = (
+  record {
+    here = λ t l m. at_here t l m (cases_lt t mid);
+    earlier = λ t l. bd.earlier t (omega arith) ∙ ab.earlier t l;
+    later = λ t l m. bd.later t l m ∙ ab.later t (omega arith) m;
+    begin_again = bd.begin_again ∙ ap (λ (x : Bool). x || two) (ab.begin_later to high);
+    begin_earlier = λ t l. bd.begin_earlier t (omega arith) ∙ ab.begin_earlier t l;
+    begin_within = λ t l m. within t l m (cases_order t mid);
+    begin_later = λ t l. bd.begin_later t l ∙ ab.begin_later t (omega arith);
+    goes_on = λ e. (let g = bd.goes_on e in (g.0, sym (ab.begin_later to high) ∙ g.1, g.2 ∙ ab.later (to - 1) (omega arith) (omega (arith, g.0))));
+  },
+  bd.begin_earlier from low ∙ first,
+)
+  where
+    before_mid : (m : ℕ) → from < m → m ≡ mid → standing_before b m ≡ standing_before a from
+    before_mid zero l e = absurd (omega arith)
+    before_mid (suc m) l e = ab.here m (omega arith) (omega (arith, e))
+
+    at_here : (t : ℕ) → from ≤ t → t < to → (t < mid) ⊎ (mid ≤ t) → standing d t None ≡ standing_before a from
+    at_here t l m (inl k) = bd.earlier t k ∙ ab.here t l k
+    at_here t l m (inr k) = bd.here t k m ∙ before_mid mid low refl
+
+    within : (t : ℕ) → from < t → t < to → (t ≡ mid) ⊎ ((t < mid) ⊎ (mid < t)) → begins d t ≡ false
+    within t l m (inl e) = ap (begins d) e ∙ second
+    within t l m (inr (inl k)) = bd.begin_earlier t k ∙ ab.begin_within t l k
+    within t l m (inr (inr k)) = bd.begin_within t k m

@@ -51,7 +51,9 @@ module _ {V : Type 0} where
     pub earlier : (t : ℕ) → t < from → standing new t None ≡ standing old t None
     pub later : (t : ℕ) → to ≤ t → t < end → standing new t None ≡ standing old t None
     pub begin_again : begins new to ≡ (begins old to || again)
-    pub begin_else : (t : ℕ) → (t ≡ from → ⊥) → (t ≡ to → ⊥) → begins new t ≡ begins old t
+    pub begin_earlier : (t : ℕ) → t < from → begins new t ≡ begins old t
+    pub begin_within : (t : ℕ) → from < t → t < to → begins new t ≡ false
+    pub begin_later : (t : ℕ) → to < t → begins new t ≡ begins old t
     pub goes_on : again ≡ true → (to < end) × (begins old to ≡ false) × (standing new to None ≡ standing old (to - 1) None)
 
   -- nothing begins from cycle n on, and before it all stands as it stood

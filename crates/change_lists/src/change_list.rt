@@ -174,8 +174,8 @@ impl<V: Drop> ChangeList<V> {
         again
     }
 
-    /// The cells from one cycle on and before another hold what the cell before them holds.
-    pub fn go_on(&mut self, from: u32, to: u32, end: u32) -> bool
+    /// The same as `go_on`, where nothing begins but at the first of these cells.
+    fn go_on_once(&mut self, from: u32, to: u32, end: u32) -> bool
         requires some { from < to }
         requires none { (u : ℕ) → from < u → u < to → begins self.old.begun u ≡ false }
         ensures written { IsWritten self.old.begun self.new.begun from to end (standing_before self.old.begun from) result }
@@ -187,6 +187,23 @@ impl<V: Drop> ChangeList<V> {
         }
         let again = goes_on(self.begun.as_slice(), i + 1, to, end);
         begin_later_if(&mut self.begun, again, i, to);
+        again
+    }
+
+    /// The cells from one cycle on and before another hold what the cell before them holds.
+    #[tactic(auto, using(crate::proofs::Writing::on_further))]
+    pub fn go_on(&mut self, from: u32, to: u32, end: u32) -> bool
+        requires { from < to }
+        ensures written { IsWritten self.old.begun self.new.begun from to end (standing_before self.old.begun from) result }
+        ensures begins { begins self.new.begun from ≡ false }
+    {
+        let mut at = self.next(from + 1, to);
+        let mut again = self.go_on_once(from, at, end);
+        while at < to {
+            let mid = self.next(at + 1, to);
+            again = self.go_on_once(at, mid, end);
+            at = mid;
+        }
         again
     }
 

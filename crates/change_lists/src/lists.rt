@@ -134,12 +134,10 @@ impl<V: Drop> Lists<V> {
     }
 
     /// The cells of a component at the cycles from one on and before another hold what the cell before them holds, or nothing where
-    /// there is none; all its other cells before cycle `end`, and all other components, hold what they held. But for the first of these
-    /// cells nothing begins at them. Whether what stood there begins behind them now.
+    /// there is none; all its other cells before cycle `end`, and all other components, hold what they held. Whether what stood there begins behind them now.
     pub fn go_on(&mut self, c: u32, from: u32, to: u32, end: u32) -> bool
         requires component { c < length self.old }
         requires some { from < to }
-        requires none { (u : ℕ) → from < u → u < to → begins_at self.old c u ≡ false }
         ensures written { IsWritten (list_at self.old c) (list_at self.new c) from to end (held_before self.old c from) result }
         ensures begins { begins_at self.new c from ≡ false }
         ensures width { length self.new ≡ length self.old }

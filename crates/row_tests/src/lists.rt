@@ -22,7 +22,7 @@ enum Step {
 
 /// Values at the first and the last cycle, over others, before others, behind others and between them, nothing over a value and where there is none; runs from the first cycle,
 /// behind it, up to where something begins, up to the end, where nothing begins; fewer cycles, and none.
-const STORY: [Step; 22] = [
+const STORY: [Step; 23] = [
     Step::Put(0, 0, Some(1)),
     Step::Put(0, 3, Some(2)),
     Step::Put(0, 3, Some(3)),
@@ -40,6 +40,7 @@ const STORY: [Step; 22] = [
     Step::Put(1, 4, Some(10)),
     Step::GoOn(1, 5, 6),
     Step::Put(0, 1, None),
+    Step::GoOn(0, 1, 5),
     Step::Put(2, 2, None),
     Step::Truncate(4),
     Step::Put(0, 6, Some(11)),
@@ -128,8 +129,8 @@ fn put(lists: &mut Lists<u64>, c: u32, t: u32, value: Option<u64>) -> Result<(),
 }
 
 fn go_on(lists: &mut Lists<u64>, c: u32, from: u32, to: u32) -> Result<(), Fail> {
-    if c >= lists.width() || from >= to || lists.next(c, from + 1, to) < to {
-        return Err(Fail::from("something begins between"));
+    if c >= lists.width() || from >= to {
+        return Err(Fail::from("no such cells"));
     }
     lists.go_on(c, from, to, END);
     Ok(())

@@ -2,7 +2,7 @@ use Rattle.std.proofs.Common.{◌^◌, ◌∙◌, ap, sym, subst, drop, List}
 use Rattle.change_lists.specs.declared.begun.Begun.{Begun}
 use Rattle.change_lists.specs.Changes.{IsPlace, starts}
 use Rattle.change_lists.proofs.Writing.{go_on_done, go_on_none}
-use Rattle.change_lists.proofs.change_list.ChangeList.go_on.Goals as goal
+use Rattle.change_lists.proofs.change_list.ChangeList.go_on_once.Goals as goal
 
 pub returns-then-not-is_at-clause-written : goal.returns-then-not-is_at-clause-written
 returns-then-not-is_at-clause-written g c =
