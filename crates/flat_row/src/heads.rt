@@ -4,7 +4,7 @@ ghost use Rattle.omega_net.specs.Limits.{queue_places};
 ghost use Rattle.omega_net.specs.Numbers.{lines, half, Exists};
 ghost use Rattle.omega_net.specs.declared.component.Component.TheVariants.{Module as ModuleAt, Switch};
 ghost use Rattle.omega_net.specs.declared.component.Net.TheVariants.{Low as LowNet, Comb as CombNet};
-ghost use Rattle.state_words.specs.States.{head_of};
+ghost use Rattle.machine_cells.specs.Words.{head_of};
 ghost use Rattle.flat_row.specs.Row.{level_at, queue_of, state_of};
 
 use crate::level::Level;
