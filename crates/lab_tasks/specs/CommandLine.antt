@@ -32,6 +32,9 @@ order_task = task (codes "order") (file_rule ∷ map option_rule (codes "from" �
 abbrev pub latency_task : Shape
 latency_task = task (codes "latency") (file_rule ∷ map option_rule (codes "processor" ∷ codes "network" ∷ codes "from" ∷ codes "to" ∷ []))
 
+abbrev pub done_task : Shape
+done_task = task (codes "done") (file_rule ∷ [])
+
 abbrev pub measured_rules : List Rule
 measured_rules = map option_rule (codes "k" ∷ codes "hot" ∷ codes "cycles" ∷ codes "seed" ∷ [])
 
@@ -58,7 +61,7 @@ convert_task = task (codes "convert") (file_rule ∷ option_rule (codes "out") �
 
 -- the tasks
 abbrev pub tasks : List Shape
-tasks = map_task ∷ order_task ∷ latency_task ∷ rates_task ∷ delays_task ∷ sweep_task ∷ check_task ∷ convert_task ∷ []
+tasks = map_task ∷ order_task ∷ latency_task ∷ done_task ∷ rates_task ∷ delays_task ∷ sweep_task ∷ check_task ∷ convert_task ∷ []
 
 -- no task has this name
 abbrev pub IsNoTask : Text → Type 0

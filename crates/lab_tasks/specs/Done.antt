@@ -13,12 +13,13 @@ use Rattle.lab_tasks.specs.declared.plan.CurvePlan.{CurvePlan}
 use Rattle.lab_tasks.specs.declared.tables.RatePoint.{RatePoint}
 use Rattle.lab_tasks.specs.declared.tables.DelayPoint.{DelayPoint}
 use Rattle.lab_tasks.specs.declared.words.Asked.{Asked}
-use Rattle.lab_tasks.specs.declared.words.Asked.TheVariants.{Map, Order, Latency, Rates, Delays, Sweep, Check, Convert}
+use Rattle.lab_tasks.specs.declared.words.Asked.TheVariants.{Map, Order, Latency, Done as Completed, Rates, Delays, Sweep, Check, Convert}
 use Rattle.lab_tasks.specs.declared.words.MapWords.{MapWords}
 use Rattle.lab_tasks.specs.declared.words.CurveWords.{CurveWords}
 use Rattle.lab_tasks.specs.declared.words.SweepWords.{SweepWords}
 use Rattle.lab_tasks.specs.declared.convert.ConvertWords.{ConvertWords}
 use Rattle.lab_tasks.specs.Words.{text_of, texts_of}
+use Rattle.lab_tasks.specs.Completions.{IsCompletionText}
 use Rattle.lab_tasks.specs.Latencies.{IsLatencyText, IsNoCondition}
 use Rattle.lab_tasks.specs.Orders.{IsOrderText, IsNoOrder}
 use Rattle.lab_tasks.specs.MapPictures.{IsMapDrawn}
@@ -102,6 +103,7 @@ abbrev pub IsDone : Asked → List ℕ → Outcome → Type 0
 IsDone (Map words) bytes outcome = IsMapMade words bytes outcome
 IsDone (Order words) bytes outcome = IsMadeOf bytes (text_of words.out) (IsOrderText words) outcome
 IsDone (Latency words) bytes outcome = IsMadeOf bytes None (IsLatencyText words) outcome
+IsDone (Completed file) bytes outcome = IsMadeOf bytes None IsCompletionText outcome
 IsDone (Rates words) bytes outcome = AreRates words outcome
 IsDone (Delays words) bytes outcome = AreDelays words outcome
 IsDone (Sweep words) bytes outcome = IsMadeOf bytes (text_of words.csv) (IsSweepText words) outcome
@@ -121,6 +123,7 @@ abbrev pub IsNotDone : Asked → List ℕ → End → Type 0
 IsNotDone (Map words) bytes e = IsNotMade bytes (λ P. IsNoMap P words e) e
 IsNotDone (Order words) bytes e = IsNotMade bytes (λ P. IsNoOrder P words e) e
 IsNotDone (Latency words) bytes e = IsNotMade bytes (λ P. IsNoCondition P words e) e
+IsNotDone (Completed file) bytes e = IsNotMade bytes (λ P. ⊥) e
 IsNotDone (Rates words) bytes e = (e ≡ end.Memory) ⊎ IsNoCurve words e
 IsNotDone (Delays words) bytes e = (e ≡ end.Memory) ⊎ IsNoCurve words e
 IsNotDone (Sweep words) bytes e = IsNotMade bytes (IsNoSweep words e) e

@@ -1,6 +1,7 @@
 pub mod Added
 pub mod Columns
 pub mod CommandLine
+pub mod Completions
 pub mod Counts
 pub mod CurvePictures
 pub mod DelayPictures

@@ -20,6 +20,7 @@
 
 mod check;
 mod columns;
+mod completion;
 mod convert;
 mod curves;
 mod delay_picture;

@@ -3,6 +3,7 @@ ghost use Rattle.std.specs.Prelude.{◌≡◌, ◌≤◌, ◌⊎◌, [], ◌∷�
 ghost use Rattle.page_map.specs.Limits.{max_k};
 ghost use Rattle.project_file.specs.Filed.{filed};
 ghost use Rattle.lab_tasks.specs.Added.{Adds};
+ghost use Rattle.lab_tasks.specs.Completions.{IsCompletionText};
 ghost use Rattle.lab_tasks.specs.DelayPictures.{IsDelayPicture};
 ghost use Rattle.lab_tasks.specs.Done.{delay_header, rate_header, is_over, AreDelays, AreRates, IsConverted, IsDone, IsMadeOf, IsMapMade, IsNoSweep, IsNotDone, IsNotMade, IsOver, IsSweepText, IsTableGiven};
 ghost use Rattle.lab_tasks.specs.Kept.{kept_of, load_name, name_text, net_text, IsKept, IsWithKept};
@@ -16,6 +17,7 @@ ghost use Rattle.lab_tasks.specs.Tables.{delay_row, rate_row, table_text};
 ghost use Rattle.lab_tasks.specs.Words.{text_of};
 
 use crate::check::summary;
+use crate::completion::completion_report;
 use crate::convert::{ConvertWords, convert_file, refuse_source};
 use crate::delay_picture::delay_picture;
 use crate::delays::{delay_points, delay_table};
@@ -130,6 +132,15 @@ fn latency<'a>(alloc: Global, words: &LatencyWords<'a>, bytes: &[u8]) -> Result<
     let project = project_in(alloc, bytes)?;
     let condition = condition(words, &project)?;
     let text = report(alloc, &project, &condition)?;
+    Ok(to_file_or_output(alloc, None, text.into_bytes())?)
+}
+
+fn done<'a>(alloc: Global, bytes: &[u8]) -> Result<Outcome, End<'a>>
+    ensures done { IfOk result (IsMadeOf bytes.now None IsCompletionText) }
+    ensures refused { IfErr result (IsNotMade bytes.now (λ P. ⊥)) }
+{
+    let project = project_in(alloc, bytes)?;
+    let text = completion_report(alloc, &project)?;
     Ok(to_file_or_output(alloc, None, text.into_bytes())?)
 }
 
@@ -369,6 +380,10 @@ pub fn perform<'a, T: Threads + Sync, P: Progress>(
         Asked::Map(words) => map(alloc, words, bytes),
         Asked::Order(words) => order(alloc, words, bytes),
         Asked::Latency(words) => latency(alloc, words, bytes),
+        Asked::Done { .. } => {
+            let outcome = done(alloc, bytes)?;
+            Ok(outcome)
+        }
         Asked::Rates(words) => rates(rt, alloc, words, progress),
         Asked::Delays(words) => delays(rt, alloc, words, progress),
         Asked::Sweep(words) => sweep(rt, alloc, words, bytes),

@@ -4,7 +4,7 @@ ghost use Rattle.std.specs.Option.{option_map_or};
 ghost use Rattle.clap.specs.Matches.{matched_of, raw_values};
 ghost use Rattle.clap.specs.Walk.{texts};
 ghost use Rattle.clap.specs.Words.{FailsBy, fault_of, first_of, found_of, new_app, rows_of, rule_of, subcommand_of};
-ghost use Rattle.lab_tasks.specs.CommandLine.{bare, check_task, convert_task, delays_task, file_rule, flag_rule, kept_rules, lab, map_task, latency_task, measured_task, option_rule, order_task, rates_task, several_rule, sweep_task, HasAll, HasMore, HasTask, IsApp, IsLab, IsNoTask, IsTask};
+ghost use Rattle.lab_tasks.specs.CommandLine.{bare, check_task, convert_task, delays_task, done_task, file_rule, flag_rule, kept_rules, lab, map_task, latency_task, measured_task, option_rule, order_task, rates_task, several_rule, sweep_task, HasAll, HasMore, HasTask, IsApp, IsLab, IsNoTask, IsTask};
 ghost use Rattle.lab_tasks.specs.Words.{file_at, is_given, text_of, texts_at, AreConvertWords, AreCurveWords, AreLatencyWords, AreMapWords, AreOrderWords, AreSweepWords, AsksFor};
 
 use crate::convert::ConvertWords;
@@ -54,6 +54,7 @@ pub enum Asked<'a> {
     Map(MapWords<'a>),
     Order(OrderWords<'a>),
     Latency(LatencyWords<'a>),
+    Done { file: &'a str },
     Rates(CurveWords<'a>),
     Delays(CurveWords<'a>),
     Sweep(SweepWords<'a>),
@@ -72,6 +73,7 @@ impl<'a> Asked<'a> {
             Asked::Map(words) => Some(words.file),
             Asked::Order(words) => Some(words.file),
             Asked::Latency(words) => Some(words.file),
+            Asked::Done { file } => Some(*file),
             Asked::Rates(_) | Asked::Delays(_) => None,
             Asked::Sweep(words) => Some(words.file),
             Asked::Check { file } => Some(*file),
@@ -89,6 +91,9 @@ const ORDER_ABOUT: &str =
 
 const LATENCY_ABOUT: &str =
     "Says how long references waited for their replies: the mean, percentiles and a table";
+
+const DONE_ABOUT: &str =
+    "Says when each processor had its last reply and came to the end of its script: the earliest, the latest and a table";
 
 const RATES_ABOUT: &str =
     "Measures references answered per cycle against the number of processors, for some shares of hot references";
@@ -301,6 +306,13 @@ fn latency_command<'a>(alloc: Global) -> Result<Command<'a>, AllocError>
     Ok(task)
 }
 
+fn done_command<'a>(alloc: Global) -> Result<Command<'a>, AllocError>
+    ensures { IfOk result (IsTask done_task) }
+{
+    let task = with_file(alloc, named(alloc, "done", DONE_ABOUT, ENDS))?;
+    Ok(task)
+}
+
 /// A task of curves, with the arguments that say what is measured.
 fn measured_command<'a>(
     alloc: Global,
@@ -475,6 +487,7 @@ fn lab_command<'a>(alloc: Global) -> Result<Command<'a>, AllocError>
     let command = with_task(command, map_command(alloc)?)?;
     let command = with_task(command, order_command(alloc)?)?;
     let command = with_task(command, latency_command(alloc)?)?;
+    let command = with_task(command, done_command(alloc)?)?;
     let command = with_task(command, rates_command(alloc)?)?;
     let command = with_task(command, delays_command(alloc)?)?;
     let command = with_task(command, sweep_command(alloc)?)?;
@@ -611,6 +624,9 @@ fn asked_of<'a>(
         "map" => Some(Asked::Map(map_words(matches))),
         "order" => Some(Asked::Order(order_words(matches))),
         "latency" => Some(Asked::Latency(latency_words(matches))),
+        "done" => Some(Asked::Done {
+            file: file_in(matches),
+        }),
         "rates" => Some(Asked::Rates(curve_words(matches))),
         "delays" => Some(Asked::Delays(curve_words(matches))),
         "sweep" => Some(Asked::Sweep(sweep_words(alloc, matches)?)),

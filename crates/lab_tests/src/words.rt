@@ -94,6 +94,8 @@ fn words_of_a_sweep_are_taken(rt: HostRuntime) -> Result<(), Fail> {
 fn words_of_a_file_are_taken(rt: HostRuntime) -> Result<(), Fail> {
     let asked = read_words(rt.alloc(), &["check", "a.toml"])?;
     compare(&rt, &[asked.file()], &["a.toml"]);
+    let asked = read_words(rt.alloc(), &["done", "a.toml"])?;
+    compare(&rt, &[asked.file()], &["a.toml"]);
     let asked = read_words(rt.alloc(), &["convert", "a.toml", "--out", "b.toml"])?;
     let Asked::Convert(words) = &asked else {
         return Err(Fail::from("a file"));

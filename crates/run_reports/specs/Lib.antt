@@ -1,7 +1,10 @@
+pub mod CompletionTexts
+pub mod Completions
 pub mod Conditions
 pub mod Figures
 pub mod Latencies
 pub mod Logs
+pub mod Marking
 pub mod References
 pub mod Runners
 pub mod Texts

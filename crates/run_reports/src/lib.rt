@@ -6,22 +6,32 @@
 //! - [`latencies_of`]: how many of those that meet a condition took each number of cycles, and how many have no reply
 //!   ([`Latencies`]), with the figures of that histogram: their number, mean, least, greatest and percentiles.
 //! - [`latency_text`]: these figures as lines, and the histogram as a table.
+//! - [`completions`]: when each processor had its last reply, and when its script was at its end ([`Completion`]); with
+//!   [`cycles_of`] and [`spread_of`] the earliest and the latest of these cycles.
+//! - [`completion_text`]: these figures as lines, and the completions as a table.
 //! - [`Runner`]: the run that they are counted from, one cycle at a time; nothing of it is kept.
 //!
 //! The crate stands on `flat_row` for a run that is stepped cycle by cycle and not kept, and on `machine_cells` and `project_book`
 //! for what a run is. It promises that each report is that of the run of the project from cycle 0 (`specs/References.antt`,
-//! `specs/Latencies.antt`), and that each figure is the one of its histogram (`specs/Figures.antt`).
+//! `specs/Latencies.antt`, `specs/Completions.antt`), and that each figure is the one of its histogram (`specs/Figures.antt`) or of its
+//! cycles.
 #![tactic(auto)]
 
+mod completion;
+mod completion_report;
 mod condition;
 mod figures;
 mod latency;
 mod reference;
 mod report;
 mod runner;
+mod spread;
 
+pub use completion::{Completion, Event, completions};
+pub use completion_report::completion_text;
 pub use condition::{Condition, HOT_ADDRESS, Window, meets};
 pub use latency::{Latencies, latencies_of};
 pub use reference::{Reference, references};
 pub use report::{Summary, latency_text};
 pub use runner::Runner;
+pub use spread::{Spread, cycles_of, spread_of};

@@ -15,9 +15,9 @@ returns-in-Some c =
     c.second_among.ensures
     ∙ ap (λ w. option_map (λ e. e.second) (first_entry tag w)) c.waiting.ensures
     ∙ sym (
-      waits R n c.component.result (c.component.ensures.value ∙ ap (λ k. component_of k n) c.shape.ensures)
-      (subst (λ k. IsSome c.component.result ↔ (n < components k)) c.shape.ensures c.component.ensures.there) tag
-      ∙ ap (option_and_then (λ p. option_map (λ e. e.second) (first_entry tag (wait_of (buffers_at R p.0) (switch_label R.k p.0 p.1)).items))) (sym c.switch_place.ensures ∙ c.in-Some.is)
+    waits R n c.component.result (c.component.ensures.value ∙ ap (λ k. component_of k n) c.shape.ensures)
+    (subst (λ k. IsSome c.component.result ↔ (n < components k)) c.shape.ensures c.component.ensures.there) tag
+    ∙ ap (option_and_then (λ p. option_map (λ e. e.second) (first_entry tag (wait_of (buffers_at R p.0) (switch_label R.k p.0 p.1)).items))) (sym c.switch_place.ensures ∙ c.in-Some.is)
     )
 
 pub returns-in-None : goal.returns-in-None
@@ -26,7 +26,7 @@ returns-in-None c =
     let n = c.args.component in
     let tag = c.args.tag in
     sym (
-      waits R n c.component.result (c.component.ensures.value ∙ ap (λ k. component_of k n) c.shape.ensures)
-      (subst (λ k. IsSome c.component.result ↔ (n < components k)) c.shape.ensures c.component.ensures.there) tag
-      ∙ ap (option_and_then (λ p. option_map (λ e. e.second) (first_entry tag (wait_of (buffers_at R p.0) (switch_label R.k p.0 p.1)).items))) (sym c.switch_place.ensures ∙ c.in-None.is)
+    waits R n c.component.result (c.component.ensures.value ∙ ap (λ k. component_of k n) c.shape.ensures)
+    (subst (λ k. IsSome c.component.result ↔ (n < components k)) c.shape.ensures c.component.ensures.there) tag
+    ∙ ap (option_and_then (λ p. option_map (λ e. e.second) (first_entry tag (wait_of (buffers_at R p.0) (switch_label R.k p.0 p.1)).items))) (sym c.switch_place.ensures ∙ c.in-None.is)
     )

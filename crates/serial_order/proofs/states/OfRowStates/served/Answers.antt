@@ -13,9 +13,9 @@ returns-in-Some c =
     let n = c.args.component in
     c.served_in.ensures
     ∙ sym (
-      serves R n c.component.result (c.component.ensures.value ∙ ap (λ k. component_of k n) c.shape.ensures)
-      (subst (λ k. IsSome c.component.result ↔ (n < components k)) c.shape.ensures c.component.ensures.there) c.args.depth
-      ∙ ap (option_and_then (λ m. request_of (module_of R m) (served_net (module_of R m) c.args.depth))) (sym c.module_number.ensures ∙ c.in-Some.is)
+    serves R n c.component.result (c.component.ensures.value ∙ ap (λ k. component_of k n) c.shape.ensures)
+    (subst (λ k. IsSome c.component.result ↔ (n < components k)) c.shape.ensures c.component.ensures.there) c.args.depth
+    ∙ ap (option_and_then (λ m. request_of (module_of R m) (served_net (module_of R m) c.args.depth))) (sym c.module_number.ensures ∙ c.in-Some.is)
     )
 
 pub returns-in-None : goal.returns-in-None
@@ -23,7 +23,7 @@ returns-in-None c =
     let R = c.args.self.now.row.now in
     let n = c.args.component in
     sym (
-      serves R n c.component.result (c.component.ensures.value ∙ ap (λ k. component_of k n) c.shape.ensures)
-      (subst (λ k. IsSome c.component.result ↔ (n < components k)) c.shape.ensures c.component.ensures.there) c.args.depth
-      ∙ ap (option_and_then (λ m. request_of (module_of R m) (served_net (module_of R m) c.args.depth))) (sym c.module_number.ensures ∙ c.in-None.is)
+    serves R n c.component.result (c.component.ensures.value ∙ ap (λ k. component_of k n) c.shape.ensures)
+    (subst (λ k. IsSome c.component.result ↔ (n < components k)) c.shape.ensures c.component.ensures.there) c.args.depth
+    ∙ ap (option_and_then (λ m. request_of (module_of R m) (served_net (module_of R m) c.args.depth))) (sym c.module_number.ensures ∙ c.in-None.is)
     )

@@ -1,0 +1,11 @@
+use Rattle.std.proofs.Common.{◌≡◌}
+use Rattle.run_reports.specs.Marking.{AreCompletions}
+use Rattle.run_reports.specs.Runners.{IsAt}
+use Rattle.run_reports.proofs.completion.completions.Given as goal
+
+abbrev pub invariant-loop-cycle : goal.invariant-loop-cycle
+invariant-loop-cycle l = record {
+  at : IsAt l.project l.runner;
+  cycle : l.runner.cycle ≡ l._cycle;
+  completions : AreCompletions l.project l._cycle l.all.items;
+}
