@@ -54,7 +54,7 @@ module _ (row front out mid : List Held) (from place : ℕ) (asc : IsAscending r
     (there : place ≤ length row)
     (high : from < length row → end_of front ≤ component_at row from)
     (ran : mid ≡ out ++ slice_range row from place) where
-  ran_found : (d : ℕ) → found mid d ≡ option_or (found out d) (found (slice_range row from place) d)
+  pub ran_found : (d : ℕ) → found mid d ≡ option_or (found out d) (found (slice_range row from place) d)
   ran_found d = ap (λ (v : List Held). found v d) ran ∙ found_append out (slice_range row from place) d
 
   pub ran_end : end_of mid ≡ max (end_of out) (end_of (slice_range row from place))

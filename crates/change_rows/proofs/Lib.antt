@@ -11,3 +11,6 @@ pub mod Tables
 pub mod Viewing
 pub mod Growing
 pub mod Running
+pub mod FirstBit
+pub mod Members
+pub mod Sourcing

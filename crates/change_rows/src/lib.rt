@@ -21,6 +21,10 @@ mod marks;
 mod merge;
 mod rows;
 mod run;
+mod sets;
+mod source;
+mod sourced;
 
 pub use cells::Cells;
 pub use rows::Rows;
+pub use source::Source;

@@ -154,7 +154,7 @@ pub(crate) fn has_bit(word: u64, k: u32) -> bool
     (word >> k) & 1 == 1
 }
 
-fn with_bit(word: u64, k: u32) -> u64
+pub(crate) fn with_bit(word: u64, k: u32) -> u64
     requires { k < 64 }
     ensures set { is_one result k ≡ true }
     ensures others { (i : ℕ) → (i ≡ k → ⊥) → is_one result i ≡ is_one word i }

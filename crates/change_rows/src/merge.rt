@@ -1,6 +1,6 @@
 //! Cells of one row put together from those of two.
 ghost use Rattle.std.specs.Prelude.{◌≡◌, ℕ, ◌+◌, ◌<◌, ◌≤◌, ◌^◌, ◌↔◌, max, [], None, cond, is_some, IsTrue, OnOk, length, take, unwrap_or};
-ghost use Rattle.std.specs.Option.{option_or};
+ghost use Rattle.std.specs.Option.{option_or, option_copied};
 ghost use Rattle.change_rows.specs.Cells.{found, end_of, component_at, IsAscending, IsSplit};
 
 use crate::cells::Cells;
@@ -39,6 +39,18 @@ pub(crate) fn words_or<'a>(cells: &'a Cells, place: usize, c: u32, others: &'a [
         cells.words(place)
     } else {
         others
+    }
+}
+
+/// The words of a component whose place is known, where there is a cell of it.
+pub(crate) fn get_at(cells: &Cells, place: usize, c: u32) -> Option<&[u64]>
+    requires { IsSplit cells.now c place }
+    ensures { option_copied result ≡ found cells.now c }
+{
+    if is_at(cells, place, c) {
+        Some(cells.words(place))
+    } else {
+        None
     }
 }
 

@@ -2,7 +2,7 @@
 ghost use Rattle.std.specs.Prelude.{◌≡◌, ℕ, ◌+◌, ◌-◌, ◌*◌, ◌^◌, ◌<◌, ◌≤◌, ◌++◌, [], List, true, false, MatchResult, IfOk, OnOk, length, take, replicate, slice_index_or, slice_set};
 ghost use Rattle.change_rows.specs.Cells.{end_of};
 ghost use Rattle.change_rows.specs.Marks.{is_in};
-ghost use Rattle.change_rows.specs.Rows.{Table, words_at, overlaid, repeated, IsWhole};
+ghost use Rattle.change_rows.specs.Rows.{Table, words_at, overlaid, replaced, repeated, IsWhole};
 
 use crate::cells::Cells;
 use crate::changes::{Changes, begins_in, next_begin, words_in};
@@ -10,6 +10,8 @@ use crate::edit::{Buffers, put};
 use crate::grow::{cut, grow};
 use crate::marks::Marks;
 use crate::run::repeat;
+use crate::source::Source;
+use crate::sourced::put_from;
 use std::alloc::{AllocError, Global};
 use std::marker::Model;
 
@@ -160,6 +162,41 @@ impl Rows {
             from as usize - 1,
             to as usize - 1,
             set,
+        )?;
+        Ok(())
+    }
+
+    /// The components of a set hold in row t the words that a source has for them, and all other cells of all rows hold what they held.
+    /// Of `changed` those components are then the members that held other words. Both have a bit for each component, 64 in a word; a
+    /// bit behind the last component means nothing.
+    ///
+    /// # Errors
+    ///
+    /// Where a growth was refused. All cells hold what they held.
+    pub fn put_from<S: Source>(
+        &mut self,
+        t: u32,
+        set: &[u64],
+        source: &S,
+        changed: &mut [u64],
+    ) -> Result<(), AllocError>
+        requires row { t < length self.old.rows }
+        requires changed { length changed.old ≡ length set.now }
+        requires has { (c : ℕ) → c < self.old.width → is_in set.now c ≡ true → S.has source.now c }
+        requires still { (c : ℕ) → c < self.old.width → is_in set.now c ≡ true → S.still source.now c ≡ true → (0 < t) × (S.words source.now c ≡ words_at self.old.rows (t - 1) c) }
+        ensures row { MatchResult result
+            (λ _. self.new ≡ record { width = self.old.width; rows = slice_set self.old.rows t (replaced (slice_index_or self.old.rows t []) set.now (S.words source.now)) })
+            (λ _. self.new ≡ self.old) }
+        ensures changed { OnOk result ((c : ℕ) → is_in changed.new c ≡ true → (c < self.old.width) × (is_in set.now c ≡ true) × (words_at self.old.rows t c ≡ S.words source.now c → ⊥)) }
+        ensures same { OnOk result ((c : ℕ) → c < self.old.width → is_in set.now c ≡ true → is_in changed.new c ≡ false → words_at self.old.rows t c ≡ S.words source.now c) }
+    {
+        put_from(
+            &mut self.changes,
+            &mut self.buffers,
+            t as usize,
+            set,
+            source,
+            changed,
         )?;
         Ok(())
     }
