@@ -14,3 +14,4 @@ pub mod Running
 pub mod FirstBit
 pub mod Members
 pub mod Sourcing
+pub mod Filling

@@ -215,51 +215,51 @@ cond_none true false x y e = refl
 cond_none false false x y e = refl
 cond_none b true x y e = absurd (false≢true (sym e))
 
--- the members of a set hold other words at row t; before that the seam of another row was settled
-module _ (rows0 rows rows1 : List (List Held)) (seam0 seam seam1 seam2 row row1 : List Held) (at0 at t width : ℕ) (members : List ℕ) (words : ℕ → List ℕ)
+-- one component holds other words at row t; before that the seam of another row was settled
+module _ (rows0 rows rows1 : List (List Held)) (seam0 seam seam1 seam2 row row1 : List Held) (at0 at t : ℕ)
     (same : (c u : ℕ) → begins_at rows seam at c u ≡ begins_at rows0 seam0 at0 c u)
     (len : length rows ≡ length rows0)
     (laid : rows1 ≡ set rows t row1)
     (is_row : row1 ≡ row)
     (is_seam : seam2 ≡ seam1)
     (here : t < length rows)
-    (elsewhere : (at ≡ t → ⊥) → seam ≡ [])
-    (over : IsOver rows seam at t width members words row seam1) where
-  pub stands_over : (c u : ℕ) → c < width → u < length rows0 → standing (begins_at rows1 seam2 (t + 1) c) u ≡ cond (eqb u t && is_in members c) (words c) (standing (begins_at rows0 seam0 at0 c) u)
-  stands_over c u small l = by_member (is_in members c) refl
+    (elsewhere : (at ≡ t → ⊥) → seam ≡ []) where
+  pub stands_at : (c : ℕ) (v : List ℕ) → unwrap_or (found row c) (standing_before (begins_at rows seam at c) t) ≡ v → (t + 1 < length rows → found (row_at rows (t + 1)) c ≡ None → unwrap_or (found seam1 c) v ≡ standing (begins_at rows seam at c) t) → (u : ℕ) → u < length rows0 → standing (begins_at rows1 seam2 (t + 1) c) u ≡ cond (eqb u t) v (standing (begins_at rows0 seam0 at0 c) u)
+  stands_at c v kept seam_kept u l =
+      put_at rows0 rows rows1 seam0 seam seam1 seam2 row row1 (one c (Some v)) at0 at t c (same c) len laid is_row is_seam here elsewhere
+      (λ w f. kept ∙ given w f)
+      (λ f. absurd (some_none f))
+      (λ h w f g. ap (unwrap_or (found seam1 c)) (sym (given w f)) ∙ seam_kept h g)
+      (λ f. absurd (some_none f))
+      u l
+      ∙ ap (λ (o : Option (List ℕ)). cond (eqb u t) (unwrap_or o (standing (begins_at rows0 seam0 at0 c) u)) (standing (begins_at rows0 seam0 at0 c) u)) (found_one c v)
     where
-      stood : List ℕ
-      stood = standing (begins_at rows0 seam0 at0 c) u
+      given : (w : List ℕ) → found (one c (Some v)) c ≡ Some w → v ≡ w
+      given w f = let p : Some v ≡ Some w = sym (found_one c v) ∙ f in cc
 
-      by_member : (b : Bool) → is_in members c ≡ b → standing (begins_at rows1 seam2 (t + 1) c) u ≡ cond (eqb u t && is_in members c) (words c) (standing (begins_at rows0 seam0 at0 c) u)
-      by_member true e =
-          let draft = one c (Some (words c)) in
-          let there : found draft c ≡ Some (words c) = found_one c (words c) in
-          put_at rows0 rows rows1 seam0 seam seam1 seam2 row row1 draft at0 at t c (same c) len laid is_row is_seam here elsewhere
-          (λ w f. over.kept c small e ∙ given w f)
-          (λ f. absurd (some_none f))
-          (λ h w f g. ap (unwrap_or (found seam1 c)) (sym (given w f)) ∙ over.seam_kept c small e h g)
-          (λ f. absurd (some_none f))
-          u l
-          ∙ ap (λ (o : Option (List ℕ)). cond (eqb u t) (unwrap_or o stood) stood) there
-          ∙ cond_both (eqb u t) (is_in members c) (words c) stood e
-        where
-          given : (w : List ℕ) → found (one c (Some (words c))) c ≡ Some w → words c ≡ w
-          given w f = let p : Some (words c) ≡ Some w = sym (found_one c (words c)) ∙ f in cc
+      some_none : found (one c (Some v)) c ≡ None → ⊥
+      some_none f = let p : Some v ≡ None = sym (found_one c v) ∙ f in cc
 
-          some_none : found (one c (Some (words c))) c ≡ None → ⊥
-          some_none f = let p : Some (words c) ≡ None = sym (found_one c (words c)) ∙ f in cc
-      by_member false e =
-          put_at rows0 rows rows1 seam0 seam seam1 seam2 row row1 [] at0 at t c (same c) len laid is_row is_seam here elsewhere
-          (λ w f. absurd (none_some w f))
-          (λ _. over.others c (λ _ i. not_in members c e i))
-          (λ h w f g. absurd (none_some w f))
-          (λ _. over.seam_only c (λ _ i. not_in members c e i))
-          u l
-          ∙ cond_none (eqb u t) (is_in members c) (words c) stood e
-        where
-          none_some : (w : List ℕ) → None ≡ Some w → ⊥
-          none_some w f = cc
+  -- the members of a set do
+  module _ (width : ℕ) (members : List ℕ) (words : ℕ → List ℕ) (over : IsOver rows seam at t width members words row seam1) where
+    pub stands_over : (c u : ℕ) → c < width → u < length rows0 → standing (begins_at rows1 seam2 (t + 1) c) u ≡ cond (eqb u t && is_in members c) (words c) (standing (begins_at rows0 seam0 at0 c) u)
+    stands_over c u small l = by_member (is_in members c) refl
+      where
+        by_member : (b : Bool) → is_in members c ≡ b → standing (begins_at rows1 seam2 (t + 1) c) u ≡ cond (eqb u t && is_in members c) (words c) (standing (begins_at rows0 seam0 at0 c) u)
+        by_member true e =
+            stands_at c (words c) (over.kept c small e) (over.seam_kept c small e) u l
+            ∙ cond_both (eqb u t) (is_in members c) (words c) (standing (begins_at rows0 seam0 at0 c) u) e
+        by_member false e =
+            put_at rows0 rows rows1 seam0 seam seam1 seam2 row row1 [] at0 at t c (same c) len laid is_row is_seam here elsewhere
+            (λ w f. absurd (none_some w f))
+            (λ _. over.others c (λ _ i. not_in members c e i))
+            (λ h w f g. absurd (none_some w f))
+            (λ _. over.seam_only c (λ _ i. not_in members c e i))
+            u l
+            ∙ cond_none (eqb u t) (is_in members c) (words c) (standing (begins_at rows0 seam0 at0 c) u) e
+          where
+            none_some : (w : List ℕ) → None ≡ Some w → ⊥
+            none_some w f = cc
 
 -- the members hold their words already
 pub stands_still : (rows0 rows : List (List Held)) (seam0 seam : List Held) (at0 at t width : ℕ) (members : List ℕ) (words : ℕ → List ℕ) (changed : List ℕ) → ((c u : ℕ) → begins_at rows seam at c u ≡ begins_at rows0 seam0 at0 c u) → IsTold rows seam at t members words width changed → ((c : ℕ) → is_in changed c ≡ false) → (c u : ℕ) → c < width → standing (begins_at rows seam at c) u ≡ cond (eqb u t && is_in members c) (words c) (standing (begins_at rows0 seam0 at0 c) u)

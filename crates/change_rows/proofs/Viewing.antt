@@ -5,10 +5,10 @@ use Rattle.std.proofs.lemmas.List.{append-nil}
 use Rattle.std.proofs.lemmas.Bool.{cases_lt, lt-ltb, le-ltb, le-leb, lt-leb}
 use Rattle.change_rows.specs.Marks.{is_in}
 use Rattle.change_rows.specs.Cells.{Held, found}
-use Rattle.change_rows.specs.Rows.{Table, words_at, overlaid, replaced, repeated}
+use Rattle.change_rows.specs.Rows.{Table, words_at, overlaid, replaced, filled, repeated}
 use Rattle.change_rows.specs.Standing.{standing, standing_before}
 use Rattle.change_rows.specs.Changes.{begins_at, table, cells_in}
-use Rattle.change_rows.proofs.Tables.{table_same, table_put, table_replaced, table_grow, table_cut, length_table, at_table}
+use Rattle.change_rows.proofs.Tables.{table_same, table_put, table_replaced, table_filled, table_grow, table_cut, length_table, at_table}
 use Rattle.change_rows.proofs.Putting.{alike}
 
 abbrev pub a_table : ℕ → List (List (List ℕ)) → Table
@@ -112,6 +112,14 @@ view_replaced rows0 rows1 seam0 seam1 at0 at1 width0 width1 t members words v vi
     ∙ ap (λ (n : ℕ). a_table width0 (table (cells rows1 seam1 at1) n width0)) len
     ∙ ap (a_table width0) (table_replaced (cells rows0 seam0 at0) (cells rows1 seam1 at1) (length rows0) width0 t members words here (λ u c h l. put c u l h))
     ∙ ap (λ (x : Table). a_table x.width (set x.rows t (replaced (get_or x.rows t []) members words))) view
+
+-- a row is filled
+pub view_filled : (rows0 rows1 : List (List Held)) (seam0 seam1 : List Held) (at0 at1 width0 width1 t : ℕ) (words : ℕ → List ℕ) (v : Table) → a_table width0 (cells_in rows0 seam0 at0 width0) ≡ v → width1 ≡ width0 → length rows1 ≡ length rows0 → t < length rows0 → ((c u : ℕ) → c < width0 → u < length rows0 → standing (begins_at rows1 seam1 at1 c) u ≡ cond (eqb u t) (words c) (standing (begins_at rows0 seam0 at0 c) u)) → a_table width1 (cells_in rows1 seam1 at1 width1) ≡ a_table v.width (set v.rows t (filled v.width words))
+view_filled rows0 rows1 seam0 seam1 at0 at1 width0 width1 t words v view w len here put =
+    ap (λ (k : ℕ). a_table k (cells_in rows1 seam1 at1 k)) w
+    ∙ ap (λ (n : ℕ). a_table width0 (table (cells rows1 seam1 at1) n width0)) len
+    ∙ ap (a_table width0) (table_filled (cells rows0 seam0 at0) (cells rows1 seam1 at1) (length rows0) width0 t words here (λ u c h l. put c u l h))
+    ∙ ap (λ (x : Table). a_table x.width (set x.rows t (filled x.width words))) view
 
 before : (begins : ℕ → Option (List ℕ)) (k : ℕ) → 0 < k → standing begins (k - 1) ≡ standing_before begins k
 before begins zero h = absurd (omega (arith, h))

@@ -27,3 +27,7 @@ repeated rows width from to set = map (λ t. map (λ c. cond (is_in set c && (na
 -- a row in which the components of a set hold other words
 abbrev pub replaced : List (List ℕ) → List ℕ → (ℕ → List ℕ) → List (List ℕ)
 replaced row set words = map (λ c. cond (is_in set c) (words c) (slice_index_or row c [])) (range_with_len 0 (length row))
+
+-- a row in which each component holds its words
+abbrev pub filled : ℕ → (ℕ → List ℕ) → List (List ℕ)
+filled width words = map words (range_with_len 0 width)

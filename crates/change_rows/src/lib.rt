@@ -16,6 +16,7 @@
 mod cells;
 mod changes;
 mod edit;
+mod fill;
 mod grow;
 mod marks;
 mod merge;

@@ -1,7 +1,7 @@
 //! At which cycles the cells of components begin.
-ghost use Rattle.std.specs.Prelude.{◌≡◌, ℕ, ◌+◌, ◌*◌, ◌<◌, ◌≤◌, ◌++◌, ◌||◌, [], List, true, false, cond, nat_eq, MatchOption, OnOk, length, take, replicate, is_some, slice_index_or, slice_set};
+ghost use Rattle.std.specs.Prelude.{◌≡◌, ℕ, ◌+◌, ◌*◌, ◌/◌, ◌<◌, ◌≤◌, ◌++◌, ◌||◌, [], List, true, false, cond, nat_eq, MatchOption, OnOk, length, take, replicate, is_some, slice_index_or, slice_set};
 ghost use Rattle.change_rows.specs.Cells.{found, end_of};
-ghost use Rattle.change_rows.specs.Marks.{is_one, is_set, is_marked, is_in};
+ghost use Rattle.change_rows.specs.Marks.{is_one, is_set, is_marked, is_in, IsCovered};
 
 use crate::cells::Cells;
 use std::alloc::{AllocError, Global};
@@ -11,14 +11,19 @@ use std::marker::Model;
 #[derive(Drop)]
 pub(crate) struct Marks {
     words: Vec<u64>,
+    /// For 64 cycles each a word that has at least the marks of each of them.
+    blocks: Vec<u64>,
 }
 
 impl Model for Marks {
     ghost use Rattle.std.specs.Prelude.{List, ℕ};
+    ghost use Rattle.change_rows.specs.Marks.{IsCovered};
 
     ghost Value = { List ℕ };
 
     ghost view = { λ m. m.words.items };
+
+    ghost invariant = { λ m. IsCovered m.words.items m.blocks.items };
 }
 
 impl Marks {
@@ -28,7 +33,17 @@ impl Marks {
     {
         Marks {
             words: Vec::new(alloc),
+            blocks: Vec::new(alloc),
         }
+    }
+
+    /// At least the marks of each of the 64 cycles that a cycle is among.
+    #[inline]
+    pub fn block(&self, t: usize) -> u64
+        requires { t < length self.now }
+        ensures { (u k : ℕ) → u / 64 ≡ t / 64 → is_set self.now u k ≡ true → is_one result k ≡ true }
+    {
+        self.blocks[t / 64]
     }
 
     /// The marks of a cycle.
@@ -79,6 +94,8 @@ impl Marks {
     {
         let word = with_bit(self.words[t], k);
         self.words[t] = word;
+        let block = with_bit(self.blocks[t / 64], k);
+        self.blocks[t / 64] = block;
     }
 
     /// Room for n cycles; nothing is marked at those that come in addition.
@@ -94,6 +111,10 @@ impl Marks {
         let len = self.words.len();
         if n <= len {
             return Ok(());
+        }
+        let blocks = self.blocks.len();
+        if blocks < n.div_ceil(64) {
+            grow_by(&mut self.blocks, n.div_ceil(64) - blocks)?;
         }
         grow_by(&mut self.words, n - len)
     }
@@ -197,6 +218,28 @@ pub(crate) fn has_any(lines: &Vec<Marks>, t: usize, set: &[u64]) -> bool
         }
     }
     false
+}
+
+/// Whether a component of a set may be marked at one of the 64 cycles that a cycle is among.
+pub(crate) fn block_has_any(lines: &Vec<Marks>, t: usize, set: &[u64]) -> bool
+    requires { (w : ℕ) → w < length lines.now.items → t < length (slice_index_or lines.now.items w []) }
+    ensures { result ≡ false → (u c : ℕ) → u / 64 ≡ t / 64 → c < 64 * length lines.now.items → is_in set.now c ≡ true → is_marked lines.now.items u c ≡ false }
+{
+    for w in 0..lines.len().min(set.len()) {
+        if has_both(lines[w].block(t), set[w]) {
+            return true;
+        }
+    }
+    false
+}
+
+/// Whether a component may be marked at one of the 64 cycles that a cycle is among.
+pub(crate) fn block_has(lines: &Vec<Marks>, t: usize, c: u32) -> bool
+    requires component { c < 64 * length lines.now.items }
+    requires row { t < length (slice_index_or lines.now.items (c / 64) []) }
+    ensures { result ≡ false → (u : ℕ) → u / 64 ≡ t / 64 → is_marked lines.now.items u c ≡ false }
+{
+    has_bit(lines[c as usize / 64].block(t), c % 64)
 }
 
 /// How many components below c are marked at a cycle: the place of its cell, where a row has one.

@@ -3,7 +3,17 @@ ghost use Rattle.std.specs.Prelude.{◌≡◌, ℕ, ◌/◌, ◌%◌, ◌<◌, �
 ghost use Rattle.std.specs.Int.{bit_at};
 ghost use Rattle.change_rows.specs.Marks.{is_in};
 
-use crate::marks::with_bit;
+use crate::marks::{has_bit, with_bit};
+
+/// Whether a set has a component.
+pub(crate) fn is_member(set: &[u64], c: u32) -> bool
+    ensures { result ≡ is_in set.now c }
+{
+    match set.get(c as usize / 64) {
+        Some(word) => has_bit(*word, c % 64),
+        None => false,
+    }
+}
 
 /// The first bit of a word that is set at or behind a place.
 fn first_bit(word: u64, from: u32) -> Option<u32>

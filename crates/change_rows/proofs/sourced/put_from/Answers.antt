@@ -23,7 +23,7 @@ returns-clause-put g c = λ d u small here.
     let e = c.in_ok-settle_for.ensures in
     let b = c.row_from.new.b in
     let there : c.args.t < length m.rows.items = omega (arith, c.requires.row, e.len) in
-    stands_over s.rows.items m.rows.items c.lay.new.rows.items s.seam m.seam b.seam c.swap.new.x b.row b.row s.at m.at c.args.t m.width c.args.set.now (g.S.Source.words c.args.source.now) e.same e.len c.in_ok-lay.ensures.rows refl c.swap.ensures.x_after there e.elsewhere c.in_ok-row_from.ensures.over d u (omega (arith, small, e.width)) here
+    stands_over s.rows.items m.rows.items c.lay.new.rows.items s.seam m.seam b.seam c.swap.new.x b.row b.row s.at m.at c.args.t e.same e.len c.in_ok-lay.ensures.rows refl c.swap.ensures.x_after there e.elsewhere m.width c.args.set.now (g.S.Source.words c.args.source.now) c.in_ok-row_from.ensures.over d u (omega (arith, small, e.width)) here
 
 pub returns-clause-told : goal.returns-clause-told
 returns-clause-told g c =
