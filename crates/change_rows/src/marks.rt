@@ -1,5 +1,5 @@
 //! At which cycles the cells of components begin.
-ghost use Rattle.std.specs.Prelude.{◌≡◌, ℕ, ◌+◌, ◌*◌, ◌/◌, ◌<◌, ◌≤◌, ◌++◌, ◌||◌, [], List, true, false, cond, nat_eq, MatchOption, OnOk, length, take, replicate, is_some, slice_index_or, slice_set};
+ghost use Rattle.std.specs.Prelude.{◌≡◌, ℕ, ◌+◌, ◌*◌, ◌/◌, ◌<◌, ◌≤◌, max, ◌++◌, ◌||◌, [], List, true, false, cond, nat_eq, MatchOption, OnOk, length, take, replicate, is_some, slice_index_or, slice_set};
 ghost use Rattle.change_rows.specs.Cells.{found, end_of};
 ghost use Rattle.change_rows.specs.Marks.{is_one, is_set, is_marked, is_in, IsCovered};
 
@@ -108,15 +108,8 @@ impl Marks {
         ensures longer { length self.old ≤ length self.new }
         ensures ok { OnOk result (n ≤ length self.new) }
     {
-        let len = self.words.len();
-        if n <= len {
-            return Ok(());
-        }
-        let blocks = self.blocks.len();
-        if blocks < n.div_ceil(64) {
-            grow_by(&mut self.blocks, n.div_ceil(64) - blocks)?;
-        }
-        grow_by(&mut self.words, n - len)
+        stretch(&mut self.blocks, n.div_ceil(64))?;
+        stretch(&mut self.words, n)
     }
 
     /// The first n cycles stay.
@@ -131,6 +124,7 @@ impl Marks {
 fn grow_by(words: &mut Vec<u64>, m: usize) -> Result<(), AllocError>
     ensures same { (t k : ℕ) → is_set words.new.items t k ≡ is_set words.old.items t k }
     ensures longer { length words.old.items ≤ length words.new.items }
+    ensures most { length words.new.items ≤ length words.old.items + m }
     ensures ok { OnOk result (length words.new.items ≡ length words.old.items + m) }
 {
     words.reserve(m)?;
@@ -138,6 +132,20 @@ fn grow_by(words: &mut Vec<u64>, m: usize) -> Result<(), AllocError>
         words.push_reserved(0);
     }
     Ok(())
+}
+
+/// Room for n words; those that come in addition are 0.
+fn stretch(words: &mut Vec<u64>, n: usize) -> Result<(), AllocError>
+    ensures same { (t k : ℕ) → is_set words.new.items t k ≡ is_set words.old.items t k }
+    ensures longer { length words.old.items ≤ length words.new.items }
+    ensures most { length words.new.items ≤ max n (length words.old.items) }
+    ensures ok { OnOk result (n ≤ length words.new.items) }
+{
+    let len = words.len();
+    if n <= len {
+        return Ok(());
+    }
+    grow_by(words, n - len)
 }
 
 /// Room for n cycles in all lines.
