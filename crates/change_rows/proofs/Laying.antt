@@ -107,7 +107,7 @@ first_here cells c n split h e =
     ∙ ap (λ (o : Option (List ℕ)). option_or o (cond (eqb (component_at cells n) c) (Some (get_or cells n no_cell).words) None)) (found_past (take n cells) c split.below)
     ∙ single_same cells n c e
 
-some_or : (o : Option (List ℕ)) (w : List ℕ) → Some (unwrap_or o w) ≡ option_or o (Some w)
+pub some_or : (o : Option (List ℕ)) (w : List ℕ) → Some (unwrap_or o w) ≡ option_or o (Some w)
 some_or None w = refl
 some_or (Some x) w = refl
 

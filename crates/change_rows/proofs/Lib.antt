@@ -6,6 +6,7 @@ pub mod Merging
 pub mod Laying
 pub mod Standing
 pub mod Editing
+pub mod Uniting
 pub mod Putting
 pub mod Tables
 pub mod Viewing

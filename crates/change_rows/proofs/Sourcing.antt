@@ -4,15 +4,15 @@ use Rattle.std.specs.Option.{option_or}
 use Rattle.std.proofs.Math.ListN.{set}
 use Rattle.std.proofs.lemmas.Bool.{cases_eq, cases_lt, eq-eqb, ne_eqb, false≢true}
 use Rattle.std.proofs.lemmas.List.{take_all}
-use Rattle.change_rows.specs.Cells.{Held, found, end_of, component_at, IsAscending}
+use Rattle.change_rows.specs.Cells.{Held, found, end_of, component_at, IsSplit}
 use Rattle.change_rows.specs.Marks.{is_in}
 use Rattle.change_rows.specs.Standing.{standing, standing_before}
 use Rattle.change_rows.specs.Changes.{row_at, begins_at}
 use Rattle.change_rows.specs.Laid.{IsLaid, IsOver, IsTold}
-use Rattle.change_rows.proofs.Editing.{absent, or_none}
+use Rattle.change_rows.proofs.Editing.{absent}
 use Rattle.change_rows.proofs.Standing.{at_once}
 use Rattle.change_rows.proofs.Putting.{stands_by, put_at, alike}
-use Rattle.change_rows.proofs.Laying.{ran_found, ran_others, ran_below, slice_high}
+use Rattle.change_rows.proofs.Finding.{found_past}
 
 -- where nothing begins at a cell, what stood before it does
 pub stands_on : (begins : ℕ → Option (List ℕ)) (t : ℕ) → begins t ≡ None → standing begins t ≡ standing_before begins t
@@ -33,15 +33,20 @@ member_low set p q none d h e = by_place (cases_lt d p)
     by_place (inl l) = l
     by_place (inr l) = absurd (not_in set d (none d l h) e)
 
-module _ (rows : List (List Held)) (seam : List Held) (at t : ℕ) (under : List Held) (members : List ℕ) (words : ℕ → List ℕ) where
-  pub laid_start : IsLaid rows seam at t under members words 0 0 [] []
+pub split_start : (cells : List Held) → IsSplit cells 0 0
+split_start cells = record {
+  within = omega arith;
+  below = omega arith;
+  above = λ _. omega arith;
+}
+
+module _ (rows : List (List Held)) (seam : List Held) (at t : ℕ) (members : List ℕ) (words : ℕ → List ℕ) where
+  pub laid_start : IsLaid rows seam at t members words 0 0 0 [] []
   laid_start = record {
-    there = omega arith;
-    low = omega arith;
-    high = λ c h. absurd (omega (arith, h));
-    above = λ _. omega arith;
+    own = split_start (row_at rows t);
+    under = split_start seam;
     kept = λ c h. absurd (omega (arith, h));
-    others = λ c _. refl;
+    others = λ c h. absurd (omega (arith, h));
     end = omega arith;
     seam_kept = λ c h. absurd (omega (arith, h));
     seam_only = λ c _. refl;
@@ -49,108 +54,86 @@ module _ (rows : List (List Held)) (seam : List Held) (at t : ℕ) (under : List
     seam_past = λ _. refl;
   }
 
-  -- no member is passed
-  pub laid_on : (from p q : ℕ) (row1 seam1 : List Held) → IsLaid rows seam at t under members words from p row1 seam1 → p ≤ q → ((d : ℕ) → p ≤ d → d < q → is_in members d ≡ false) → IsLaid rows seam at t under members words from q row1 seam1
-  laid_on from p q row1 seam1 l h none = record {
-    there = l.there;
-    low = omega (arith, l.low, h);
-    high = λ c m i. l.high c (member_low members p q none c m i) i;
-    above = l.above;
-    kept = λ c m i. l.kept c (member_low members p q none c m i) i;
-    others = λ c n. l.others c (λ m i. n (omega (arith, m, h)) i);
-    end = omega (arith, l.end, h);
-    seam_kept = λ c m i. l.seam_kept c (member_low members p q none c m i) i;
-    seam_only = λ c n. l.seam_only c (λ m i. n (omega (arith, m, h)) i);
-    seam_end = omega (arith, l.seam_end, h);
-    seam_past = l.seam_past;
-  }
+  -- what begins at the row and is below a component is taken, and no member is among it
+  module _ (i j low c : ℕ) (row1 mid seam1 : List Held) (laid : IsLaid rows seam at t members words i j low row1 seam1)
+      (order : low ≤ c)
+      (none : (d : ℕ) → low ≤ d → d < c → is_in members d ≡ false)
+      (mid_low : (d : ℕ) → d < low → found mid d ≡ found row1 d)
+      (mid_found : (d : ℕ) → low ≤ d → d < c → found mid d ≡ option_or (found (row_at rows t) d) (found seam d)) where
+    pub member_kept : (d : ℕ) → d < c → is_in members d ≡ true → unwrap_or (found mid d) (standing_before (begins_at rows seam at d) t) ≡ words d
+    member_kept d h m =
+        let l : d < low = member_low members low c none d h m in
+        ap (λ (o : Option (List ℕ)). unwrap_or o (standing_before (begins_at rows seam at d) t)) (mid_low d l) ∙ laid.kept d l m
 
-  -- the cells before a place are taken
-  module _ (from place p : ℕ) (row1 mid seam1 : List Held) (laid : IsLaid rows seam at t under members words from p row1 seam1) (asc : IsAscending under)
-      (order : from ≤ place)
-      (there : place ≤ length under)
-      (ran : mid ≡ row1 ++ slice_range under from place) where
-    pub member_found : (d : ℕ) → d < p → is_in members d ≡ true → found mid d ≡ found row1 d
-    member_found d h i =
-        let none : found (slice_range under from place) d ≡ None = slice_high under from place order asc there (d + 1) (λ l. let low : d < component_at under from = laid.high d h i l in omega (arith, low)) d (omega arith) in
-        ran_found under [] row1 mid from place asc order there (λ _. omega arith) ran d
-        ∙ ap (option_or (found row1 d)) none ∙ or_none (found row1 d)
+    pub other_found : (d : ℕ) → d < c → (is_in members d ≡ true → ⊥) → found mid d ≡ option_or (found (row_at rows t) d) (found seam d)
+    other_found d h n = by_place (cases_lt d low)
+      where
+        by_place : (d < low) ⊎ (low ≤ d) → found mid d ≡ option_or (found (row_at rows t) d) (found seam d)
+        by_place (inl l) = mid_low d l ∙ laid.others d l n
+        by_place (inr l) = mid_found d l h
 
-    pub other_found : (d : ℕ) → (d < p → is_in members d ≡ true → ⊥) → found mid d ≡ found (take place under) d
-    other_found d n = ran_others under [] row1 mid from place asc order there (λ _. omega arith) ran d (laid.others d n)
+    pub member_seam : (d : ℕ) → d < c → is_in members d ≡ true → t + 1 < length rows → found (row_at rows (t + 1)) d ≡ None → unwrap_or (found seam1 d) (words d) ≡ standing (begins_at rows seam at d) t
+    member_seam d h m = laid.seam_kept d (member_low members low c none d h m) m
 
-    pub taken_below : (c : ℕ) → p ≤ c → end_of (take place under) ≤ c → end_of mid ≤ c
-    taken_below c h low = ran_below under [] row1 mid from place asc order there (λ _. omega arith) ran c (omega (arith, laid.end, h)) low
+    pub other_seam : (d : ℕ) → (d < c → is_in members d ≡ true → ⊥) → found seam1 d ≡ None
+    other_seam d n = laid.seam_only d (λ h m. n (omega (arith, h, order)) m)
 
-  -- a member more
-  module _ (from place next c : ℕ) (row1 mid row2 seam1 seam2 : List Held) (laid : IsLaid rows seam at t under members words from c row1 seam1) (asc : IsAscending under)
-      (order : from ≤ place)
-      (there : place ≤ length under)
-      (ran : mid ≡ row1 ++ slice_range under from place)
-      (member : is_in members c ≡ true)
-      (kept : unwrap_or (found row2 c) (standing_before (begins_at rows seam at c) t) ≡ words c)
-      (others : (d : ℕ) → (d ≡ c → ⊥) → found row2 d ≡ found mid d)
-      (end : end_of row2 ≤ c + 1)
-      (seam_kept : t + 1 < length rows → found (row_at rows (t + 1)) c ≡ None → unwrap_or (found seam2 c) (words c) ≡ standing (begins_at rows seam at c) t)
-      (seam_others : (d : ℕ) → (d ≡ c → ⊥) → found seam2 d ≡ found seam1 d)
-      (seam_end : end_of seam2 ≤ c + 1)
-      (seam_past : (t + 1 < length rows → ⊥) → seam2 ≡ seam1)
-      (next_there : next ≤ length under)
-      (next_low : end_of (take next under) ≤ c + 1)
-      (next_high : next < length under → c < component_at under next)
-      (next_others : (d : ℕ) → (d ≡ c → ⊥) → found (take next under) d ≡ found (take place under) d) where
-    no_member : (d : ℕ) → (d < c + 1 → is_in members d ≡ true → ⊥) → d ≡ c → ⊥
-    no_member d n e = n (omega (arith, e)) (ap (is_in members) e ∙ member)
+    -- and that component's cell
+    module _ (i1 j1 : ℕ) (row2 seam2 : List Held)
+        (member : is_in members c ≡ true)
+        (own : IsSplit (row_at rows t) (c + 1) i1)
+        (under : IsSplit seam (c + 1) j1)
+        (kept : unwrap_or (found row2 c) (standing_before (begins_at rows seam at c) t) ≡ words c)
+        (others : (d : ℕ) → (d ≡ c → ⊥) → found row2 d ≡ found mid d)
+        (end : end_of row2 ≤ c + 1)
+        (seam_kept : t + 1 < length rows → found (row_at rows (t + 1)) c ≡ None → unwrap_or (found seam2 c) (words c) ≡ standing (begins_at rows seam at c) t)
+        (seam_others : (d : ℕ) → (d ≡ c → ⊥) → found seam2 d ≡ found seam1 d)
+        (seam_end : end_of seam2 ≤ c + 1)
+        (seam_past : (t + 1 < length rows → ⊥) → seam2 ≡ seam1) where
+      laid_kept : (d : ℕ) → (d ≡ c) ⊎ (d ≡ c → ⊥) → d < c + 1 → is_in members d ≡ true → unwrap_or (found row2 d) (standing_before (begins_at rows seam at d) t) ≡ words d
+      laid_kept d (inl e) h m = subst (λ (k : ℕ). unwrap_or (found row2 k) (standing_before (begins_at rows seam at k) t) ≡ words k) (sym e) kept
+      laid_kept d (inr n) h m = ap (λ (o : Option (List ℕ)). unwrap_or o (standing_before (begins_at rows seam at d) t)) (others d n) ∙ member_kept d (omega (arith, h, n)) m
 
-    laid_kept : (d : ℕ) → (d ≡ c) ⊎ (d ≡ c → ⊥) → d < c + 1 → is_in members d ≡ true → unwrap_or (found row2 d) (standing_before (begins_at rows seam at d) t) ≡ words d
-    laid_kept d (inl e) h i = subst (λ (k : ℕ). unwrap_or (found row2 k) (standing_before (begins_at rows seam at k) t) ≡ words k) (sym e) kept
-    laid_kept d (inr n) h i =
-        let low : d < c = omega (arith, h, n) in
-        ap (λ (o : Option (List ℕ)). unwrap_or o (standing_before (begins_at rows seam at d) t)) (others d n ∙ member_found from place c row1 mid seam1 laid asc order there ran d low i)
-        ∙ laid.kept d low i
+      laid_seam : (d : ℕ) → (d ≡ c) ⊎ (d ≡ c → ⊥) → d < c + 1 → is_in members d ≡ true → t + 1 < length rows → found (row_at rows (t + 1)) d ≡ None → unwrap_or (found seam2 d) (words d) ≡ standing (begins_at rows seam at d) t
+      laid_seam d (inl e) h m = subst (λ (k : ℕ). t + 1 < length rows → found (row_at rows (t + 1)) k ≡ None → unwrap_or (found seam2 k) (words k) ≡ standing (begins_at rows seam at k) t) (sym e) seam_kept
+      laid_seam d (inr n) h m = λ l e. ap (λ (o : Option (List ℕ)). unwrap_or o (words d)) (seam_others d n) ∙ member_seam d (omega (arith, h, n)) m l e
 
-    laid_seam : (d : ℕ) → (d ≡ c) ⊎ (d ≡ c → ⊥) → d < c + 1 → is_in members d ≡ true → t + 1 < length rows → found (row_at rows (t + 1)) d ≡ None → unwrap_or (found seam2 d) (words d) ≡ standing (begins_at rows seam at d) t
-    laid_seam d (inl e) h i = subst (λ (k : ℕ). t + 1 < length rows → found (row_at rows (t + 1)) k ≡ None → unwrap_or (found seam2 k) (words k) ≡ standing (begins_at rows seam at k) t) (sym e) seam_kept
-    laid_seam d (inr n) h i = λ l none. ap (λ (o : Option (List ℕ)). unwrap_or o (words d)) (seam_others d n) ∙ laid.seam_kept d (omega (arith, h, n)) i l none
+      another : (d : ℕ) → (is_in members d ≡ true → ⊥) → d ≡ c → ⊥
+      another d n e = n (ap (is_in members) e ∙ member)
 
-    pub laid_more : IsLaid rows seam at t under members words next (c + 1) row2 seam2
-    laid_more = record {
-      there = next_there;
-      low = next_low;
-      high = λ d h i l. omega (arith, h, next_high l);
-      above = λ l. omega (arith, end, next_high l);
-      kept = λ d h i. laid_kept d (cases_eq d c) h i;
-      others = λ d n. others d (no_member d n) ∙ other_found from place c row1 mid seam1 laid asc order there ran d (λ h i. n (omega (arith, h)) i) ∙ sym (next_others d (no_member d n));
+      pub laid_more : IsLaid rows seam at t members words i1 j1 (c + 1) row2 seam2
+      laid_more = record {
+        own = own;
+        under = under;
+        kept = λ d h m. laid_kept d (cases_eq d c) h m;
+        others = λ d h n. others d (another d n) ∙ other_found d (lower d h (another d n)) n;
+        end = end;
+        seam_kept = λ d h m. laid_seam d (cases_eq d c) h m;
+        seam_only = λ d n. seam_others d (λ e. n (omega (arith, e)) (ap (is_in members) e ∙ member)) ∙ other_seam d (λ h m. n (omega (arith, h)) m);
+        seam_end = seam_end;
+        seam_past = λ n. seam_past n ∙ laid.seam_past n;
+      }
+        where
+          lower : (d : ℕ) → d < c + 1 → (d ≡ c → ⊥) → d < c
+          lower d h n = omega (arith, h, n)
+
+    -- all components are passed
+    pub laid_all : end_of mid ≤ c → end_of (row_at rows t) ≤ c → end_of seam ≤ c → IsOver rows seam at t c members words mid seam1
+    laid_all end own_wide seam_wide = record {
+      kept = member_kept;
+      others = λ d n. by_place d n (cases_lt d c);
       end = end;
-      seam_kept = λ d h i. laid_seam d (cases_eq d c) h i;
-      seam_only = λ d n. seam_others d (no_member d n) ∙ laid.seam_only d (λ h i. n (omega (arith, h)) i);
-      seam_end = seam_end;
-      seam_past = λ n. seam_past n ∙ laid.seam_past n;
+      seam_kept = member_seam;
+      seam_only = other_seam;
+      seam_end = omega (arith, laid.seam_end, order);
+      seam_past = laid.seam_past;
     }
-
-  -- all members are passed, and the last cells are taken
-  pub laid_all : (from place p width : ℕ) (row1 mid seam1 : List Held) → IsLaid rows seam at t under members words from p row1 seam1 → IsAscending under → p ≡ width → place ≡ length under → mid ≡ row1 ++ slice_range under from place → end_of under ≤ width → ((c : ℕ) → found under c ≡ option_or (found (row_at rows t) c) (found seam c)) → IsOver rows seam at t width members words mid seam1
-  laid_all from place p width row1 mid seam1 laid0 asc e f ran wide here = record {
-    kept = λ d h i. ap (λ (o : Option (List ℕ)). unwrap_or o (standing_before (begins_at rows seam at d) t)) (member_found from place width row1 mid seam1 laid asc order there ran d h i) ∙ laid.kept d h i;
-    others = λ d n. other_found from place width row1 mid seam1 laid asc order there ran d n ∙ ap (λ (v : List Held). found v d) whole ∙ here d;
-    end = taken_below from place width row1 mid seam1 laid asc order there ran width (omega arith) (omega (arith, ap end_of whole, wide));
-    seam_kept = laid.seam_kept;
-    seam_only = laid.seam_only;
-    seam_end = laid.seam_end;
-    seam_past = laid.seam_past;
-  }
-    where
-      laid : IsLaid rows seam at t under members words from width row1 seam1
-      laid = subst (λ (k : ℕ). IsLaid rows seam at t under members words from k row1 seam1) e laid0
-
-      order : from ≤ place
-      order = omega (arith, laid0.there, f)
-
-      there : place ≤ length under
-      there = omega (arith, f)
-
-      whole : take place under ≡ under
-      whole = take_all place under (omega (arith, f))
+      where
+        by_place : (d : ℕ) → (d < c → is_in members d ≡ true → ⊥) → (d < c) ⊎ (c ≤ d) → found mid d ≡ option_or (found (row_at rows t) d) (found seam d)
+        by_place d n (inl h) = other_found d h (n h)
+        by_place d n (inr h) =
+            found_past mid d (omega (arith, end, h))
+            ∙ sym (ap (λ (o : Option (List ℕ)). option_or o (found seam d)) (found_past (row_at rows t) d (omega (arith, own_wide, h))) ∙ found_past seam d (omega (arith, seam_wide, h)))
 
 module _ (rows : List (List Held)) (seam : List Held) (at t : ℕ) (members : List ℕ) (words : ℕ → List ℕ) where
   pub told_start : (changed : List ℕ) → ((c : ℕ) → is_in changed c ≡ false) → IsTold rows seam at t members words 0 changed

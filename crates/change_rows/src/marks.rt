@@ -73,7 +73,7 @@ impl Marks {
             ((u : ℕ) → u ≤ t → is_set self.now u k ≡ false)
             (λ b. (b ≤ t) × (is_set self.now b k ≡ true) × ((u : ℕ) → b < u → u ≤ t → is_set self.now u k ≡ false)) }
     {
-        last_in(self.words.as_slice(), t, k)
+        last_in(self.words.as_slice(), self.blocks.as_slice(), t, k)
     }
 
     /// No component is marked at a cycle any more.
@@ -191,10 +191,25 @@ pub(crate) fn with_bit(word: u64, k: u32) -> u64
     word | (1 << k)
 }
 
-/// The last cycle up to t at which a component is marked.
-fn last_in(words: &[u64], t: usize, k: u32) -> Option<usize>
+/// Where the last block before one ends that may have a mark; 0 where there is none.
+fn block_end(blocks: &[u64], at: usize, k: u32) -> usize
+    requires blocks { at ≤ length blocks.now }
+    requires component { k < 64 }
+    ensures low { result ≤ at }
+    ensures none { (b : ℕ) → result ≤ b → b < at → is_set blocks.now b k ≡ false }
+{
+    let mut b = at;
+    while b > 0 && !has_bit(blocks[b - 1], k) {
+        b -= 1;
+    }
+    b
+}
+
+/// The last cycle up to t at which a component is marked. Blocks without the mark are passed over at once.
+fn last_in(words: &[u64], blocks: &[u64], t: usize, k: u32) -> Option<usize>
     requires cycle { t < length words.now }
     requires component { k < 64 }
+    requires covered { IsCovered words.now blocks.now }
     ensures { MatchOption result
         ((u : ℕ) → u ≤ t → is_set words.now u k ≡ false)
         (λ b. (b ≤ t) × (is_set words.now b k ≡ true) × ((u : ℕ) → b < u → u ≤ t → is_set words.now u k ≡ false)) }
@@ -204,6 +219,9 @@ fn last_in(words: &[u64], t: usize, k: u32) -> Option<usize>
         at -= 1;
         if has_bit(words[at], k) {
             return Some(at);
+        }
+        if at % 64 == 0 {
+            at = block_end(blocks, at / 64, k) * 64;
         }
     }
     None

@@ -1,7 +1,7 @@
 //! A row is put from a source: in one pass over what begins there, and all buffers are made before anything changes.
 ghost use Rattle.std.specs.Prelude.{◌≡◌, ℕ, ◌+◌, ◌*◌, ◌/◌, ◌<◌, ◌≤◌, [], List, None, Some, true, false, cond, ◌&&◌, nat_eq, OnOk, OnErr, IfOk, length, unwrap_or, take, slice_index_or};
 ghost use Rattle.std.specs.Option.{option_or, option_copied};
-ghost use Rattle.change_rows.specs.Cells.{found, end_of, component_at, IsSplit};
+ghost use Rattle.change_rows.specs.Cells.{found, end_of, IsSplit};
 ghost use Rattle.change_rows.specs.Marks.{is_in};
 ghost use Rattle.change_rows.specs.Standing.{standing, standing_before};
 ghost use Rattle.change_rows.specs.Changes.{row_at, begins_at, IsChanges};
@@ -10,7 +10,7 @@ ghost use Rattle.change_rows.specs.Laid.{IsLaid, IsOver, IsTold};
 use crate::cells::Cells;
 use crate::changes::{Changes, lay};
 use crate::edit::{Buffers, goes_on, settle_for, words_before};
-use crate::merge::{behind, get_at, seek, unite};
+use crate::merge::{behind, get_at, unite_below};
 use crate::sets::{add, is_void, next_in, wipe};
 use crate::source::Source;
 use std::alloc::AllocError;
@@ -170,8 +170,29 @@ fn put_one<S: Source>(
     }
 }
 
-/// The cells below a component of a set that begin at row t, and that component's cell: how many cells were passed, and whether the
-/// component held other words.
+/// The cells that are a row's own.
+fn own(s: &Changes, t: usize) -> &Cells
+    requires { t < length s.now.rows.items }
+    ensures { result.now ≡ row_at s.now.rows.items t }
+{
+    &s.rows[t]
+}
+
+/// What begins at a cell of row t, whose place among the row's own cells and among those of the seam is known.
+fn begun_at(s: &Changes, t: usize, i: usize, j: usize, c: u32) -> Option<&[u64]>
+    requires row { t < length s.now.rows.items }
+    requires own { IsSplit (row_at s.now.rows.items t) c i }
+    requires under { IsSplit s.now.seam c j }
+    ensures { option_copied result ≡ option_or (found (row_at s.now.rows.items t) c) (found s.now.seam c) }
+{
+    match get_at(own(s, t), i, c) {
+        Some(words) => Some(words),
+        None => get_at(&s.seam, j, c),
+    }
+}
+
+/// What begins at row t below a component of a set, and that component's cell: how many of the row's own cells and of its seam were
+/// passed, and whether the component held other words. All below `low` were passed before.
 ///
 /// # Errors
 ///
@@ -179,30 +200,32 @@ fn put_one<S: Source>(
 fn lay_one<S: Source>(
     s: &Changes,
     t: usize,
-    under: &Cells,
     set: &[u64],
+    low: u32,
     c: u32,
     source: &S,
-    from: usize,
+    i: usize,
+    j: usize,
     row: &mut Cells,
     seam: &mut Cells,
-) -> Result<(usize, bool), AllocError>
+) -> Result<(usize, usize, bool), AllocError>
     requires changes { IsChanges s.now.width s.now.rows.items s.now.marks.items s.now.seam s.now.at }
     requires row { t < length s.now.rows.items }
+    requires elsewhere { (s.now.at ≡ t → ⊥) → s.now.seam ≡ [] }
     requires component { c < s.now.width }
+    requires order { low ≤ c }
+    requires none { (d : ℕ) → low ≤ d → d < c → is_in set.now d ≡ false }
     requires member { is_in set.now c ≡ true }
     requires has { S.has source.now c }
-    requires here { found under.now c ≡ begins_at s.now.rows.items s.now.seam s.now.at c t }
     requires still { S.still source.now c ≡ true → S.words source.now c ≡ standing_before (begins_at s.now.rows.items s.now.seam s.now.at c) t }
-    requires laid { IsLaid s.now.rows.items s.now.seam s.now.at t under.now set.now (S.words source.now) from c row.old seam.old }
-    ensures laid { IfOk result (λ next. IsLaid s.now.rows.items s.now.seam s.now.at t under.now set.now (S.words source.now) next.0 (c + 1) row.new seam.new) }
-    ensures other { IfOk result (λ next. next.1 ≡ true → standing (begins_at s.now.rows.items s.now.seam s.now.at c) t ≡ S.words source.now c → ⊥) }
-    ensures same { IfOk result (λ next. next.1 ≡ false → standing (begins_at s.now.rows.items s.now.seam s.now.at c) t ≡ S.words source.now c) }
+    requires laid { IsLaid s.now.rows.items s.now.seam s.now.at t set.now (S.words source.now) i j low row.old seam.old }
+    ensures laid { IfOk result (λ next. IsLaid s.now.rows.items s.now.seam s.now.at t set.now (S.words source.now) next.0 next.1 (c + 1) row.new seam.new) }
+    ensures other { IfOk result (λ next. next.2 ≡ true → standing (begins_at s.now.rows.items s.now.seam s.now.at c) t ≡ S.words source.now c → ⊥) }
+    ensures same { IfOk result (λ next. next.2 ≡ false → standing (begins_at s.now.rows.items s.now.seam s.now.at c) t ≡ S.words source.now c) }
 {
-    let place = seek(under, from, c);
-    row.append(under, from, place)?;
-    let other = put_one(s, t, c, source, get_at(under, place, c), row, seam)?;
-    Ok((behind(under, place, c), other))
+    let (i, j) = unite_below(own(s, t), &s.seam, i, j, low, c, row)?;
+    let other = put_one(s, t, c, source, begun_at(s, t, i, j, c), row, seam)?;
+    Ok((behind(own(s, t), i, c), behind(&s.seam, j, c), other))
 }
 
 /// A component more, where it held other words.
@@ -227,7 +250,6 @@ fn tell(changed: &mut [u64], c: u32, other: bool)
 fn lay_from<S: Source>(
     s: &Changes,
     t: usize,
-    under: &Cells,
     set: &[u64],
     source: &S,
     row: &mut Cells,
@@ -236,80 +258,28 @@ fn lay_from<S: Source>(
 ) -> Result<(), AllocError>
     requires changes { IsChanges s.now.width s.now.rows.items s.now.marks.items s.now.seam s.now.at }
     requires row { t < length s.now.rows.items }
-    requires under_wide { end_of under.now ≤ s.now.width }
-    requires here { (c : ℕ) → found under.now c ≡ option_or (found (row_at s.now.rows.items t) c) (found s.now.seam c) }
     requires elsewhere { (s.now.at ≡ t → ⊥) → s.now.seam ≡ [] }
     requires changed { length changed.old ≡ length set.now }
     requires has { (c : ℕ) → c < s.now.width → is_in set.now c ≡ true → S.has source.now c }
     requires still { (c : ℕ) → c < s.now.width → is_in set.now c ≡ true → S.still source.now c ≡ true → S.words source.now c ≡ standing_before (begins_at s.now.rows.items s.now.seam s.now.at c) t }
     ensures over { OnOk result (IsOver s.now.rows.items s.now.seam s.now.at t s.now.width set.now (S.words source.now) row.new seam.new) }
     ensures told { OnOk result (IsTold s.now.rows.items s.now.seam s.now.at t set.now (S.words source.now) s.now.width changed.new) }
-    ensures len { length changed.new ≡ length changed.old }
 {
     row.clear();
     seam.clear();
     wipe(changed);
-    let mut from = 0;
+    let (mut i, mut j, mut low) = (0, 0, 0);
     let mut c = next_in(set, 0, s.width);
     while c < s.width {
-        let (next, other) = lay_one(s, t, under, set, c, source, from, row, seam)?;
+        let (a, b, other) = lay_one(s, t, set, low, c, source, i, j, row, seam)?;
         tell(changed, c, other);
-        from = next;
-        c = next_in(set, c + 1, s.width);
+        i = a;
+        j = b;
+        low = c + 1;
+        c = next_in(set, low, s.width);
     }
-    row.append(under, from, under.len())?;
+    unite_below(own(s, t), &s.seam, i, j, low, s.width, row)?;
     Ok(())
-}
-
-/// The row once a source's cells are put there, the seam behind it, and which components held other words. What begins at the row
-/// already is its own cells, those of the seam, or both.
-///
-/// # Errors
-///
-/// Where a growth was refused.
-fn row_from<S: Source>(
-    s: &Changes,
-    t: usize,
-    set: &[u64],
-    source: &S,
-    b: &mut Buffers,
-    changed: &mut [u64],
-) -> Result<(), AllocError>
-    requires changes { IsChanges s.now.width s.now.rows.items s.now.marks.items s.now.seam s.now.at }
-    requires row { t < length s.now.rows.items }
-    requires elsewhere { (s.now.at ≡ t → ⊥) → s.now.seam ≡ [] }
-    requires changed { length changed.old ≡ length set.now }
-    requires has { (c : ℕ) → c < s.now.width → is_in set.now c ≡ true → S.has source.now c }
-    requires still { (c : ℕ) → c < s.now.width → is_in set.now c ≡ true → S.still source.now c ≡ true → S.words source.now c ≡ standing_before (begins_at s.now.rows.items s.now.seam s.now.at c) t }
-    ensures over { OnOk result (IsOver s.now.rows.items s.now.seam s.now.at t s.now.width set.now (S.words source.now) b.new.row b.new.seam) }
-    ensures told { OnOk result (IsTold s.now.rows.items s.now.seam s.now.at t set.now (S.words source.now) s.now.width changed.new) }
-{
-    if s.seam.is_empty() {
-        return lay_from(
-            s,
-            t,
-            &s.rows[t],
-            set,
-            source,
-            &mut b.row,
-            &mut b.seam,
-            changed,
-        );
-    }
-    if s.rows[t].is_empty() {
-        return lay_from(s, t, &s.seam, set, source, &mut b.row, &mut b.seam, changed);
-    }
-    unite(&s.rows[t], &s.seam, &mut b.under)?;
-    lay_from(
-        s,
-        t,
-        &b.under,
-        set,
-        source,
-        &mut b.row,
-        &mut b.seam,
-        changed,
-    )
 }
 
 /// The cells of a set hold at row t what a source has; all other cells of all rows hold what they held. Tells which of them held other
@@ -339,7 +309,7 @@ pub(crate) fn put_from<S: Source>(
     ensures err { OnErr result ((c u : ℕ) → begins_at s.new.rows.items s.new.seam s.new.at c u ≡ begins_at s.old.rows.items s.old.seam s.old.at c u) }
 {
     settle_for(s, t, &mut b.row)?;
-    row_from(s, t, set, source, b, changed)?;
+    lay_from(s, t, set, source, &mut b.row, &mut b.seam, changed)?;
     if is_void(changed) {
         return Ok(());
     }

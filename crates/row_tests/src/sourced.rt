@@ -177,8 +177,24 @@ fn play_fill(
     Ok(())
 }
 
+/// The same of a component that may be none of the set.
+fn put_member(
+    alloc: Global,
+    plain: &mut Plain,
+    t: u32,
+    set: &[u64],
+    c: u32,
+    given: &Given,
+) -> Result<bool, Fail> {
+    if c >= WIDTH || !is_member(set, c) {
+        return Ok(false);
+    }
+    put_plain(alloc, plain, t, c, given)
+}
+
 fn play_put(
-    rt: &HostRuntime,
+    rt: &(impl Abort + Eprint),
+    alloc: Global,
     rows: &mut Rows,
     plain: &mut Plain,
     t: u32,
@@ -188,14 +204,19 @@ fn play_put(
     let mut changed = [9; 3];
     put_from(rows, t, set, given, &mut changed)?;
     for c in 0..192 {
-        let other = c < WIDTH && is_member(set, c) && put_plain(rt.alloc(), plain, t, c, given)?;
+        let other = put_member(alloc, plain, t, set, c, given)?;
         assert!(rt; equal_at(rt, (t, c), is_member(&changed, c), other));
     }
     Ok(())
 }
 
-fn play(rt: &HostRuntime, rows: &mut Rows, plain: &mut Plain, step: Step) -> Result<(), Fail> {
-    let alloc = rt.alloc();
+fn play(
+    rt: &(impl Abort + Eprint),
+    alloc: Global,
+    rows: &mut Rows,
+    plain: &mut Plain,
+    step: Step,
+) -> Result<(), Fail> {
     match step {
         Step::Fill(t, number, still) => {
             let given = given_of(alloc, plain, t, number, still)?;
@@ -203,7 +224,16 @@ fn play(rt: &HostRuntime, rows: &mut Rows, plain: &mut Plain, step: Step) -> Res
         }
         Step::Put(t, set, number, still) => {
             let given = given_of(alloc, plain, t, number, still)?;
-            play_put(rt, rows, plain, t, set, &given)
+            play_put(rt, alloc, rows, plain, t, set, &given)
+        }
+    }
+}
+
+fn compare(rt: &(impl Abort + Eprint), rows: &Rows, plain: &Plain, step: Step) {
+    for t in 0..6 {
+        for c in 0..WIDTH {
+            assert!(rt; equal_at(rt, (step, t, c), is_alike(rows, plain, t, c), true));
+            assert!(rt; equal_at(rt, (step, t, c), is_told(rows, plain, t, c), true));
         }
     }
 }
@@ -221,13 +251,8 @@ fn sourced_rows_are_as_cell_by_cell(rt: HostRuntime) -> Result<(), Fail> {
     let mut plain = blank_rows(rt.alloc(), 6)?;
     grow(rt.alloc(), &mut rows, 6)?;
     for step in &STORY {
-        play(&rt, &mut rows, &mut plain, *step)?;
-        for t in 0..6 {
-            for c in 0..WIDTH {
-                assert!(&rt; equal_at(&rt, (*step, t, c), is_alike(&rows, &plain, t, c), true));
-                assert!(&rt; equal_at(&rt, (*step, t, c), is_told(&rows, &plain, t, c), true));
-            }
-        }
+        play(&rt, rt.alloc(), &mut rows, &mut plain, *step)?;
+        compare(&rt, &rows, &plain, *step);
     }
     Ok(())
 }
