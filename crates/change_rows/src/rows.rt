@@ -235,7 +235,7 @@ impl Rows {
     /// Where a growth was refused. All cells hold what they held.
     pub fn fill<S: Source>(&mut self, t: u32, source: &S) -> Result<(), AllocError>
         requires row { t < length self.old.rows }
-        requires none { (c : ℕ) → words_at self.old.rows t c ≡ [] }
+        requires none { (c : ℕ) → c < self.old.width → words_at self.old.rows t c ≡ [] }
         requires has { (c : ℕ) → c < self.old.width → S.has source.now c }
         requires still { (c : ℕ) → c < self.old.width → S.still source.now c ≡ true → (0 < t) × (S.words source.now c ≡ words_at self.old.rows (t - 1) c) }
         ensures { MatchResult result

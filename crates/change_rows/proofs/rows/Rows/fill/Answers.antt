@@ -13,8 +13,9 @@ fill-requires-clause-row g c =
 pub fill-requires-clause-none : goal.fill-requires-clause-none
 fill-requires-clause-none g c = λ d small.
     let i = c.self.inside.changes in
+    let width : i.width ≡ c.args.self.now.width = ap (λ (v : Table). v.width) c.self.view_is in
     let here : c.args.t < length i.rows.items = omega (arith, c.requires.row, length_table (cells i.rows.items i.seam i.at) (length i.rows.items) i.width, ap (λ (v : Table). length v.rows) c.self.view_is) in
-    sym (view_words i.rows.items i.seam i.at i.width c.args.t d c.args.self.now c.self.view_is here small) ∙ c.requires.none d
+    sym (view_words i.rows.items i.seam i.at i.width c.args.t d c.args.self.now c.self.view_is here small) ∙ c.requires.none d (omega (arith, small, width))
 
 pub fill-requires-clause-still : goal.fill-requires-clause-still
 fill-requires-clause-still g c = λ d small still.
