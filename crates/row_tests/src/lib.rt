@@ -6,3 +6,5 @@
 mod lists;
 #[cfg(test)]
 mod rows;
+#[cfg(test)]
+mod sourced;
