@@ -18,7 +18,7 @@ use std::sync::Arc;
 /// read and while the table that they came from goes on.
 ///
 /// A state can also be kept as words of 64 bits and a memory: `encode` and `memory` take it apart, `decode` puts it together, and
-/// two states are equal exactly where their words and their memories are.
+/// two states are equal exactly where their words and their memories are; `is_code` compares them without taking it apart.
 ///
 /// The calls are total: they answer for every value of the types, also for states that no run of
 /// these slots would reach, and for words that no state has. Only `readers`, `start`, `step`, `next`, `share`, `encode` and `decode`
@@ -175,6 +175,11 @@ pub trait Grid {
     /// Whether two memories are equal.
     fn same_memory(a: &Self::Memory, b: &Self::Memory) -> bool
         ensures { IsTrue result ↔ (a.now ≡ b.now) };
+
+    /// Whether a state has just these words, and this memory or none.
+    fn is_code(x: &Self::State, words: &[u64], memory: Option<&Self::Memory>) -> bool
+        ensures told { IsTold codec x.now }
+        ensures same { IsTrue result ↔ ((codec.words x.now ≡ words.now) × (codec.memory x.now ≡ option_map (λ held. held.now) memory.entry)) };
 
     /// Whether `a` and `b` have the same shape, and the same value in each slot that `c` reads
     /// under `a` at these near states. Then `c` gets the same state under both.

@@ -1,5 +1,5 @@
 //! A line of numbers, the smallest grid.
-ghost use Rattle.std.specs.Prelude.{◌≡◌, map, slice_get, sum, ◌%◌, ◌^◌};
+ghost use Rattle.std.specs.Prelude.{◌≡◌, ◌↔◌, IsTrue, ◌∷◌, [], map, slice_get, sum, ◌%◌, ◌^◌};
 ghost use Rattle.std.specs.Arc.{arc_value};
 ghost use Rattle.grid_law.specs.Line.{same_read, reader_of, number_from};
 
@@ -142,6 +142,10 @@ impl Grid for Line {
         true
     }
 
+    fn is_code(x: &u32, words: &[u64], memory: Option<&()>) -> bool {
+        memory.is_none() && is_word(words, *x)
+    }
+
     #[tactic(auto, using(crate::specs::LineLaws::agrees_from_test, crate::specs::LineLaws::test_from_agrees))]
     fn agree(a: &Numbers, b: &Numbers, near: &[Arc<u32>], c: u32) -> bool {
         a.count() == b.count() && agree_at(a.at(c), b.at(c), own_state(near))
@@ -169,6 +173,16 @@ fn number_from(words: &[u64]) -> u32
     match words.first() {
         Some(word) => (*word % 4_294_967_296) as u32,
         None => 0,
+    }
+}
+
+/// Whether words are this number alone.
+fn is_word(words: &[u64], number: u32) -> bool
+    ensures { IsTrue result ↔ (number ∷ [] ≡ words.now) }
+{
+    match words {
+        [word] => *word == u64::from(number),
+        _ => false,
     }
 }
 

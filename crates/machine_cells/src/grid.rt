@@ -14,7 +14,7 @@ use crate::readers::readers;
 use crate::reads::{fixed_reads, later_reads, start_reads, words_read};
 use crate::start::start_of;
 use crate::step::{moved, pulled};
-use crate::words::{encode, is_state, read_state};
+use crate::words::{encode, has_memory, has_words, is_state, read_state};
 use arrayvec::ArrayVec;
 use grid_law::{Grid, NoMemory, Reader};
 use mem_module::SharedWords;
@@ -187,6 +187,12 @@ impl Grid for Rp3 {
 
     fn same_memory(a: &SharedWords, b: &SharedWords) -> bool {
         a.same(b)
+    }
+
+    #[tactic(auto, using(crate::proofs::Telling::told_state))]
+    fn is_code(x: &MachineState, words: &[u64], memory: Option<&SharedWords>) -> bool {
+        is_state(x);
+        has_words(x, words) && has_memory(x, memory)
     }
 
     fn agree(a: &Project, b: &Project, near: &[Arc<MachineState>], c: u32) -> bool {

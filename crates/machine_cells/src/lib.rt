@@ -16,8 +16,8 @@
 //! - No message is lost: each that moves arrives, and each that doesn't stays ([`no_message_is_lost`], `specs/Kept.antt`,
 //!   [`messages_stay`], `specs/Stay.antt`).
 //! - A state is told by its words, those of `state_words`, and a module by them and its memory: [`encode`] appends them, [`decode`] gives
-//!   back the state that has them, and two states have the same words exactly where they are the same but for a module's memory
-//!   ([`words_tell`], `specs/WordLaws.antt`; `specs/Codec.antt`).
+//!   back the state that has them, [`has_words`] compares a state with words and takes no memory, and two states have the same words
+//!   exactly where they are the same but for a module's memory ([`words_tell`], `specs/WordLaws.antt`; `specs/Codec.antt`).
 //!
 //! A state is made where something changes. Where nothing does, the next state is the one before, with one more owner.
 //!
@@ -60,4 +60,4 @@ pub use laws::{
 };
 pub use scratch::{first_row, from_scratch, next_row};
 pub use state::MachineState;
-pub use words::{decode, encode, is_state};
+pub use words::{decode, encode, has_words, is_state};

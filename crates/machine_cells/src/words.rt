@@ -1,15 +1,16 @@
 //! States as words, and words as states.
-ghost use Rattle.std.specs.Prelude.{◌≡◌, ◌≤◌, ◌+◌, ◌++◌, OnOk, OnErr, IfOk, IsOk, length, vec_len, vec_capacity, option_map};
+ghost use Rattle.std.specs.Prelude.{◌≡◌, ◌↔◌, ◌≤◌, ◌+◌, ◌++◌, IsTrue, OnOk, OnErr, IfOk, IsOk, length, vec_len, vec_capacity, option_map};
 ghost use Rattle.machine_cells.specs.declared.state.MachineState.{MachineState as State};
-ghost use Rattle.machine_cells.specs.Words.{words_of, with_memory, state_from, IsState};
-ghost use Rattle.machine_cells.specs.Codec.{or_none};
+ghost use Rattle.machine_cells.specs.Words.{head_of, body_of, words_of, with_memory, state_from, IsState};
+ghost use Rattle.machine_cells.specs.Codec.{memory_in, or_none};
 
 use crate::MachineState;
 use grid_law::NoMemory;
 use mem_module::{SharedWords, Words};
 use state_words::{
-    is_comb, is_low, is_module, is_proc, read_comb, read_low, read_module, read_proc, split_first,
-    write_comb, write_low, write_module, write_proc,
+    comb_has_words, is_comb, is_low, is_module, is_proc, low_has_words, module_has_words,
+    proc_has_words, read_comb, read_low, read_module, read_proc, split_first, write_comb,
+    write_low, write_module, write_proc,
 };
 use std::alloc::{AllocError, Global};
 
@@ -28,6 +29,38 @@ pub fn encode(state: &MachineState, words: &mut Vec<u64>) -> Result<(), AllocErr
         MachineState::Module(s) => write_module(words, s),
         MachineState::Low(s) => write_low(words, s),
         MachineState::Comb(s) => write_comb(words, s),
+    }
+}
+
+/// Whether a state's words are these. They are compared where they stand, and no memory is taken.
+pub fn has_words(state: &MachineState, words: &[u64]) -> bool
+    ensures { IsTrue result ↔ (words_of state.now ≡ words.now) }
+{
+    match words {
+        [head, body @ ..] => has_head_and_body(state, *head, body),
+        [] => false,
+    }
+}
+
+fn has_head_and_body(state: &MachineState, head: u64, body: &[u64]) -> bool
+    ensures { IsTrue result ↔ ((head_of state.now ≡ head) × (body_of state.now ≡ body.now)) }
+{
+    match state {
+        MachineState::Proc(s) => proc_has_words(s, head, body),
+        MachineState::Module(s) => module_has_words(s, head, body),
+        MachineState::Low(s) => low_has_words(s, head, body),
+        MachineState::Comb(s) => comb_has_words(s, head, body),
+    }
+}
+
+/// Whether a state's memory is this; a module has one, others have none.
+pub(crate) fn has_memory(state: &MachineState, memory: Option<&SharedWords>) -> bool
+    ensures { IsTrue result ↔ (memory_in state.now ≡ option_map (λ held. held.now) memory.entry) }
+{
+    match (state, memory) {
+        (MachineState::Module(s), Some(memory)) => s.words.same(memory),
+        (MachineState::Module(_), None) => false,
+        (_, memory) => memory.is_none(),
     }
 }
 

@@ -219,6 +219,37 @@ fn states_are_kept_by_the_grid(rt: HostRuntime) -> Result<(), Fail> {
     Ok(())
 }
 
+/// Whether a state has its own words, and no longer where one of them is another or the last isn't there.
+fn has_code(words: &mut Vec<u64>, state: &MachineState) -> Result<bool, Fail> {
+    words.clear();
+    encode(state, words)?;
+    let memory = memory_of(state);
+    let mut has = Rp3::is_code(state, words, memory);
+    for place in 0..words.len() {
+        words[place] ^= 1;
+        has = has && !Rp3::is_code(state, words, memory);
+        words[place] ^= 1;
+    }
+    has = has && words.pop().is_some() && !Rp3::is_code(state, words, memory);
+    Ok(has)
+}
+
+#[test]
+fn states_are_compared_with_words(rt: HostRuntime) -> Result<(), Fail> {
+    let alloc = rt.alloc();
+    let mut words = Vec::new(alloc);
+    let processor = MachineState::Proc(PROC);
+    assert!(rt; has_code(&mut words, &processor)?);
+    for state in &full_states(alloc)? {
+        assert!(rt; has_code(&mut words, state)?);
+    }
+    words.clear();
+    encode(&processor, &mut words)?;
+    let memory = SharedWords::new(alloc, Words::new(alloc))?;
+    assert!(rt; !Rp3::is_code(&processor, &words, Some(&memory)));
+    Ok(())
+}
+
 // A processor at its entry 3 reads that one, whatever it has sent, and no other; a switch's words say nothing of what it reads.
 #[test]
 fn words_are_read(rt: HostRuntime) -> Result<(), Fail> {

@@ -169,3 +169,13 @@ fn states_as_words(rt: HostRuntime) -> Result<(), Fail> {
     assert!(rt; Line::same_memory(&(), &()));
     Ok(())
 }
+
+// A number is its own word alone, beside no memory.
+#[test]
+fn states_beside_words(rt: HostRuntime) {
+    assert!(rt; Line::is_code(&7, &[7], None));
+    assert!(rt; !Line::is_code(&7, &[8], None));
+    assert!(rt; !Line::is_code(&7, &[7, 7], None));
+    assert!(rt; !Line::is_code(&7, &[], None));
+    assert!(rt; !Line::is_code(&7, &[7], Some(&())));
+}

@@ -9,6 +9,8 @@
 //! ([`is_proc`] and the like, `specs/Fits.antt`):
 //! - [`write_proc`], [`write_module`], [`write_low`] and [`write_comb`] append its words, a head and a body (`specs/Words.antt`), or
 //!   nothing.
+//! - [`proc_has_words`], [`module_has_words`], [`low_has_words`] and [`comb_has_words`] say whether its words are a head and a body, which
+//!   they compare word by word and without memory.
 //! - [`read_proc`], [`read_module`], [`read_low`] and [`read_comb`] give back the component that has these words, a module with the memory
 //!   that is passed ([`components_are_told`], `specs/Laws.antt`).
 //! - Each word is below 2^64, and the head says which kind it is, and how many words there are ([`words_are_words`], [`length_of`]).
@@ -19,6 +21,7 @@
 //! [`bytes`] and [`proc_head`] the head, and by [`write_messages`] what waits.
 #![tactic(auto)]
 
+mod comparing;
 mod decoding;
 mod encoding;
 mod fields;
@@ -29,6 +32,7 @@ mod message;
 mod reading;
 mod writing;
 
+pub use comparing::{comb_has_words, low_has_words, module_has_words, proc_has_words};
 pub use decoding::{read_comb, read_low, read_module, read_proc};
 pub use encoding::{write_comb, write_low, write_module, write_proc};
 pub use fits::{is_comb, is_low, is_module, is_proc};
