@@ -143,7 +143,7 @@ impl Grid for Line {
     }
 
     fn is_code(x: &u32, words: &[u64], memory: Option<&()>) -> bool {
-        memory.is_none() && is_word(words, *x)
+        is_word(words, *x) && memory.is_none()
     }
 
     #[tactic(auto, using(crate::specs::LineLaws::agrees_from_test, crate::specs::LineLaws::test_from_agrees))]

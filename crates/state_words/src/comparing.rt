@@ -22,14 +22,17 @@ fn past_word(words: Option<&[u64]>, word: u64) -> Option<&[u64]>
 }
 
 /// What follows a message.
-fn past<T: TwoWords>(words: Option<&[u64]>, message: &T) -> Option<&[u64]>
+fn past<'a, T: TwoWords>(words: Option<&'a [u64]>, message: &T) -> Option<&'a [u64]>
     ensures { (rest : List ℕ) → (option_copied words.entry ≡ Some (T.first message.now ∷ T.second message.now ∷ rest)) ↔ (option_copied result ≡ Some rest) }
 {
     past_word(past_word(words, message.first()), message.second())
 }
 
 /// What follows messages in their order.
-fn past_messages<T: TwoWords>(words: Option<&[u64]>, messages: &[T]) -> Option<&[u64]>
+fn past_messages<'a, T: TwoWords>(
+    words: Option<&'a [u64]>,
+    messages: &[T],
+) -> Option<&'a [u64]>
     ensures { (rest : List ℕ) → (option_copied words.entry ≡ Some (message_words T.first T.second messages.now rest)) ↔ (option_copied result ≡ Some rest) }
 {
     let mut left = words;
@@ -40,7 +43,10 @@ fn past_messages<T: TwoWords>(words: Option<&[u64]>, messages: &[T]) -> Option<&
 }
 
 /// What follows the messages of two ports.
-fn past_ports<T: TwoWords>(words: Option<&[u64]>, queues: &[Queue<T>; 2]) -> Option<&[u64]>
+fn past_ports<'a, T: TwoWords>(
+    words: Option<&'a [u64]>,
+    queues: &[Queue<T>; 2],
+) -> Option<&'a [u64]>
     ensures { (rest : List ℕ) → (option_copied words.entry ≡ Some (ports_words T.first T.second queues.now rest)) ↔ (option_copied result ≡ Some rest) }
 {
     let left = past_messages(words, queues[0].as_slice());
@@ -48,7 +54,10 @@ fn past_ports<T: TwoWords>(words: Option<&[u64]>, queues: &[Queue<T>; 2]) -> Opt
 }
 
 /// What follows a message that is there; all of them where none is.
-fn past_option<T: TwoWords>(words: Option<&[u64]>, message: &Option<T>) -> Option<&[u64]>
+fn past_option<'a, T: TwoWords>(
+    words: Option<&'a [u64]>,
+    message: &Option<T>,
+) -> Option<&'a [u64]>
     ensures { (rest : List ℕ) → (option_copied words.entry ≡ Some (option_words T.first T.second message.now rest)) ↔ (option_copied result ≡ Some rest) }
 {
     match message {
