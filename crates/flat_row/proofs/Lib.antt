@@ -39,3 +39,4 @@ pub mod Still
 pub mod Touching
 pub mod Quiet
 pub mod Stepped
+pub mod Telling

@@ -6,6 +6,8 @@ ghost use Rattle.omega_net.specs.declared.component.Component.TheVariants.{Proc 
 ghost use Rattle.omega_net.specs.declared.component.Net.TheVariants.{Low as LowNet, Comb as CombNet};
 ghost use Rattle.omega_net.specs.Wires.{net_number};
 ghost use Rattle.ref_proc.specs.RefProc.{net_for};
+ghost use Rattle.grid_law.specs.Codec.{IsTold};
+ghost use Rattle.machine_cells.specs.Codec.{rp3_codec};
 ghost use Rattle.machine_cells.specs.Words.{words_of};
 ghost use Rattle.state_words.specs.Words.{bytes, one_if};
 ghost use Rattle.flat_row.specs.Masks.{has};
@@ -22,8 +24,8 @@ use state_words::{bytes, queues_head, write_messages};
 use std::alloc::AllocError;
 
 impl Row {
-    /// Appends the words of a component's state, as [`machine_cells::encode`] writes them: a module's memory is not among them. It takes
-    /// memory only where there is no room for them.
+    /// Appends the words of a component's state, as [`machine_cells::encode`] writes them: a module's memory is not among them. With its
+    /// memory they tell it. It takes memory only where there is no room for them.
     ///
     /// # Errors
     ///
@@ -33,7 +35,9 @@ impl Row {
         ensures ok { OnOk result (words.new.items ≡ words.old.items ++ words_of (state_of self.now (Some component))) }
         ensures err { OnErr result (words.new.items ≡ words.old.items) }
         ensures room { vec_len words.old + length (words_of (state_of self.now (Some component))) ≤ vec_capacity words.old → IsOk result }
+        ensures told { IsTold rp3_codec (state_of self.now (Some component)) }
     {
+        self.is_told(component);
         match component {
             Component::Proc(p) => self.proc_words(u32::from(p), words),
             Component::Module(m) => self.module_words(u32::from(m), words),

@@ -57,6 +57,7 @@ mod side;
 mod sides;
 mod stages;
 mod step;
+mod told;
 mod waits;
 mod words;
 

@@ -28,8 +28,8 @@ pub(crate) fn is_tag(tag: Tag)
     is_word(tag.issue);
 }
 
-/// The numbers of messages fit.
-fn all_fit<T: TwoWords>(messages: &[T])
+/// The numbers of messages fit their types. Nothing is done when it runs.
+pub fn all_fit<T: TwoWords>(messages: &[T])
     ensures { All T.fits messages.now }
 {
     for i in 0..messages.len() {
