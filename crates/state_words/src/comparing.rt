@@ -1,5 +1,5 @@
 //! Components compared with words, word by word as they would be written. It takes no memory.
-ghost use Rattle.std.specs.Prelude.{◌≡◌, ◌↔◌, ℕ, IsTrue, List, [], ◌∷◌, Some, option_copied};
+ghost use Rattle.std.specs.Prelude.{◌≡◌, ◌+◌, ◌*◌, ◌^◌, ◌↔◌, ℕ, IsTrue, List, [], ◌∷◌, Some, option_copied};
 ghost use Rattle.state_words.specs.Messages.{message_words};
 ghost use Rattle.state_words.specs.Words.{ports_words, option_words, proc_head, proc_body, module_head, module_body, low_head, low_body, comb_head, comb_body};
 
@@ -76,10 +76,17 @@ fn is_end(words: Option<&[u64]>) -> bool
     }
 }
 
+/// What a processor has spent and issued, as its second word has them.
+fn counts(s: &ProcState) -> u64
+    ensures { result ≡ s.now.spent + 2 ^ 32 * s.now.issued }
+{
+    s.spent as u64 + ((s.issued as u64) << 32)
+}
+
 fn is_proc_body(s: &ProcState, body: &[u64]) -> bool
     ensures { IsTrue result ↔ (proc_body s.now ≡ body.now) }
 {
-    let left = past_word(Some(body), s.spent as u64 + ((s.issued as u64) << 32));
+    let left = past_word(Some(body), counts(s));
     let left = past_option(left, &s.out);
     let left = past_option(left, &s.got[0]);
     is_end(past_option(left, &s.got[1]))
