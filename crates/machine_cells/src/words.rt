@@ -57,10 +57,12 @@ fn has_head_and_body(state: &MachineState, head: u64, body: &[u64]) -> bool
 pub(crate) fn has_memory(state: &MachineState, memory: Option<&SharedWords>) -> bool
     ensures { IsTrue result ↔ (memory_in state.now ≡ option_map (λ held. held.now) memory.entry) }
 {
-    match (state, memory) {
-        (MachineState::Module(s), Some(memory)) => s.words.same(memory),
-        (MachineState::Module(_), None) => false,
-        (_, memory) => memory.is_none(),
+    match state {
+        MachineState::Module(s) => match memory {
+            Some(memory) => s.words.same(memory),
+            None => false,
+        },
+        _ => memory.is_none(),
     }
 }
 

@@ -1,5 +1,5 @@
 use Rattle.std.proofs.Common.{option_copied}
-use Rattle.state_words.proofs.Comparing.{whole_proc}
+use Rattle.state_words.proofs.Passing.{whole_proc}
 use Rattle.state_words.proofs.comparing.is_proc_body.Goals as goal
 
 pub returns : goal.returns

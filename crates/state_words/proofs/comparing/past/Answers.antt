@@ -1,5 +1,5 @@
 use Rattle.std.proofs.Common.{option_copied}
-use Rattle.state_words.proofs.Comparing.{past_two}
+use Rattle.state_words.proofs.Passing.{past_two}
 use Rattle.state_words.proofs.comparing.past.Goals as goal
 
 pub returns : goal.returns

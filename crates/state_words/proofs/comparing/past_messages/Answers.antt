@@ -1,5 +1,5 @@
 use Rattle.std.proofs.Common.{option_copied}
-use Rattle.state_words.proofs.Comparing.{past_more}
+use Rattle.state_words.proofs.Passing.{past_more}
 use Rattle.state_words.proofs.comparing.past_messages.Goals as goal
 
 pub loop-i-preserved : goal.loop-i-preserved

@@ -1,5 +1,5 @@
 use Rattle.std.proofs.Common.{option_copied}
-use Rattle.state_words.proofs.Comparing.{past_there}
+use Rattle.state_words.proofs.Passing.{past_there}
 use Rattle.state_words.proofs.comparing.past_option.Goals as goal
 
 pub returns-in-Some : goal.returns-in-Some
