@@ -2,8 +2,8 @@
 
 use comb_switch::{CombState, Waiting};
 use expect::{equal, equal_at};
-use low_switch::LowState;
 use grid_law::Grid;
+use low_switch::LowState;
 use machine_cells::{MachineState, Rp3, decode, encode, from_scratch};
 use mem_module::{ModuleState, SharedWords, Words};
 use omega_net::{Net, Queue, Reply, Request, ScriptEntry, Tag};

@@ -45,8 +45,7 @@ whole_proc s body n a b c z t en f g h k l =
     let second = option_words reply_first reply_second (message_at s.got 1) [] in
     let first = option_words reply_first reply_second (message_at s.got 0) second in
     let out = option_words out_first out_second s.out first in
-    let same : n ∷ out ≡ proc_body s = ap (λ m. m ∷ out) en in
-    (
+    let same : n ∷ out ≡ proc_body s = ap (λ m. m ∷ out) en in (
       λ e. sym (ap (λ o. unwrap_or o []) ((f out).1 ((g first).1 ((h second).1 ((k []).1 (l.0 e))))) ∙ same),
       λ e. l.1 ((k []).0 ((h second).0 ((g first).0 ((f out).0 (ap Some (sym e ∙ sym same)))))),
     )

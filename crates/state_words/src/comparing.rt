@@ -29,10 +29,7 @@ fn past<'a, T: TwoWords>(words: Option<&'a [u64]>, message: &T) -> Option<&'a [u
 }
 
 /// What follows messages in their order.
-fn past_messages<'a, T: TwoWords>(
-    words: Option<&'a [u64]>,
-    messages: &[T],
-) -> Option<&'a [u64]>
+fn past_messages<'a, T: TwoWords>(words: Option<&'a [u64]>, messages: &[T]) -> Option<&'a [u64]>
     ensures { (rest : List ℕ) → (option_copied words.entry ≡ Some (message_words T.first T.second messages.now rest)) ↔ (option_copied result ≡ Some rest) }
 {
     let mut left = words;
@@ -54,10 +51,7 @@ fn past_ports<'a, T: TwoWords>(
 }
 
 /// What follows a message that is there; all of them where none is.
-fn past_option<'a, T: TwoWords>(
-    words: Option<&'a [u64]>,
-    message: &Option<T>,
-) -> Option<&'a [u64]>
+fn past_option<'a, T: TwoWords>(words: Option<&'a [u64]>, message: &Option<T>) -> Option<&'a [u64]>
     ensures { (rest : List ℕ) → (option_copied words.entry ≡ Some (option_words T.first T.second message.now rest)) ↔ (option_copied result ≡ Some rest) }
 {
     match message {
