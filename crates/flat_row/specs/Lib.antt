@@ -15,3 +15,4 @@ pub mod Looks
 pub mod Changed
 pub mod Parts
 pub mod Loading
+pub mod Next

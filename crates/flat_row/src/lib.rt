@@ -42,6 +42,7 @@ mod load;
 mod looks;
 mod marks;
 mod moving;
+mod next;
 mod pairs;
 mod queue;
 mod read;

@@ -8,6 +8,8 @@ mod cells;
 #[cfg(test)]
 mod loads;
 #[cfg(test)]
+mod next;
+#[cfg(test)]
 mod rows;
 #[cfg(test)]
 mod sums;

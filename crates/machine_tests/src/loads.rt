@@ -30,7 +30,7 @@ const ENTRIES: [(u32, bool, Kind, u32, u32); 8] = [
 const CYCLES: usize = 60;
 
 /// Eight processors that ask for words 0 and 3 through both networks.
-fn eight(alloc: Global) -> Result<Project, Fail> {
+pub(crate) fn eight(alloc: Global) -> Result<Project, Fail> {
     let mut project = Project::new(alloc, 3, 60)?.ok_or("no such project")?;
     for (proc, sync, kind, address, times) in ENTRIES {
         let entry = ScriptEntry::Reference {

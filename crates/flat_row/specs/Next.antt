@@ -1,0 +1,49 @@
+-- One component a cycle later, where a module's memory may be handed over in place of the one that the row holds.
+use Rattle.std.specs.Prelude.{◌≢◌, ℕ, ◌++◌, List, Option, None, Some, slice_index_or, slice_set, option_to_list}
+use Rattle.omega_net.specs.declared.component.Component.{Component}
+use Rattle.omega_net.specs.Numbers.{number_of}
+use Rattle.mem_module.specs.declared.words.Stored.{Stored}
+use Rattle.mem_module.specs.declared.state.ModuleState.{ModuleState}
+use Rattle.mem_module.specs.Memory.{word_at, with_word}
+use Rattle.machine_cells.specs.declared.state.MachineState.{MachineState}
+use Rattle.machine_cells.specs.Cycle.{blank_of, cycle}
+use Rattle.project_book.specs.Project.{Project}
+use Rattle.state_words.specs.States.{memory_of, with_memory}
+use Rattle.flat_row.specs.declared.next.after.After.{After}
+use Rattle.flat_row.specs.Row.{Arrays, module_of, state_of, states_of}
+
+-- a state where a module has the memory that is handed over, if any is
+abbrev pub given : Option (List Stored) → MachineState → MachineState
+given None s = s
+given (Some memory) s = with_memory memory s
+
+-- the whole state that a row is, where the component has the memory that is handed over
+abbrev pub states_given : Arrays → Component → Option (List Stored) → List MachineState
+states_given R c memory = slice_set (states_of R) (number_of R.k c) (given memory (state_of R (Some c)))
+
+-- the component one cycle later
+abbrev pub next_state : Project → Arrays → Component → Option (List Stored) → MachineState
+next_state P R c memory = slice_index_or (cycle P (states_given R c memory)) (number_of R.k c) (blank_of (Some c))
+
+-- the memory that it has before
+abbrev pub memory_given : Arrays → Component → Option (List Stored) → List Stored
+memory_given R c memory = memory_of (given memory (state_of R (Some c)))
+
+-- a memory in which this was left, or nothing
+abbrev pub memory_left : List Stored → Option Stored → List Stored
+memory_left ws None = ws
+memory_left ws (Some w) = with_word ws w.row w.word
+
+-- what is left is another word than the one that was there
+abbrev pub IsAnother : List Stored → Option Stored → Type 0
+IsAnother ws None = Unit {0}
+IsAnother ws (Some w) = w.word ≢ word_at ws w.row
+
+-- a module where it has the memory that is handed over, if any is
+abbrev pub module_given : Arrays → ℕ → Option (List Stored) → ModuleState
+module_given R m None = module_of R m
+module_given R m (Some memory) = record (module_of R m) { words = memory }
+
+-- the messages of a queue one cycle later: those that stay, and those that come
+abbrev pub waiting : {T : Type 0} → After T → List T
+waiting a = a.stay.now ++ option_to_list a.first ++ option_to_list a.second
