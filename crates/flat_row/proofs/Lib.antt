@@ -37,3 +37,7 @@ pub mod Still
 pub mod Touching
 pub mod Quiet
 pub mod Stepped
+pub mod Waiting
+pub mod Handed
+pub mod Handing
+pub mod Told

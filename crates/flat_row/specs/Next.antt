@@ -6,7 +6,8 @@ use Rattle.mem_module.specs.declared.words.Stored.{Stored}
 use Rattle.mem_module.specs.declared.state.ModuleState.{ModuleState}
 use Rattle.mem_module.specs.Memory.{word_at, with_word}
 use Rattle.machine_cells.specs.declared.state.MachineState.{MachineState}
-use Rattle.machine_cells.specs.Cycle.{blank_of, cycle}
+use Rattle.machine_cells.specs.Cycle.{blank_of, cycle, part_of}
+use Rattle.machine_cells.specs.Moves.{moves}
 use Rattle.project_book.specs.Project.{Project}
 use Rattle.state_words.specs.States.{memory_of, with_memory}
 use Rattle.flat_row.specs.declared.next.after.After.{After}
@@ -24,6 +25,10 @@ states_given R c memory = slice_set (states_of R) (number_of R.k c) (given memor
 -- the component one cycle later
 abbrev pub next_state : Project → Arrays → Component → Option (List Stored) → MachineState
 next_state P R c memory = slice_index_or (cycle P (states_given R c memory)) (number_of R.k c) (blank_of (Some c))
+
+-- the same, by what moves in the row's own states: a memory isn't seen on the wires
+abbrev pub part_given : Project → Arrays → Component → Option (List Stored) → MachineState
+part_given P R c memory = part_of P (moves P (states_of R)) (Some c) (given memory (state_of R (Some c)))
 
 -- the memory that it has before
 abbrev pub memory_given : Arrays → Component → Option (List Stored) → List Stored

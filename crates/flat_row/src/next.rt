@@ -1,26 +1,19 @@
 //! One component a cycle later, out of the row, which stays.
-ghost use Rattle.std.specs.Prelude.{◌≡◌, ◌-◌, ◌<◌, ◌++◌, if◌then◌else◌, is_some, length, None, OnOk, OnErr, IfOk, IfSome, Option, Some, slice_get, slice_index_or};
+ghost use Rattle.std.specs.Prelude.{◌≡◌, ◌<◌, ◌≤◌, ◌++◌, if◌then◌else◌, is_some, length, None, OnOk, OnErr, IfOk, IfSome, Option, Some, slice_get, slice_index_or};
 ghost use Rattle.std.specs.Option.{option_copied};
 ghost use Rattle.omega_net.specs.Limits.{queue_places};
 ghost use Rattle.omega_net.specs.Numbers.{lines, half, Exists};
-ghost use Rattle.omega_net.specs.Ports.{request_to, reply_to};
-ghost use Rattle.omega_net.specs.declared.component.Component.TheVariants.{Module as ModuleAt};
+ghost use Rattle.omega_net.specs.Ports.{mark_at, request_to, reply_to};
+ghost use Rattle.omega_net.specs.Queues.{queue_after, turn_after};
+ghost use Rattle.omega_net.specs.declared.component.Component.TheVariants.{Proc as ProcAt, Module as ModuleAt, Switch};
 ghost use Rattle.omega_net.specs.declared.component.Net.TheVariants.{Low as LowNet, Comb as CombNet};
-ghost use Rattle.ref_proc.specs.RefProc.{proc_after};
-ghost use Rattle.mem_module.specs.declared.words.Stored.{Stored as Row_};
 ghost use Rattle.mem_module.specs.Memory.{IsAscending, word_at, with_word};
-ghost use Rattle.mem_module.specs.MemModule.{module_after, answer_to, words_after};
-ghost use Rattle.low_switch.specs.LowSwitch.{low_after};
-ghost use Rattle.comb_switch.specs.CombSwitch.{comb_after};
-ghost use Rattle.project_book.specs.Project.{depth_of};
-ghost use Rattle.project_book.specs.declared.edit.Depths.TheVariants.{ModuleQueue};
-ghost use Rattle.machine_cells.specs.declared.state.MachineState.TheVariants.{Proc as ProcState_, Module as ModuleState_, Low as LowState_, Comb as CombState_};
-ghost use Rattle.machine_cells.specs.Cycle.{comb_settings, proc_settings, proc_traffic, module_traffic, switch_traffic};
-ghost use Rattle.machine_cells.specs.Moves.{moves};
+ghost use Rattle.mem_module.specs.MemModule.{answer_to, words_after};
+ghost use Rattle.low_switch.specs.LowSwitch.{request_through, reply_through};
+ghost use Rattle.state_words.specs.Words.{one_if};
 ghost use Rattle.state_words.specs.States.{memory_of, words_of};
-ghost use Rattle.flat_row.specs.Labels.{switch_label};
-ghost use Rattle.flat_row.specs.Next.{IsAnother, memory_given, memory_left, module_given, next_state};
-ghost use Rattle.flat_row.specs.Row.{IsRowOf, buffers_at, comb_of, combined_of, low_of, module_of, proc_of, states_of, wait_of};
+ghost use Rattle.flat_row.specs.Next.{IsAnother, memory_given, memory_left, module_given, next_state, part_given, waiting};
+ghost use Rattle.flat_row.specs.Row.{IsRowOf};
 
 mod after;
 mod traffic;
@@ -30,11 +23,11 @@ use crate::bits::{bit_in, has};
 use crate::read::{messages_at, ports};
 use crate::row::Row;
 use crate::stages::comb_settings;
-use after::{queue_after, write_after};
+use after::{After, queue_after, write_after};
 use grid_law::NoMemory;
 use machine_cells::MachineState;
 use mem_module::{SharedWords, Stored};
-use omega_net::{Component, Net, Reply, Request, bit_of, turn_after};
+use omega_net::{Component, Net, Reply, Request, Traffic, bit_of, turn_after};
 use project_book::Project;
 use state_words::{bytes, encode};
 use std::alloc::{AllocError, Global};
@@ -85,7 +78,7 @@ impl Row {
     fn next_proc(&self, project: &Project, p: u8, words: &mut Vec<u64>) -> Result<(), AllocError>
         requires of { IsRowOf project.now self.now }
         requires there { p < lines project.now.k }
-        ensures ok { OnOk result (words.new.items ≡ words.old.items ++ words_of (ProcState_ (proc_after (proc_settings project.now p (proc_of self.now p).index) (proc_traffic (moves project.now (states_of self.now)) p) (proc_of self.now p)))) }
+        ensures ok { OnOk result (words.new.items ≡ words.old.items ++ words_of (part_given project.now self.now (ProcAt p) None)) }
         ensures err { OnErr result (words.new.items ≡ words.old.items) }
     {
         let traffic = self.proc_traffic(project, u32::from(p));
@@ -106,7 +99,7 @@ impl Row {
         requires of { IsRowOf project.now self.now }
         requires stage { stage < project.now.k }
         requires index { index < half project.now.k }
-        ensures ok { OnOk result (words.new.items ≡ words.old.items ++ words_of (LowState_ (low_after (project.now.k - 1 - stage) (switch_traffic (moves project.now (states_of self.now)) project.now.k LowNet stage index) (low_of project.now.k self.now.low stage index)))) }
+        ensures ok { OnOk result (words.new.items ≡ words.old.items ++ words_of (part_given project.now self.now (Switch LowNet stage index) None)) }
         ensures err { OnErr result (words.new.items ≡ words.old.items) }
     {
         let traffic = self.switch_traffic(project, Net::Low, stage, index);
@@ -114,26 +107,18 @@ impl Row {
         let (x, y) = ports(self.shape, stage, index);
         let s = stage as usize;
         let side = &self.low;
-        let [from_0, from_1] = traffic.requests;
-        let (a, b) = (request_to(bit, 0, from_0), request_to(bit, 0, from_1));
-        let (c, d) = (request_to(bit, 1, from_0), request_to(bit, 1, from_1));
-        let [back_0, back_1] = traffic.replies;
-        let (e, f) = (reply_to(bit, 0, back_0), reply_to(bit, 0, back_1));
-        let (g, h) = (reply_to(bit, 1, back_0), reply_to(bit, 1, back_1));
-        let [go_0, go_1] = traffic.requests_leave;
-        let [return_0, return_1] = traffic.replies_leave;
         let (turns, back) = (side.turns[s], side.back_turns[s]);
         let turns = bytes(
-            turn_after(bit_in(turns, x), a.is_some(), b.is_some()),
-            turn_after(bit_in(turns, y), c.is_some(), d.is_some()),
-            turn_after(bit_in(back, x), e.is_some(), f.is_some()),
-            turn_after(bit_in(back, y), g.is_some(), h.is_some()),
+            turn_then(bit, &traffic, 0, bit_in(turns, x)),
+            turn_then(bit, &traffic, 1, bit_in(turns, y)),
+            back_turn_then(bit, &traffic, 0, bit_in(back, x)),
+            back_turn_then(bit, &traffic, 1, bit_in(back, y)),
         );
-        let first = queue_after(messages_at(&side.requests, s + 1, x), go_0, a, b);
-        let second = queue_after(messages_at(&side.requests, s + 1, y), go_1, c, d);
-        let first_back = queue_after(messages_at(&side.replies, s, x), return_0, e, f);
-        let second_back = queue_after(messages_at(&side.replies, s, y), return_1, g, h);
-        write_after(words, 2, (&first, &second), (&first_back, &second_back), turns)
+        let first = requests_then(bit, &traffic, 0, messages_at(&side.requests, s + 1, x));
+        let second = requests_then(bit, &traffic, 1, messages_at(&side.requests, s + 1, y));
+        let first_back = replies_then(bit, &traffic, 0, messages_at(&side.replies, s, x));
+        let second_back = replies_then(bit, &traffic, 1, messages_at(&side.replies, s, y));
+        write_after(words, 2, &first, &second, &first_back, &second_back, turns)
     }
 
     /// Appends the words of a combining switch one cycle later.
@@ -148,7 +133,7 @@ impl Row {
         requires of { IsRowOf project.now self.now }
         requires stage { stage < project.now.k }
         requires index { index < half project.now.k }
-        ensures ok { OnOk result (words.new.items ≡ words.old.items ++ words_of (CombState_ (comb_after (comb_settings project.now stage) (switch_traffic (moves project.now (states_of self.now)) project.now.k CombNet stage index) (comb_of project.now.k self.now.comb stage index (wait_of (buffers_at self.now stage) (switch_label project.now.k stage index)) (combined_of (buffers_at self.now stage) (switch_label project.now.k stage index)))))) }
+        ensures ok { OnOk result (words.new.items ≡ words.old.items ++ words_of (part_given project.now self.now (Switch CombNet stage index) None)) }
         ensures err { OnErr result (words.new.items ≡ words.old.items) }
     {
         let traffic = self.switch_traffic(project, Net::Comb, stage, index);
@@ -169,29 +154,30 @@ impl Row {
     ) -> Result<Option<Stored>, NoMemory>
         requires of { IsRowOf project.now self.now }
         requires there { m < lines project.now.k }
-        ensures ok { OnOk result (words.new.items ≡ words.old.items ++ words_of (ModuleState_ (module_after (depth_of project.now ModuleQueue) (module_traffic (moves project.now (states_of self.now)) project.now.k m) (module_given self.now m (option_copied memory.entry))))) }
+        ensures ok { OnOk result (words.new.items ≡ words.old.items ++ words_of (part_given project.now self.now (ModuleAt m) (option_copied memory.entry))) }
         ensures err { OnErr result (words.new.items ≡ words.old.items) }
-        ensures left { IfSome (option_copied memory.entry) IsAscending → IfOk result (λ left. (module_after (depth_of project.now ModuleQueue) (module_traffic (moves project.now (states_of self.now)) project.now.k m) (module_given self.now m (option_copied memory.entry))).words ≡ memory_left (module_given self.now m (option_copied memory.entry)).words left) }
+        ensures left { IfSome (option_copied memory.entry) IsAscending → IfOk result (λ left. memory_of (part_given project.now self.now (ModuleAt m) (option_copied memory.entry)) ≡ memory_left (module_given self.now m (option_copied memory.entry)).words left) }
         ensures another { IfOk result (IsAnother (module_given self.now m (option_copied memory.entry)).words) }
     {
         let traffic = self.module_traffic(project, m);
         let served = self.serving(project);
+        let (at_low, at_comb) = (has(served.low, m), has(served.comb, m));
         let last = project.k() as usize;
         let (low, comb) = (&self.low, &self.comb);
-        let low_requests = messages_at(&low.requests, last + 1, m);
-        let comb_requests = messages_at(&comb.requests, last + 1, m);
-        let (at_low, at_comb) = (has(served.low, m), has(served.comb, m));
-        let request = served_of(at_low, at_comb, low_requests, comb_requests);
+        let low_waits = messages_at(&low.requests, last + 1, m);
+        let comb_waits = messages_at(&comb.requests, last + 1, m);
+        let request = served_of(at_low, at_comb, low_waits, comb_waits);
         let (answer, left) = self.serve(m, memory, request);
-        let [low_comes, comb_comes] = traffic.requests;
-        let [low_goes, comb_goes] = traffic.replies_leave;
-        let requests = queue_after(low_requests, at_low, low_comes, None);
-        let comb_then = queue_after(comb_requests, at_comb, comb_comes, None);
-        let replies = queue_after(messages_at(&low.replies, last, m), low_goes, if_served(at_low, answer), None);
-        let comb_back = queue_after(messages_at(&comb.replies, last, m), comb_goes, if_served(at_comb, answer), None);
-        let turn = u64::from(bit_in(served.turn, m));
-        let small = turn + 2 * u64::from(at_low || at_comb);
-        write_after(words, 1, (&requests, &comb_then), (&replies, &comb_back), small)?;
+        let first = queue_after(low_waits, at_low, traffic.requests[0], None);
+        let second = queue_after(comb_waits, at_comb, traffic.requests[1], None);
+        let low_shows = messages_at(&low.replies, last, m);
+        let comb_shows = messages_at(&comb.replies, last, m);
+        let low_answer = if_served(at_low, answer);
+        let comb_answer = if_served(at_comb, answer);
+        let first_back = queue_after(low_shows, traffic.replies_leave[0], low_answer, None);
+        let second_back = queue_after(comb_shows, traffic.replies_leave[1], comb_answer, None);
+        let small = one_if(has(served.turn, m)) + 2 * one_if(at_low || at_comb);
+        write_after(words, 1, &first, &second, &first_back, &second_back, small)?;
         Ok(left)
     }
 
@@ -262,6 +248,70 @@ fn if_served(served: bool, answer: Option<Reply>) -> Option<Reply>
     ensures { result ≡ (if served then answer else None) }
 {
     if served { answer } else { None }
+}
+
+/// 1 where it is so.
+fn one_if(mark: bool) -> u64
+    ensures value { result ≡ one_if mark }
+    ensures bit { result < 2 }
+{
+    if mark { 1 } else { 0 }
+}
+
+/// The requests at an output of a switch one cycle later.
+fn requests_then<'a>(
+    bit: u32,
+    traffic: &Traffic,
+    output: u8,
+    messages: &'a [Request],
+) -> After<'a, Request>
+    requires output { output < 2 }
+    requires fits { length messages.now ≤ queue_places }
+    ensures value { waiting result ≡ (queue_after (mark_at traffic.now.requests_leave output) (request_through bit traffic.now 0 output) (request_through bit traffic.now 1 output) (record { items = messages.now })).items }
+    ensures fits { length (waiting result) ≤ queue_places }
+{
+    let first = request_to(bit, output, traffic.requests[0]);
+    let second = request_to(bit, output, traffic.requests[1]);
+    let leaves = traffic.requests_leave[output as usize];
+    queue_after(messages, leaves, first, second)
+}
+
+/// The replies at an input of a low switch one cycle later.
+fn replies_then<'a>(
+    bit: u32,
+    traffic: &Traffic,
+    input: u8,
+    messages: &'a [Reply],
+) -> After<'a, Reply>
+    requires input { input < 2 }
+    requires fits { length messages.now ≤ queue_places }
+    ensures value { waiting result ≡ (queue_after (mark_at traffic.now.replies_leave input) (reply_through bit traffic.now 0 input) (reply_through bit traffic.now 1 input) (record { items = messages.now })).items }
+    ensures fits { length (waiting result) ≤ queue_places }
+{
+    let first = reply_to(bit, input, traffic.replies[0]);
+    let second = reply_to(bit, input, traffic.replies[1]);
+    let leaves = traffic.replies_leave[input as usize];
+    queue_after(messages, leaves, first, second)
+}
+
+/// The turn of an output of a switch one cycle later.
+fn turn_then(bit: u32, traffic: &Traffic, output: u8, turn: u8) -> u8
+    requires { output < 2 }
+    ensures { result ≡ turn_after turn (is_some (request_through bit traffic.now 0 output)) (is_some (request_through bit traffic.now 1 output)) }
+{
+    let first = request_to(bit, output, traffic.requests[0]);
+    let second = request_to(bit, output, traffic.requests[1]);
+    turn_after(turn, first.is_some(), second.is_some())
+}
+
+/// The turn of an input of a low switch one cycle later.
+fn back_turn_then(bit: u32, traffic: &Traffic, input: u8, turn: u8) -> u8
+    requires { input < 2 }
+    ensures { result ≡ turn_after turn (is_some (reply_through bit traffic.now 0 input)) (is_some (reply_through bit traffic.now 1 input)) }
+{
+    let first = reply_to(bit, input, traffic.replies[0]);
+    let second = reply_to(bit, input, traffic.replies[1]);
+    turn_after(turn, first.is_some(), second.is_some())
 }
 
 /// The request, if it goes to that output.

@@ -1,5 +1,5 @@
 //! The messages of a queue one cycle later, which nobody moves.
-ghost use Rattle.std.specs.Prelude.{◌≡◌, ℕ, ◌+◌, ◌*◌, ◌<◌, ◌≤◌, ◌++◌, ◌∷◌, nat_lt, if◌then◌else◌, List, length, vec_len, vec_capacity, is_some, None, OnOk, OnErr, option_to_list};
+ghost use Rattle.std.specs.Prelude.{◌≡◌, ℕ, ◌+◌, ◌*◌, ◌^◌, ◌<◌, ◌≤◌, ◌++◌, [], nat_lt, if◌then◌else◌, List, length, vec_len, vec_capacity, is_some, None, OnOk, OnErr, option_to_list};
 ghost use Rattle.omega_net.specs.Limits.{queue_places};
 ghost use Rattle.omega_net.specs.Queues.{queue_after, without_head};
 ghost use Rattle.state_words.specs.Messages.{message_words};
@@ -86,6 +86,7 @@ impl<T: TwoWords> After<'_, T> {
     }
 
     /// Appends the messages in their order, two words each.
+    #[tactic(auto, using(crate::proofs::Waiting::words_after))]
     fn write(&self, words: &mut Vec<u64>)
         requires { vec_len words.old + 2 * length (waiting self.now) ≤ vec_capacity words.old }
         ensures items { (rest : List ℕ) → words.new.items ++ rest ≡ words.old.items ++ message_words T.first T.second (waiting self.now) rest }
@@ -120,24 +121,26 @@ fn write_one<T: TwoWords>(words: &mut Vec<u64>, message: &Option<T>)
 pub(crate) fn write_after(
     words: &mut Vec<u64>,
     kind: u64,
-    requests: (&After<Request>, &After<Request>),
-    replies: (&After<Reply>, &After<Reply>),
+    first: &After<Request>,
+    second: &After<Request>,
+    first_back: &After<Reply>,
+    second_back: &After<Reply>,
     small: u64,
 ) -> Result<(), AllocError>
     requires kind { kind < 4 }
-    requires requests { (length (waiting requests.0.now) ≤ queue_places) × (length (waiting requests.1.now) ≤ queue_places) }
-    requires replies { (length (waiting replies.0.now) ≤ queue_places) × (length (waiting replies.1.now) ≤ queue_places) }
+    requires requests { (length (waiting first.now) ≤ queue_places) × (length (waiting second.now) ≤ queue_places) }
+    requires replies { (length (waiting first_back.now) ≤ queue_places) × (length (waiting second_back.now) ≤ queue_places) }
     requires small { small < 2 ^ 32 }
-    ensures ok { OnOk result (words.new.items ≡ words.old.items ++ parts_words kind (waiting requests.0.now) (waiting requests.1.now) (waiting replies.0.now) (waiting replies.1.now) [] small) }
+    ensures ok { OnOk result (words.new.items ≡ words.old.items ++ parts_words kind (waiting first.now) (waiting second.now) (waiting first_back.now) (waiting second_back.now) [] small) }
     ensures err { OnErr result (words.new.items ≡ words.old.items) }
 {
-    let (a, b) = (requests.0.len(), requests.1.len());
-    let (c, d) = (replies.0.len(), replies.1.len());
+    let (a, b) = (first.len(), second.len());
+    let (c, d) = (first_back.len(), second_back.len());
     words.reserve(1 + 2 * (a + b + c + d))?;
     words.push_reserved(queues_head(kind, (a, b), (c, d), 0, small));
-    requests.0.write(words);
-    requests.1.write(words);
-    replies.0.write(words);
-    replies.1.write(words);
+    first.write(words);
+    second.write(words);
+    first_back.write(words);
+    second_back.write(words);
     Ok(())
 }
