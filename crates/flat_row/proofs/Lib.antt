@@ -41,3 +41,4 @@ pub mod Waiting
 pub mod Handed
 pub mod Handing
 pub mod Told
+pub mod Aside

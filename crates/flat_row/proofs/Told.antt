@@ -16,7 +16,7 @@ use Rattle.ref_proc.specs.RefProc.{net_for}
 use Rattle.mem_module.specs.declared.words.Stored.{Stored}
 use Rattle.mem_module.specs.declared.state.ModuleState.{ModuleState}
 use Rattle.mem_module.specs.declared.step.ModuleTraffic.{ModuleTraffic}
-use Rattle.mem_module.specs.MemModule.{is_net, served_net, served_on, answer_to, answer_if, turn_from, words_after, module_serving}
+use Rattle.mem_module.specs.MemModule.{is_net, served_net, served_on, answer_to, answer_if, turn_from, words_after, requests_after, replies_after, module_serving}
 use Rattle.low_switch.specs.declared.state.LowState.{LowState}
 use Rattle.low_switch.specs.LowSwitch.{low_after, request_through, reply_through}
 use Rattle.project_book.specs.Project.{Project, depth_of}
@@ -81,6 +81,21 @@ module _ (k : ℕ) (n N : Network) (same : N ≡ n) (s j b c : ℕ) (t T : Traff
       so ∙ ap (back_turn_in c t o) (there ∙ ap (λ (m : Network). turn_of m.back_turns s z) same ∙ ap (turn_of n.back_turns s) z_is)
       ∙ ap (λ t. back_turn_in c t o (turn_of n.back_turns s w)) handed ∙ ap (λ c. back_turn_in c T o (turn_of n.back_turns s w)) bit_is
 
+  abbrev own : ℕ → ℕ
+  own o = port_label k s j o
+
+  abbrev fwd_then : ℕ → List Request
+  fwd_then o = (requests_in b T o (queue_of n.requests (suc s) (own o))).items
+
+  abbrev rev_then : ℕ → List Reply
+  rev_then i = (replies_in b T i (queue_of n.replies s (own i))).items
+
+  abbrev turn_then : ℕ → ℕ
+  turn_then o = turn_in b T o (turn_of n.turns s (own o))
+
+  abbrev back_then : ℕ → ℕ
+  back_then i = back_turn_in b T i (turn_of n.back_turns s (own i))
+
   pub low_told : (f g new_f new_g : List Request) (u v new_u new_v : List Reply) (a0 a1 r0 r1 p0 p1 q0 q1 small : ℕ)
       → f ≡ (queue_of N.requests l x).items → g ≡ (queue_of N.requests l y).items → u ≡ (queue_of N.replies s x).items → v ≡ (queue_of N.replies s y).items
       → new_f ≡ (requests_in c t 0 (record { items = f })).items → new_g ≡ (requests_in c t 1 (record { items = g })).items
@@ -89,14 +104,14 @@ module _ (k : ℕ) (n N : Network) (same : N ≡ n) (s j b c : ℕ) (t T : Traff
       → a0 ≡ turn_in c t 0 p0 → a1 ≡ turn_in c t 1 p1 → r0 ≡ back_turn_in c t 0 q0 → r1 ≡ back_turn_in c t 1 q1 → small ≡ bytes a0 a1 r0 r1
       → parts_words 2 new_f new_g new_u new_v [] small ≡ words_of (Low (low_after b T (low_of k n s j)))
   low_told f g new_f new_g u v new_u new_v a0 a1 r0 r1 p0 p1 q0 q1 small fe ge ue ve nf ng nu nv p0e p1e q0e q1e a0e a1e r0e r1e se =
-      parts_alike 2 new_f _ new_g _ new_u _ new_v _ small _
-      (requests_so 0 x (port_label k s j 0) f new_f x_is fe nf) (requests_so 1 y (port_label k s j 1) g new_g y_is ge ng)
-      (replies_so 0 x (port_label k s j 0) u new_u x_is ue nu) (replies_so 1 y (port_label k s j 1) v new_v y_is ve nv)
+      parts_alike 2 new_f (fwd_then 0) new_g (fwd_then 1) new_u (rev_then 0) new_v (rev_then 1) small (bytes (turn_then 0) (turn_then 1) (back_then 0) (back_then 1))
+      (requests_so 0 x (own 0) f new_f x_is fe nf) (requests_so 1 y (own 1) g new_g y_is ge ng)
+      (replies_so 0 x (own 0) u new_u x_is ue nu) (replies_so 1 y (own 1) v new_v y_is ve nv)
       (se
-      ∙ ap (λ i. bytes i a1 r0 r1) (turn_so 0 x (port_label k s j 0) a0 p0 x_is p0e a0e)
-      ∙ ap (λ i. bytes (turn_in b T 0 (turn_of n.turns s (port_label k s j 0))) i r0 r1) (turn_so 1 y (port_label k s j 1) a1 p1 y_is p1e a1e)
-      ∙ ap (λ i. bytes (turn_in b T 0 (turn_of n.turns s (port_label k s j 0))) (turn_in b T 1 (turn_of n.turns s (port_label k s j 1))) i r1) (back_turn_so 0 x (port_label k s j 0) r0 q0 x_is q0e r0e)
-      ∙ ap (bytes (turn_in b T 0 (turn_of n.turns s (port_label k s j 0))) (turn_in b T 1 (turn_of n.turns s (port_label k s j 1))) (back_turn_in b T 0 (turn_of n.back_turns s (port_label k s j 0)))) (back_turn_so 1 y (port_label k s j 1) r1 q1 y_is q1e r1e))
+      ∙ ap (λ i. bytes i a1 r0 r1) (turn_so 0 x (own 0) a0 p0 x_is p0e a0e)
+      ∙ ap (λ i. bytes (turn_then 0) i r0 r1) (turn_so 1 y (own 1) a1 p1 y_is p1e a1e)
+      ∙ ap (λ i. bytes (turn_then 0) (turn_then 1) i r1) (back_turn_so 0 x (own 0) r0 q0 x_is q0e r0e)
+      ∙ ap (bytes (turn_then 0) (turn_then 1) (back_then 0)) (back_turn_so 1 y (own 1) r1 q1 y_is q1e r1e))
 
 -- a module that serves, by the queues of both networks
 one_served : (N : Option Net) → (is_net LowNet N || is_net CombNet N) ≡ is_some N
@@ -132,7 +147,8 @@ module _ (t : ModuleTraffic) (s : ModuleState) (N : Option Net) (at_low at_comb 
       → small ≡ one_if turn + 2 * one_if (at_low || at_comb)
       → parts_words 1 new_a new_b new_c new_d [] small ≡ words_of (Module (module_serving t s N))
   module_told answer turn new_a new_b new_c new_d small answered turns ae be ce de se =
-      parts_alike 1 new_a _ new_b _ new_c _ new_d _ small _
+      parts_alike 1 new_a (requests_after t s N LowNet).items new_b (requests_after t s N CombNet).items new_c (replies_after t s N LowNet).items new_d (replies_after t s N CombNet).items small
+      (net_number (turn_from s.turn N) + 2 * one_if (is_some N))
       (ae ∙ ap (λ x. (queue_after x (message_at t.requests 0) None (queue_at s.requests 0)).items) low_so)
       (be ∙ ap (λ x. (queue_after x (message_at t.requests 1) None (queue_at s.requests 1)).items) comb_so)
       (ce ∙ ap (λ o. (queue_after (mark_at t.replies_leave 0) o None (queue_at s.replies 0)).items) (on_net at_low LowNet low_so))

@@ -3,7 +3,7 @@ ghost use Rattle.std.specs.Prelude.{◌≡◌, ◌<◌, ◌≤◌, ◌++◌, if�
 ghost use Rattle.std.specs.Option.{option_copied};
 ghost use Rattle.omega_net.specs.Limits.{queue_places};
 ghost use Rattle.omega_net.specs.Numbers.{lines, half, Exists};
-ghost use Rattle.omega_net.specs.Ports.{mark_at, request_to, reply_to};
+ghost use Rattle.omega_net.specs.Ports.{mark_at, message_at, request_to, reply_to};
 ghost use Rattle.omega_net.specs.Queues.{queue_after, turn_after};
 ghost use Rattle.omega_net.specs.declared.component.Component.TheVariants.{Proc as ProcAt, Module as ModuleAt, Switch};
 ghost use Rattle.omega_net.specs.declared.component.Net.TheVariants.{Low as LowNet, Comb as CombNet};
@@ -16,6 +16,7 @@ ghost use Rattle.flat_row.specs.Next.{IsAnother, memory_given, memory_left, modu
 ghost use Rattle.flat_row.specs.Row.{IsRowOf};
 
 mod after;
+mod beside;
 mod traffic;
 
 use crate::acting::proc_settings;
@@ -23,14 +24,14 @@ use crate::bits::{bit_in, has};
 use crate::read::{messages_at, ports};
 use crate::row::Row;
 use crate::stages::comb_settings;
-use after::{After, queue_after, write_after};
-use grid_law::NoMemory;
+use after::{After, queue_after, without_head, write_after};
+pub use beside::Beside;
 use machine_cells::MachineState;
 use mem_module::{SharedWords, Stored};
 use omega_net::{Component, Net, Reply, Request, Traffic, bit_of, turn_after};
 use project_book::Project;
 use state_words::{bytes, encode};
-use std::alloc::{AllocError, Global};
+use std::alloc::AllocError;
 
 impl Row {
     /// Appends the words of a component one cycle later, as [`Row::words`] appends those of its state: a step of the one component, which
@@ -42,12 +43,12 @@ impl Row {
     /// Where a growth was refused. Then nothing was appended.
     pub fn next_words(
         &self,
-        alloc: Global,
         project: &Project,
         component: Component,
         memory: Option<&SharedWords>,
+        beside: &mut Beside,
         words: &mut Vec<u64>,
-    ) -> Result<Option<Stored>, NoMemory>
+    ) -> Result<Option<Stored>, AllocError>
         requires of { IsRowOf project.now self.now }
         requires there { Exists project.now.k component }
         ensures ok { OnOk result (words.new.items ≡ words.old.items ++ words_of (next_state project.now self.now component (option_copied memory.entry))) }
@@ -69,7 +70,7 @@ impl Row {
                 net: Net::Comb,
                 stage,
                 index,
-            } => self.next_comb(alloc, project, u32::from(stage), u32::from(index), words)?,
+            } => self.next_comb(project, u32::from(stage), u32::from(index), beside, words)?,
         }
         Ok(None)
     }
@@ -124,12 +125,12 @@ impl Row {
     /// Appends the words of a combining switch one cycle later.
     fn next_comb(
         &self,
-        alloc: Global,
         project: &Project,
         stage: u32,
         index: u32,
+        beside: &mut Beside,
         words: &mut Vec<u64>,
-    ) -> Result<(), NoMemory>
+    ) -> Result<(), AllocError>
         requires of { IsRowOf project.now self.now }
         requires stage { stage < project.now.k }
         requires index { index < half project.now.k }
@@ -138,10 +139,28 @@ impl Row {
     {
         let traffic = self.switch_traffic(project, Net::Comb, stage, index);
         let settings = comb_settings(project, stage);
-        let own = self.comb_switch(alloc, stage, index)?;
-        let next = own.step(alloc, &settings, &traffic)?;
-        encode(&MachineState::Comb(next), words)?;
-        Ok(())
+        let (x, y) = ports(self.shape, stage, index);
+        let s = stage as usize;
+        let side = &self.comb;
+        let [goes_0, goes_1] = traffic.requests_leave;
+        let first = without_head(messages_at(&side.requests, s + 1, x), goes_0);
+        let second = without_head(messages_at(&side.requests, s + 1, y), goes_1);
+        beside.put_requests(x, y, first, second);
+        let [returns_0, returns_1] = traffic.replies_leave;
+        let first_back = without_head(messages_at(&side.replies, s, x), returns_0);
+        let second_back = without_head(messages_at(&side.replies, s, y), returns_1);
+        beside.put_replies(x, y, first_back, second_back);
+        beside.put_waiting(x, self.waits[s].at(x));
+        beside.meet(&settings, x, &traffic.requests);
+        beside.split(&settings, x, &traffic.replies);
+        let turns = side.turns[s];
+        let small = bytes(
+            turn_then(settings.bit, &traffic, 0, bit_in(turns, x)),
+            turn_then(settings.bit, &traffic, 1, bit_in(turns, y)),
+            both_turn_then(&traffic, bit_in(side.back_turns[s], x)),
+            beside.combined(x),
+        );
+        beside.write(words, x, y, small)
     }
 
     /// Appends the words of a module one cycle later, and tells what it leaves in this memory, or in its own.
@@ -151,7 +170,7 @@ impl Row {
         m: u32,
         memory: Option<&SharedWords>,
         words: &mut Vec<u64>,
-    ) -> Result<Option<Stored>, NoMemory>
+    ) -> Result<Option<Stored>, AllocError>
         requires of { IsRowOf project.now self.now }
         requires there { m < lines project.now.k }
         ensures ok { OnOk result (words.new.items ≡ words.old.items ++ words_of (part_given project.now self.now (ModuleAt m) (option_copied memory.entry))) }
@@ -226,12 +245,7 @@ impl Row {
 }
 
 /// The request that a module serves, where it serves one.
-fn served_of(
-    at_low: bool,
-    at_comb: bool,
-    low: &[Request],
-    comb: &[Request],
-) -> Option<Request>
+fn served_of(at_low: bool, at_comb: bool, low: &[Request], comb: &[Request]) -> Option<Request>
     ensures { result ≡ (if at_low then slice_get low.now 0 else if at_comb then slice_get comb.now 0 else None) }
 {
     if at_low {
@@ -302,6 +316,17 @@ fn turn_then(bit: u32, traffic: &Traffic, output: u8, turn: u8) -> u8
     let first = request_to(bit, output, traffic.requests[0]);
     let second = request_to(bit, output, traffic.requests[1]);
     turn_after(turn, first.is_some(), second.is_some())
+}
+
+/// The turn of both inputs of a combining switch one cycle later.
+fn both_turn_then(traffic: &Traffic, turn: u8) -> u8
+    ensures { result ≡ turn_after turn (is_some (message_at traffic.now.replies 0)) (is_some (message_at traffic.now.replies 1)) }
+{
+    turn_after(
+        turn,
+        traffic.replies[0].is_some(),
+        traffic.replies[1].is_some(),
+    )
 }
 
 /// The turn of an input of a low switch one cycle later.

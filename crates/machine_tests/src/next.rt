@@ -4,7 +4,7 @@ ghost use Rattle.omega_net.specs.Numbers.{Exists, lines};
 ghost use Rattle.flat_row.specs.Row.{IsRowOf};
 
 use crate::loads::eight;
-use flat_row::Row;
+use flat_row::{Beside, Row};
 use machine_cells::MachineState;
 use mem_module::{ModuleState, Stored};
 use omega_net::{Component, ScriptEntry};
@@ -19,6 +19,7 @@ fn are_next(alloc: Global, project: &Project, row: &Row, next: &Row) -> Result<b
     requires next { IsRowOf project.now next.now }
 {
     let shape = project.shape();
+    let mut beside = Beside::new(alloc)?;
     for c in 0..shape.components() {
         let component = shape.component(c).ok_or("no such component")?;
         let was = row.read(alloc, component)?;
@@ -26,7 +27,7 @@ fn are_next(alloc: Global, project: &Project, row: &Row, next: &Row) -> Result<b
         let mut words = Vec::new(alloc);
         next.words(component, &mut words)?;
         let mut told = Vec::new(alloc);
-        let left = row.next_words(alloc, project, component, None, &mut told)?;
+        let left = row.next_words(project, component, None, &mut beside, &mut told)?;
         if told != words || !is_left(&was, &is, left) {
             return Ok(false);
         }
@@ -56,6 +57,7 @@ fn are_handed(alloc: Global, project: &Project, row: &Row, lost: &Row, next: &Ro
     requires lost { IsRowOf project.now lost.now }
     requires next { IsRowOf project.now next.now }
 {
+    let mut beside = Beside::new(alloc)?;
     for m in 0..project.shape().lines() {
         let component = Component::Module(m as u8);
         let MachineState::Module(was) = row.read(alloc, component)? else {
@@ -64,7 +66,7 @@ fn are_handed(alloc: Global, project: &Project, row: &Row, lost: &Row, next: &Ro
         let mut words = Vec::new(alloc);
         next.words(component, &mut words)?;
         let mut told = Vec::new(alloc);
-        lost.next_words(alloc, project, component, Some(&was.words), &mut told)?;
+        lost.next_words(project, component, Some(&was.words), &mut beside, &mut told)?;
         if told != words {
             return Ok(false);
         }

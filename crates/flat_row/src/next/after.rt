@@ -41,7 +41,7 @@ pub(crate) fn queue_after<'a, T: Copy>(
 }
 
 /// The messages without the head, if it leaves.
-fn without_head<'a, T>(messages: &'a [T], leaves: bool) -> &'a [T]
+pub(crate) fn without_head<'a, T>(messages: &'a [T], leaves: bool) -> &'a [T]
     requires { length messages.now ≤ queue_places }
     ensures value { result.now ≡ (without_head leaves (record { items = messages.now })).items }
     ensures fits { length result.now ≤ queue_places }

@@ -29,13 +29,14 @@ impl Row {
         let comb = self.receiving(project, Net::Comb);
         let low_sends = self.requests_go(project, Net::Low, 0);
         let comb_sends = self.requests_go(project, Net::Comb, 0);
+        let on_low = leaves(&self.low.requests, 0, p, low_sends);
+        let on_comb = leaves(&self.comb.requests, 0, p, comb_sends);
         ProcTraffic {
             replies: [
                 leaving(&self.low.replies, 0, p, low),
                 leaving(&self.comb.replies, 0, p, comb),
             ],
-            request_leaves: leaves(&self.low.requests, 0, p, low_sends)
-                || leaves(&self.comb.requests, 0, p, comb_sends),
+            request_leaves: on_low || on_comb,
         }
     }
 
