@@ -1,5 +1,5 @@
 -- A combining switch that is taken one cycle further beside the row.
-use Rattle.std.proofs.Common.{◌≡◌, ℕ, suc, ◌+◌, ◌-◌, List, [], ◌∷◌, refl, ap, sym, ◌∙◌, Option}
+use Rattle.std.proofs.Common.{◌≡◌, ℕ, suc, ◌+◌, ◌-◌, ◌*◌, ◌^◌, ◌<◌, ◌≤◌, List, [], ◌∷◌, refl, ap, sym, ◌∙◌, Option, arith}
 use Rattle.std.specs.Prelude.{is_some}
 use Rattle.arrayvec.specs.ArrayVec.{ArrayVec}
 use Rattle.omega_net.specs.declared.message.Request.{Request}
@@ -7,10 +7,13 @@ use Rattle.omega_net.specs.declared.message.Reply.{Reply}
 use Rattle.omega_net.specs.declared.message.Traffic.{Traffic}
 use Rattle.omega_net.specs.Queues.{without_head, turn_after}
 use Rattle.omega_net.specs.Ports.{empty, queue_at, mark_at, message_at}
+use Rattle.omega_net.specs.Numbers.{half}
+use Rattle.omega_net.specs.Wires.{bit}
 use Rattle.comb_switch.specs.declared.waiting.Waiting.{Waiting}
 use Rattle.comb_switch.specs.declared.state.CombState.{CombState}
 use Rattle.comb_switch.specs.declared.settings.CombSettings.{CombSettings}
 use Rattle.comb_switch.specs.CombSwitch.{arrives, returns_to, comb_turn_after, requests_in, replies_in, comb_after}
+use Rattle.project_book.specs.Project.{Project}
 use Rattle.machine_cells.specs.declared.state.MachineState.TheVariants.{Comb}
 use Rattle.state_words.specs.Words.{bytes}
 use Rattle.state_words.specs.States.{words_of}
@@ -18,8 +21,10 @@ use Rattle.flat_row.specs.Combining.{core, meeting, splitting}
 use Rattle.flat_row.specs.Labels.{port}
 use Rattle.flat_row.specs.Next.{Aside}
 use Rattle.flat_row.specs.Parts.{parts_words}
-use Rattle.flat_row.specs.Row.{wait_of, combined_of}
+use Rattle.flat_row.specs.Row.{port_label, wait_of, combined_of}
 use Rattle.flat_row.proofs.Mixing.{arrives_back, returns_forth}
+use Rattle.flat_row.proofs.Showing.{StandsAt}
+use Rattle.flat_row.proofs.Turning.{stands}
 
 abbrev made : List (ArrayVec Request) → List (ArrayVec Reply) → ArrayVec Waiting → List ℕ → ℕ → ℕ → CombState
 made fwd rev wait turn rturn combined = record { fwd = fwd; rev = rev; wait = wait; turn = turn; rturn = rturn; combined = combined }
@@ -105,3 +110,13 @@ module _ (settings : CombSettings) (t : Traffic) (a : CombState) where
         ∙ ap (λ i. bytes (comb_turn_after settings t a 0) (comb_turn_after settings t a 1) i (combined_of D.waits x)) we
         ∙ ap (bytes (comb_turn_after settings t a 0) (comb_turn_after settings t a 1) back_turn) (ap (λ (s : CombState). s.combined) returned_is))
         ∙ sym (ap (λ s. words_of (Comb s)) comb_parts)
+
+-- the labels of a switch's ports
+pub comb_ports : (P : Project) → P.k ≤ 6 → (s j : ℕ) → s < P.k → j < half P.k → (b x y : ℕ) → b ≡ P.k - 1 - s → x ≡ port_label P.k s j 0 → y ≡ port_label P.k s j 1
+    → ((port b 0 x ≡ x) × (port b 1 x ≡ y)) × ((bit b x ≡ 0) × (b < 6))
+comb_ports P few s j lt small b x y b_is x_is y_is =
+    let none : 0 < 2 = omega arith in
+    let at : StandsAt P.k s j 0 (port_label P.k s j 0) = stands P few s j lt small 0 none in
+    let below : b < 6 = omega (arith, b_is, few, lt) in
+    ((ap (λ c. port c 0 x) b_is ∙ ap (port (P.k - 1 - s) 0) x_is ∙ at.ports 0 ∙ sym x_is, ap (λ c. port c 1 x) b_is ∙ ap (port (P.k - 1 - s) 1) x_is ∙ at.ports 1 ∙ sym y_is),
+    (ap (λ c. bit c x) b_is ∙ ap (bit (P.k - 1 - s)) x_is ∙ at.own, below))

@@ -26,6 +26,7 @@ use crate::row::Row;
 use crate::stages::comb_settings;
 use after::{After, queue_after, without_head, write_after};
 pub use beside::Beside;
+use traffic::either_of;
 use machine_cells::MachineState;
 use mem_module::{SharedWords, Stored};
 use omega_net::{Component, Net, Reply, Request, Traffic, bit_of, turn_after};
@@ -195,7 +196,7 @@ impl Row {
         let comb_answer = if_served(at_comb, answer);
         let first_back = queue_after(low_shows, traffic.replies_leave[0], low_answer, None);
         let second_back = queue_after(comb_shows, traffic.replies_leave[1], comb_answer, None);
-        let small = one_if(has(served.turn, m)) + 2 * one_if(at_low || at_comb);
+        let small = one_if(has(served.turn, m)) + 2 * one_if(either_of(at_low, at_comb));
         write_after(words, 1, &first, &second, &first_back, &second_back, small)?;
         Ok(left)
     }

@@ -131,12 +131,7 @@ impl Row {
     }
 
     /// A combining switch's state.
-    pub(crate) fn comb_switch(
-        &self,
-        alloc: Global,
-        stage: u32,
-        index: u32,
-    ) -> Result<CombState, NoMemory>
+    fn comb_switch(&self, alloc: Global, stage: u32, index: u32) -> Result<CombState, NoMemory>
         requires stage { stage < self.now.k }
         requires index { index < half self.now.k }
         ensures { IfOk result (λ state. state ≡ comb_of self.now.k self.now.comb stage index (wait_of (buffers_at self.now stage) (switch_label self.now.k stage index)) (combined_of (buffers_at self.now stage) (switch_label self.now.k stage index))) }

@@ -1,5 +1,5 @@
 //! What a component is handed in a cycle, read off the sets of labels that leave.
-ghost use Rattle.std.specs.Prelude.{◌≡◌, ◌<◌, ◌≤◌, length, is_some};
+ghost use Rattle.std.specs.Prelude.{◌≡◌, ◌<◌, ◌≤◌, ◌||◌, length, is_some};
 ghost use Rattle.omega_net.specs.Numbers.{lines, half};
 ghost use Rattle.machine_cells.specs.Moves.{moves};
 ghost use Rattle.machine_cells.specs.Cycle.{proc_traffic, module_traffic, switch_traffic};
@@ -25,18 +25,21 @@ impl Row {
         requires there { p < lines project.now.k }
         ensures { result ≡ proc_traffic (moves project.now (states_of self.now)) p }
     {
-        let low = self.receiving(project, Net::Low);
-        let comb = self.receiving(project, Net::Comb);
-        let low_sends = self.requests_go(project, Net::Low, 0);
-        let comb_sends = self.requests_go(project, Net::Comb, 0);
-        let on_low = leaves(&self.low.requests, 0, p, low_sends);
-        let on_comb = leaves(&self.comb.requests, 0, p, comb_sends);
+        self.is_row();
+        let low = self.side(Net::Low);
+        let comb = self.side(Net::Comb);
+        let low_comes = self.receiving(project, Net::Low);
+        let comb_comes = self.receiving(project, Net::Comb);
+        let low_goes = self.requests_go(project, Net::Low, 0);
+        let comb_goes = self.requests_go(project, Net::Comb, 0);
+        let on_low = leaves(&low.requests, 0, p, low_goes);
+        let on_comb = leaves(&comb.requests, 0, p, comb_goes);
         ProcTraffic {
             replies: [
-                leaving(&self.low.replies, 0, p, low),
-                leaving(&self.comb.replies, 0, p, comb),
+                leaving(&low.replies, 0, p, low_comes),
+                leaving(&comb.replies, 0, p, comb_comes),
             ],
-            request_leaves: on_low || on_comb,
+            request_leaves: either_of(on_low, on_comb),
         }
     }
 
@@ -48,18 +51,21 @@ impl Row {
     {
         let k = project.k();
         let last = k as usize;
-        let low = self.entering(project, Net::Low);
-        let comb = self.entering(project, Net::Comb);
-        let low_back = self.replies_go(project, Net::Low, k);
-        let comb_back = self.replies_go(project, Net::Comb, k);
+        self.is_row();
+        let low = self.side(Net::Low);
+        let comb = self.side(Net::Comb);
+        let low_comes = self.entering(project, Net::Low);
+        let comb_comes = self.entering(project, Net::Comb);
+        let low_goes = self.replies_go(project, Net::Low, k);
+        let comb_goes = self.replies_go(project, Net::Comb, k);
         ModuleTraffic {
             requests: [
-                leaving(&self.low.requests, last, m, low),
-                leaving(&self.comb.requests, last, m, comb),
+                leaving(&low.requests, last, m, low_comes),
+                leaving(&comb.requests, last, m, comb_comes),
             ],
             replies_leave: [
-                leaves(&self.low.replies, last, m, low_back),
-                leaves(&self.comb.replies, last, m, comb_back),
+                leaves(&low.replies, last, m, low_goes),
+                leaves(&comb.replies, last, m, comb_goes),
             ],
         }
     }
@@ -154,4 +160,11 @@ fn leaves<T: Routed>(levels: &[Level<T>], level: usize, x: u32, set: u64) -> boo
     ensures { result ≡ is_some (if_leaves (has set x) (queue_of levels.now level x)) }
 {
     leaving(levels, level, x, set).is_some()
+}
+
+/// Whether one of both is so.
+pub(crate) fn either_of(first: bool, second: bool) -> bool
+    ensures { result ≡ (first || second) }
+{
+    first || second
 }
