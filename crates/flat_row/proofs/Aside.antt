@@ -1,5 +1,5 @@
 -- A combining switch that is taken one cycle further beside the row.
-use Rattle.std.proofs.Common.{◌≡◌, ℕ, suc, ◌+◌, ◌-◌, ◌*◌, ◌^◌, ◌<◌, ◌≤◌, List, [], ◌∷◌, refl, ap, sym, ◌∙◌, Option, arith}
+use Rattle.std.proofs.Common.{◌≡◌, ℕ, suc, ◌+◌, ◌-◌, ◌*◌, ◌^◌, ◌<◌, ◌≤◌, Bool, List, [], ◌∷◌, refl, ap, sym, ◌∙◌, Option, arith}
 use Rattle.std.specs.Prelude.{is_some}
 use Rattle.arrayvec.specs.ArrayVec.{ArrayVec}
 use Rattle.omega_net.specs.declared.message.Request.{Request}
@@ -21,7 +21,9 @@ use Rattle.flat_row.specs.Combining.{core, meeting, splitting}
 use Rattle.flat_row.specs.Labels.{port}
 use Rattle.flat_row.specs.Next.{Aside}
 use Rattle.flat_row.specs.Parts.{parts_words}
-use Rattle.flat_row.specs.Row.{port_label, wait_of, combined_of}
+use Rattle.flat_row.specs.Queues.{Queues}
+use Rattle.flat_row.specs.Row.{Network, port_label, queue_of, turn_of, wait_of, combined_of}
+use Rattle.flat_row.proofs.Carrying.{port_bit}
 use Rattle.flat_row.proofs.Mixing.{arrives_back, returns_forth}
 use Rattle.flat_row.proofs.Showing.{StandsAt}
 use Rattle.flat_row.proofs.Turning.{stands}
@@ -120,3 +122,27 @@ comb_ports P few s j lt small b x y b_is x_is y_is =
     let below : b < 6 = omega (arith, b_is, few, lt) in
     ((ap (λ c. port c 0 x) b_is ∙ ap (port (P.k - 1 - s) 0) x_is ∙ at.ports 0 ∙ sym x_is, ap (λ c. port c 1 x) b_is ∙ ap (port (P.k - 1 - s) 1) x_is ∙ at.ports 1 ∙ sym y_is),
     (ap (λ c. bit c x) b_is ∙ ap (bit (P.k - 1 - s)) x_is ∙ at.own, below))
+
+-- which are two
+pub ports_apart : (b x y : ℕ) → b < 6 → x < 64 → port b 1 x ≡ y → bit b x ≡ 0 → x ≡ y → ⊥
+ports_apart b x y few small second first e =
+    let one : 1 < 2 = omega arith in
+    let so : 0 ≡ 1 = sym first ∙ ap (bit b) e ∙ sym (ap (bit b) second) ∙ port_bit b x 1 few small one in
+    omega (arith, so)
+
+-- a queue that holds what is left of one of the row's
+pub queue_left : {T : Type 0} (q : ArrayVec T) (levels own : List (Queues T)) → levels ≡ own → (l r x y : ℕ) → l ≡ r → x ≡ y → (leaves : Bool) (ms new : List T)
+    → ms ≡ (queue_of levels l x).items → new ≡ (without_head leaves (record { items = ms })).items → q ≡ record { items = new } → q ≡ without_head leaves (queue_of own r y)
+queue_left {T} q levels own same l r x y level label leaves ms new there left held =
+    held ∙ ap (holding {T}) left ∙ ap (λ xs. without_head leaves (holding {T} xs)) there ∙ ap (λ ls. without_head leaves (queue_of {T} ls l x)) same
+    ∙ ap (λ m. without_head leaves (queue_of own m x)) level ∙ ap (λ z. without_head leaves (queue_of own r z)) label
+  where
+    holding : {T : Type 0} → List T → ArrayVec T
+    holding xs = record { items = xs }
+
+-- the turns of the row's own network
+pub turn_own : (N own : Network) → N ≡ own → (s x y n : ℕ) → x ≡ y → n ≡ turn_of N.turns s x → n ≡ turn_of own.turns s y
+turn_own N own same s x y n label there = there ∙ ap (λ (m : Network). turn_of m.turns s x) same ∙ ap (turn_of own.turns s) label
+
+pub back_turn_own : (N own : Network) → N ≡ own → (s x y n : ℕ) → x ≡ y → n ≡ turn_of N.back_turns s x → n ≡ turn_of own.back_turns s y
+back_turn_own N own same s x y n label there = there ∙ ap (λ (m : Network). turn_of m.back_turns s x) same ∙ ap (turn_of own.back_turns s) label

@@ -206,12 +206,12 @@ module _ (P : Project) (R : Arrays) (size : R.k ≡ P.k) (m : ℕ) (within : m <
   low_replies : record { items = low_shows } ≡ queue_at s.replies 0
   low_replies =
       ap (λ xs. record { items = xs }) low_shown ∙ ap (λ (n : Network). queue_of n.replies last m) L_is ∙ ap (λ l. queue_of R.low.replies l m) (last_is ∙ sym size)
-      ∙ ap (λ qs. queue_at qs 0) (same_queues memory).1.0
+      ∙ ap (λ qs. queue_at qs 0) (same_queues memory).1
 
   comb_replies : record { items = comb_shows } ≡ queue_at s.replies 1
   comb_replies =
       ap (λ xs. record { items = xs }) comb_shown ∙ ap (λ (n : Network). queue_of n.replies last m) C_is ∙ ap (λ l. queue_of R.comb.replies l m) (last_is ∙ sym size)
-      ∙ ap (λ qs. queue_at qs 1) (same_queues memory).1.0
+      ∙ ap (λ qs. queue_at qs 1) (same_queues memory).1
 
   it_serves : request ≡ served_on s N
   it_serves =
@@ -231,7 +231,7 @@ module _ (P : Project) (R : Arrays) (size : R.k ≡ P.k) (m : ℕ) (within : m <
   module_words answer low_answer comb_answer new_a new_b new_c new_d small answered low_answered comb_answered ae be ce de se =
       module_told T s N at_low at_comb low_so comb_so answer (has next m) new_a new_b new_c new_d small
       (answered ∙ ap (answer_to s.words) it_serves)
-      (serves.turn_so m within ∙ ap (λ n. turn_from (module_of R m).turn n) (serves_same memory) ∙ ap (λ n. turn_from n N) (same_queues memory).1.1)
+      (serves.turn_so m within ∙ ap (λ n. turn_from (module_of R m).turn n) (serves_same memory) ∙ ap (λ n. turn_from n N) (same_queues memory).2)
       (ae ∙ ap (λ q. (queue_after at_low (message_at t.requests 0) None q).items) low_queue ∙ ap (λ t. (queue_after at_low (message_at t.requests 0) None (queue_at s.requests 0)).items) handed)
       (be ∙ ap (λ q. (queue_after at_comb (message_at t.requests 1) None q).items) comb_queue ∙ ap (λ t. (queue_after at_comb (message_at t.requests 1) None (queue_at s.requests 1)).items) handed)
       (ce ∙ ap (λ q. (queue_after (mark_at t.replies_leave 0) low_answer None q).items) low_replies ∙ ap (λ t. (queue_after (mark_at t.replies_leave 0) low_answer None (queue_at s.replies 0)).items) handed

@@ -13,7 +13,7 @@ ghost use Rattle.low_switch.specs.LowSwitch.{request_through, reply_through};
 ghost use Rattle.state_words.specs.Words.{one_if};
 ghost use Rattle.state_words.specs.States.{memory_of, words_of};
 ghost use Rattle.flat_row.specs.Next.{IsAnother, memory_given, memory_left, module_given, next_state, part_given, waiting};
-ghost use Rattle.flat_row.specs.Row.{IsRowOf};
+ghost use Rattle.flat_row.specs.Row.{IsRowOf, buffers_at, wait_of};
 
 mod after;
 mod beside;
@@ -27,6 +27,7 @@ use crate::stages::comb_settings;
 use after::{After, queue_after, without_head, write_after};
 pub use beside::Beside;
 use traffic::either_of;
+use comb_switch::Waiting;
 use machine_cells::MachineState;
 use mem_module::{SharedWords, Stored};
 use omega_net::{Component, Net, Reply, Request, Traffic, bit_of, turn_after};
@@ -83,8 +84,9 @@ impl Row {
         ensures ok { OnOk result (words.new.items ≡ words.old.items ++ words_of (part_given project.now self.now (ProcAt p) None)) }
         ensures err { OnErr result (words.new.items ≡ words.old.items) }
     {
-        let traffic = self.proc_traffic(project, u32::from(p));
-        let own = self.processor(u32::from(p));
+        let at = u32::from(p);
+        let traffic = self.proc_traffic(project, at);
+        let own = self.processor(at);
         let settings = proc_settings(project, p, own.index);
         let next = own.step(&settings, &traffic);
         encode(&MachineState::Proc(next), words)
@@ -108,7 +110,7 @@ impl Row {
         let bit = project.k() - 1 - stage;
         let (x, y) = ports(self.shape, stage, index);
         let s = stage as usize;
-        let side = &self.low;
+        let side = self.side(Net::Low);
         let (turns, back) = (side.turns[s], side.back_turns[s]);
         let turns = bytes(
             turn_then(bit, &traffic, 0, bit_in(turns, x)),
@@ -142,16 +144,16 @@ impl Row {
         let settings = comb_settings(project, stage);
         let (x, y) = ports(self.shape, stage, index);
         let s = stage as usize;
-        let side = &self.comb;
-        let [goes_0, goes_1] = traffic.requests_leave;
-        let first = without_head(messages_at(&side.requests, s + 1, x), goes_0);
-        let second = without_head(messages_at(&side.requests, s + 1, y), goes_1);
+        let side = self.side(Net::Comb);
+        let go = traffic.requests_leave;
+        let first = without_head(messages_at(&side.requests, s + 1, x), go[0]);
+        let second = without_head(messages_at(&side.requests, s + 1, y), go[1]);
         beside.put_requests(x, y, first, second);
-        let [returns_0, returns_1] = traffic.replies_leave;
-        let first_back = without_head(messages_at(&side.replies, s, x), returns_0);
-        let second_back = without_head(messages_at(&side.replies, s, y), returns_1);
+        let back = traffic.replies_leave;
+        let first_back = without_head(messages_at(&side.replies, s, x), back[0]);
+        let second_back = without_head(messages_at(&side.replies, s, y), back[1]);
         beside.put_replies(x, y, first_back, second_back);
-        beside.put_waiting(x, self.waits[s].at(x));
+        beside.put_waiting(x, self.waiting_at(stage, x));
         beside.meet(&settings, x, &traffic.requests);
         beside.split(&settings, x, &traffic.replies);
         let turns = side.turns[s];
@@ -162,6 +164,16 @@ impl Row {
             beside.combined(x),
         );
         beside.write(words, x, y, small)
+    }
+
+    /// What waits in the wait buffer of a combining switch.
+    fn waiting_at(&self, stage: u32, x: u32) -> &[Waiting]
+        requires stage { stage < self.now.k }
+        requires label { x < lines self.now.k }
+        ensures value { result.now ≡ (wait_of (buffers_at self.now stage) x).items }
+        ensures fits { length result.now ≤ queue_places }
+    {
+        self.waits[stage as usize].entries[x as usize].as_slice()
     }
 
     /// Appends the words of a module one cycle later, and tells what it leaves in this memory, or in its own.
@@ -180,10 +192,13 @@ impl Row {
         ensures another { IfOk result (IsAnother (module_given self.now m (option_copied memory.entry)).words) }
     {
         let traffic = self.module_traffic(project, m);
+        self.is_row();
         let served = self.serving(project);
-        let (at_low, at_comb) = (has(served.low, m), has(served.comb, m));
+        let at_low = has(served.low, m);
+        let at_comb = has(served.comb, m);
         let last = project.k() as usize;
-        let (low, comb) = (&self.low, &self.comb);
+        let low = self.side(Net::Low);
+        let comb = self.side(Net::Comb);
         let low_waits = messages_at(&low.requests, last + 1, m);
         let comb_waits = messages_at(&comb.requests, last + 1, m);
         let request = served_of(at_low, at_comb, low_waits, comb_waits);
@@ -196,7 +211,9 @@ impl Row {
         let comb_answer = if_served(at_comb, answer);
         let first_back = queue_after(low_shows, traffic.replies_leave[0], low_answer, None);
         let second_back = queue_after(comb_shows, traffic.replies_leave[1], comb_answer, None);
-        let small = one_if(has(served.turn, m)) + 2 * one_if(either_of(at_low, at_comb));
+        let turn = one_if(has(served.turn, m));
+        let serves = one_if(either_of(at_low, at_comb));
+        let small = turn + 2 * serves;
         write_after(words, 1, &first, &second, &first_back, &second_back, small)?;
         Ok(left)
     }
