@@ -90,8 +90,8 @@ module _ (settings : CombSettings) (t : Traffic) (a : CombState) where
 
     returning_is : splitting settings.bit (queue_at C.replies.queues) C.waits x ≡ returning
     returning_is =
-        ap (λ q. core (empty ∷ empty ∷ []) (q ∷ queue_at C.replies.queues (port settings.bit 1 x) ∷ []) (wait_of C.waits x) (combined_of C.waits x)) (ap (queue_at C.replies.queues) p0 ∙ ap (λ l. queue_at l.queues x) replies_kept ∙ r0)
-        ∙ ap (λ q. core (empty ∷ empty ∷ []) (rev_left 0 ∷ q ∷ []) (wait_of C.waits x) (combined_of C.waits x)) (ap (queue_at C.replies.queues) p1 ∙ ap (λ l. queue_at l.queues y) replies_kept ∙ r1)
+        ap (λ q. core (empty ∷ empty ∷ []) (q ∷ queue_at C.replies.queues (port settings.bit 1 x) ∷ []) (wait_of C.waits x) (combined_of C.waits x)) (ap (queue_at C.replies.queues) p0 ∙ ap (λ (l : Queues Reply). queue_at l.queues x) replies_kept ∙ r0)
+        ∙ ap (λ q. core (empty ∷ empty ∷ []) (rev_left 0 ∷ q ∷ []) (wait_of C.waits x) (combined_of C.waits x)) (ap (queue_at C.replies.queues) p1 ∙ ap (λ (l : Queues Reply). queue_at l.queues y) replies_kept ∙ r1)
         ∙ ap (λ w. core (empty ∷ empty ∷ []) revs w (combined_of C.waits x)) (ap (λ (s : CombState). s.wait) met_is)
         ∙ ap (core (empty ∷ empty ∷ []) revs met.wait) (ap (λ (s : CombState). s.combined) met_is)
 
@@ -103,8 +103,8 @@ module _ (settings : CombSettings) (t : Traffic) (a : CombState) where
         ≡ words_of (Comb (comb_after settings t a))
     comb_told u v w small ue ve we se =
         parts_same 3 _ (queue_at met.fwd 0).items _ (queue_at met.fwd 1).items _ (queue_at returned.rev 0).items _ (queue_at returned.rev 1).items _ returned.wait.items small _
-        (ap (λ l. (queue_at l.queues x).items) requests_kept ∙ ap (λ z. (queue_at C.requests.queues z).items) (sym p0) ∙ ap (λ (s : CombState). (queue_at s.fwd 0).items) met_is)
-        (ap (λ l. (queue_at l.queues y).items) requests_kept ∙ ap (λ z. (queue_at C.requests.queues z).items) (sym p1) ∙ ap (λ (s : CombState). (queue_at s.fwd 1).items) met_is)
+        (ap (λ (l : Queues Request). (queue_at l.queues x).items) requests_kept ∙ ap (λ z. (queue_at C.requests.queues z).items) (sym p0) ∙ ap (λ (s : CombState). (queue_at s.fwd 0).items) met_is)
+        (ap (λ (l : Queues Request). (queue_at l.queues y).items) requests_kept ∙ ap (λ z. (queue_at C.requests.queues z).items) (sym p1) ∙ ap (λ (s : CombState). (queue_at s.fwd 1).items) met_is)
         (ap (λ z. (queue_at D.replies.queues z).items) (sym p0) ∙ ap (λ (s : CombState). (queue_at s.rev 0).items) returned_is)
         (ap (λ z. (queue_at D.replies.queues z).items) (sym p1) ∙ ap (λ (s : CombState). (queue_at s.rev 1).items) returned_is)
         (ap (λ (s : CombState). s.wait.items) returned_is)

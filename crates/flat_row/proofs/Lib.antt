@@ -42,3 +42,4 @@ pub mod Handed
 pub mod Handing
 pub mod Told
 pub mod Aside
+pub mod Blank

@@ -27,7 +27,7 @@ returns-clause-ok c =
     let C : Network = record { requests = c.comb.inside.requests.items; replies = c.comb.inside.replies.items; turns = c.comb.inside.turns; back_turns = c.comb.inside.back_turns } in
     let served = c.serving-served.result in
     c.in_ok-write_after.ensures.ok ∙ ap (λ ws. c.args.words.now.items ++ ws)
-    (module_words P R c.requires.of.size m c.requires.there (option_copied c.args.memory.entry) served.low served.comb served.turn c.serving-served.ensures
+    (module_words P R c.requires.of.size m c.requires.there (option_copied c.args.memory) served.low served.comb served.turn c.serving-served.ensures
     c.module_traffic-traffic.result c.module_traffic-traffic.ensures L C (c.low.view_is ∙ c.side-low.ensures) (c.comb.view_is ∙ c.side-comb.ensures) last c.k-last.ensures.k
     c.has-at_low.result c.has-at_comb.result c.has-at_low.ensures c.has-at_comb.ensures
     c.messages_at-low_waits.result.now c.messages_at-comb_waits.result.now
@@ -52,7 +52,7 @@ returns-clause-left c = λ rise.
     let L : Network = record { requests = c.low.inside.requests.items; replies = c.low.inside.replies.items; turns = c.low.inside.turns; back_turns = c.low.inside.back_turns } in
     let C : Network = record { requests = c.comb.inside.requests.items; replies = c.comb.inside.replies.items; turns = c.comb.inside.turns; back_turns = c.comb.inside.back_turns } in
     let served = c.serving-served.result in
-    module_left P R c.requires.of.size m c.requires.there (option_copied c.args.memory.entry) served.low served.comb served.turn c.serving-served.ensures
+    module_left P R c.requires.of.size m c.requires.there (option_copied c.args.memory) served.low served.comb served.turn c.serving-served.ensures
     c.module_traffic-traffic.result c.module_traffic-traffic.ensures L C (c.low.view_is ∙ c.side-low.ensures) (c.comb.view_is ∙ c.side-comb.ensures) last c.k-last.ensures.k
     c.has-at_low.result c.has-at_comb.result c.has-at_low.ensures c.has-at_comb.ensures
     c.messages_at-low_waits.result.now c.messages_at-comb_waits.result.now
