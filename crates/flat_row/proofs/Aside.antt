@@ -130,15 +130,16 @@ ports_apart b x y few small second first e =
     let so : 0 ≡ 1 = sym first ∙ ap (bit b) e ∙ sym (ap (bit b) second) ∙ port_bit b x 1 few small one in
     omega (arith, so)
 
+-- a queue of these messages
+abbrev holding : {T : Type 0} → List T → ArrayVec T
+holding xs = record { items = xs }
+
 -- a queue that holds what is left of one of the row's
 pub queue_left : {T : Type 0} (q : ArrayVec T) (levels own : List (Queues T)) → levels ≡ own → (l r x y : ℕ) → l ≡ r → x ≡ y → (leaves : Bool) (ms new : List T)
-    → ms ≡ (queue_of levels l x).items → new ≡ (without_head leaves (record { items = ms })).items → q ≡ record { items = new } → q ≡ without_head leaves (queue_of own r y)
+    → ms ≡ (queue_of levels l x).items → new ≡ (without_head leaves (holding ms)).items → q ≡ holding new → q ≡ without_head leaves (queue_of own r y)
 queue_left {T} q levels own same l r x y level label leaves ms new there left held =
-    held ∙ ap (holding {T}) left ∙ ap (λ xs. without_head leaves (holding {T} xs)) there ∙ ap (λ ls. without_head leaves (queue_of {T} ls l x)) same
+    held ∙ ap (λ (xs : List T). holding xs) left ∙ ap (λ (xs : List T). without_head leaves (holding xs)) there ∙ ap (λ (ls : List (Queues T)). without_head leaves (queue_of ls l x)) same
     ∙ ap (λ m. without_head leaves (queue_of own m x)) level ∙ ap (λ z. without_head leaves (queue_of own r z)) label
-  where
-    holding : {T : Type 0} → List T → ArrayVec T
-    holding xs = record { items = xs }
 
 -- the turns of the row's own network
 pub turn_own : (N own : Network) → N ≡ own → (s x y n : ℕ) → x ≡ y → n ≡ turn_of N.turns s x → n ≡ turn_of own.turns s y

@@ -19,15 +19,15 @@ made requests replies entries = record { requests = requests; replies = replies;
 pub nothing_waits : (requests : Queues Request) (replies : Queues Reply) (entries : List (ArrayVec Waiting)) (r s : Rule) → r ≡ plain_rule → s ≡ plain_rule
     → requests ≡ blank r → replies ≡ blank s → entries ≡ replicate 64 empty → made requests replies entries ≡ nothing_aside
 nothing_waits requests replies entries r s r_is s_is requests_are replies_are entries_are =
-    ap (λ q. made q replies entries) (requests_are ∙ ap (blank {Request}) r_is)
-    ∙ ap (λ q. made (blank plain_rule) q entries) (replies_are ∙ ap (blank {Reply}) s_is)
+    ap (λ q. made q replies entries) (requests_are ∙ ap (λ (r : Rule). blank {T = Request} r) r_is)
+    ∙ ap (λ q. made (blank plain_rule) q entries) (replies_are ∙ ap (λ (r : Rule). blank {T = Reply} r) s_is)
     ∙ ap (made (blank plain_rule) (blank plain_rule)) entries_are
 
 all_there : HasAll nothing_aside
 all_there = record {
-  requests = length-replicate 64 empty;
-  replies = length-replicate 64 empty;
-  entries = length-replicate 64 empty;
+  requests = length-replicate 64 (empty {T = Request});
+  replies = length-replicate 64 (empty {T = Reply});
+  entries = length-replicate 64 (empty {T = Waiting});
 }
 
 pub blank_has_all : (requests : Queues Request) (replies : Queues Reply) (entries : List (ArrayVec Waiting)) (r s : Rule) → r ≡ plain_rule → s ≡ plain_rule
