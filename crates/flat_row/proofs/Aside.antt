@@ -119,9 +119,10 @@ pub comb_ports : (P : Project) → P.k ≤ 6 → (s j : ℕ) → s < P.k → j <
 comb_ports P few s j lt small b x y b_is x_is y_is =
     let none : 0 < 2 = omega arith in
     let at : StandsAt P.k s j 0 (port_label P.k s j 0) = stands P few s j lt small 0 none in
-    let below : b < 6 = omega (arith, b_is, few, lt) in
-    ((ap (λ c. port c 0 x) b_is ∙ ap (port (P.k - 1 - s) 0) x_is ∙ at.ports 0 ∙ sym x_is, ap (λ c. port c 1 x) b_is ∙ ap (port (P.k - 1 - s) 1) x_is ∙ at.ports 1 ∙ sym y_is),
-    (ap (λ c. bit c x) b_is ∙ ap (bit (P.k - 1 - s)) x_is ∙ at.own, below))
+    let below : b < 6 = omega (arith, b_is, few, lt) in (
+      (ap (λ c. port c 0 x) b_is ∙ ap (port (P.k - 1 - s) 0) x_is ∙ at.ports 0 ∙ sym x_is, ap (λ c. port c 1 x) b_is ∙ ap (port (P.k - 1 - s) 1) x_is ∙ at.ports 1 ∙ sym y_is),
+      (ap (λ c. bit c x) b_is ∙ ap (bit (P.k - 1 - s)) x_is ∙ at.own, below),
+    )
 
 -- which are two
 pub ports_apart : (b x y : ℕ) → b < 6 → x < 64 → port b 1 x ≡ y → bit b x ≡ 0 → x ≡ y → ⊥

@@ -26,7 +26,6 @@ use crate::row::Row;
 use crate::stages::comb_settings;
 use after::{After, queue_after, without_head, write_after};
 pub use beside::Beside;
-use traffic::either_of;
 use comb_switch::Waiting;
 use machine_cells::MachineState;
 use mem_module::{SharedWords, Stored};
@@ -34,6 +33,7 @@ use omega_net::{Component, Net, Reply, Request, Traffic, bit_of, turn_after};
 use project_book::Project;
 use state_words::{bytes, encode};
 use std::alloc::AllocError;
+use traffic::either_of;
 
 impl Row {
     /// Appends the words of a component one cycle later, as [`Row::words`] appends those of its state: a step of the one component, which
