@@ -1,5 +1,5 @@
 -- Queues and wait buffers beside a row, in which nothing waits.
-use Rattle.std.proofs.Common.{◌≡◌, List, length, replicate, ap, sym, ◌∙◌, subst}
+use Rattle.std.proofs.Common.{◌≡◌, List, replicate, ap, sym, ◌∙◌, subst}
 use Rattle.std.proofs.lemmas.List.{length-replicate}
 use Rattle.arrayvec.specs.ArrayVec.{ArrayVec}
 use Rattle.omega_net.specs.declared.message.Request.{Request}

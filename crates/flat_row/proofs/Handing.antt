@@ -1,8 +1,8 @@
 -- A memory that is handed over is not seen on the wires, so one component's next state is its part of the row's own cycle.
-use Rattle.std.proofs.Common.{◌≡◌, ℕ, zero, suc, ◌+◌, ◌<◌, Bool, true, false, cond, List, [], ◌∷◌, ◌++◌, length, map, get_or, refl, ap, sym, ◌∙◌, subst, Option, None, Some, arith}
-use Rattle.std.specs.Prelude.{option_map, slice_get, slice_index_or}
+use Rattle.std.proofs.Common.{◌≡◌, ℕ, zero, suc, ◌+◌, ◌<◌, Bool, cond, List, [], ◌∷◌, ◌++◌, length, map, get_or, refl, ap, sym, ◌∙◌, subst, Option, None, Some, arith}
+use Rattle.std.specs.Prelude.{option_map}
 use Rattle.std.specs.List.{flat_map}
-use Rattle.std.proofs.Math.ListN.{set, length-set}
+use Rattle.std.proofs.Math.ListN.{length-set}
 use Rattle.std.proofs.Math.Seq.{map-set_same}
 use Rattle.std.proofs.lemmas.List.{get_or-set_same}
 use Rattle.std.proofs.lemmas.Option.{get_or_from_slice_get, slice_get-map}
@@ -20,10 +20,10 @@ use Rattle.project_book.specs.Project.{Project}
 use Rattle.machine_cells.specs.declared.state.MachineState.{MachineState}
 use Rattle.machine_cells.specs.declared.state.MachineState.TheVariants.{Proc, Module, Low, Comb}
 use Rattle.machine_cells.specs.Moves.{Move, moves, request_on, reply_on, takes_request_at, takes_reply_at, takes_request, takes_reply, if_taken, request_between, reply_between, at_ends, upper_state, lower_state, request_over, reply_over, forward_moves, back_moves}
-use Rattle.machine_cells.specs.Cycle.{blank_of, cycle, part_of, parts_from}
+use Rattle.machine_cells.specs.Cycle.{blank_of, part_of, parts_from}
 use Rattle.state_words.specs.States.{with_memory, memory_of}
 use Rattle.flat_row.specs.Next.{given, states_given, next_state, part_given, memory_given, module_given}
-use Rattle.flat_row.specs.Row.{Arrays, module_of, state_of, states_of}
+use Rattle.flat_row.specs.Row.{Arrays, state_of, states_of}
 use Rattle.flat_row.proofs.Holding.{state_there}
 use Rattle.flat_row.proofs.Starting.{length_by}
 

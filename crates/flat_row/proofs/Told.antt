@@ -1,5 +1,5 @@
 -- The words of a low switch and of a module one cycle later, by the messages in their queues.
-use Rattle.std.proofs.Common.{◌≡◌, ℕ, suc, ◌+◌, ◌-◌, ◌*◌, ◌<◌, Bool, true, false, cond, List, [], ◌∷◌, refl, ap, sym, ◌∙◌, Option, None, Some, arith}
+use Rattle.std.proofs.Common.{◌≡◌, ℕ, suc, ◌+◌, ◌*◌, ◌<◌, Bool, true, false, cond, List, [], refl, ap, sym, ◌∙◌, Option, None, Some, arith}
 use Rattle.std.specs.Prelude.{◌||◌, is_some, slice_get}
 use Rattle.arrayvec.specs.ArrayVec.{ArrayVec}
 use Rattle.omega_net.specs.declared.component.Net.{Net}
@@ -17,7 +17,6 @@ use Rattle.mem_module.specs.declared.words.Stored.{Stored}
 use Rattle.mem_module.specs.declared.state.ModuleState.{ModuleState}
 use Rattle.mem_module.specs.declared.step.ModuleTraffic.{ModuleTraffic}
 use Rattle.mem_module.specs.MemModule.{is_net, served_net, served_on, answer_to, answer_if, turn_from, words_after, requests_after, replies_after, module_serving}
-use Rattle.low_switch.specs.declared.state.LowState.{LowState}
 use Rattle.low_switch.specs.LowSwitch.{low_after, request_through, reply_through}
 use Rattle.project_book.specs.Project.{Project, depth_of}
 use Rattle.project_book.specs.declared.edit.Depths.TheVariants.{ModuleQueue}

@@ -1,7 +1,5 @@
-use Rattle.std.proofs.Common.{◌≡◌, suc, ◌+◌, ◌-◌, ◌++◌, ◌≤◌, ◌<◌, ◌∙◌, ap, sym, subst, arith}
-use Rattle.std.specs.Prelude.{OnOk, is_some, List, [], ◌∷◌}
-use Rattle.arrayvec.specs.ArrayVec.{ArrayVec}
-use Rattle.omega_net.specs.declared.component.Net.TheVariants.{Comb as CombNet}
+use Rattle.std.proofs.Common.{◌≡◌, suc, ◌+◌, ◌++◌, ◌≤◌, ◌<◌, ◌∙◌, ap, subst, arith}
+use Rattle.std.specs.Prelude.{OnOk, is_some, List}
 use Rattle.omega_net.specs.declared.message.Request.{Request}
 use Rattle.omega_net.specs.declared.message.Reply.{Reply}
 use Rattle.omega_net.specs.Numbers.{lines}

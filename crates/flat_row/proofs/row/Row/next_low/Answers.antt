@@ -1,7 +1,6 @@
-use Rattle.std.proofs.Common.{◌≡◌, suc, ◌+◌, ◌-◌, ◌++◌, ◌≤◌, ◌<◌, ◌∙◌, ap, sym, subst, arith}
-use Rattle.std.specs.Prelude.{OnOk, slice_index_or}
+use Rattle.std.proofs.Common.{◌≡◌, suc, ◌+◌, ◌-◌, ◌++◌, ◌∙◌, ap, subst, arith}
+use Rattle.std.specs.Prelude.{OnOk}
 use Rattle.omega_net.specs.declared.component.Net.TheVariants.{Low as LowNet}
-use Rattle.omega_net.specs.Wires.{bit}
 use Rattle.machine_cells.specs.Moves.{moves}
 use Rattle.machine_cells.specs.Cycle.{switch_traffic}
 use Rattle.flat_row.specs.Row.{Arrays, Network, port_label, queue_of, states_of}

@@ -1,13 +1,11 @@
-use Rattle.std.proofs.Common.{◌≡◌, ◌<◌, ◌++◌, ◌∙◌, ap, sym, subst, arith}
+use Rattle.std.proofs.Common.{◌≡◌, ◌++◌, ◌∙◌, ap, sym, subst, arith}
 use Rattle.std.specs.Prelude.{OnOk, IfOk}
 use Rattle.std.specs.Option.{option_copied}
 use Rattle.omega_net.specs.declared.component.Net.TheVariants.{Low as LowNet, Comb as CombNet}
-use Rattle.omega_net.specs.declared.component.Component.{Component}
 use Rattle.omega_net.specs.declared.component.Component.TheVariants.{Proc as ProcAt, Module as ModuleAt, Switch}
 use Rattle.omega_net.specs.Numbers.{Exists}
-use Rattle.machine_cells.specs.declared.state.MachineState.{MachineState}
 use Rattle.state_words.specs.States.{words_of, memory_of}
-use Rattle.flat_row.specs.Next.{IsAnother, memory_given, memory_left, module_given, next_state, part_given}
+use Rattle.flat_row.specs.Next.{IsAnother, memory_given, memory_left, next_state, part_given}
 use Rattle.flat_row.specs.Row.{Arrays}
 use Rattle.flat_row.proofs.Handing.{next_is, next_without, nothing_left, given_module}
 use Rattle.flat_row.proofs.row.Row.next_words.Goals as goal
