@@ -40,3 +40,9 @@ pub mod Touching
 pub mod Quiet
 pub mod Stepped
 pub mod Telling
+pub mod Waiting
+pub mod Handed
+pub mod Handing
+pub mod Laters
+pub mod Aside
+pub mod Blank

@@ -16,3 +16,4 @@ pub mod Changed
 pub mod Parts
 pub mod Loading
 pub mod Follow
+pub mod Next

@@ -115,6 +115,18 @@ impl<T: Routed> Level<T> {
         }
     }
 
+    /// Puts these messages in the place of a queue's.
+    pub fn copy(&mut self, x: u32, messages: &[T])
+        requires there { x < length self.old.queues }
+        requires few { length messages.now ≤ queue_places }
+        ensures { self.new ≡ with_queue self.old x (record { items = messages.now }) }
+    {
+        let queue = &mut self.queues[x as usize];
+        queue.copy(messages);
+        let shown = shown_by(self.rule, queue.as_slice());
+        self.marks = with_shown(self.marks, x, shown);
+    }
+
     /// Puts another message in the place of one.
     pub fn set(&mut self, x: u32, index: usize, message: T)
         requires there { x < length self.old.queues }

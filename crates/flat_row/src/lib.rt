@@ -24,6 +24,8 @@
 //! - [`Row::words`] appends the words of a component's state straight from the arrays, as `state_words` writes them (`words_of`),
 //!   [`Row::first_word`] answers the first of them, and [`Row::load`] puts the state that has these words in the place of a component's, and takes no memory (`CanHold`,
 //!   `specs/Loading.antt`); [`Row::set_memory`] does so with a module's memory. All other states stay.
+//! - [`Row::next_words`] appends the words of one component a cycle later, and the row stays: only what it holds of the components near
+//!   that one matters (`next_state`, `specs/Next.antt`).
 //! - A step passes over the processors that rest: those that stay as they are until a reply comes or what they show leaves (`Rests`).
 //!
 //! A step takes no memory but where a module keeps a word more. Where that was refused the row is no state of its machine any more.
@@ -46,6 +48,7 @@ mod load;
 mod looks;
 mod marks;
 mod moving;
+mod next;
 mod pairs;
 mod queue;
 mod read;
@@ -67,6 +70,7 @@ pub use labels::{label_of, labels_name, line_of};
 pub use laws::{ends_decide, rows_decide, rows_turn, stages_decide};
 pub use level::Level;
 pub use marks::{Marks, Routed, Rule, Shown, shown_by, with_shown};
+pub use next::Beside;
 pub use queue::Places;
 pub use row::Row;
 pub use same::can_hold;

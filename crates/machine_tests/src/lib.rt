@@ -10,6 +10,8 @@ mod edits;
 #[cfg(test)]
 mod loads;
 #[cfg(test)]
+mod next;
+#[cfg(test)]
 mod rows;
 #[cfg(test)]
 mod sums;
