@@ -37,32 +37,32 @@ use std::sync::Arc;
 /// The cells of the first cycles: for each component a line of states, and by cycle which cells are
 /// due, and their versions.
 #[derive(Drop)]
-pub(crate) struct Cells<S> {
-    lines: Vec<Line<S>>,
+pub(crate) struct Cells<G: Grid> {
+    lines: Vec<Line<G::State>>,
     due: Marks,
     versions: Vec<Versions>,
 }
 
-impl<S> Model for Cells<S> {
+impl<G: Grid> Model for Cells<G> {
     ghost use Rattle.std.specs.Prelude.{List};
     ghost use Rattle.cell_table.specs.Seen.{Held};
     ghost use Rattle.cell_table.specs.Layout.{rows_of, IsLayout};
 
-    ghost Value = { List (List (Held S)) };
+    ghost Value = { List (List (Held G.State)) };
 
     ghost view = { λ k. rows_of k.lines.items k.due k.versions.items };
 
     ghost invariant = { λ k. IsLayout k.lines.items k.due k.versions.items };
 }
 
-impl<S: Drop> Cells<S> {
+impl<G: Grid> Cells<G> {
     /// New cells of `cycles` cycles, all due.
     pub(crate) fn new(
         alloc: Global,
         count: u32,
         cycles: u32,
         version: u64,
-    ) -> Result<Cells<S>, NoMemory>
+    ) -> Result<Cells<G>, NoMemory>
         ensures { IfOk result (λ k. k ≡ replicate cycles (replicate count (fresh version))) }
     {
         let lines = lines_of(alloc, count, cycles)?;
@@ -90,14 +90,14 @@ impl<S: Drop> Cells<S> {
 
     /// The state that a cell holds.
     #[inline(always)]
-    pub(crate) fn state(&self, cell: Cell) -> Option<&S>
+    pub(crate) fn state(&self, cell: Cell) -> Option<&G::State>
         ensures { option_copied result ≡ (held_at self.now cell.cycle cell.component).state }
     {
         state_in(&self.lines, cell)
     }
 
     /// One more owner of the state that a cell holds.
-    pub(crate) fn shared(&self, cell: Cell) -> Result<Option<Arc<S>>, NoMemory>
+    pub(crate) fn shared(&self, cell: Cell) -> Result<Option<Arc<G::State>>, NoMemory>
         ensures { IfOk result (λ o. option_map arc_value o ≡ (held_at self.now cell.cycle cell.component).state) }
     {
         shared_in(&self.lines, cell)
@@ -188,7 +188,7 @@ impl<S: Drop> Cells<S> {
 
     /// Puts another state for a cell, which isn't due then. Where memory is wanting, nothing is
     /// changed, and the state comes back.
-    pub(crate) fn put(&mut self, cell: Cell, state: Arc<S>) -> Result<(), Arc<S>>
+    pub(crate) fn put(&mut self, cell: Cell, state: Arc<G::State>) -> Result<(), Arc<G::State>>
         requires cycle { cell.cycle < length self.old }
         requires component { cell.component < length (row_at self.old cell.cycle) }
         ensures ok { OnOk result (IsOtherCell self.old self.new cell.cycle cell.component (stored (arc_value state))) }
@@ -347,7 +347,7 @@ impl<S: Drop> Cells<S> {
         &self,
         cycle: u32,
         near: &[u32],
-        states: &mut Vec<Arc<S>>,
+        states: &mut Vec<Arc<G::State>>,
     ) -> Result<bool, NoMemory>
         ensures { IfOk result (λ all. (if all then Some (map arc_value states.new.items) else None) ≡ states_of (row_at self.now cycle) near.now) }
     {
@@ -381,7 +381,7 @@ impl<S: Drop> Cells<S> {
 
 /// Whether these components hold these states at a cycle.
 pub(crate) fn are_held<G: Grid>(
-    cells: &Cells<G::State>,
+    cells: &Cells<G>,
     cycle: u32,
     near: &[u32],
     states: &[Arc<G::State>],
@@ -438,7 +438,7 @@ fn clear_rows(due: &mut Marks, from: u32, to: u32)
 /// Fills the cells, which hold the run to before a cycle and nothing from there on, with the run, to before `end`: to
 /// before which cycle. What is filled isn't due. Where memory is wanting, it ends earlier.
 pub(crate) fn fill_cells<G: Grid>(
-    cells: &mut Cells<G::State>,
+    cells: &mut Cells<G>,
     slots: &G::Slots,
     neighbours: &Neighbours,
     readers: &Readers,
@@ -468,8 +468,8 @@ pub(crate) fn fill_cells<G: Grid>(
 
 /// Lets the components that change keep the state of the cycle before `from` to before `to`, and no cell of these cycles
 /// is due then. Where memory is wanting, nothing is changed.
-pub(crate) fn repeat_cells<S: Drop>(
-    cells: &mut Cells<S>,
+pub(crate) fn repeat_cells<G: Grid>(
+    cells: &mut Cells<G>,
     changes: &Row,
     from: u32,
     to: u32,
@@ -497,10 +497,10 @@ pub(crate) fn repeat_cells<S: Drop>(
 
 /// Puts what is new for each component that changes at a cycle, or where nothing is new the state of the cycle before, and no cell of
 /// that cycle is due then. Where memory is wanting, nothing is changed.
-pub(crate) fn put_cells<S: Drop>(
-    cells: &mut Cells<S>,
+pub(crate) fn put_cells<G: Grid>(
+    cells: &mut Cells<G>,
     changes: &Row,
-    news: &mut Vec<Option<Arc<S>>>,
+    news: &mut Vec<Option<Arc<G::State>>>,
     cycle: u32,
 ) -> Result<(), NoMemory>
     requires later { 0 < cycle }

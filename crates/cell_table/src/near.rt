@@ -5,16 +5,17 @@ ghost use Rattle.cell_table.specs.Inputs.{states_of};
 
 use crate::Cell;
 use crate::cells::Cells;
+use grid_law::Grid;
 
 /// The state of the component at one place of the list, or `own` where there is none.
-fn lent<'a, S: Drop>(
-    cells: &'a Cells<S>,
+fn lent<'a, G: Grid>(
+    cells: &'a Cells<G>,
     cycle: u32,
     near: &[u32],
     place: usize,
-    own: &'a S,
-) -> &'a S
-    ensures { (xs : List S) → states_of (row_at cells.now cycle) near.now ≡ Some xs → result.now ≡ slice_index_or xs place own.now }
+    own: &'a G::State,
+) -> &'a G::State
+    ensures { (xs : List G.State) → states_of (row_at cells.now cycle) near.now ≡ Some xs → result.now ≡ slice_index_or xs place own.now }
 {
     if place >= near.len() {
         return own;
@@ -27,13 +28,13 @@ fn lent<'a, S: Drop>(
 }
 
 /// The states of up to five near components at a cycle, and `own` behind them.
-pub(crate) fn five_lent<'a, S: Drop>(
-    cells: &'a Cells<S>,
+pub(crate) fn five_lent<'a, G: Grid>(
+    cells: &'a Cells<G>,
     cycle: u32,
     near: &[u32],
-    own: &'a S,
-) -> [&'a S; 5]
-    ensures { (xs : List S) → states_of (row_at cells.now cycle) near.now ≡ Some xs
+    own: &'a G::State,
+) -> [&'a G::State; 5]
+    ensures { (xs : List G.State) → states_of (row_at cells.now cycle) near.now ≡ Some xs
         → map (λ r. r.now) result ≡ slice_index_or xs 0 own.now ∷ slice_index_or xs 1 own.now ∷ slice_index_or xs 2 own.now ∷ slice_index_or xs 3 own.now ∷ slice_index_or xs 4 own.now ∷ [] }
 {
     [

@@ -39,7 +39,7 @@ pub struct Table<G: Grid> {
     slots: G::Slots,
     horizon: u32,
     clock: u64,
-    cells: Cells<G::State>,
+    cells: Cells<G>,
     readers: Readers,
     neighbours: Neighbours,
     /// Before which cycle each cell is known to hold a state; there may be more of them.

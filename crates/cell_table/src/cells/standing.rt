@@ -6,6 +6,7 @@ ghost use Rattle.cell_table.specs.Layout.{line_at, state_at};
 
 use super::Cells;
 use crate::Cell;
+use grid_law::Grid;
 use state_line::{Line, Standing};
 
 /// The state of a cell, and how long it stands.
@@ -22,11 +23,11 @@ fn standing_in<S: Drop>(lines: &Vec<Line<S>>, cell: Cell, hint: usize) -> Standi
     line.standing(cell.cycle, hint)
 }
 
-impl<S: Drop> Cells<S> {
+impl<G: Grid> Cells<G> {
     /// The state that a cell holds, and to before which cycle those of its component hold it. The hint
     /// is the number of the stretch in which the cell may be.
     #[inline(always)]
-    pub(crate) fn standing(&self, cell: Cell, hint: usize) -> Standing<'_, S>
+    pub(crate) fn standing(&self, cell: Cell, hint: usize) -> Standing<'_, G::State>
         requires cycle { cell.cycle < length self.now }
         requires component { cell.component < length (row_at self.now cell.cycle) }
         ensures state { option_copied result.state ≡ (held_at self.now cell.cycle cell.component).state }

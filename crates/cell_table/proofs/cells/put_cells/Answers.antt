@@ -70,7 +70,7 @@ returns-clause-others g c = λ t d p.
     let r = c.clear_rows.ensures in
     let lines1 = c.reserve_changed.new.lines.items in
     let lines2 = c.put_changed.new.lines.items in
-    let new = λ (k : ℕ). option_map (arc_value {X = g.row.S.Denot}) (slice_index_or c.args.news.now.items k None) in
+    let new = λ (k : ℕ). option_map (arc_value {X = g.row.G-State.Denot}) (slice_index_or c.args.news.now.items k None) in
     let lens = as_long i.lines.items lines1 lines2 c.args.changes.now new c.args.cycle s f.put f.others in
     let marks = marks_filled i.due c.clear_rows.new.due c.args.cycle (c.args.cycle + 1) c.cells.invariant.marks r.cleared r.earlier r.later in
     same_cell i.lines.items lines2 i.due c.clear_rows.new.due i.versions.items c.args.cells.now c.cells.invariant c.cells.view_is (f.len ∙ s.len) lens r.width r.len marks t d
@@ -90,15 +90,15 @@ returns-clause-put g c = λ d h.
     let t = c.args.cycle in
     let lines1 = c.reserve_changed.new.lines.items in
     let lines2 = c.put_changed.new.lines.items in
-    let new = λ (k : ℕ). option_map (arc_value {X = g.row.S.Denot}) (slice_index_or c.args.news.now.items k None) in
+    let new = λ (k : ℕ). option_map (arc_value {X = g.row.G-State.Denot}) (slice_index_or c.args.news.now.items k None) in
     let lens = as_long i.lines.items lines1 lines2 c.args.changes.now new c.args.cycle s f.put f.others in
     let marks = marks_filled i.due c.clear_rows.new.due t (t + 1) c.cells.invariant.marks r.cleared r.earlier r.later in
     let some : 0 < length c.args.cells.now = omega (arith, c.requires.within) in
     let wide : d < i.due.width = omega (arith, h, lines_each i.lines.items i.due i.versions.items c.args.cells.now (length c.args.changes.now) c.cells.invariant c.cells.view_is some c.requires.width, c.cells.invariant.components) in
     cleared_cell i.lines.items lines2 i.due c.clear_rows.new.due i.versions.items c.args.cells.now c.cells.invariant c.cells.view_is (f.len ∙ s.len) lens r.width r.len marks t d _ wide (r.cleared t (omega arith) (omega arith))
     (put_state i.lines.items lines1 lines2 c.args.changes.now new t s f.put f.others d (omega (arith, c.requires.within, c.cells.invariant.cycles d wide, seen_cycles i.lines.items i.due i.versions.items c.args.cells.now c.cells.view_is)))
-    ∙ ap cleared (ap (λ (o : Option g.row.S.Denot). cond (is_awake c.args.changes.now d) (option_or (new d) o) (state_at i.lines.items t d)) (sym (seen_state i.lines.items i.due i.versions.items c.args.cells.now c.cells.view_is c.cells.invariant (t - 1) d))
-    ∙ ap (λ (o : Option g.row.S.Denot). cond (is_awake c.args.changes.now d) (option_or (new d) (held_at c.args.cells.now (t - 1) d).state) o) (sym (seen_state i.lines.items i.due i.versions.items c.args.cells.now c.cells.view_is c.cells.invariant t d)))
+    ∙ ap cleared (ap (λ (o : Option g.row.G-State.Denot). cond (is_awake c.args.changes.now d) (option_or (new d) o) (state_at i.lines.items t d)) (sym (seen_state i.lines.items i.due i.versions.items c.args.cells.now c.cells.view_is c.cells.invariant (t - 1) d))
+    ∙ ap (λ (o : Option g.row.G-State.Denot). cond (is_awake c.args.changes.now d) (option_or (new d) (held_at c.args.cells.now (t - 1) d).state) o) (sym (seen_state i.lines.items i.due i.versions.items c.args.cells.now c.cells.view_is c.cells.invariant t d)))
 
 pub overflow_add-cycle : goal.overflow_add-cycle
 overflow_add-cycle g c =
