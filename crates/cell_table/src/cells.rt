@@ -13,6 +13,7 @@ ghost use Rattle.cell_table.specs.Noted.{noted};
 ghost use Rattle.cell_marks.specs.Marked.{has as has_mark};
 ghost use Rattle.cell_table.specs.Filling.{is_awake};
 
+mod looks;
 mod standing;
 
 use crate::Cell;
@@ -335,7 +336,7 @@ impl<G: Grid> Cells<G> {
     {
         for component in near {
             let component = *component;
-            if self.state(Cell { cycle, component }).is_none() {
+            if !self.has_state(Cell { cycle, component }) {
                 return false;
             }
         }
@@ -393,13 +394,8 @@ pub(crate) fn are_held<G: Grid>(
     }
     for i in 0..near.len() {
         let component = near[i];
-        match cells.state(Cell { cycle, component }) {
-            Some(state) => {
-                if !G::same(state, &states[i]) {
-                    return false;
-                }
-            }
-            None => return false,
+        if !cells.holds(Cell { cycle, component }, &states[i]) {
+            return false;
         }
     }
     true

@@ -149,14 +149,7 @@ impl<G: Grid> Table<G> {
         if stays {
             return true;
         }
-        let before = Cell {
-            cycle: cell.cycle - 1,
-            component: cell.component,
-        };
-        match self.state(before) {
-            Some(state) => self.holds(cell, state),
-            None => false,
-        }
+        self.cells.is_as_before(cell)
     }
 
     /// Stores what was computed, as `settle_cell` does.
