@@ -69,7 +69,6 @@ mod fill;
 mod given;
 mod lines;
 mod marks;
-mod near;
 mod neighbours;
 mod ranges;
 mod readers;
