@@ -47,13 +47,13 @@ pub(crate) struct Cells<G: Grid> {
 impl<G: Grid> Model for Cells<G> {
     ghost use Rattle.std.specs.Prelude.{List};
     ghost use Rattle.cell_table.specs.Seen.{Held};
-    ghost use Rattle.cell_table.specs.Layout.{rows_of, IsLayout};
+    ghost use Rattle.cell_table.specs.Layout.{rows_of, state_at, IsLayout, IsLined};
 
     ghost Value = { List (List (Held G.State)) };
 
-    ghost view = { λ k. rows_of k.lines.items k.due k.versions.items };
+    ghost view = { λ k. rows_of (state_at k.lines.items) k.due k.versions.items };
 
-    ghost invariant = { λ k. IsLayout k.lines.items k.due k.versions.items };
+    ghost invariant = { λ k. IsLined k.lines.items k.due × IsLayout k.due k.versions.items };
 }
 
 impl<G: Grid> Cells<G> {
