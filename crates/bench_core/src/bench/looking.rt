@@ -11,6 +11,7 @@ ghost use Rattle.bench_core.specs.Seeking.{replied_in};
 
 use super::Bench;
 use crate::Asked;
+use crate::lent::lent;
 use cell_table::Cell;
 use grid_law::NoMemory;
 use machine_cells::MachineState;
@@ -110,7 +111,9 @@ impl Bench {
         requires { address < address_count }
         ensures { TellsAs (version_of self.now) (found_in (held self.now.table) (project_of self.now) (MemoryAt address cycle)) result }
     {
-        let state = self.table.state(self.module_cell(address, cycle));
-        self.answered(Body::Word(word_in(state, self.place(address).row)))
+        match self.table.shared(self.module_cell(address, cycle)) {
+            Ok(held) => self.answered(Body::Word(word_in(lent(&held), self.place(address).row))),
+            Err(NoMemory) => Asked::Memory,
+        }
     }
 }
