@@ -91,7 +91,7 @@ impl<G: Grid> Cells<G> {
 
     /// The state that a cell holds.
     #[inline(always)]
-    pub(crate) fn state(&self, cell: Cell) -> Option<&G::State>
+    fn state(&self, cell: Cell) -> Option<&G::State>
         ensures { option_copied result ≡ (held_at self.now cell.cycle cell.component).state }
     {
         state_in(&self.lines, cell)
