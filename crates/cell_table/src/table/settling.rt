@@ -103,7 +103,8 @@ impl<G: Grid> Table<G> {
     {
         let alloc = self.cells.allocator();
         let mut near = Vec::new(alloc);
-        if self.inputs(cell, &mut near)? {
+        let all = self.inputs(cell, &mut near)?;
+        if all {
             G::step(alloc, &self.slots, near.as_slice(), cell.component)
         } else {
             unreachable!()

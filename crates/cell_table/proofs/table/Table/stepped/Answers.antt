@@ -5,10 +5,10 @@ use Rattle.cell_table.specs.Inputs.{inputs_of}
 use Rattle.cell_table.proofs.Shortcut.{steps_current, ok_along}
 use Rattle.cell_table.proofs.table.Table.stepped.Goals as goal
 
-pub returns-then-in_ok-inputs : goal.returns-then-in_ok-inputs
-returns-then-in_ok-inputs g c =
+pub returns : goal.returns
+returns g c =
     let i = c.self.inside in
     let R = g.G.Grid.rules in
     let v : Seen g.row.G-State.Denot g.row.G-Slots.Denot = record { slots = i.slots; horizon = i.horizon; clock = i.clock; rows = i.cells } in
-    let whole = rw (← c.self.view_is) at (sym c.in_ok-inputs.ensures) in
+    let whole = rw (← c.self.view_is) at (sym (rw c.if-all.true at c.in_ok-all.ensures)) in
     rw (← c.self.view_is) (ok_along (λ x e. e ∙ steps_current R v c.args.cell.cycle c.args.cell.component g.G.Grid.laws c.requires.later _ whole) c.step.result c.step.ensures)
