@@ -77,17 +77,14 @@ impl<G: Grid> Table<G> {
         let count = G::components(&self.slots);
         let mut row = row;
         for component in 0..count {
-            let held = match self.shared(Cell { cycle, component }) {
-                Ok(held) => held,
-                Err(_) => return None,
-            };
-            match held {
-                Some(x) => {
+            match self.shared(Cell { cycle, component }) {
+                Ok(Some(x)) => {
                     if !row.load(&self.slots, component, &x) {
                         return None;
                     }
                 }
-                None => return None,
+                Ok(None) => return None,
+                Err(_) => return None,
             }
         }
         Some(row)

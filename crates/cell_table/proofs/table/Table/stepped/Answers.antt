@@ -1,4 +1,4 @@
-use Rattle.std.proofs.Common.{◌≡◌, ◌∙◌, sym, map, Some}
+use Rattle.std.proofs.Common.{◌≡◌, ◌∙◌, ap, sym, map, Some}
 use Rattle.std.specs.Arc.{arc_value}
 use Rattle.cell_table.specs.Seen.{Seen}
 use Rattle.cell_table.specs.Inputs.{inputs_of}
@@ -11,4 +11,4 @@ returns g c =
     let R = g.G.Grid.rules in
     let v : Seen g.row.G-State.Denot g.row.G-Slots.Denot = record { slots = i.slots; horizon = i.horizon; clock = i.clock; rows = i.cells } in
     let whole = rw (← c.self.view_is) at (sym (rw c.if-all.true at c.in_ok-all.ensures)) in
-    rw (← c.self.view_is) (ok_along (λ x e. e ∙ steps_current R v c.args.cell.cycle c.args.cell.component g.G.Grid.laws c.requires.later _ whole) c.step.result c.step.ensures)
+    rw (← c.self.view_is) (ok_along (λ x e. e ∙ steps_current R v c.args.cell.cycle c.args.cell.component g.G.Grid.laws c.requires.later _ (whole ∙ ap (λ ys. Some (map arc_value ys)) (sym c.as_slice.ensures.value))) c.step.result c.step.ensures)
