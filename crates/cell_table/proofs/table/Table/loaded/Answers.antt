@@ -25,5 +25,5 @@ loop-component-preserved g c =
       stands = c.load.ensures.stands;
       states = one_more R i.slots (λ d. g.M.WholeRow.holds c.load.new.self d (run R i.slots t d)) n
           (λ d h. c.load.ensures.others d (run R i.slots t d) (omega (arith, h, inside)) (λ e. omega (arith, h, e)) ((rw (← c.self.view_is) at c.loop-component.invariant.states) d h))
-          (subst (g.M.WholeRow.holds c.load.new.self n) is_run (c.load.ensures.loaded c.if-not-load.false));
+          (subst (g.M.WholeRow.holds c.load.new.self n) (c.deref.ensures ∙ is_run) (c.load.ensures.loaded c.if-not-load.false));
     })
