@@ -14,6 +14,7 @@
 #![tactic(auto)]
 
 mod gate;
+mod lot;
 mod tally;
 mod threads;
 mod wave;
