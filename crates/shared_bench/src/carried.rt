@@ -1,7 +1,6 @@
 //! A bench behind a pointer, and what is done with it in a turn.
 ghost use Rattle.std.specs.Prelude.{◌≡◌, ◌+◌, ◌<◌, ◌≤◌, ◌↔◌, ◌++◌, ◌∷◌, [], List, min, length, true, false, All, IfOk, IfErr, OnOk, IsTrue, MatchOption, Ok, Err, vec_len, vec_capacity};
 ghost use Rattle.cell_table.specs.Claims.{Claimed, NoneDue};
-ghost use Rattle.cell_table.specs.Cells.{IsThere};
 ghost use Rattle.cell_table.specs.Gives.{GivesAs};
 ghost use Rattle.cell_table.specs.Settling.{IsClockSpent};
 ghost use Rattle.machine_cells.specs.declared.state.MachineState.{MachineState as CellState};
@@ -104,6 +103,7 @@ impl Carried {
     }
 
     /// Whether a cell of that cycle is due, at or after that component.
+    #[tactic(auto, using(crate::proofs::Lots::none_due_in_row, crate::proofs::Lots::due_elsewhere))]
     fn is_row_due(&self, from: Cell) -> bool
         ensures { result ≡ false → NoneInRow self.now from.cycle from.component }
     {
@@ -135,7 +135,7 @@ impl Carried {
 
     /// The place behind a cell in its cycle.
     fn behind(&self, cell: Cell) -> Cell
-        requires { IsThere rp3_rules self.now.table cell.cycle cell.component }
+        requires { cell.component < rp3_rules.components (project_of self.now) }
         ensures cycle { result.cycle ≡ cell.cycle }
         ensures component { result.component ≡ cell.component + 1 }
     {
@@ -157,7 +157,7 @@ impl Carried {
         ensures { OnOk result ((more : List (Claimed CellState ProjectValue)) × (claims.new.items ≡ claims.old.items ++ more) × GoesOn self.now from.cycle from.component most more) }
     {
         let mut from = from;
-        for _ in 0..most {
+        for _count in 0..most {
             match self.claim_in_row(from) {
                 Ok(Some(claim)) => {
                     from = self.behind(claim.cell());
