@@ -1,5 +1,8 @@
 -- Lots: what one claim tells of a cycle's cells, and loops over claims and results.
-use Rattle.std.proofs.Common.{◌≡◌, ◌⊎◌, inl, inr, ℕ, zero, suc, ◌+◌, ◌-◌, ◌<◌, ◌≤◌, true, false, List, [], ◌∷◌, ◌++◌, All, refl, sym, ap, ◌∙◌, subst, arith, append-nil, append_assoc}
+use Rattle.std.proofs.Common.{◌≡◌, ◌⊎◌, inl, inr, ℕ, zero, suc, ◌+◌, ◌-◌, ◌<◌, ◌≤◌, Bool, true, false, List, [], ◌∷◌, ◌++◌, All, refl, sym, ap, ◌∙◌, subst, arith, append-nil, append_assoc, Result, Ok, Err}
+use Rattle.std.specs.Prelude.{IfOk}
+use Rattle.std.proofs.lemmas.List.Elements.{All-nil, All-cons, All-push}
+use Rattle.grid_law.specs.declared.no_memory.NoMemory.{NoMemory}
 use Rattle.cell_table.specs.declared.cell.Cell.{Cell}
 use Rattle.cell_table.specs.declared.given.Given.{Given}
 use Rattle.cell_table.specs.Cells.{IsThere}
@@ -10,6 +13,8 @@ use Rattle.machine_cells.specs.declared.state.MachineState.{MachineState}
 use Rattle.machine_cells.specs.GridRules.{rp3_rules}
 use Rattle.project_book.specs.Project.{Project}
 use Rattle.bench_core.specs.Shown.{Shown, project_of}
+use Rattle.shared_bench.specs.Known.{Known}
+use Rattle.shared_bench.specs.Answers.{HasSeen, project_seen, IsGivenSpent}
 use Rattle.shared_bench.specs.Lots.{NoneInRow, IsClaimInRow, GoesOn, ClaimsLot, GivesOne, GivesLot}
 
 -- ---- one claim
@@ -98,7 +103,9 @@ HasGoneOn d t c n old now = (more : List (Claimed MachineState Project)) × (now
 
 module _ (d : Shown) (t c n : ℕ) (old : List (Claimed MachineState Project)) where
   pub claims_begin : ClaimsOn d t c n 0 old old c
-  claims_begin = record { more = []; items = sym (append-nil old); leads = λ rest g. g }
+  claims_begin =
+      let all : n - 0 ≡ n = omega arith in
+      record { more = []; items = sym (append-nil old); leads = λ rest g. subst (λ (m : ℕ). GoesOn d t c m rest) all g }
 
   pub claims_go : (i c1 : ℕ) (now : List (Claimed MachineState Project)) (claim : Claimed MachineState Project) → ClaimsOn d t c n i old now c1 → i < n → IsClaimInRow d t c1 claim
       → ClaimsOn d t c n (i + 1) old (now ++ claim ∷ []) (claim.cell.component + 1)
@@ -122,19 +129,30 @@ pub lot_some : (d : Shown) (from : Cell) (n : ℕ) (claim : Claimed MachineState
     → IsNextRound rp3_rules d.table from.cycle from.component claim.cell → IsClaim rp3_rules d.table claim
     → GoesOn d claim.cell.cycle (claim.cell.component + 1) (n - 1) more → ClaimsLot d from n (claim ∷ more)
 lot_some d from zero claim more some next holds goes = absurd (let no : 0 < 0 = some in omega arith)
-lot_some d from (suc n) claim more some next holds goes = (next, holds, goes)
+lot_some d from (suc n) claim more some next holds goes =
+    let less : suc n - 1 ≡ n = omega arith in
+    (next, holds, subst (λ (m : ℕ). GoesOn d claim.cell.cycle (claim.cell.component + 1) m more) less goes)
+
+-- one claim, and then those that go on from the place behind its cell
+pub lot_made : (d : Shown) (from : Cell) (n : ℕ) (claim : Claimed MachineState Project) (t c : ℕ) (items : List (Claimed MachineState Project)) → 0 < n
+    → IsNextRound rp3_rules d.table from.cycle from.component claim.cell → IsClaim rp3_rules d.table claim → t ≡ claim.cell.cycle → c ≡ claim.cell.component + 1
+    → HasGoneOn d t c (n - 1) (claim ∷ []) items → ClaimsLot d from n items
+lot_made d from n claim t c items some next holds same behind gone =
+    let more = gone.0 in
+    let goes : GoesOn d claim.cell.cycle (claim.cell.component + 1) (n - 1) more = subst (λ (k : ℕ). GoesOn d claim.cell.cycle k (n - 1) more) behind (subst (λ (u : ℕ). GoesOn d u c (n - 1) more) same gone.2) in
+    subst (ClaimsLot d from n) (sym gone.1) (lot_some d from n claim more some next holds goes)
 
 -- ---- what a lot's claims hold
 
 goes_slots : (d : Shown) (P : Project) (t c n : ℕ) (claims : List (Claimed MachineState Project)) → project_of d ≡ P → GoesOn d t c n claims → All (λ claim. claim.slots ≡ P) claims
-goes_slots d P t c n [] is goes = tt
+goes_slots d P t c n [] is goes = All-nil (λ claim. claim.slots ≡ P)
 goes_slots d P t c zero (claim ∷ claims) is goes = absurd goes
-goes_slots d P t c (suc n) (claim ∷ claims) is goes = (goes.0.2.slots ∙ is, goes_slots d P t (claim.cell.component + 1) n claims is goes.1)
+goes_slots d P t c (suc n) (claim ∷ claims) is goes = All-cons (λ x. x.slots ≡ P) claim claims (goes.0.2.slots ∙ is) (goes_slots d P t (claim.cell.component + 1) n claims is goes.1)
 
 pub lot_slots : (d : Shown) (P : Project) (from : Cell) (n : ℕ) (claims : List (Claimed MachineState Project)) → project_of d ≡ P → ClaimsLot d from n claims → All (λ claim. claim.slots ≡ P) claims
-lot_slots d P from n [] is lot = tt
+lot_slots d P from n [] is lot = All-nil (λ claim. claim.slots ≡ P)
 lot_slots d P from zero (claim ∷ claims) is lot = absurd lot
-lot_slots d P from (suc n) (claim ∷ claims) is lot = (lot.1.slots ∙ is, goes_slots d P claim.cell.cycle (claim.cell.component + 1) n claims is lot.2)
+lot_slots d P from (suc n) (claim ∷ claims) is lot = All-cons (λ x. x.slots ≡ P) claim claims (lot.1.slots ∙ is) (goes_slots d P claim.cell.cycle (claim.cell.component + 1) n claims is lot.2)
 
 -- ---- results, one after another
 
@@ -150,3 +168,16 @@ module _ (d : Shown) (lot : List (Computed MachineState Project)) (answers : Lis
 
   pub all_given : LeadsTo d lot answers d1 [] → GivesLot d lot answers d1
   all_given leads = subst (λ (all : List (Given (Computed MachineState Project))). GivesLot d lot all d1) (append-nil answers) (leads [] d1 refl)
+
+-- who knows that the clock is spent by one of these answers knows it still
+pub spent_on : (answers : List (Given (Computed MachineState Project))) (given : Given (Computed MachineState Project)) (s s1 : Bool) → All (λ x. IsGivenSpent x → s ≡ true) answers
+    → (s ≡ true → s1 ≡ true) → (IsGivenSpent given → s1 ≡ true) → All (λ x. IsGivenSpent x → s1 ≡ true) (answers ++ given ∷ [])
+spent_on answers given s s1 all kept now = All-push (λ x. IsGivenSpent x → s1 ≡ true) answers given (λ k d there h. kept (all k d there h)) now
+
+-- ---- in a turn
+
+-- a lot's claims hold the project that the pass has then seen
+pub lot_seen : (V : Type 0) (items : V → List (Claimed MachineState Project)) (p : Known) (d : Shown) (from : Cell) (n : ℕ) (r : Result V NoMemory) → HasSeen p d
+    → IfOk r (λ v. ClaimsLot d from n (items v)) → IfOk r (λ v. All (λ claim. claim.slots ≡ project_seen p) (items v))
+lot_seen V items p d from n (Ok v) seen lot = lot_slots d (project_seen p) from n (items v) seen.1 lot
+lot_seen V items p d from n (Err e) seen lot = tt

@@ -118,6 +118,7 @@ impl Carried {
     /// # Errors
     ///
     /// As `claim`.
+    #[tactic(auto, using(crate::proofs::Lots::in_row, crate::proofs::Lots::out_of_row, crate::proofs::Lots::none_due_at_all))]
     fn claim_in_row(&self, from: Cell) -> Result<Option<Claim<Rp3>>, NoMemory>
         ensures { IfOk result (λ r. MatchOption r
             (NoneInRow self.now from.cycle from.component)
@@ -127,8 +128,14 @@ impl Carried {
             return Ok(None);
         }
         match self.bench.claim(from) {
-            Ok(Some(claim)) if is_behind(from, claim.cell()) => Ok(Some(claim)),
-            Ok(_) => Ok(None),
+            Ok(Some(claim)) => {
+                if is_behind(from, claim.cell()) {
+                    Ok(Some(claim))
+                } else {
+                    Ok(None)
+                }
+            }
+            Ok(None) => Ok(None),
             Err(error) => Err(error),
         }
     }
@@ -152,6 +159,7 @@ impl Carried {
     /// # Errors
     ///
     /// As `claim`.
+    #[tactic(auto, using(crate::proofs::Lots::claims_begin, crate::proofs::Lots::claims_go, crate::proofs::Lots::claims_end, crate::proofs::Lots::claims_full))]
     fn claim_on(&self, claims: &mut Vec<Claim<Rp3>>, from: Cell, most: u32) -> Result<(), NoMemory>
         requires { vec_len claims.old + most ≤ vec_capacity claims.old }
         ensures { OnOk result ((more : List (Claimed CellState ProjectValue)) × (claims.new.items ≡ claims.old.items ++ more) × GoesOn self.now from.cycle from.component most more) }
@@ -175,6 +183,7 @@ impl Carried {
     /// # Errors
     ///
     /// Where a growth was refused. The bench is as before.
+    #[tactic(auto, using(crate::proofs::Lots::round_there, crate::proofs::Lots::lot_none, crate::proofs::Lots::lot_made))]
     pub fn claim_many(&self, from: Cell, most: u32) -> Result<Vec<Claim<Rp3>>, NoMemory>
         ensures { IfOk result (λ claims. ClaimsLot self.now from (min most 64) claims.items) }
     {

@@ -10,7 +10,7 @@ use Rattle.shared_bench.proofs.carried.Carried.give_many.Given as goal
 abbrev pub invariant-loop-done : goal.invariant-loop-done
 invariant-loop-done l = record {
   left : into_iter_len l.done-iterator ≡ length (into_iter_items l.done-iterator);
-  leads : LeadsTo l.initial.self l.lot.items l.answers.items l.self (into_iter_items l.done-iterator);
+  leads : LeadsTo l.initial.self l.fn.lot.items l.answers.items l.self (into_iter_items l.done-iterator);
   room : vec_len l.answers + into_iter_len l.done-iterator ≤ vec_capacity l.answers;
   capacity : vec_capacity l.answers ≡ vec_capacity l.initial.answers;
   journal : l.self.journal ≡ l.initial.self.journal;
