@@ -1,6 +1,6 @@
 -- Lots: what one claim tells of a cycle's cells, and loops over claims and results.
-use Rattle.std.proofs.Common.{◌≡◌, ◌⊎◌, inl, inr, ℕ, zero, suc, ◌+◌, ◌-◌, ◌<◌, ◌≤◌, Bool, true, false, List, [], ◌∷◌, ◌++◌, All, refl, sym, ap, ◌∙◌, subst, arith, append-nil, append_assoc, Result, Ok, Err}
-use Rattle.std.specs.Prelude.{IfOk}
+use Rattle.std.proofs.Common.{◌≡◌, ◌⊎◌, inl, inr, ℕ, zero, suc, ◌+◌, ◌-◌, ◌<◌, ◌≤◌, Bool, true, false, List, [], ◌∷◌, ◌++◌, length, All, refl, sym, ap, ◌∙◌, subst, arith, append-nil, append_assoc, Option, Some, Result, Ok, Err}
+use Rattle.std.specs.Prelude.{IfOk, IfSome}
 use Rattle.std.proofs.lemmas.List.Elements.{All-nil, All-cons, All-push}
 use Rattle.grid_law.specs.declared.no_memory.NoMemory.{NoMemory}
 use Rattle.cell_table.specs.declared.cell.Cell.{Cell}
@@ -56,6 +56,21 @@ in_row d t c claim (inr (none, next)) holds same after = absurd (
 pub out_of_row : (d : Shown) (t c : ℕ) (cell : Cell) → IsNextRound rp3_rules d.table t c cell → ((cell.cycle ≡ t) × (c ≤ cell.component) → ⊥) → NoneInRow d t c
 out_of_row d t c cell (inl next) not c1 there after = next.none_between t c1 there (omega arith, λ _. after) (next.after.0, λ e. absurd (not (sym e, next.after.1 e)))
 out_of_row d t c cell (inr (none, next)) not c1 there after = none t c1 there (omega arith, λ _. after)
+
+pub of_some : (P : Claimed MachineState Project → Type 0) (o : Option (Claimed MachineState Project)) (claim : Claimed MachineState Project) → o ≡ Some claim → IfSome o P → P claim
+of_some P o claim is h = subst (λ (q : Option (Claimed MachineState Project)). IfSome q P) is h
+
+-- the same of a claim whose cell was looked at
+module _ (d : Shown) (t c : ℕ) (claim : Claimed MachineState Project) (cell : Cell) (is : cell ≡ claim.cell) (next : IsNextRound rp3_rules d.table t c claim.cell) where
+  pub is_in_row : IsClaim rp3_rules d.table claim → (cell.cycle ≡ t) × (c ≤ cell.component) → IsClaimInRow d t c claim
+  is_in_row holds behind =
+      let now = subst (λ (x : Cell). (x.cycle ≡ t) × (c ≤ x.component)) is behind in
+      in_row d t c claim next holds now.0 now.1
+
+  pub is_out_of_row : (test : Bool) → test ≡ false → ((cell.cycle ≡ t) × (c ≤ cell.component) → test ≡ true) → NoneInRow d t c
+  is_out_of_row test isnt behind = out_of_row d t c claim.cell next (λ h. absurd (
+      let yes : false ≡ true = sym isnt ∙ behind (subst (λ (x : Cell). (x.cycle ≡ t) × (c ≤ x.component)) (sym is) h) in
+      cc))
 
 pub round_there : (d : Shown) (t c : ℕ) (cell : Cell) → IsNextRound rp3_rules d.table t c cell → cell.component < rp3_rules.components d.table.slots
 round_there d t c cell (inl next) = next.there.component
@@ -134,13 +149,13 @@ lot_some d from (suc n) claim more some next holds goes =
     (next, holds, subst (λ (m : ℕ). GoesOn d claim.cell.cycle (claim.cell.component + 1) m more) less goes)
 
 -- one claim, and then those that go on from the place behind its cell
-pub lot_made : (d : Shown) (from : Cell) (n : ℕ) (claim : Claimed MachineState Project) (t c : ℕ) (items : List (Claimed MachineState Project)) → 0 < n
+pub lot_made : (d : Shown) (from : Cell) (n : ℕ) (claim : Claimed MachineState Project) (t c : ℕ) (old items : List (Claimed MachineState Project)) → 0 < n
     → IsNextRound rp3_rules d.table from.cycle from.component claim.cell → IsClaim rp3_rules d.table claim → t ≡ claim.cell.cycle → c ≡ claim.cell.component + 1
-    → HasGoneOn d t c (n - 1) (claim ∷ []) items → ClaimsLot d from n items
-lot_made d from n claim t c items some next holds same behind gone =
+    → old ≡ claim ∷ [] → HasGoneOn d t c (n - 1) old items → ClaimsLot d from n items
+lot_made d from n claim t c old items some next holds same behind one gone =
     let more = gone.0 in
     let goes : GoesOn d claim.cell.cycle (claim.cell.component + 1) (n - 1) more = subst (λ (k : ℕ). GoesOn d claim.cell.cycle k (n - 1) more) behind (subst (λ (u : ℕ). GoesOn d u c (n - 1) more) same gone.2) in
-    subst (ClaimsLot d from n) (sym gone.1) (lot_some d from n claim more some next holds goes)
+    subst (ClaimsLot d from n) (sym (gone.1 ∙ ap (λ (l : List (Claimed MachineState Project)). l ++ more) one)) (lot_some d from n claim more some next holds goes)
 
 -- ---- what a lot's claims hold
 
@@ -156,6 +171,10 @@ lot_slots d P from (suc n) (claim ∷ claims) is lot = All-cons (λ x. x.slots �
 
 -- ---- results, one after another
 
+pub nothing_left : (left : List (Computed MachineState Project)) → length left ≡ 0 → left ≡ []
+nothing_left [] h = refl
+nothing_left (x ∷ xs) h = absurd (omega arith)
+
 -- what becomes of the results that are left, from the bench d1 on, becomes of all, behind these answers, from d on
 abbrev pub LeadsTo : Shown → List (Computed MachineState Project) → List (Given (Computed MachineState Project)) → Shown → List (Computed MachineState Project) → Type 0
 LeadsTo d lot answers d1 left = (rest : List (Given (Computed MachineState Project))) (next : Shown) → GivesLot d1 left rest next → GivesLot d lot (answers ++ rest) next
@@ -165,6 +184,9 @@ module _ (d : Shown) (lot : List (Computed MachineState Project)) (answers : Lis
       → LeadsTo d lot answers d1 (done ∷ left) → GivesOne d1 done given d2 → LeadsTo d lot (answers ++ given ∷ []) d2 left
   given_on done left given d2 leads one rest next g =
       subst (λ (all : List (Given (Computed MachineState Project))). GivesLot d lot all next) (sym (append_assoc answers (given ∷ []) rest)) (leads (given ∷ rest) next (d2, one, g))
+
+  pub given_begin : (left : List (Computed MachineState Project)) → answers ≡ [] → left ≡ lot → d1 ≡ d → LeadsTo d lot answers d1 left
+  given_begin left none all same rest next g = rw (none, ← all, ← same) g
 
   pub all_given : LeadsTo d lot answers d1 [] → GivesLot d lot answers d1
   all_given leads = subst (λ (all : List (Given (Computed MachineState Project))). GivesLot d lot all d1) (append-nil answers) (leads [] d1 refl)

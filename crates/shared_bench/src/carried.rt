@@ -118,7 +118,7 @@ impl Carried {
     /// # Errors
     ///
     /// As `claim`.
-    #[tactic(auto, using(crate::proofs::Lots::in_row, crate::proofs::Lots::out_of_row, crate::proofs::Lots::none_due_at_all))]
+    #[tactic(auto, using(crate::proofs::Lots::none_due_at_all))]
     fn claim_in_row(&self, from: Cell) -> Result<Option<Claim<Rp3>>, NoMemory>
         ensures { IfOk result (λ r. MatchOption r
             (NoneInRow self.now from.cycle from.component)
@@ -127,7 +127,7 @@ impl Carried {
         if !self.is_row_due(from) {
             return Ok(None);
         }
-        match self.bench.claim(from) {
+        match self.claim(from) {
             Ok(Some(claim)) => {
                 if is_behind(from, claim.cell()) {
                     Ok(Some(claim))
@@ -192,7 +192,7 @@ impl Carried {
         if most == 0 {
             return Ok(claims);
         }
-        match self.bench.claim(from) {
+        match self.claim(from) {
             Ok(Some(claim)) => {
                 let next = self.behind(claim.cell());
                 claims.push_reserved(claim);
@@ -205,6 +205,7 @@ impl Carried {
     }
 
     /// Gives results back, one after another. Their answers replace what the buffer held, in the same order.
+    #[tactic(auto, using(crate::proofs::Lots::given_begin))]
     pub fn give_many(&mut self, lot: Vec<Done<Rp3>>, answers: &mut Vec<Given<Done<Rp3>>>)
         requires { vec_len lot ≤ vec_capacity answers.old }
         ensures gives { GivesLot self.old lot.items answers.new.items self.new }
