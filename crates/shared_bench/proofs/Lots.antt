@@ -1,6 +1,6 @@
 -- Lots: what one claim tells of a cycle's cells, and loops over claims and results.
-use Rattle.std.proofs.Common.{◌≡◌, ◌⊎◌, inl, inr, ℕ, zero, suc, ◌+◌, ◌-◌, ◌<◌, ◌≤◌, Bool, true, false, List, [], ◌∷◌, ◌++◌, length, All, refl, sym, ap, ◌∙◌, subst, arith, append-nil, append_assoc, Option, Some, Result, Ok, Err}
-use Rattle.std.specs.Prelude.{IfOk, IfSome}
+use Rattle.std.proofs.Common.{◌≡◌, ◌⊎◌, inl, inr, ℕ, zero, suc, ◌+◌, ◌-◌, ◌<◌, ◌≤◌, Bool, true, false, List, [], ◌∷◌, ◌++◌, length, All, refl, sym, ap, ◌∙◌, subst, arith, append-nil, append_assoc, Option, None, Some, Result, Ok, Err}
+use Rattle.std.specs.Prelude.{IfOk, IfSome, MatchOption}
 use Rattle.std.proofs.lemmas.List.Elements.{All-nil, All-cons, All-push}
 use Rattle.grid_law.specs.declared.no_memory.NoMemory.{NoMemory}
 use Rattle.cell_table.specs.declared.cell.Cell.{Cell}
@@ -59,6 +59,9 @@ out_of_row d t c cell (inr (none, next)) not c1 there after = none t c1 there (o
 
 pub of_some : (P : Claimed MachineState Project → Type 0) (o : Option (Claimed MachineState Project)) (claim : Claimed MachineState Project) → o ≡ Some claim → IfSome o P → P claim
 of_some P o claim is h = subst (λ (q : Option (Claimed MachineState Project)). IfSome q P) is h
+
+pub none_of : (A : Type 0) (P : Claimed MachineState Project → Type 0) (o : Option (Claimed MachineState Project)) → o ≡ None → MatchOption o A P → A
+none_of A P o is h = subst (λ (q : Option (Claimed MachineState Project)). MatchOption q A P) is h
 
 -- the same of a claim whose cell was looked at
 module _ (d : Shown) (t c : ℕ) (claim : Claimed MachineState Project) (cell : Cell) (is : cell ≡ claim.cell) (next : IsNextRound rp3_rules d.table t c claim.cell) where
