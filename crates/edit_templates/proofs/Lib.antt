@@ -1,0 +1,4 @@
+pub mod Alls
+pub mod Counts
+pub mod Cuts
+pub mod Editing

@@ -1,0 +1,4 @@
+pub mod Braces
+pub mod Edited
+pub mod Steps
+pub mod Templates
