@@ -1,5 +1,6 @@
 pub mod Adding
 pub mod ColumnSteps
+pub mod EditRows
 pub mod Fields
 pub mod Given
 pub mod Halves

@@ -6,12 +6,15 @@ use Rattle.clap.specs.declared.builder.command.Command.{Command}
 use Rattle.clap.specs.declared.builder.command.Command.TheViews.{out-Command}
 use Rattle.clap.specs.declared.builder.action.ArgAction.TheVariants.{Set, Append, SetTrue}
 
--- an argument `--ID VALUE`, one that is given once or more, one without a value, and the project file
+-- an argument `--ID VALUE`, one that is given once or more, one that is given as often as one likes, one without a value, and the project file
 abbrev pub option_rule : Text → Rule
 option_rule id = record (new_rule id) { long = Some id; action = Some Set; value_names = 1 }
 
 abbrev pub several_rule : Text → Rule
 several_rule id = record (new_rule id) { long = Some id; action = Some Append; value_names = 1; required = true }
+
+abbrev pub any_number_rule : Text → Rule
+any_number_rule id = record (new_rule id) { long = Some id; action = Some Append; value_names = 1 }
 
 abbrev pub flag_rule : Text → Rule
 flag_rule id = record (new_rule id) { long = Some id; action = Some SetTrue }
@@ -51,7 +54,10 @@ abbrev pub delays_task : Shape
 delays_task = task (codes "delays") (measured_rules ++ kept_rules)
 
 abbrev pub sweep_task : Shape
-sweep_task = task (codes "sweep") (file_rule ∷ several_rule (codes "depth") ∷ several_rule (codes "ask") ∷ option_rule (codes "csv") ∷ [])
+sweep_task =
+    task (codes "sweep")
+    (file_rule ∷ any_number_rule (codes "setup") ∷ any_number_rule (codes "depth") ∷ any_number_rule (codes "edit") ∷ flag_rule (codes "zip")
+    ∷ several_rule (codes "ask") ∷ option_rule (codes "csv") ∷ [])
 
 abbrev pub check_task : Shape
 check_task = task (codes "check") (file_rule ∷ [])

@@ -64,7 +64,10 @@ pub record AreCurveWords (rows : List Row) (words : CurveWords) : Type 0 where
 
 pub record AreSweepWords (rows : List Row) (words : SweepWords) : Type 0 where
   pub file : words.file.now ≡ file_at rows
+  pub setups : texts_of words.setups.items ≡ texts_at rows (codes "setup")
   pub depths : texts_of words.depths.items ≡ texts_at rows (codes "depth")
+  pub edits : texts_of words.edits.items ≡ texts_at rows (codes "edit")
+  pub zip : words.zip ≡ is_given rows (codes "zip")
   pub asks : texts_of words.asks.items ≡ texts_at rows (codes "ask")
   pub csv : text_of words.csv ≡ first_of (codes "csv") rows
 

@@ -21,6 +21,7 @@ use crate::completion::completion_report;
 use crate::convert::{ConvertWords, convert_file, refuse_source};
 use crate::delay_picture::delay_picture;
 use crate::delays::{delay_points, delay_table};
+use crate::edit_sweep::edit_table;
 use crate::end::End;
 use crate::latency::{LatencyWords, condition, report};
 use crate::map::map_picture;
@@ -32,6 +33,7 @@ use crate::points::{delay_loads, rate_loads};
 use crate::progress::Progress;
 use crate::rate_picture::rate_picture;
 use crate::rates::{rate_points, rate_table};
+use crate::setup::set_up;
 use crate::sweep::sweep_table;
 use crate::tables::{DelayPoint, RatePoint};
 use crate::words::{Asked, CurveWords, MapWords, SweepWords};
@@ -323,6 +325,29 @@ fn delays<'a, T: Threads + Sync, P: Progress>(
     with_kept(alloc, words, loads.as_slice(), outcome)
 }
 
+/// The table that the words of a sweep ask for.
+#[tactic(auto, using(crate::proofs::Stops::or_stop_memory, crate::proofs::Stops::or_stop_by))]
+fn swept<'a, T: Threads + Sync>(
+    rt: &T,
+    alloc: Global,
+    words: &SweepWords<'a>,
+    project: Project,
+) -> Result<String, End<'a>>
+    ensures done { IfOk result (λ text. IsSweepText words.now project (string_bytes text)) }
+    ensures refused { IfErr result (λ end. IsNoSweep words.now end project) }
+{
+    let (depths, asks) = (words.depths.as_slice(), words.asks.as_slice());
+    let project = match set_up(project, words.setups.as_slice()) {
+        Ok(project) => project,
+        Err(end) => return Err(end),
+    };
+    if words.edits.is_empty() {
+        return sweep_table(rt, alloc, project, depths, asks);
+    }
+    let edits = words.edits.as_slice();
+    edit_table(rt, alloc, &project, words.zip, depths, edits, asks)
+}
+
 #[tactic(auto, using(crate::proofs::Stops::not_made))]
 fn sweep<'a, T: Threads + Sync>(
     rt: &T,
@@ -334,8 +359,7 @@ fn sweep<'a, T: Threads + Sync>(
     ensures refused { IfErr result (λ end. IsNotMade bytes.now (IsNoSweep words.now end) end) }
 {
     let project = project_in(alloc, bytes)?;
-    let (depths, asks) = (words.depths.as_slice(), words.asks.as_slice());
-    let table = match sweep_table(rt, alloc, project, depths, asks) {
+    let table = match swept(rt, alloc, words, project) {
         Ok(table) => table,
         Err(end) => return Err(end),
     };

@@ -4,7 +4,7 @@ ghost use Rattle.std.specs.Option.{option_map_or};
 ghost use Rattle.clap.specs.Matches.{matched_of, raw_values};
 ghost use Rattle.clap.specs.Walk.{texts};
 ghost use Rattle.clap.specs.Words.{FailsBy, fault_of, first_of, found_of, new_app, rows_of, rule_of, subcommand_of};
-ghost use Rattle.lab_tasks.specs.CommandLine.{bare, check_task, convert_task, delays_task, done_task, file_rule, flag_rule, kept_rules, lab, map_task, latency_task, measured_task, option_rule, order_task, rates_task, several_rule, sweep_task, HasAll, HasMore, HasTask, IsApp, IsLab, IsNoTask, IsTask};
+ghost use Rattle.lab_tasks.specs.CommandLine.{any_number_rule, bare, check_task, convert_task, delays_task, done_task, file_rule, flag_rule, kept_rules, lab, map_task, latency_task, measured_task, option_rule, order_task, rates_task, several_rule, sweep_task, HasAll, HasMore, HasTask, IsApp, IsLab, IsNoTask, IsTask};
 ghost use Rattle.lab_tasks.specs.Words.{file_at, is_given, text_of, texts_at, AreConvertWords, AreCurveWords, AreLatencyWords, AreMapWords, AreOrderWords, AreSweepWords, AsksFor};
 
 use crate::convert::ConvertWords;
@@ -43,7 +43,10 @@ pub struct CurveWords<'a> {
 #[derive(Drop)]
 pub struct SweepWords<'a> {
     pub file: &'a str,
+    pub setups: Vec<&'a str>,
     pub depths: Vec<&'a str>,
+    pub edits: Vec<&'a str>,
+    pub zip: bool,
     pub asks: Vec<&'a str>,
     pub csv: Option<&'a str>,
 }
@@ -101,7 +104,8 @@ const RATES_ABOUT: &str =
 const DELAYS_ABOUT: &str =
     "Measures how long references that aren't hot wait for their replies, against the share of hot ones";
 
-const SWEEP_ABOUT: &str = "Asks a project the same for each depth of some queues";
+const SWEEP_ABOUT: &str =
+    "Asks a project the same for each depth of some queues, and after each of some edits";
 
 const CHECK_ABOUT: &str = "Says in words what a project file is, or where it is wrong";
 
@@ -117,6 +121,17 @@ const DELAYS_MEASURED: &str = "\
 Each processor issues 256 references, at most 8 of them unanswered: of a hundred as many as --hot says add 1 to word 0, the
 others load a word of page 1, which is spread over all modules. They are drawn from --seed. The second half of the cycles is
 measured. Without --csv and --out the table goes to standard output.";
+
+const SWEPT: &str = "\
+A TEMPLATE is an edit of the workbench with braces in it: a range of numbers {A..B}, where k is the project's k, or words
+{A,B,..}. Each number or word makes a row, and all of them have to make edits. --depth and --edit may be given several times:
+each with each, those of --depth before those of --edit, and the first varying slowest. Each row stands for the project of
+the file, after --setup, with the row's own edits alone. An edit that the project refuses puts 'refused N' in the place of
+the answers; 'bad N' is a question that it has no answer to.
+
+Status: 0 done; 2 the command line; 3 a file can't be read or written; 4 the project is refused; 5 no memory, or standard
+output can't be written; 7 a number outside of what there is. A file is written beside its name and then renamed, so none
+stays half written.";
 
 const ENDS: &str = "\
 Status: 0 done; 2 the command line; 3 a file can't be read or written; 4 the project is refused; 5 no memory, or standard
@@ -143,6 +158,17 @@ fn several<'a>(alloc: Global, id: &'a str, value: &'a str, help: &'a str) -> Arg
         .value_name(value)
         .action(ArgAction::Append)
         .required(true)
+        .help(help)
+}
+
+fn any_number<'a>(alloc: Global, id: &'a str, value: &'a str, help: &'a str) -> Arg<'a>
+    ensures rule { rule_of result ≡ any_number_rule id.entry.now }
+    ensures global { result.global ≡ false }
+{
+    Arg::new(alloc, id)
+        .long(id)
+        .value_name(value)
+        .action(ArgAction::Append)
         .help(help)
 }
 
@@ -206,6 +232,18 @@ fn with_several<'a>(
     ensures { IfOk result (HasMore task.entry (several_rule id.entry.now)) }
 {
     with(task, several(alloc, id, value, help))
+}
+
+fn with_any_number<'a>(
+    alloc: Global,
+    task: Command<'a>,
+    id: &'a str,
+    value: &'a str,
+    help: &'a str,
+) -> Result<Command<'a>, AllocError>
+    ensures { IfOk result (HasMore task.entry (any_number_rule id.entry.now)) }
+{
+    with(task, any_number(alloc, id, value, help))
 }
 
 fn with_flag<'a>(
@@ -403,13 +441,33 @@ fn delays_command<'a>(alloc: Global) -> Result<Command<'a>, AllocError>
 fn sweep_command<'a>(alloc: Global) -> Result<Command<'a>, AllocError>
     ensures { IfOk result (IsTask sweep_task) }
 {
-    let task = with_file(alloc, named(alloc, "sweep", SWEEP_ABOUT, ENDS))?;
-    let task = with_several(
+    let task = with_file(alloc, named(alloc, "sweep", SWEEP_ABOUT, SWEPT))?;
+    let task = with_any_number(
+        alloc,
+        task,
+        "setup",
+        "EDIT",
+        "An edit of the workbench that is made before all rows, as 'horizon 500'",
+    )?;
+    let task = with_any_number(
         alloc,
         task,
         "depth",
         "QUEUES=FROM..TO",
         "The depths of some queues, as low-forward=2..16; where given several times, each with each",
+    )?;
+    let task = with_any_number(
+        alloc,
+        task,
+        "edit",
+        "TEMPLATE",
+        "Edits of the workbench, as 'combine {0..2} on' or 'window {1,2,4,8}'",
+    )?;
+    let task = with_flag(
+        alloc,
+        task,
+        "zip",
+        "Takes the first rows of all --edit, then the second ones and so on, and not each with each",
     )?;
     let task = with_several(
         alloc,
@@ -591,11 +649,16 @@ fn curve_words<'a>(matches: &ArgMatches<'a>) -> CurveWords<'a>
 fn sweep_words<'a>(alloc: Global, matches: &ArgMatches<'a>) -> Result<SweepWords<'a>, AllocError>
     ensures { IfOk result (AreSweepWords (rows_of (found_of matches.now))) }
 {
+    let setups = all_of(alloc, matches, "setup")?;
     let depths = all_of(alloc, matches, "depth")?;
+    let edits = all_of(alloc, matches, "edit")?;
     let asks = all_of(alloc, matches, "ask")?;
     Ok(SweepWords {
         file: file_in(matches),
+        setups,
         depths,
+        edits,
+        zip: flag_in(matches, "zip"),
         asks,
         csv: text_in(matches, "csv"),
     })

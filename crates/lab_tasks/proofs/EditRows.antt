@@ -1,0 +1,87 @@
+-- The rows of a sweep of edits.
+use Rattle.std.proofs.Common.{◌≡◌, ℕ, zero, suc, ◌+◌, ◌-◌, ◌*◌, ◌^◌, ◌<◌, ◌≤◌, Bool, true, false, List, [], ◌∷◌, ◌++◌, length, map, take, drop, get_or, refl, sym, ap, subst, ◌∙◌, append_assoc, arith, inl, inr}
+use Rattle.std.specs.Prelude.{min, nat_le, Some, Result, Ok, Err, OnOk, codes}
+use Rattle.std.specs.List.{flat_map}
+use Rattle.std.proofs.lemmas.List.{drop_more, at_drop_all, map_more, append-nil}
+use Rattle.std.proofs.lemmas.Grind.{flat_map-append}
+use Rattle.std.proofs.lemmas.Bool.{cases_lt}
+use Rattle.std.proofs.Math.Nat.{mul-le-mul_right, mul-le-mul_left, le-mul_of_pos_right, le-mul_of_pos_left}
+use Rattle.run_queries.specs.declared.query.Query.{Query}
+use Rattle.run_queries.specs.declared.body.Body.{Body}
+use Rattle.project_book.specs.Project.{Project}
+use Rattle.edit_templates.specs.declared.step.Axis.{Axis}
+use Rattle.edit_templates.specs.Edited.{after_edits}
+use Rattle.edit_templates.specs.Steps.{Step}
+use Rattle.edit_templates.proofs.Counts.{capped}
+use Rattle.lab_tasks.specs.SweepTables.{HasRows}
+use Rattle.lab_tasks.specs.EditSweeps.{product_of, words_text, edit_row_text, says_after, shown_row, HasCells, HasEditRow, IsEditRow}
+use Rattle.lab_tasks.proofs.SweepRows.{rows-more}
+
+-- ---- how many rows there are
+
+pub product-next : (m done next i t : ℕ) (axes : List Axis) (d : Axis) → i < length axes → next ≡ min (done * length (get_or axes i d).steps.items) m
+    → min (done * product_of (drop i axes)) m ≡ t → min (next * product_of (drop (i + 1) axes)) m ≡ t
+product-next m done next i t axes d lt e before =
+    ap (λ n. min (n * product_of (drop (i + 1) axes)) m) e ∙ capped m done (length (get_or axes i d).steps.items) (product_of (drop (i + 1) axes))
+    ∙ ap (λ (some : List Axis). min (done * product_of some) m) (sym (drop_more axes i d lt)) ∙ before
+
+pub product-last : (m done i t : ℕ) (axes : List Axis) → length axes ≤ i → done ≤ m → min (done * product_of (drop i axes)) m ≡ t → done ≡ t
+product-last m done i t axes le few before =
+    let last : min (done * product_of (drop i axes)) m ≡ min (done * 1) m = at_drop_all (λ (some : List Axis). min (done * product_of some) m) axes i le in
+    omega arith
+
+-- a product of capped numbers is few where that of the numbers is
+few_far : (a b : ℕ) → 2 ^ 32 - 1 < a → nat_le (min ((2 ^ 32 - 1) * min b (2 ^ 64 - 1)) (2 ^ 64 - 1)) 10000 ≡ nat_le (a * b) 10000
+few_far a zero lt = let none : a * 0 ≡ 0 = omega arith in rw none refl
+few_far a (suc b) lt =
+    let least : a ≤ a * suc b = le-mul_of_pos_right a (omega arith) in
+    omega arith
+
+few_near : (a b : ℕ) → 2 ^ 64 - 1 < b → nat_le (min (a * (2 ^ 64 - 1)) (2 ^ 64 - 1)) 10000 ≡ nat_le (a * b) 10000
+few_near zero b lt = omega arith
+few_near (suc a) b lt =
+    let least : b ≤ suc a * b = le-mul_of_pos_left b (omega arith) in
+    omega arith
+
+pub few-rows : (a b : ℕ) → nat_le (min (min a (2 ^ 32 - 1) * min b (2 ^ 64 - 1)) (2 ^ 64 - 1)) 10000 ≡ nat_le (a * b) 10000
+few-rows a b =
+    elim (cases_lt (2 ^ 32 - 1) a) [
+      | inl far ↦ let at : min a (2 ^ 32 - 1) ≡ 2 ^ 32 - 1 = omega arith in rw at (few_far a b far)
+      | inr near ↦
+          let at : min a (2 ^ 32 - 1) ≡ a = omega arith in
+          elim (cases_lt (2 ^ 64 - 1) b) [
+            | inl more ↦ let by : min b (2 ^ 64 - 1) ≡ 2 ^ 64 - 1 = omega arith in rw (at, by) (few_near a b more)
+            | inr few ↦ let by : min b (2 ^ 64 - 1) ≡ b = omega arith in rw (at, by) (omega arith)
+          ]
+    ]
+
+-- ---- texts
+
+pub words_both : (xs ys : List (List ℕ)) → words_text (xs ++ ys) ≡ words_text xs ++ words_text ys
+words_both xs ys = flat_map-append _ xs ys
+
+-- words more behind a text
+pub words-next : (xs ys : List (List ℕ)) (begin old new : List ℕ) → old ≡ begin ++ words_text xs → new ≡ old ++ words_text ys → new ≡ begin ++ words_text (xs ++ ys)
+words-next xs ys begin old new so written =
+    written ∙ ap (λ t. t ++ words_text ys) so ∙ append_assoc begin (words_text xs) (words_text ys) ∙ ap (λ t. begin ++ t) (sym (words_both xs ys))
+
+pub word-more : {X : Type 0} (text : X → List ℕ) (xs : List X) (i : ℕ) (d : X) (begin old new : List ℕ) → i < length xs → old ≡ begin ++ words_text (map text (take i xs))
+    → new ≡ old ++ words_text (text (get_or xs i d) ∷ []) → new ≡ begin ++ words_text (map text (take (i + 1) xs))
+word-more text xs i d begin old new lt so written =
+    words-next (map text (take i xs)) (text (get_or xs i d) ∷ []) begin old new so written
+    ∙ ap (λ words. begin ++ words_text words) (sym (map_more text xs i d lt))
+
+-- the end of a row
+pub edit-row-ends : {E : Type 0} (r : Result (Unit {0}) E) (queries : List Query) (step : Step) (says : Result (List (Result Body ℕ)) ℕ) (begin words fields new : List ℕ)
+    → words ≡ begin ++ words_text step.0 → HasCells queries says words fields → OnOk r (new ≡ fields ++ codes "\n") → OnOk r (HasEditRow queries step says begin new)
+edit-row-ends (Err e) queries step says begin words fields new first h written = tt
+edit-row-ends (Ok x) queries step says begin words fields new first h written =
+    (h.0, h.1, written ∙ ap (λ t. t ++ codes "\n") (h.2 ∙ ap (λ t. t ++ _) first) ∙ simp append_assoc)
+
+-- one row more
+pub edit-row-done : (P : Project) (queries : List Query) (steps : List Step) (i : ℕ) (d : Step) (begin old new : List ℕ) → i < length steps
+    → HasRows (IsEditRow P queries) begin (take i steps) old
+    → HasEditRow queries (get_or steps i d) (says_after (after_edits P (get_or steps i d).1) queries) old new
+    → HasRows (IsEditRow P queries) begin (take (i + 1) steps) new
+edit-row-done P queries steps i d begin old new lt before h =
+    rows-more (IsEditRow P queries) begin old new (edit_row_text (get_or steps i d).0 h.0) steps i d lt before (h.0, h.1, refl) h.2
