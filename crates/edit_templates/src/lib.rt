@@ -10,7 +10,7 @@
 
 mod choices;
 mod edited;
-//mod lines;
+mod lines;
 mod parts;
 mod put;
 mod span;

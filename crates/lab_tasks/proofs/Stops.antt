@@ -81,3 +81,14 @@ or_stop_by Reason Other (end.Project fault) f h = f h
 or_stop_by Reason Other end.Memory f h = tt
 or_stop_by Reason Other end.Spent f h = tt
 or_stop_by Reason Other end.Output f h = f h
+
+pub or_memory_by : (Reason Other : End → Type 0) (e : End) → (Reason e → Other e) → OrMemory Reason e → OrMemory Other e
+or_memory_by Reason Other end.Memory f h = tt
+or_memory_by Reason Other end.Done f h = f h
+or_memory_by Reason Other end.Words f h = f h
+or_memory_by Reason Other (end.Word option word reason) f h = f h
+or_memory_by Reason Other (end.NotRead name) f h = f h
+or_memory_by Reason Other (end.NotWritten name) f h = f h
+or_memory_by Reason Other (end.Project fault) f h = f h
+or_memory_by Reason Other end.Spent f h = f h
+or_memory_by Reason Other end.Output f h = f h

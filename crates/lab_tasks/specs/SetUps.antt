@@ -1,26 +1,16 @@
 -- A project that is set up by edits before a sweep, and why there is none.
-use Rattle.std.specs.Prelude.{◌≡◌, ◌⊎◌, ℕ, List, [], ◌∷◌, ◌++◌, Option, None, Some, Result, Ok, Err, codes, decimal}
-use Rattle.project_book.specs.declared.edit.Edit.{Edit}
+use Rattle.std.specs.Prelude.{◌≡◌, ◌⊎◌, ℕ, List, [], ◌∷◌, ◌++◌, Option, None, Some, option_map, Result, Ok, Err, codes, decimal}
 use Rattle.project_book.specs.declared.fault.EditFault.{EditFault}
 use Rattle.project_book.specs.Faults.{number_of}
 use Rattle.project_book.specs.Project.{Project}
-use Rattle.project_book.specs.Edits.{accepts, edited}
+use Rattle.edit_templates.specs.Edited.{after_edits}
 use Rattle.edit_templates.specs.Lines.{edit_of}
 use Rattle.lab_tasks.specs.declared.end.End.{End}
 use Rattle.lab_tasks.specs.Ends.{Refuses, RefusesForm}
 
--- the project after an edit that it accepts
-abbrev pub accepted : Project → Edit → Result (Unit {0}) EditFault → Result Project EditFault
-accepted P edit (Ok _) = Ok (edited P edit)
-accepted P edit (Err fault) = Err fault
-
 -- the project after the edit that a line is, if it is one
-abbrev pub after_edit : Project → Option Edit → Option (Result Project EditFault)
-after_edit P None = None
-after_edit P (Some edit) = Some (accepted P edit (accepts P 0 edit))
-
 abbrev pub after_line : Project → List ℕ → Option (Result Project EditFault)
-after_line P line = after_edit P (edit_of P.k line)
+after_line P line = option_map (λ edit. after_edits P (edit ∷ [])) (edit_of P.k line)
 
 -- why a line sets nothing up
 abbrev pub RefusesSetUp : List ℕ → Option (Result Project EditFault) → End → Type 0

@@ -1,5 +1,5 @@
 //! The table of a sweep of edits.
-ghost use Rattle.std.specs.Prelude.{◌≡◌, ◌-◌, ◌^◌, ◌≤◌, ◌++◌, ◌∷◌, ◌&&◌, [], not, Err, Ok, IfErr, IfOk, OnOk, false, map, min, nat_le, string_bytes, true};
+ghost use Rattle.std.specs.Prelude.{◌≡◌, ◌-◌, ◌^◌, ◌≤◌, ◌++◌, ◌∷◌, ◌&&◌, [], not, Err, Ok, IfErr, IfOk, OnOk, codes, false, map, min, nat_le, string_bytes, true};
 ghost use Rattle.std.specs.List.{flat_map, AllZip};
 ghost use Rattle.edit_templates.specs.Braces.{put_text};
 ghost use Rattle.edit_templates.specs.Edited.{after_edits};
@@ -7,7 +7,7 @@ ghost use Rattle.lab_tasks.specs.EditSweeps.{are_even, axes_names, edit_count, e
 ghost use Rattle.lab_tasks.specs.Ends.{IsStop};
 ghost use Rattle.lab_tasks.specs.Sweeps.{rows_of, IsAsked, IsSwept};
 ghost use Rattle.lab_tasks.specs.SweepTables.{max_rows, HasRows, OrMemory, OrStop};
-ghost use Rattle.lab_tasks.specs.Tables.{fields_text};
+ghost use Rattle.lab_tasks.specs.Tables.{field_text, fields_text};
 
 use crate::end::{End, Reason};
 use crate::sweep::{
@@ -196,6 +196,7 @@ struct Plan<'a> {
 }
 
 /// What the words sweep and ask.
+#[tactic(auto, using(crate::proofs::Stops::or_memory_by))]
 fn edit_plan<'a>(
     alloc: Global,
     project: &Project,
@@ -271,12 +272,19 @@ fn says<T: Threads + Sync>(
     }
 }
 
+/// A word that is put in, as text.
+fn put_word(alloc: Global, put: Put<'_>) -> Result<String, AllocError>
+    ensures { IfOk result (λ text. string_bytes text ≡ put_text put.entry) }
+{
+    format!(in alloc; "{put}")
+}
+
 /// Adds the words that are put in, each with a comma behind.
 fn add_puts(alloc: Global, text: &mut String, puts: &[Put<'_>]) -> Result<(), AllocError>
     ensures { OnOk result (string_bytes text.new ≡ string_bytes text.old ++ words_text (map put_text puts.now)) }
 {
     for put in puts {
-        let word = format!(in alloc; "{put}")?;
+        let word = put_word(alloc, *put)?;
         add_word(text, word.as_str())?;
     }
     Ok(())
@@ -284,10 +292,17 @@ fn add_puts(alloc: Global, text: &mut String, puts: &[Put<'_>]) -> Result<(), Al
 
 /// Adds a word as a field, with a comma behind.
 fn add_word(text: &mut String, word: &str) -> Result<(), AllocError>
-    ensures { OnOk result (string_bytes text.new ≡ string_bytes text.old ++ words_text (word.now ∷ [])) }
+    ensures { OnOk result (string_bytes text.new ≡ string_bytes text.old ++ (field_text word.now ++ codes ",")) }
 {
     let field = Field(word);
     write!(text, "{field},")
+}
+
+/// What stands in place of an answer where an edit is refused, by the number of the reason.
+fn refused_word(alloc: Global, number: u8) -> Result<String, AllocError>
+    ensures { IfOk result (λ text. string_bytes text ≡ refused_text number) }
+{
+    format!(in alloc; "refused {number}")
 }
 
 /// Adds `refused N` in the place of each answer, with commas between.
@@ -300,7 +315,7 @@ fn add_refused(
     ensures { OnOk result (string_bytes text.new ≡ string_bytes text.old ++ fields_text (map (λ query. refused_text number) queries.now)) }
 {
     for (place, _query) in queries.iter().enumerate() {
-        let refused = format!(in alloc; "refused {number}")?;
+        let refused = refused_word(alloc, number)?;
         add_field(text, place, refused.as_str())?;
     }
     Ok(())

@@ -5,6 +5,7 @@ ghost use Rattle.lab_tasks.specs.SweepTables.{OrMemory};
 
 use crate::end::{End, Reason};
 use commands::Command;
+use edit_templates::after_edits;
 use project_book::{EditFault, Project};
 
 /// The project after the edit of a word.
@@ -20,8 +21,8 @@ fn set_up_by<'a>(project: &Project, word: &'a str) -> Result<Project, End<'a>>
     let Some(Command::Edit(edit)) = Command::parse(project.shape(), word.as_bytes()) else {
         return Err(refused(Reason::Form("an edit, as 'horizon 500'")));
     };
-    match project.apply(edit) {
-        Ok((next, _changed)) => Ok(next),
+    match after_edits(project, [edit].as_slice()) {
+        Ok(next) => Ok(next),
         Err(EditFault::Memory) => Err(End::Memory),
         Err(fault) => Err(refused(Reason::RefusedEdit(fault.number()))),
     }
