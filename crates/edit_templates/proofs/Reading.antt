@@ -2,7 +2,7 @@
 use Rattle.std.proofs.Common.{◌≡◌, ℕ, ◌==◌, List, [], ◌∷◌, map, refl, sym, ap, ◌∙◌, Bor}
 use Rattle.std.specs.Prelude.{Option, Some, None, option_map}
 use Rattle.std.specs.List.{slice_split}
-use Rattle.edit_templates.specs.Templates.{Brace, Template, all_of, brace_of, template_of, template_parts}
+use Rattle.edit_templates.specs.Templates.{Brace, all_of, brace_of, template_of, template_parts}
 
 abbrev pub now : Bor (List ℕ) → List ℕ
 now w = w.now

@@ -155,11 +155,7 @@ pub fn each<'a>(alloc: Global, axes: &[Axis<'a>]) -> Result<Vec<Step<'a>>, Alloc
 }
 
 /// The steps of all axes at one place, one after another.
-fn steps_at<'a>(
-    alloc: Global,
-    axes: &[Axis<'a>],
-    place: usize,
-) -> Result<Step<'a>, AllocError>
+fn steps_at<'a>(alloc: Global, axes: &[Axis<'a>], place: usize) -> Result<Step<'a>, AllocError>
     ensures { IfOk result (λ s. s ≡ steps_at (map (λ axis. axis.steps.items) axes.now) place) }
 {
     let Some((axis, others)) = axes.split_first() else {

@@ -66,11 +66,7 @@ fn braces_in<'a>(
 }
 
 /// Adds the texts behind braces, with words put in.
-fn add_behind(
-    text: &mut String,
-    braces: &[Brace<'_>],
-    puts: &[Put<'_>],
-) -> Result<(), AllocError>
+fn add_behind(text: &mut String, braces: &[Brace<'_>], puts: &[Put<'_>]) -> Result<(), AllocError>
     ensures { OnOk result (string_bytes text.new ≡ string_bytes text.old ++ text_behind (map kept_brace braces.now) (map put_text puts.now)) }
 {
     let Some((brace, braces)) = braces.split_first() else {
@@ -90,7 +86,11 @@ fn marks<'a>(alloc: Global, count: usize, place: usize) -> Result<Vec<Put<'a>>, 
 {
     let mut marks = Vec::new(alloc);
     for i in 0..count {
-        marks.push(if i == place { Put::Word("{}") } else { Put::Word("*") })?;
+        marks.push(if i == place {
+            Put::Word("{}")
+        } else {
+            Put::Word("*")
+        })?;
     }
     Ok(marks)
 }

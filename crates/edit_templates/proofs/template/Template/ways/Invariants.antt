@@ -1,4 +1,4 @@
-use Rattle.std.proofs.Common.{◌≡◌, ◌*◌, ◌-◌, ◌^◌, ◌≤◌, drop, map}
+use Rattle.std.proofs.Common.{◌≡◌, ◌*◌, ◌-◌, ◌^◌, ◌≤◌, drop}
 use Rattle.std.specs.Prelude.{min}
 use Rattle.edit_templates.specs.Templates.{ways}
 use Rattle.edit_templates.proofs.template.Template.ways.Given as goal
