@@ -36,18 +36,14 @@ fn axis_in<'a>(alloc: Global, project: &Project, word: &'a str) -> Result<Axis<'
         reason,
     };
     let Some(template) = Template::read(alloc, project.k(), word)? else {
-        return Err(refused(Reason::Form(
-            "an edit in each row, as 'combine {0..2} on'",
-        )));
+        return Err(refused(Reason::Form("an edit in each row, as 'combine {0..2} on'")));
     };
     if template.ways() > u64::from(MOST_ROWS) {
         return Err(refused(Reason::Within(1, MOST_ROWS)));
     }
     match template.axis(alloc, project.shape())? {
         Some(axis) => Ok(axis),
-        None => Err(refused(Reason::Form(
-            "an edit in each row, as 'combine {0..2} on'",
-        ))),
+        None => Err(refused(Reason::Form("an edit in each row, as 'combine {0..2} on'"))),
     }
 }
 
@@ -87,10 +83,7 @@ fn settings_step<'a>(alloc: Global, row: &[Setting]) -> Result<Step<'a>, AllocEr
 }
 
 /// The depths of rows as steps.
-fn settings_steps<'a>(
-    alloc: Global,
-    rows: &[Vec<Setting>],
-) -> Result<Vec<Step<'a>>, AllocError>
+fn settings_steps<'a>(alloc: Global, rows: &[Vec<Setting>]) -> Result<Vec<Step<'a>>, AllocError>
     ensures { IfOk result (λ steps. steps.items ≡ map settings_step (map (λ row. row.items) rows.now)) }
 {
     let mut steps = Vec::new(alloc);
@@ -111,11 +104,7 @@ fn depth_steps<'a>(alloc: Global, all: &[Swept]) -> Result<Vec<Step<'a>>, AllocE
 }
 
 /// The steps of the edits: each with each, or all first ones, all second ones and so on.
-fn edit_steps<'a>(
-    alloc: Global,
-    zip: bool,
-    axes: &[Axis<'a>],
-) -> Result<Vec<Step<'a>>, AllocError>
+fn edit_steps<'a>(alloc: Global, zip: bool, axes: &[Axis<'a>]) -> Result<Vec<Step<'a>>, AllocError>
     ensures { IfOk result (λ steps. steps.items ≡ edit_steps zip axes.now) }
 {
     if zip {

@@ -183,7 +183,13 @@ fn a_project_is_asked_as_it_is_set_up(rt: HostRuntime) -> Result<(), Fail> {
         "memory 7 8",
     ];
     let outcome = made(&rt, &words, TWO)?;
-    assert!(rt; equal(&rt, outcome.printed.as_slice(), b"memory 7 8\n3\n".as_slice()));
+    assert!(rt;
+        equal(
+            &rt,
+            outcome.printed.as_slice(),
+            b"memory 7 8\n3\n".as_slice()
+        )
+    );
     Ok(())
 }
 

@@ -172,8 +172,18 @@ fn edits_are_refused(rt: HostRuntime) -> Result<(), Fail> {
         ("--edit", "word 7 {2..1}", 2, wanted),
         ("--edit", "memory 7 {1,2}", 2, wanted),
         ("--edit", "word 7 {0..10000}", 7, "is not within 1 to 10000"),
-        ("--edit", "word {0..99} {0..100}", 7, "is not within 1 to 10000"),
-        ("--setup", "memory 7 8", 2, "is not an edit, as 'horizon 500'"),
+        (
+            "--edit",
+            "word {0..99} {0..100}",
+            7,
+            "is not within 1 to 10000",
+        ),
+        (
+            "--setup",
+            "memory 7 8",
+            2,
+            "is not an edit, as 'horizon 500'",
+        ),
         ("--setup", "horizon 2001", 7, "is answered refused 12"),
     ];
     for (option, word, number, reason) in refused {
@@ -200,7 +210,13 @@ fn edits_that_do_not_fit_are_refused(rt: HostRuntime) -> Result<(), Fail> {
             "lab: --edit: each with each is not within 1 to 10000",
         ),
         (
-            &["--edit", "word 7 {0..1}", "--edit", "word 8 {0..2}", "--zip"],
+            &[
+                "--edit",
+                "word 7 {0..1}",
+                "--edit",
+                "word 8 {0..2}",
+                "--zip",
+            ],
             2,
             "lab: --zip: each edit is not of as many rows as the first",
         ),
