@@ -36,11 +36,7 @@ pub(crate) fn traced<'a>(words: &TraceWords<'a>, project: &Project) -> Result<Ta
 }
 
 /// The trace of a reference as a line.
-pub(crate) fn trace_line<'a>(
-    alloc: Global,
-    project: &Project,
-    tag: Tag,
-) -> Result<String, End<'a>>
+pub(crate) fn trace_line<'a>(alloc: Global, project: &Project, tag: Tag) -> Result<String, End<'a>>
     ensures text { IfOk result (λ text. string_bytes text ≡ trace_text project.now.k tag (trace project.now (state_in (run project.now)) tag)) }
     ensures memory { IsOkUnless result End.Memory }
 {
