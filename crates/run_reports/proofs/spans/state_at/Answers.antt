@@ -13,7 +13,7 @@ returns c =
     let r = c.args.runner.now in
     IfOk-weaker c.read.result _ (λ state. state_in (run P) r.cycle c.args.number ≡ Some state)
     (λ state is.
-        shows_at P r c.requires.at c.args.number c.requires.there
-        ∙ ap (λ o. Some (state_of r.row o)) (ap (λ (k : ℕ). component_of k c.args.number) (sym c.shape.ensures) ∙ sym c.component.ensures.value ∙ c.unwrap-component.ensures)
-        ∙ ap Some (sym is))
+    shows_at P r c.requires.at c.args.number c.requires.there
+    ∙ ap (λ o. Some (state_of r.row o)) (ap (λ (k : ℕ). component_of k c.args.number) (sym c.shape.ensures) ∙ sym c.component.ensures.value ∙ c.unwrap-component.ensures)
+    ∙ ap Some (sym is))
     c.read.ensures
