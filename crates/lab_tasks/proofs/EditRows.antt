@@ -5,7 +5,7 @@ use Rattle.std.specs.List.{flat_map}
 use Rattle.std.proofs.lemmas.List.{drop_more, at_drop_all, map_more, take_more, append-nil}
 use Rattle.std.proofs.lemmas.Grind.{flat_map-append}
 use Rattle.std.proofs.lemmas.Bool.{cases_lt}
-use Rattle.std.proofs.Math.Nat.{mul-le-mul_right, mul-le-mul_left, le-mul_of_pos_right, le-mul_of_pos_left}
+use Rattle.std.proofs.Math.Nat.{mul-le-mul_right, le-mul_of_pos_right}
 use Rattle.run_queries.specs.declared.query.Query.{Query}
 use Rattle.run_queries.specs.declared.body.Body.{Body}
 use Rattle.project_book.specs.Project.{Project}
@@ -41,7 +41,8 @@ few_far a (suc b) lt =
 few_near : (a b : ℕ) → 2 ^ 64 - 1 < b → nat_le (min (a * (2 ^ 64 - 1)) (2 ^ 64 - 1)) 10000 ≡ nat_le (a * b) 10000
 few_near zero b lt = omega arith
 few_near (suc a) b lt =
-    let least : b ≤ suc a * b = le-mul_of_pos_left b (omega arith) in
+    let one : 1 ≤ suc a = omega arith in
+    let least : 1 * b ≤ suc a * b = mul-le-mul_right b one in
     omega arith
 
 pub few-rows : (a b : ℕ) → nat_le (min (min a (2 ^ 32 - 1) * min b (2 ^ 64 - 1)) (2 ^ 64 - 1)) 10000 ≡ nat_le (a * b) 10000

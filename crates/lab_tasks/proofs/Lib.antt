@@ -16,6 +16,6 @@ pub mod Settings
 pub mod Stages
 pub mod Stops
 pub mod SweepRows
-pub mod Swept
+pub mod SweptTexts
 pub mod Tasks
 pub mod WordByWord
