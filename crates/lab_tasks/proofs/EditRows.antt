@@ -5,6 +5,7 @@ use Rattle.std.specs.List.{flat_map}
 use Rattle.std.proofs.lemmas.List.{drop_more, at_drop_all, map_more, take_more, append-nil}
 use Rattle.std.proofs.lemmas.Grind.{flat_map-append}
 use Rattle.std.proofs.lemmas.Bool.{cases_lt}
+use Rattle.std.proofs.lemmas.Bool.Decides.{nat_tests}
 use Rattle.std.proofs.Math.Nat.{mul-le-mul_right, le-mul_of_pos_right}
 use Rattle.run_queries.specs.declared.query.Query.{Query}
 use Rattle.run_queries.specs.declared.body.Body.{Body}
@@ -31,19 +32,29 @@ product-last m done i t axes le few before =
     let last : min (done * product_of (drop i axes)) m ≡ min (done * 1) m = at_drop_all (λ (some : List Axis). min (done * product_of some) m) axes i le in
     omega arith
 
+both_far : (a b : ℕ) → 10000 < a → 10000 < b → nat_le a 10000 ≡ nat_le b 10000
+both_far a b x y = grind (arith, nat_tests)
+
+few_capped : (n : ℕ) → nat_le (min n (2 ^ 64 - 1)) 10000 ≡ nat_le n 10000
+few_capped n =
+    elim (cases_lt 10000 n) [
+      | inl far ↦ both_far (min n (2 ^ 64 - 1)) n (omega arith) far
+      | inr near ↦ let at : min n (2 ^ 64 - 1) ≡ n = omega arith in ap (λ m. nat_le m 10000) at
+    ]
+
 -- a product of capped numbers is few where that of the numbers is
 few_far : (a b : ℕ) → 2 ^ 32 - 1 < a → nat_le (min ((2 ^ 32 - 1) * min b (2 ^ 64 - 1)) (2 ^ 64 - 1)) 10000 ≡ nat_le (a * b) 10000
 few_far a zero lt = let none : a * 0 ≡ 0 = omega arith in rw none refl
 few_far a (suc b) lt =
     let least : a ≤ a * suc b = le-mul_of_pos_right a (omega arith) in
-    omega arith
+    both_far (min ((2 ^ 32 - 1) * min (suc b) (2 ^ 64 - 1)) (2 ^ 64 - 1)) (a * suc b) (omega arith) (omega arith)
 
 few_near : (a b : ℕ) → 2 ^ 64 - 1 < b → nat_le (min (a * (2 ^ 64 - 1)) (2 ^ 64 - 1)) 10000 ≡ nat_le (a * b) 10000
-few_near zero b lt = omega arith
+few_near zero b lt = let none : min (0 * (2 ^ 64 - 1)) (2 ^ 64 - 1) ≡ 0 * b = omega arith in ap (λ n. nat_le n 10000) none
 few_near (suc a) b lt =
     let one : 1 ≤ suc a = omega arith in
     let least : 1 * b ≤ suc a * b = mul-le-mul_right b one in
-    omega arith
+    both_far (min (suc a * (2 ^ 64 - 1)) (2 ^ 64 - 1)) (suc a * b) (omega arith) (omega arith)
 
 pub few-rows : (a b : ℕ) → nat_le (min (min a (2 ^ 32 - 1) * min b (2 ^ 64 - 1)) (2 ^ 64 - 1)) 10000 ≡ nat_le (a * b) 10000
 few-rows a b =
@@ -53,7 +64,7 @@ few-rows a b =
           let at : min a (2 ^ 32 - 1) ≡ a = omega arith in
           elim (cases_lt (2 ^ 64 - 1) b) [
             | inl more ↦ let by : min b (2 ^ 64 - 1) ≡ 2 ^ 64 - 1 = omega arith in rw (at, by) (few_near a b more)
-            | inr few ↦ let by : min b (2 ^ 64 - 1) ≡ b = omega arith in rw (at, by) (omega arith)
+            | inr few ↦ let by : min b (2 ^ 64 - 1) ≡ b = omega arith in rw (at, by) (few_capped (a * b))
           ]
     ]
 
@@ -96,12 +107,17 @@ map-both g f (x ∷ xs) = ap (λ ys. g (f x) ∷ ys) (map-both g f xs)
 pub cells_refused : (queries : List Query) (n : ℕ) (old new : List ℕ) → new ≡ old ++ fields_text (map (λ (query : Query). refused_text n) queries) → HasCells queries (Err n) old new
 cells_refused queries n old new written = (map (λ (query : Query). refused_text n) queries, sym (map-both Some (λ (query : Query). refused_text n) queries), written)
 
+pub cells_refused_on : {E : Type 0} (r : Result (Unit {0}) E) (queries : List Query) (n : ℕ) (old new : List ℕ)
+    → OnOk r (new ≡ old ++ fields_text (map (λ (query : Query). refused_text n) queries)) → OnOk r (HasCells queries (Err n) old new)
+cells_refused_on (Err e) queries n old new h = tt
+cells_refused_on (Ok x) queries n old new h = cells_refused queries n old new h
+
 -- the end of a row
 pub edit-row-ends : {E : Type 0} (r : Result (Unit {0}) E) (queries : List Query) (step : Step) (says : Result (List (Result Body ℕ)) ℕ) (begin words fields new : List ℕ)
     → words ≡ begin ++ words_text step.0 → HasCells queries says words fields → OnOk r (new ≡ fields ++ codes "\n") → OnOk r (HasEditRow queries step says begin new)
 edit-row-ends (Err e) queries step says begin words fields new first h written = tt
 edit-row-ends (Ok x) queries step says begin words fields new first h written =
-    (h.0, h.1, written ∙ ap (λ t. t ++ codes "\n") (h.2 ∙ ap (λ t. t ++ _) first) ∙ simp append_assoc)
+    (h.0, h.1, written ∙ ap (λ t. t ++ codes "\n") (h.2 ∙ ap (λ t. t ++ fields_text h.0) first) ∙ simp append_assoc)
 
 -- one row more
 pub edit-row-done : (P : Project) (queries : List Query) (steps : List Step) (i : ℕ) (d : Step) (begin old new : List ℕ) → i < length steps

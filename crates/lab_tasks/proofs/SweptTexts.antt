@@ -1,6 +1,7 @@
 -- The text of a sweep, of depths alone or of depths and edits.
-use Rattle.std.proofs.Common.{◌≡◌, ℕ, ◌<◌, List, [], ◌∷◌, length, sym, subst, inr, arith}
+use Rattle.std.proofs.Common.{◌≡◌, ℕ, ◌<◌, List, [], ◌∷◌, Bor, length, refl, sym, subst, inr, arith}
 use Rattle.std.specs.Prelude.{Result, Ok, Err, IfOk, IfErr}
+use Rattle.std.proofs.lemmas.List.{length-map}
 use Rattle.project_book.specs.Project.{Project}
 use Rattle.lab_tasks.specs.declared.end.End.{End}
 use Rattle.lab_tasks.specs.declared.words.SweepWords.{SweepWords}
@@ -10,6 +11,13 @@ use Rattle.lab_tasks.specs.SetUps.{IsSetUp}
 use Rattle.lab_tasks.specs.SweepTables.{IsTable, IsNoTable, OrStop}
 use Rattle.lab_tasks.specs.EditSweeps.{IsEditTable, IsNoEditTable}
 use Rattle.lab_tasks.proofs.Stops.{or_stop_by}
+
+pub none_of : (words : List (Bor (List ℕ))) → length words ≡ 0 → texts_of words ≡ []
+none_of [] none = refl
+none_of (word ∷ words) none = absurd (omega (arith, none))
+
+pub some_of : (words : List (Bor (List ℕ))) → 0 < length words → 0 < length (texts_of words)
+some_of words some = subst (λ n. 0 < n) (sym (length-map words (λ (word : Bor (List ℕ)). word.now))) some
 
 module _ {T : Type 0} (bytes : T → List ℕ) (words : SweepWords) (P Q : Project) where
   pub swept-plain : (r : Result T End) → IsSetUp P (texts_of words.setups.items) Q → texts_of words.edits.items ≡ []

@@ -155,7 +155,7 @@ fn product(axes: &[Axis<'_>]) -> u64
 {
     let mut count: u64 = 1;
     for axis in axes {
-        count = count.saturating_mul(axis.steps.len() as u64);
+        count = count.saturating_mul(axis.steps.as_slice().len() as u64);
     }
     count
 }

@@ -353,10 +353,10 @@ fn swept<'a, T: Threads + Sync>(
         Ok(project) => project,
         Err(end) => return Err(end),
     };
-    if words.edits.is_empty() {
+    let edits = words.edits.as_slice();
+    if edits.is_empty() {
         return sweep_table(rt, alloc, project, depths, asks);
     }
-    let edits = words.edits.as_slice();
     edit_table(rt, alloc, &project, words.zip, depths, edits, asks)
 }
 
