@@ -6,11 +6,7 @@
 #[cfg(test)]
 mod cells;
 #[cfg(test)]
-mod edits;
-#[cfg(test)]
 mod loads;
-#[cfg(test)]
-mod next;
 #[cfg(test)]
 mod rows;
 #[cfg(test)]
