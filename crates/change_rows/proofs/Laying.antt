@@ -54,7 +54,7 @@ module _ (row front out mid : List Held) (from place : ℕ) (asc : IsAscending r
     (there : place ≤ length row)
     (high : from < length row → end_of front ≤ component_at row from)
     (ran : mid ≡ out ++ slice_range row from place) where
-  ran_found : (d : ℕ) → found mid d ≡ option_or (found out d) (found (slice_range row from place) d)
+  pub ran_found : (d : ℕ) → found mid d ≡ option_or (found out d) (found (slice_range row from place) d)
   ran_found d = ap (λ (v : List Held). found v d) ran ∙ found_append out (slice_range row from place) d
 
   pub ran_end : end_of mid ≡ max (end_of out) (end_of (slice_range row from place))
@@ -107,7 +107,7 @@ first_here cells c n split h e =
     ∙ ap (λ (o : Option (List ℕ)). option_or o (cond (eqb (component_at cells n) c) (Some (get_or cells n no_cell).words) None)) (found_past (take n cells) c split.below)
     ∙ single_same cells n c e
 
-some_or : (o : Option (List ℕ)) (w : List ℕ) → Some (unwrap_or o w) ≡ option_or o (Some w)
+pub some_or : (o : Option (List ℕ)) (w : List ℕ) → Some (unwrap_or o w) ≡ option_or o (Some w)
 some_or None w = refl
 some_or (Some x) w = refl
 

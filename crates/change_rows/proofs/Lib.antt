@@ -6,8 +6,13 @@ pub mod Merging
 pub mod Laying
 pub mod Standing
 pub mod Editing
+pub mod Uniting
 pub mod Putting
 pub mod Tables
 pub mod Viewing
 pub mod Growing
 pub mod Running
+pub mod FirstBit
+pub mod Members
+pub mod Sourcing
+pub mod Filling

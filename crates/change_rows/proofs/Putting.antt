@@ -16,11 +16,11 @@ alike begins begins1 (suc t) same =
     ap (λ (o : Option (List ℕ)). unwrap_or o (standing begins1 t)) (same (suc t) (omega arith))
     ∙ ap (unwrap_or (begins (suc t))) (alike begins begins1 t (λ u h. same u (omega arith)))
 
-alike_before : (begins begins1 : ℕ → Option (List ℕ)) (t : ℕ) → ((u : ℕ) → u < t → begins1 u ≡ begins u) → standing_before begins1 t ≡ standing_before begins t
+pub alike_before : (begins begins1 : ℕ → Option (List ℕ)) (t : ℕ) → ((u : ℕ) → u < t → begins1 u ≡ begins u) → standing_before begins1 t ≡ standing_before begins t
 alike_before begins begins1 zero same = refl
 alike_before begins begins1 (suc t) same = alike begins begins1 t (λ u h. same u (omega arith))
 
-stands_by : (begins : ℕ → Option (List ℕ)) (t : ℕ) → standing begins t ≡ unwrap_or (begins t) (standing_before begins t)
+pub stands_by : (begins : ℕ → Option (List ℕ)) (t : ℕ) → standing begins t ≡ unwrap_or (begins t) (standing_before begins t)
 stands_by begins zero = refl
 stands_by begins (suc t) = refl
 
@@ -144,16 +144,16 @@ module _ (rows : List (List Held)) (seam seam1 row draft : List Held) (at t c : 
       (λ k l m. same_elsewhere k (λ e. absurd (omega (arith, e, l))) (λ e. absurd (omega (arith, e, l))))
       u h
 
--- the same over all components, once the seam of another row was settled
-pub put_all : (rows0 rows rows1 : List (List Held)) (seam0 seam seam1 seam2 row row1 draft : List Held) (at0 at t : ℕ) → ((c u : ℕ) → begins_at rows seam at c u ≡ begins_at rows0 seam0 at0 c u) → length rows ≡ length rows0 → rows1 ≡ set rows t row1 → row1 ≡ row → seam2 ≡ seam1 → t < length rows → ((at ≡ t → ⊥) → seam ≡ []) → ((c : ℕ) (w : List ℕ) → found draft c ≡ Some w → unwrap_or (found row c) (standing_before (begins_at rows seam at c) t) ≡ w) → ((c : ℕ) → found draft c ≡ None → found row c ≡ option_or (found (row_at rows t) c) (found seam c)) → (t + 1 < length rows → (c : ℕ) (w : List ℕ) → found draft c ≡ Some w → found (row_at rows (t + 1)) c ≡ None → unwrap_or (found seam1 c) w ≡ standing (begins_at rows seam at c) t) → ((c : ℕ) → found draft c ≡ None → found seam1 c ≡ None) → (c u : ℕ) → u < length rows0 → standing (begins_at rows1 seam2 (t + 1) c) u ≡ cond (eqb u t) (unwrap_or (found draft c) (standing (begins_at rows0 seam0 at0 c) u)) (standing (begins_at rows0 seam0 at0 c) u)
-put_all rows0 rows rows1 seam0 seam seam1 seam2 row row1 draft at0 at t same len e f g here elsewhere kept others seam_kept seam_only c u h =
+-- the same once the seam of another row was settled
+pub put_at : (rows0 rows rows1 : List (List Held)) (seam0 seam seam1 seam2 row row1 draft : List Held) (at0 at t c : ℕ) → ((u : ℕ) → begins_at rows seam at c u ≡ begins_at rows0 seam0 at0 c u) → length rows ≡ length rows0 → rows1 ≡ set rows t row1 → row1 ≡ row → seam2 ≡ seam1 → t < length rows → ((at ≡ t → ⊥) → seam ≡ []) → ((w : List ℕ) → found draft c ≡ Some w → unwrap_or (found row c) (standing_before (begins_at rows seam at c) t) ≡ w) → (found draft c ≡ None → found row c ≡ option_or (found (row_at rows t) c) (found seam c)) → (t + 1 < length rows → (w : List ℕ) → found draft c ≡ Some w → found (row_at rows (t + 1)) c ≡ None → unwrap_or (found seam1 c) w ≡ standing (begins_at rows seam at c) t) → (found draft c ≡ None → found seam1 c ≡ None) → (u : ℕ) → u < length rows0 → standing (begins_at rows1 seam2 (t + 1) c) u ≡ cond (eqb u t) (unwrap_or (found draft c) (standing (begins_at rows0 seam0 at0 c) u)) (standing (begins_at rows0 seam0 at0 c) u)
+put_at rows0 rows rows1 seam0 seam seam1 seam2 row row1 draft at0 at t c same len e f g here elsewhere kept others seam_kept seam_only u h =
     ap (λ (r : List (List Held)). standing (begins_at r seam2 (t + 1) c) u) (e ∙ ap (set rows t) f)
     ∙ ap (λ (v : List Held). standing (begins_at (set rows t row) v (t + 1) c) u) g
-    ∙ put_stands rows seam seam1 row draft at t c here elsewhere (kept c) (others c) (λ l. seam_kept l c) (seam_only c) u (omega (arith, h, len))
+    ∙ put_stands rows seam seam1 row draft at t c here elsewhere kept others seam_kept seam_only u (omega (arith, h, len))
     ∙ by_place (cases_eq u t)
   where
     stood : (k : ℕ) → standing (begins_at rows seam at c) k ≡ standing (begins_at rows0 seam0 at0 c) k
-    stood k = alike (begins_at rows0 seam0 at0 c) (begins_at rows seam at c) k (λ j _. same c j)
+    stood k = alike (begins_at rows0 seam0 at0 c) (begins_at rows seam at c) k (λ j _. same j)
 
     by_place : (u ≡ t) ⊎ (u ≡ t → ⊥) → cond (eqb u t) (unwrap_or (found draft c) (standing (begins_at rows seam at c) t)) (standing (begins_at rows seam at c) u) ≡ cond (eqb u t) (unwrap_or (found draft c) (standing (begins_at rows0 seam0 at0 c) u)) (standing (begins_at rows0 seam0 at0 c) u)
     by_place (inl q) =
@@ -164,3 +164,8 @@ put_all rows0 rows rows1 seam0 seam seam1 seam2 row row1 draft at0 at t same len
         ap (λ (b : Bool). cond b (unwrap_or (found draft c) (standing (begins_at rows seam at c) t)) (standing (begins_at rows seam at c) u)) (ne_eqb u t n)
         ∙ stood u
         ∙ sym (ap (λ (b : Bool). cond b (unwrap_or (found draft c) (standing (begins_at rows0 seam0 at0 c) u)) (standing (begins_at rows0 seam0 at0 c) u)) (ne_eqb u t n))
+
+-- the same over all components
+pub put_all : (rows0 rows rows1 : List (List Held)) (seam0 seam seam1 seam2 row row1 draft : List Held) (at0 at t : ℕ) → ((c u : ℕ) → begins_at rows seam at c u ≡ begins_at rows0 seam0 at0 c u) → length rows ≡ length rows0 → rows1 ≡ set rows t row1 → row1 ≡ row → seam2 ≡ seam1 → t < length rows → ((at ≡ t → ⊥) → seam ≡ []) → ((c : ℕ) (w : List ℕ) → found draft c ≡ Some w → unwrap_or (found row c) (standing_before (begins_at rows seam at c) t) ≡ w) → ((c : ℕ) → found draft c ≡ None → found row c ≡ option_or (found (row_at rows t) c) (found seam c)) → (t + 1 < length rows → (c : ℕ) (w : List ℕ) → found draft c ≡ Some w → found (row_at rows (t + 1)) c ≡ None → unwrap_or (found seam1 c) w ≡ standing (begins_at rows seam at c) t) → ((c : ℕ) → found draft c ≡ None → found seam1 c ≡ None) → (c u : ℕ) → u < length rows0 → standing (begins_at rows1 seam2 (t + 1) c) u ≡ cond (eqb u t) (unwrap_or (found draft c) (standing (begins_at rows0 seam0 at0 c) u)) (standing (begins_at rows0 seam0 at0 c) u)
+put_all rows0 rows rows1 seam0 seam seam1 seam2 row row1 draft at0 at t same len e f g here elsewhere kept others seam_kept seam_only c u h =
+    put_at rows0 rows rows1 seam0 seam seam1 seam2 row row1 draft at0 at t c (same c) len e f g here elsewhere (kept c) (others c) (λ l. seam_kept l c) (seam_only c) u h

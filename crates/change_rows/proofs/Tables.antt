@@ -1,12 +1,13 @@
 -- The words of all cells.
-use Rattle.std.proofs.Common.{◌-◌, min, ◌≡◌, ℕ, ◌+◌, ◌<◌, ◌≤◌, ◌∙◌, ◌⊎◌, inl, inr, sym, ap, refl, arith, Bool, cond, eqb, unwrap_or, List, [], ◌++◌, length, map, get_or, replicate, take}
+use Rattle.std.proofs.Common.{◌-◌, min, ◌≡◌, ℕ, ◌+◌, ◌<◌, ◌≤◌, ◌∙◌, ◌⊎◌, inl, inr, sym, ap, refl, arith, Bool, cond, eqb, ◌&&◌, unwrap_or, List, [], ◌++◌, length, map, get_or, replicate, take}
 use Rattle.std.specs.List.{range_with_len}
 use Rattle.std.proofs.Math.ListN.{set, length-set}
 use Rattle.std.proofs.lemmas.Bool.{cases_eq, cases_lt, eq-eqb, ne_eqb}
 use Rattle.std.proofs.lemmas.List.{get_or-set_same, get_or-set_other, get_or_past, get_or_append_left, get_or-append_right, get_or-replicate, get_or-take, length-take, length-append, length-replicate}
 use Rattle.std.proofs.lemmas.List.FromFn.{length-map-range_with_len, get_or-map-range_with_len, fill_by_all}
 use Rattle.change_rows.specs.Cells.{Held, found}
-use Rattle.change_rows.specs.Rows.{words_at, overlaid}
+use Rattle.change_rows.specs.Marks.{is_in}
+use Rattle.change_rows.specs.Rows.{words_at, overlaid, replaced, filled}
 use Rattle.change_rows.specs.Changes.{table}
 
 abbrev row_of : (ℕ → ℕ → List ℕ) → ℕ → ℕ → List (List ℕ)
@@ -78,6 +79,42 @@ table_put f g n width t cells here same =
             get_or-set_other (table f n width) t u _ [] n1
             ∙ row_table f n width u h
             ∙ row_same f g width u (λ c l. sym (same u c h l ∙ ap (λ (b : Bool). cond b (unwrap_or (found cells c) (f u c)) (f u c)) (ne_eqb u t n1)))
+
+-- one row is another one
+pub table_set : (f g : ℕ → ℕ → List ℕ) (n width t : ℕ) (row : List (List ℕ)) → t < n → length row ≡ width → ((c : ℕ) → c < width → get_or row c [] ≡ g t c) → ((u c : ℕ) → u < n → c < width → (u ≡ t → ⊥) → g u c ≡ f u c) → table g n width ≡ set (table f n width) t row
+table_set f g n width t row here long cells_are others = sym (fill_by_all (row_of g width) (set (table f n width) t row) n [] (length-set (table f n width) t row ∙ length_table f n width) each)
+  where
+    each : (u : ℕ) → u < n → get_or (set (table f n width) t row) u [] ≡ row_of g width u
+    each u h = by_place (cases_eq u t)
+      where
+        by_place : (u ≡ t) ⊎ (u ≡ t → ⊥) → get_or (set (table f n width) t row) u [] ≡ row_of g width u
+        by_place (inl e) =
+            ap (λ (k : ℕ). get_or (set (table f n width) t row) k []) e
+            ∙ get_or-set_same (table f n width) t row [] (omega (arith, here, length_table f n width))
+            ∙ fill_by_all (g t) row width [] long cells_are ∙ ap (row_of g width) (sym e)
+        by_place (inr n1) =
+            get_or-set_other (table f n width) t u row [] n1
+            ∙ row_table f n width u h
+            ∙ row_same f g width u (λ c l. sym (others u c h l n1))
+
+pub table_replaced : (f g : ℕ → ℕ → List ℕ) (n width t : ℕ) (members : List ℕ) (words : ℕ → List ℕ) → t < n → ((u c : ℕ) → u < n → c < width → g u c ≡ cond (eqb u t && is_in members c) (words c) (f u c)) → table g n width ≡ set (table f n width) t (replaced (get_or (table f n width) t []) members words)
+table_replaced f g n width t members words here same = table_set f g n width t (replaced (get_or (table f n width) t []) members words) here
+    (length-map-range_with_len (λ k. cond (is_in members k) (words k) (get_or (get_or (table f n width) t []) k [])) 0 (length (get_or (table f n width) t [])) ∙ length_row f n width t here)
+    (
+    λ c l. get_or-map-range_with_len (λ k. cond (is_in members k) (words k) (get_or (get_or (table f n width) t []) k [])) 0 (length (get_or (table f n width) t [])) c c [] (omega (arith, l, length_row f n width t here)) (omega arith)
+    ∙ ap (cond (is_in members c) (words c)) (at_table f n width t c here l)
+    ∙ sym (same t c here l ∙ ap (λ (b : Bool). cond (b && is_in members c) (words c) (f t c)) (eq-eqb t t refl))
+    )
+    (λ u c h l n1. same u c h l ∙ ap (λ (b : Bool). cond (b && is_in members c) (words c) (f u c)) (ne_eqb u t n1))
+
+pub table_filled : (f g : ℕ → ℕ → List ℕ) (n width t : ℕ) (words : ℕ → List ℕ) → t < n → ((u c : ℕ) → u < n → c < width → g u c ≡ cond (eqb u t) (words c) (f u c)) → table g n width ≡ set (table f n width) t (filled width words)
+table_filled f g n width t words here same = table_set f g n width t (filled width words) here
+    (length-map-range_with_len words 0 width)
+    (
+    λ c l. get_or-map-range_with_len words 0 width c c [] l (omega arith)
+    ∙ sym (same t c here l ∙ ap (λ (b : Bool). cond b (words c) (f t c)) (eq-eqb t t refl))
+    )
+    (λ u c h l n1. same u c h l ∙ ap (λ (b : Bool). cond b (words c) (f u c)) (ne_eqb u t n1))
 
 abbrev blanks : ℕ → List (List ℕ)
 blanks k = replicate k []

@@ -5,10 +5,10 @@ use Rattle.std.proofs.lemmas.List.{append-nil}
 use Rattle.std.proofs.lemmas.Bool.{cases_lt, lt-ltb, le-ltb, le-leb, lt-leb}
 use Rattle.change_rows.specs.Marks.{is_in}
 use Rattle.change_rows.specs.Cells.{Held, found}
-use Rattle.change_rows.specs.Rows.{Table, words_at, overlaid, repeated}
-use Rattle.change_rows.specs.Standing.{standing}
+use Rattle.change_rows.specs.Rows.{Table, words_at, overlaid, replaced, filled, repeated}
+use Rattle.change_rows.specs.Standing.{standing, standing_before}
 use Rattle.change_rows.specs.Changes.{begins_at, table, cells_in}
-use Rattle.change_rows.proofs.Tables.{table_same, table_put, table_grow, table_cut, length_table, at_table}
+use Rattle.change_rows.proofs.Tables.{table_same, table_put, table_replaced, table_filled, table_grow, table_cut, length_table, at_table}
 use Rattle.change_rows.proofs.Putting.{alike}
 
 abbrev pub a_table : ℕ → List (List (List ℕ)) → Table
@@ -104,3 +104,33 @@ view_repeat rows0 rows1 seam0 seam1 at0 at1 width0 width1 from to set v view w l
         ∙ ap (λ (b : Bool). cond (is_in set c && (leb from t && b)) (standing (begins_at rows0 seam0 at0 c) (from - 1)) (standing (begins_at rows0 seam0 at0 c) t)) (to_last t to (omega (arith, order)))
         ∙ ap (λ (x : List ℕ). cond (is_in set c && (leb from t && ltb t to)) x (standing (begins_at rows0 seam0 at0 c) t)) (sym (at_table (cells rows0 seam0 at0) (length rows0) width0 (from - 1) c (omega (arith, some, order, few)) l))
         ∙ ap (λ (x : List ℕ). cond (is_in set c && (leb from t && ltb t to)) (words_at (cells_in rows0 seam0 at0 width0) (from - 1) c) x) (sym (at_table (cells rows0 seam0 at0) (length rows0) width0 t c h l))
+
+-- other words for the members of a set
+pub view_replaced : (rows0 rows1 : List (List Held)) (seam0 seam1 : List Held) (at0 at1 width0 width1 t : ℕ) (members : List ℕ) (words : ℕ → List ℕ) (v : Table) → a_table width0 (cells_in rows0 seam0 at0 width0) ≡ v → width1 ≡ width0 → length rows1 ≡ length rows0 → t < length rows0 → ((c u : ℕ) → c < width0 → u < length rows0 → standing (begins_at rows1 seam1 at1 c) u ≡ cond (eqb u t && is_in members c) (words c) (standing (begins_at rows0 seam0 at0 c) u)) → a_table width1 (cells_in rows1 seam1 at1 width1) ≡ a_table v.width (set v.rows t (replaced (get_or v.rows t []) members words))
+view_replaced rows0 rows1 seam0 seam1 at0 at1 width0 width1 t members words v view w len here put =
+    ap (λ (k : ℕ). a_table k (cells_in rows1 seam1 at1 k)) w
+    ∙ ap (λ (n : ℕ). a_table width0 (table (cells rows1 seam1 at1) n width0)) len
+    ∙ ap (a_table width0) (table_replaced (cells rows0 seam0 at0) (cells rows1 seam1 at1) (length rows0) width0 t members words here (λ u c h l. put c u l h))
+    ∙ ap (λ (x : Table). a_table x.width (set x.rows t (replaced (get_or x.rows t []) members words))) view
+
+-- a row is filled
+pub view_filled : (rows0 rows1 : List (List Held)) (seam0 seam1 : List Held) (at0 at1 width0 width1 t : ℕ) (words : ℕ → List ℕ) (v : Table) → a_table width0 (cells_in rows0 seam0 at0 width0) ≡ v → width1 ≡ width0 → length rows1 ≡ length rows0 → t < length rows0 → ((c u : ℕ) → c < width0 → u < length rows0 → standing (begins_at rows1 seam1 at1 c) u ≡ cond (eqb u t) (words c) (standing (begins_at rows0 seam0 at0 c) u)) → a_table width1 (cells_in rows1 seam1 at1 width1) ≡ a_table v.width (set v.rows t (filled v.width words))
+view_filled rows0 rows1 seam0 seam1 at0 at1 width0 width1 t words v view w len here put =
+    ap (λ (k : ℕ). a_table k (cells_in rows1 seam1 at1 k)) w
+    ∙ ap (λ (n : ℕ). a_table width0 (table (cells rows1 seam1 at1) n width0)) len
+    ∙ ap (a_table width0) (table_filled (cells rows0 seam0 at0) (cells rows1 seam1 at1) (length rows0) width0 t words here (λ u c h l. put c u l h))
+    ∙ ap (λ (x : Table). a_table x.width (set x.rows t (filled x.width words))) view
+
+before : (begins : ℕ → Option (List ℕ)) (k : ℕ) → 0 < k → standing begins (k - 1) ≡ standing_before begins k
+before begins zero h = absurd (omega (arith, h))
+before begins (suc k) h = let e : suc k - 1 ≡ k = omega arith in ap (standing begins) e
+
+module _ (rows : List (List Held)) (seam : List Held) (at width t c : ℕ) (v : Table) (view : a_table width (cells_in rows seam at width) ≡ v) (here : t < length rows) (small : c < width) where
+  pub view_words : words_at v.rows t c ≡ standing (begins_at rows seam at c) t
+  view_words = sym (ap (λ (x : Table). words_at x.rows t c) view) ∙ at_table (cells rows seam at) (length rows) width t c here small
+
+  pub view_before : 0 < t → words_at v.rows (t - 1) c ≡ standing_before (begins_at rows seam at c) t
+  view_before some =
+      sym (ap (λ (x : Table). words_at x.rows (t - 1) c) view)
+      ∙ at_table (cells rows seam at) (length rows) width (t - 1) c (omega (arith, here)) small
+      ∙ before (begins_at rows seam at c) t some

@@ -4,3 +4,4 @@ pub mod Marks
 pub mod Standing
 pub mod Rows
 pub mod Changes
+pub mod Laid

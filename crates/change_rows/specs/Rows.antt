@@ -23,3 +23,11 @@ overlaid row cells = map (λ c. unwrap_or (found cells c) (slice_index_or row c 
 -- rows in which the components of a set hold from row `from` on and before row `to` what they hold in the row before
 abbrev pub repeated : List (List (List ℕ)) → ℕ → ℕ → ℕ → List ℕ → List (List (List ℕ))
 repeated rows width from to set = map (λ t. map (λ c. cond (is_in set c && (nat_le from t && nat_lt t to)) (words_at rows (from - 1) c) (words_at rows t c)) (range_with_len 0 width)) (range_with_len 0 (length rows))
+
+-- a row in which the components of a set hold other words
+abbrev pub replaced : List (List ℕ) → List ℕ → (ℕ → List ℕ) → List (List ℕ)
+replaced row set words = map (λ c. cond (is_in set c) (words c) (slice_index_or row c [])) (range_with_len 0 (length row))
+
+-- a row in which each component holds its words
+abbrev pub filled : ℕ → (ℕ → List ℕ) → List (List ℕ)
+filled width words = map words (range_with_len 0 width)

@@ -1,10 +1,12 @@
 //! Some cells of one row.
-ghost use Rattle.std.specs.Prelude.{◌≡◌, ℕ, ◌+◌, ◌-◌, ◌^◌, ◌<◌, ◌≤◌, ◌++◌, ◌∷◌, [], List, true, IsTrue, ◌↔◌, MatchResult, MatchOption, OnErr, OnOk, IfOk, length, map, is_some, Some, None, slice_index_or, slice_range, unwrap_or, vec_len, vec_capacity};
+ghost use Rattle.std.specs.Prelude.{◌≡◌, ℕ, ◌+◌, ◌-◌, ◌^◌, ◌<◌, ◌≤◌, ◌++◌, ◌∷◌, [], List, true, IsTrue, ◌↔◌, MatchResult, MatchOption, cond, OnErr, OnOk, IfOk, length, map, is_some, Some, None, slice_index_or, slice_range, unwrap_or, vec_len, vec_capacity};
 ghost use Rattle.std.specs.Option.{option_copied};
 ghost use Rattle.change_rows.specs.declared.cells.Head.{Head};
 ghost use Rattle.change_rows.specs.Packed.{head_at, start_at, moved, cell_at, cells_of, IsPacked, IsPlace};
 ghost use Rattle.change_rows.specs.Cells.{Held, no_cell, found, end_of, component_at, IsAscending};
 
+use crate::sets::word_at;
+use crate::source::Source;
 use std::alloc::{AllocError, Global};
 use std::marker::Model;
 
@@ -197,6 +199,102 @@ impl Cells {
         }
     }
 
+    /// A cell more, behind all others, with the words that a source has: whether these are other words too.
+    ///
+    /// # Errors
+    ///
+    /// Where a growth was refused, and at 2^32 words. Nothing is changed.
+    pub(crate) fn push_from<S: Source>(
+        &mut self,
+        component: u32,
+        source: &S,
+        held: &[u64],
+    ) -> Result<bool, AllocError>
+        requires has { S.has source.now component }
+        requires ascending { end_of self.old ≤ component }
+        ensures cells { MatchResult result
+            (λ _. self.new ≡ self.old ++ record { component = component; words = S.words source.now component } ∷ [])
+            (λ _. self.new ≡ self.old) }
+        ensures same { IfOk result (λ same. IsTrue same ↔ (held.now ≡ S.words source.now component)) }
+    {
+        let from = self.words.len();
+        self.heads.reserve(1)?;
+        match write_words(source, component, held, &mut self.words) {
+            Ok(same) => {
+                self.heads.push_reserved(Head {
+                    component,
+                    from: from as u32,
+                });
+                Ok(same)
+            }
+            Err(e) => Err(e),
+        }
+    }
+
+    /// The same, where they are no such other words; else there is no cell more.
+    ///
+    /// # Errors
+    ///
+    /// Where a growth was refused, and at 2^32 words. Nothing is changed.
+    pub(crate) fn push_unless<S: Source>(
+        &mut self,
+        component: u32,
+        source: &S,
+        held: &[u64],
+    ) -> Result<bool, AllocError>
+        requires has { S.has source.now component }
+        requires ascending { end_of self.old ≤ component }
+        ensures cells { MatchResult result
+            (λ same. self.new ≡ cond same self.old (self.old ++ record { component = component; words = S.words source.now component } ∷ []))
+            (λ _. self.new ≡ self.old) }
+        ensures same { IfOk result (λ same. IsTrue same ↔ (held.now ≡ S.words source.now component)) }
+    {
+        let from = self.words.len();
+        self.heads.reserve(1)?;
+        match write_words(source, component, held, &mut self.words) {
+            Ok(true) => {
+                self.words.truncate(from);
+                Ok(true)
+            }
+            Ok(false) => {
+                self.heads.push_reserved(Head {
+                    component,
+                    from: from as u32,
+                });
+                Ok(false)
+            }
+            Err(e) => Err(e),
+        }
+    }
+
+    /// Whether a source has these words. Where the first of them agree, the source's are written behind all cells, and removed again.
+    ///
+    /// # Errors
+    ///
+    /// Where a growth was refused, and at 2^32 words. Nothing is changed.
+    pub(crate) fn tells<S: Source>(
+        &mut self,
+        component: u32,
+        source: &S,
+        held: &[u64],
+    ) -> Result<bool, AllocError>
+        requires has { S.has source.now component }
+        ensures cells { self.new ≡ self.old }
+        ensures same { IfOk result (λ same. IsTrue same ↔ (held.now ≡ S.words source.now component)) }
+    {
+        if word_at(held, 0) != source.first(component) {
+            return Ok(false);
+        }
+        let from = self.words.len();
+        match write_words(source, component, held, &mut self.words) {
+            Ok(same) => {
+                self.words.truncate(from);
+                Ok(same)
+            }
+            Err(e) => Err(e),
+        }
+    }
+
     /// The cells of others from a place on and before another one, behind all cells.
     ///
     /// # Errors
@@ -269,6 +367,42 @@ impl Cells {
         let words = Vec::from_slice(alloc, &self.words)?;
         Ok(Cells { heads, words })
     }
+}
+
+/// The words that a source has for a component, behind those of a buffer: whether they are these.
+///
+/// # Errors
+///
+/// Where a growth was refused, and at 2^32 words. The buffer has what it had.
+fn write_words<S: Source>(
+    source: &S,
+    c: u32,
+    held: &[u64],
+    words: &mut Vec<u64>,
+) -> Result<bool, AllocError>
+    requires has { S.has source.now c }
+    ensures words { MatchResult result
+        (λ _. words.new.items ≡ words.old.items ++ S.words source.now c)
+        (λ _. words.new.items ≡ words.old.items) }
+    ensures small { OnOk result (length words.old.items + length (S.words source.now c) < 2 ^ 32) }
+    ensures same { IfOk result (λ same. IsTrue same ↔ (held.now ≡ S.words source.now c)) }
+{
+    let from = words.len();
+    match source.write(c, words) {
+        Ok(()) => {}
+        Err(e) => return Err(e),
+    }
+    if words.len() > MOST_WORDS {
+        words.truncate(from);
+        return Err(AllocError);
+    }
+    Ok(same_words(held, &words[from..]))
+}
+
+pub(crate) fn same_words(one: &[u64], other: &[u64]) -> bool
+    ensures { IsTrue result ↔ (one.now ≡ other.now) }
+{
+    one == other
 }
 
 /// Room for n values in all.

@@ -1,12 +1,13 @@
 //! Rows of changes, and where a cell's words are found in them.
 ghost use Rattle.std.specs.Prelude.{◌≡◌, ℕ, ◌+◌, ◌*◌, ◌/◌, ◌%◌, ◌<◌, ◌≤◌, [], None, Some, true, false, cond, nat_eq, MatchOption, IfSome, OnOk, OnErr, length, is_some, unwrap_or, slice_index_or, slice_set};
 ghost use Rattle.change_rows.specs.Cells.{found, end_of};
-ghost use Rattle.change_rows.specs.Marks.{is_set, is_marked, is_in};
+ghost use Rattle.change_rows.specs.Marks.{is_one, is_set, is_marked, is_in};
 ghost use Rattle.change_rows.specs.Standing.{standing};
 ghost use Rattle.change_rows.specs.Changes.{row_at, begins_at, IsChanges};
 
 use crate::cells::Cells;
-use crate::marks::{Marks, has_any, mark_row, rank};
+use crate::marks::{Marks, block_has, block_has_any, has_any, mark_row, rank, with_bit};
+use crate::sets::is_member;
 use std::alloc::{AllocError, Global};
 
 /// For each row the cells at which other words begin than a cycle before; all others go on.
@@ -107,19 +108,94 @@ pub(crate) fn begins_in(s: &Changes, t: usize, c: u32) -> bool
     t == s.at && s.seam.has(c)
 }
 
+/// A word of marks with those of 64 components of which there are cells.
+fn with_cells(cells: &Cells, w: usize, word: u64) -> u64
+    ensures kept { (k : ℕ) → is_one result k ≡ false → is_one word k ≡ false }
+    ensures cells { (c : ℕ) → c / 64 ≡ w → is_one result (c % 64) ≡ false → found cells.now c ≡ None }
+{
+    let mut word = word;
+    for i in 0..cells.len() {
+        let c = cells.component(i);
+        if c as usize / 64 == w {
+            word = with_bit(word, c % 64);
+        }
+    }
+    word
+}
+
+/// Of 64 components those at whose cells something begins.
+pub(crate) fn begin_word(s: &Changes, t: usize, w: usize) -> u64
+    requires changes { IsChanges s.now.width s.now.rows.items s.now.marks.items s.now.seam s.now.at }
+    requires row { t < length s.now.rows.items }
+    requires word { w < length s.now.marks.items }
+    ensures { (c : ℕ) → c / 64 ≡ w → c < s.now.width → is_one result (c % 64) ≡ false → begins_at s.now.rows.items s.now.seam s.now.at c t ≡ None }
+{
+    let word = s.marks[w].word(t);
+    if t == s.at {
+        return with_cells(&s.seam, w, word);
+    }
+    word
+}
+
+/// Whether there is a cell of a component of a set.
+fn is_any(cells: &Cells, set: &[u64]) -> bool
+    ensures { result ≡ false → (c : ℕ) → is_in set.now c ≡ true → found cells.now c ≡ None }
+{
+    for i in 0..cells.len() {
+        if is_member(set, cells.component(i)) {
+            return true;
+        }
+    }
+    false
+}
+
 /// Whether something may begin at a cell of a set of components; one word tells it of 64 of them.
 fn may_begin(s: &Changes, t: usize, set: &[u64]) -> bool
     requires changes { IsChanges s.now.width s.now.rows.items s.now.marks.items s.now.seam s.now.at }
     requires row { t < length s.now.rows.items }
     ensures { result ≡ false → (c : ℕ) → c < s.now.width → is_in set.now c ≡ true → begins_at s.now.rows.items s.now.seam s.now.at c t ≡ None }
 {
-    if t == s.at && !s.seam.is_empty() {
+    if t == s.at && is_any(&s.seam, set) {
         return true;
     }
     has_any(&s.marks, t, set)
 }
 
-/// The first row from t on, and before `end`, at which something of a set of components may begin.
+/// Whether 64 rows begin with row u, all before `end`, and the seam belongs to none of them.
+fn is_block(s: &Changes, u: u32, end: u32) -> bool
+    requires { u ≤ end }
+    ensures start { result ≡ true → u % 64 ≡ 0 }
+    ensures within { result ≡ true → u + 64 ≤ end }
+    ensures seam { result ≡ true → u ≤ s.now.at → s.now.at < u + 64 → ⊥ }
+{
+    u % 64 == 0 && end - u >= 64 && (s.at < u as usize || s.at - u as usize >= 64)
+}
+
+/// Whether nothing begins at the cells of a set of components in the 64 rows from row u on.
+fn is_quiet(s: &Changes, u: u32, end: u32, set: &[u64]) -> bool
+    requires changes { IsChanges s.now.width s.now.rows.items s.now.marks.items s.now.seam s.now.at }
+    requires row { u < end }
+    requires end { end ≤ length s.now.rows.items }
+    ensures within { result ≡ true → u + 64 ≤ end }
+    ensures steady { result ≡ true → (k c : ℕ) → u ≤ k → k < u + 64 → c < s.now.width → is_in set.now c ≡ true → begins_at s.now.rows.items s.now.seam s.now.at c k ≡ None }
+{
+    is_block(s, u, end) && !block_has_any(&s.marks, u as usize, set)
+}
+
+/// Whether nothing of a component begins in the 64 rows from row u on.
+fn is_quiet_of(s: &Changes, u: u32, end: u32, c: u32) -> bool
+    requires changes { IsChanges s.now.width s.now.rows.items s.now.marks.items s.now.seam s.now.at }
+    requires row { u < end }
+    requires end { end ≤ length s.now.rows.items }
+    requires component { c < s.now.width }
+    ensures within { result ≡ true → u + 64 ≤ end }
+    ensures steady { result ≡ true → (k : ℕ) → u ≤ k → k < u + 64 → begins_at s.now.rows.items s.now.seam s.now.at c k ≡ None }
+{
+    is_block(s, u, end) && !block_has(&s.marks, u as usize, c)
+}
+
+/// The first row from t on, and before `end`, at which something of a set of components may begin. 64 rows are passed over at once
+/// where nothing of them does.
 pub(crate) fn next_begin(s: &Changes, t: u32, end: u32, set: &[u64]) -> u32
     requires changes { IsChanges s.now.width s.now.rows.items s.now.marks.items s.now.seam s.now.at }
     requires end { end ≤ length s.now.rows.items }
@@ -130,10 +206,36 @@ pub(crate) fn next_begin(s: &Changes, t: u32, end: u32, set: &[u64]) -> u32
 {
     let mut u = t;
     while u < end {
-        if may_begin(s, u as usize, set) {
+        if is_quiet(s, u, end, set) {
+            u += 64;
+        } else if may_begin(s, u as usize, set) {
             return u;
+        } else {
+            u += 1;
         }
-        u += 1;
+    }
+    u
+}
+
+/// The same of one component.
+pub(crate) fn next_of(s: &Changes, t: u32, end: u32, c: u32) -> u32
+    requires changes { IsChanges s.now.width s.now.rows.items s.now.marks.items s.now.seam s.now.at }
+    requires end { end ≤ length s.now.rows.items }
+    requires component { c < s.now.width }
+    ensures from { t ≤ result }
+    ensures to { t ≤ end → result ≤ end }
+    ensures past { end < t → result ≡ t }
+    ensures steady { (u : ℕ) → t ≤ u → u < result → begins_at s.now.rows.items s.now.seam s.now.at c u ≡ None }
+{
+    let mut u = t;
+    while u < end {
+        if is_quiet_of(s, u, end, c) {
+            u += 64;
+        } else if begins_in(s, u as usize, c) {
+            return u;
+        } else {
+            u += 1;
+        }
     }
     u
 }

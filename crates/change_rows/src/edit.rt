@@ -5,7 +5,7 @@ ghost use Rattle.change_rows.specs.Cells.{found, end_of, IsSplit};
 ghost use Rattle.change_rows.specs.Standing.{standing, standing_before};
 ghost use Rattle.change_rows.specs.Changes.{row_at, begins_at, IsChanges};
 
-use crate::cells::Cells;
+use crate::cells::{Cells, same_words};
 use crate::changes::{Changes, is_change, lay, words_in};
 use crate::merge::{behind, seek, unite, words_or};
 use std::alloc::{AllocError, Global};
@@ -33,12 +33,6 @@ impl Buffers {
     }
 }
 
-fn same_words(one: &[u64], other: &[u64]) -> bool
-    ensures { IsTrue result ↔ (one.now ≡ other.now) }
-{
-    one == other
-}
-
 /// The seam goes into its row.
 ///
 /// # Errors
@@ -63,7 +57,7 @@ pub(crate) fn settle(s: &mut Changes, buffer: &mut Cells) -> Result<(), AllocErr
 }
 
 /// The words of a cell a cycle before; none before row 0.
-fn words_before(s: &Changes, t: usize, c: u32) -> &[u64]
+pub(crate) fn words_before(s: &Changes, t: usize, c: u32) -> &[u64]
     requires changes { IsChanges s.now.width s.now.rows.items s.now.marks.items s.now.seam s.now.at }
     requires row { t < length s.now.rows.items }
     requires component { c < s.now.width }
@@ -80,7 +74,7 @@ fn words_before(s: &Changes, t: usize, c: u32) -> &[u64]
 /// # Errors
 ///
 /// Where a growth was refused. Nothing is changed.
-fn settle_for(s: &mut Changes, t: usize, buffer: &mut Cells) -> Result<(), AllocError>
+pub(crate) fn settle_for(s: &mut Changes, t: usize, buffer: &mut Cells) -> Result<(), AllocError>
     requires { IsChanges s.old.width s.old.rows.items s.old.marks.items s.old.seam s.old.at }
     ensures changes { IsChanges s.new.width s.new.rows.items s.new.marks.items s.new.seam s.new.at }
     ensures width { s.new.width ≡ s.old.width }
@@ -114,7 +108,7 @@ pub(crate) fn push_other(
 }
 
 /// Whether there is a row behind row t, and a component goes on there.
-fn goes_on(s: &Changes, t: usize, c: u32) -> bool
+pub(crate) fn goes_on(s: &Changes, t: usize, c: u32) -> bool
     requires changes { IsChanges s.now.width s.now.rows.items s.now.marks.items s.now.seam s.now.at }
     requires row { t < length s.now.rows.items }
     requires component { c < s.now.width }

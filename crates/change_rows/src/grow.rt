@@ -10,7 +10,7 @@ use crate::marks::{cut_lines, grow_lines};
 use std::alloc::{AllocError, Global};
 
 /// A cell without words for each component.
-fn blank(width: u32, out: &mut Cells) -> Result<(), AllocError>
+pub(crate) fn blank(width: u32, out: &mut Cells) -> Result<(), AllocError>
     ensures found { OnOk result ((c : ℕ) → c < width → found out.new c ≡ Some []) }
     ensures end { OnOk result (end_of out.new ≤ width) }
 {

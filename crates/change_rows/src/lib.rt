@@ -7,7 +7,8 @@
 //!
 //! A draft, `Cells`, is put as a row at once: its cells hold its words, and all other cells of all rows hold what they
 //! held. So what stood in the row behind has to begin there. That seam is held beside the rows until another row than
-//! that one is put; a pass that puts row after row writes each once. All buffers are made before anything changes, so
+//! that one is put; a pass that puts row after row writes each once. A row is put from a `Source` too, who has the words
+//! of cells in a form of its own; the call tells which cells held others. All buffers are made before anything changes, so
 //! after an error all cells hold what they held.
 //!
 //! The crate knows of no machine: what words mean is the caller's. It stands on `std` alone.
@@ -16,11 +17,16 @@
 mod cells;
 mod changes;
 mod edit;
+mod fill;
 mod grow;
 mod marks;
 mod merge;
 mod rows;
 mod run;
+mod sets;
+mod source;
+mod sourced;
 
 pub use cells::Cells;
 pub use rows::Rows;
+pub use source::Source;

@@ -1,7 +1,7 @@
 //! At which cycles the cells of components begin.
-ghost use Rattle.std.specs.Prelude.{◌≡◌, ℕ, ◌+◌, ◌*◌, ◌<◌, ◌≤◌, ◌++◌, ◌||◌, [], List, true, false, cond, nat_eq, MatchOption, OnOk, length, take, replicate, is_some, slice_index_or, slice_set};
+ghost use Rattle.std.specs.Prelude.{◌≡◌, ℕ, ◌+◌, ◌*◌, ◌/◌, ◌<◌, ◌≤◌, max, ◌++◌, ◌||◌, [], List, true, false, cond, nat_eq, MatchOption, OnOk, length, take, replicate, is_some, slice_index_or, slice_set};
 ghost use Rattle.change_rows.specs.Cells.{found, end_of};
-ghost use Rattle.change_rows.specs.Marks.{is_one, is_set, is_marked, is_in};
+ghost use Rattle.change_rows.specs.Marks.{is_one, is_set, is_marked, is_in, IsCovered};
 
 use crate::cells::Cells;
 use std::alloc::{AllocError, Global};
@@ -11,14 +11,19 @@ use std::marker::Model;
 #[derive(Drop)]
 pub(crate) struct Marks {
     words: Vec<u64>,
+    /// For 64 cycles each a word that has at least the marks of each of them.
+    blocks: Vec<u64>,
 }
 
 impl Model for Marks {
     ghost use Rattle.std.specs.Prelude.{List, ℕ};
+    ghost use Rattle.change_rows.specs.Marks.{IsCovered};
 
     ghost Value = { List ℕ };
 
     ghost view = { λ m. m.words.items };
+
+    ghost invariant = { λ m. IsCovered m.words.items m.blocks.items };
 }
 
 impl Marks {
@@ -28,7 +33,17 @@ impl Marks {
     {
         Marks {
             words: Vec::new(alloc),
+            blocks: Vec::new(alloc),
         }
+    }
+
+    /// At least the marks of each of the 64 cycles that a cycle is among.
+    #[inline]
+    pub fn block(&self, t: usize) -> u64
+        requires { t < length self.now }
+        ensures { (u k : ℕ) → u / 64 ≡ t / 64 → is_set self.now u k ≡ true → is_one result k ≡ true }
+    {
+        self.blocks[t / 64]
     }
 
     /// The marks of a cycle.
@@ -58,7 +73,7 @@ impl Marks {
             ((u : ℕ) → u ≤ t → is_set self.now u k ≡ false)
             (λ b. (b ≤ t) × (is_set self.now b k ≡ true) × ((u : ℕ) → b < u → u ≤ t → is_set self.now u k ≡ false)) }
     {
-        last_in(self.words.as_slice(), t, k)
+        last_in(self.words.as_slice(), self.blocks.as_slice(), t, k)
     }
 
     /// No component is marked at a cycle any more.
@@ -79,6 +94,8 @@ impl Marks {
     {
         let word = with_bit(self.words[t], k);
         self.words[t] = word;
+        let block = with_bit(self.blocks[t / 64], k);
+        self.blocks[t / 64] = block;
     }
 
     /// Room for n cycles; nothing is marked at those that come in addition.
@@ -91,11 +108,8 @@ impl Marks {
         ensures longer { length self.old ≤ length self.new }
         ensures ok { OnOk result (n ≤ length self.new) }
     {
-        let len = self.words.len();
-        if n <= len {
-            return Ok(());
-        }
-        grow_by(&mut self.words, n - len)
+        stretch(&mut self.blocks, n.div_ceil(64))?;
+        stretch(&mut self.words, n)
     }
 
     /// The first n cycles stay.
@@ -110,6 +124,7 @@ impl Marks {
 fn grow_by(words: &mut Vec<u64>, m: usize) -> Result<(), AllocError>
     ensures same { (t k : ℕ) → is_set words.new.items t k ≡ is_set words.old.items t k }
     ensures longer { length words.old.items ≤ length words.new.items }
+    ensures most { length words.new.items ≤ length words.old.items + m }
     ensures ok { OnOk result (length words.new.items ≡ length words.old.items + m) }
 {
     words.reserve(m)?;
@@ -117,6 +132,20 @@ fn grow_by(words: &mut Vec<u64>, m: usize) -> Result<(), AllocError>
         words.push_reserved(0);
     }
     Ok(())
+}
+
+/// Room for n words; those that come in addition are 0.
+fn stretch(words: &mut Vec<u64>, n: usize) -> Result<(), AllocError>
+    ensures same { (t k : ℕ) → is_set words.new.items t k ≡ is_set words.old.items t k }
+    ensures longer { length words.old.items ≤ length words.new.items }
+    ensures most { length words.new.items ≤ max n (length words.old.items) }
+    ensures ok { OnOk result (n ≤ length words.new.items) }
+{
+    let len = words.len();
+    if n <= len {
+        return Ok(());
+    }
+    grow_by(words, n - len)
 }
 
 /// Room for n cycles in all lines.
@@ -154,7 +183,7 @@ pub(crate) fn has_bit(word: u64, k: u32) -> bool
     (word >> k) & 1 == 1
 }
 
-fn with_bit(word: u64, k: u32) -> u64
+pub(crate) fn with_bit(word: u64, k: u32) -> u64
     requires { k < 64 }
     ensures set { is_one result k ≡ true }
     ensures others { (i : ℕ) → (i ≡ k → ⊥) → is_one result i ≡ is_one word i }
@@ -162,10 +191,25 @@ fn with_bit(word: u64, k: u32) -> u64
     word | (1 << k)
 }
 
-/// The last cycle up to t at which a component is marked.
-fn last_in(words: &[u64], t: usize, k: u32) -> Option<usize>
+/// Where the last block before one ends that may have a mark; 0 where there is none.
+fn block_end(blocks: &[u64], at: usize, k: u32) -> usize
+    requires blocks { at ≤ length blocks.now }
+    requires component { k < 64 }
+    ensures low { result ≤ at }
+    ensures none { (b : ℕ) → result ≤ b → b < at → is_set blocks.now b k ≡ false }
+{
+    let mut b = at;
+    while b > 0 && !has_bit(blocks[b - 1], k) {
+        b -= 1;
+    }
+    b
+}
+
+/// The last cycle up to t at which a component is marked. Blocks without the mark are passed over at once.
+fn last_in(words: &[u64], blocks: &[u64], t: usize, k: u32) -> Option<usize>
     requires cycle { t < length words.now }
     requires component { k < 64 }
+    requires covered { IsCovered words.now blocks.now }
     ensures { MatchOption result
         ((u : ℕ) → u ≤ t → is_set words.now u k ≡ false)
         (λ b. (b ≤ t) × (is_set words.now b k ≡ true) × ((u : ℕ) → b < u → u ≤ t → is_set words.now u k ≡ false)) }
@@ -175,6 +219,9 @@ fn last_in(words: &[u64], t: usize, k: u32) -> Option<usize>
         at -= 1;
         if has_bit(words[at], k) {
             return Some(at);
+        }
+        if at % 64 == 0 {
+            at = block_end(blocks, at / 64, k) * 64;
         }
     }
     None
@@ -197,6 +244,28 @@ pub(crate) fn has_any(lines: &Vec<Marks>, t: usize, set: &[u64]) -> bool
         }
     }
     false
+}
+
+/// Whether a component of a set may be marked at one of the 64 cycles that a cycle is among.
+pub(crate) fn block_has_any(lines: &Vec<Marks>, t: usize, set: &[u64]) -> bool
+    requires { (w : ℕ) → w < length lines.now.items → t < length (slice_index_or lines.now.items w []) }
+    ensures { result ≡ false → (u c : ℕ) → u / 64 ≡ t / 64 → c < 64 * length lines.now.items → is_in set.now c ≡ true → is_marked lines.now.items u c ≡ false }
+{
+    for w in 0..lines.len().min(set.len()) {
+        if has_both(lines[w].block(t), set[w]) {
+            return true;
+        }
+    }
+    false
+}
+
+/// Whether a component may be marked at one of the 64 cycles that a cycle is among.
+pub(crate) fn block_has(lines: &Vec<Marks>, t: usize, c: u32) -> bool
+    requires component { c < 64 * length lines.now.items }
+    requires row { t < length (slice_index_or lines.now.items (c / 64) []) }
+    ensures { result ≡ false → (u : ℕ) → u / 64 ≡ t / 64 → is_marked lines.now.items u c ≡ false }
+{
+    has_bit(lines[c as usize / 64].block(t), c % 64)
 }
 
 /// How many components below c are marked at a cycle: the place of its cell, where a row has one.

@@ -1,15 +1,18 @@
 //! The words of all cells of a table.
-ghost use Rattle.std.specs.Prelude.{◌≡◌, ℕ, ◌+◌, ◌-◌, ◌*◌, ◌^◌, ◌<◌, ◌≤◌, ◌++◌, [], List, true, false, MatchResult, IfOk, OnOk, length, take, replicate, slice_index_or, slice_set};
+ghost use Rattle.std.specs.Prelude.{◌≡◌, ℕ, ◌+◌, ◌-◌, ◌*◌, ◌/◌, ◌%◌, ◌^◌, ◌<◌, ◌≤◌, ◌++◌, [], List, true, false, MatchResult, IfOk, OnOk, length, take, replicate, slice_index_or, slice_set};
 ghost use Rattle.change_rows.specs.Cells.{end_of};
-ghost use Rattle.change_rows.specs.Marks.{is_in};
-ghost use Rattle.change_rows.specs.Rows.{Table, words_at, overlaid, repeated, IsWhole};
+ghost use Rattle.change_rows.specs.Marks.{is_one, is_in};
+ghost use Rattle.change_rows.specs.Rows.{Table, words_at, overlaid, replaced, filled, repeated, IsWhole};
 
 use crate::cells::Cells;
-use crate::changes::{Changes, begins_in, next_begin, words_in};
+use crate::changes::{Changes, begin_word, begins_in, next_begin, next_of, words_in};
 use crate::edit::{Buffers, put};
+use crate::fill::fill;
 use crate::grow::{cut, grow};
 use crate::marks::Marks;
 use crate::run::repeat;
+use crate::source::Source;
+use crate::sourced::put_from;
 use std::alloc::{AllocError, Global};
 use std::marker::Model;
 
@@ -108,6 +111,31 @@ impl Rows {
         next_begin(&self.changes, t, end, set)
     }
 
+    /// The first row from t on, and before `to`, at which a component may begin, or else where such rows end. In all rows before that one
+    /// it holds what it holds in the row before them.
+    pub fn next_of(&self, t: u32, to: u32, c: u32) -> u32
+        ensures from { t ≤ result }
+        ensures to { t ≤ to → result ≤ to }
+        ensures steady { (u : ℕ) → t ≤ u → u < result → (0 < u) × (words_at self.now.rows u c ≡ words_at self.now.rows (u - 1) c) }
+    {
+        if t == 0 || c >= self.changes.width {
+            return t;
+        }
+        let end = to.min(self.changes.rows.len() as u32);
+        next_of(&self.changes, t, end, c)
+    }
+
+    /// Of the 64 components of a word those at which other words may begin in row t than they hold a cycle before. Where a bit is 0
+    /// the component holds the same; there may be such components besides.
+    pub fn begin_word(&self, t: u32, w: usize) -> u64
+        ensures { (c : ℕ) → c / 64 ≡ w → c < self.now.width → is_one result (c % 64) ≡ false → (0 < t) × (words_at self.now.rows t c ≡ words_at self.now.rows (t - 1) c) }
+    {
+        if t == 0 || t as usize >= self.changes.rows.len() || w >= self.changes.marks.len() {
+            return u64::MAX;
+        }
+        begin_word(&self.changes, t as usize, w)
+    }
+
     /// Rows more, whose cells have no words.
     ///
     /// # Errors
@@ -161,6 +189,60 @@ impl Rows {
             to as usize - 1,
             set,
         )?;
+        Ok(())
+    }
+
+    /// The components of a set hold in row t the words that a source has for them, and all other cells of all rows hold what they held.
+    /// Of `changed` those components are then the members that held other words. Both have a bit for each component, 64 in a word; a
+    /// bit behind the last component means nothing.
+    ///
+    /// # Errors
+    ///
+    /// Where a growth was refused. All cells hold what they held.
+    pub fn put_from<S: Source>(
+        &mut self,
+        t: u32,
+        set: &[u64],
+        source: &S,
+        changed: &mut [u64],
+    ) -> Result<(), AllocError>
+        requires row { t < length self.old.rows }
+        requires changed { length changed.old ≡ length set.now }
+        requires has { (c : ℕ) → c < self.old.width → is_in set.now c ≡ true → S.has source.now c }
+        requires still { (c : ℕ) → c < self.old.width → is_in set.now c ≡ true → S.still source.now c ≡ true → (0 < t) × (S.words source.now c ≡ words_at self.old.rows (t - 1) c) }
+        ensures row { MatchResult result
+            (λ _. self.new ≡ record { width = self.old.width; rows = slice_set self.old.rows t (replaced (slice_index_or self.old.rows t []) set.now (S.words source.now)) })
+            (λ _. self.new ≡ self.old) }
+        ensures changed { OnOk result ((c : ℕ) → is_in changed.new c ≡ true → (c < self.old.width) × (is_in set.now c ≡ true) × (words_at self.old.rows t c ≡ S.words source.now c → ⊥)) }
+        ensures same { OnOk result ((c : ℕ) → c < self.old.width → is_in set.now c ≡ true → is_in changed.new c ≡ false → words_at self.old.rows t c ≡ S.words source.now c) }
+    {
+        put_from(
+            &mut self.changes,
+            &mut self.buffers,
+            t as usize,
+            set,
+            source,
+            changed,
+        )?;
+        Ok(())
+    }
+
+    /// All components hold in row t the words that a source has for them, where they held none there; all other rows hold what they
+    /// held.
+    ///
+    /// # Errors
+    ///
+    /// Where a growth was refused. All cells hold what they held.
+    pub fn fill<S: Source>(&mut self, t: u32, source: &S) -> Result<(), AllocError>
+        requires row { t < length self.old.rows }
+        requires none { (c : ℕ) → c < self.old.width → words_at self.old.rows t c ≡ [] }
+        requires has { (c : ℕ) → c < self.old.width → S.has source.now c }
+        requires still { (c : ℕ) → c < self.old.width → S.still source.now c ≡ true → (0 < t) × (S.words source.now c ≡ words_at self.old.rows (t - 1) c) }
+        ensures { MatchResult result
+            (λ _. self.new ≡ record { width = self.old.width; rows = slice_set self.old.rows t (filled self.old.width (S.words source.now)) })
+            (λ _. self.new ≡ self.old) }
+    {
+        fill(&mut self.changes, &mut self.buffers, t as usize, source)?;
         Ok(())
     }
 

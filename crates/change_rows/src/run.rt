@@ -8,19 +8,10 @@ ghost use Rattle.change_rows.specs.Changes.{row_at, begins_at, IsChanges};
 use crate::cells::Cells;
 use crate::changes::{Changes, is_change, put_cells, words_in};
 use crate::edit::{Buffers, push_other, settle};
-use crate::marks::{has_any, has_bit};
+use crate::marks::has_any;
+use crate::sets::is_member;
 use std::alloc::{AllocError, Global};
 use std::mem;
-
-/// Whether a set has a component.
-fn is_member(set: &[u64], c: u32) -> bool
-    ensures { result ≡ is_in set.now c }
-{
-    match set.get(c as usize / 64) {
-        Some(word) => has_bit(*word, c % 64),
-        None => false,
-    }
-}
 
 /// The cells of whose components a set has none.
 ///

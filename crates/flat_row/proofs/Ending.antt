@@ -2,7 +2,7 @@
 use Rattle.std.proofs.Common.{◌≡◌, ℕ, ◌+◌, ◌<◌, ◌≤◌, Bool, true, false, cond, List, [], length, refl, ap, sym, ◌∙◌, subst, ◌⊎◌, inl, inr, Option, None, Some, arith}
 use Rattle.std.proofs.Math.ListN.{set, length-set}
 use Rattle.std.proofs.lemmas.List.{get_or-set_same, get_or-set_other, get_or_past}
-use Rattle.std.proofs.lemmas.Bool.{cases_lt, eqb-true, eq-eqb, lt-ltb, le-ltb}
+use Rattle.std.proofs.lemmas.Bool.{cases_lt, eqb-true, eq-eqb, ne_eqb, lt-ltb, le-ltb}
 use Rattle.std.specs.Prelude.{◌==◌, ◌&&◌, IsSome}
 use Rattle.arrayvec.specs.ArrayVec.{ArrayVec}
 use Rattle.omega_net.specs.declared.message.Request.{Request}
@@ -11,12 +11,13 @@ use Rattle.omega_net.specs.Queues.{head, without_head, joined}
 use Rattle.omega_net.specs.Ports.{queue_at, empty}
 use Rattle.mem_module.specs.declared.words.Stored.{Stored}
 use Rattle.mem_module.specs.MemModule.{answer_to, words_after}
-use Rattle.flat_row.specs.Masks.{has}
+use Rattle.flat_row.specs.Masks.{has, IsSetOf}
 use Rattle.flat_row.specs.Queues.{Queues, with_queue}
 use Rattle.flat_row.specs.Rows.{if_leaves}
 use Rattle.flat_row.specs.Combining.{SameLevel}
 use Rattle.flat_row.specs.declared.acting.Replies.{Replies}
-use Rattle.flat_row.specs.Ends.{no_reply, reply_at, words_of, AllServed, AreAnswered, AllReceived}
+use Rattle.flat_row.specs.Ends.{no_reply, reply_at, words_of, AllServed, AreAnswered, AllReceived, Wrote}
+use Rattle.flat_row.proofs.Starting.{none_in}
 use Rattle.flat_row.proofs.Carrying.{upto, upto_other, upto_here, upto_later, upto_none, false_true}
 
 -- a queue in which something waits is there
@@ -60,6 +61,12 @@ pub record PartlyServed (modules n : ℕ) (old now : Queues Request) (words amon
   pub stored : (m : ℕ) → m < 64 → words_of among m ≡ words_after (words_of words m) (if_leaves (upto modules n m) (queue_at old.queues m))
   pub answers : (m : ℕ) → m < 64 → upto modules n m ≡ true → Some (reply_at after m) ≡ answer_to (words_of words m) (head (queue_at old.queues m))
 
+pub none_wrote : (words : List (List Stored)) → Wrote 0 words words
+none_wrote words = record { same = λ m s out. refl; other = λ m s told alike. none_in m told }
+
+pub none_within : (modules m : ℕ) → m < 64 → has 0 m ≡ true → has modules m ≡ true
+none_within modules m s told = absurd (none_in m told)
+
 module _ (modules : ℕ) (old : Queues Request) (words : List (List Stored)) where
   pub none_served : (answers : List Reply) → length answers ≡ 64 → PartlyServed modules 0 old old words words answers
   none_served answers long = record {
@@ -97,6 +104,50 @@ module _ (modules : ℕ) (old : Queues Request) (words : List (List Stored)) whe
 
       pub within_words : ((m : ℕ) → m < 64 → has modules m ≡ true → IsSome (head (queue_at old.queues m))) → length old.queues ≤ length words → x < length among
       within_words some le_words = omega (arith, within_now some, partly.same.many, partly.many, le_words)
+
+      -- and what is written
+      module _ (wrote later : ℕ) (next : List (List Stored)) (w : List Stored) (writes : Bool) (words_in : x < length among) (put : next ≡ set among x w)
+          (same : writes ≡ false → w ≡ words_of among x) (other : writes ≡ true → w ≡ words_of among x → ⊥)
+          (is : IsSetOf (λ y. cond (y == x) writes (has wrote y)) later) where
+        at_or_not : (m : ℕ) → (m ≡ x) ⊎ (m ≡ x → ⊥)
+        at_or_not m = by_test (m == x) refl
+          where
+            by_test : (t : Bool) → (m == x) ≡ t → (m ≡ x) ⊎ (m ≡ x → ⊥)
+            by_test true e = inl (eqb-true m x e)
+            by_test false e = inr (λ g. false_true (sym e ∙ eq-eqb m x g))
+
+        words_here : words_of next x ≡ w
+        words_here = ap (λ ws. words_of ws x) put ∙ get_or-set_same among x w [] words_in
+
+        words_other : (m : ℕ) → (m ≡ x → ⊥) → words_of next m ≡ words_of among m
+        words_other m ne = ap (λ ws. words_of ws m) put ∙ get_or-set_other among x m w [] ne
+
+        told_here : has later x ≡ writes
+        told_here = is x small ∙ ap (λ t. cond t writes (has wrote x)) (eq-eqb x x refl)
+
+        told_other : (m : ℕ) → m < 64 → (m ≡ x → ⊥) → has later m ≡ has wrote m
+        told_other m s ne = is m s ∙ ap (λ t. cond t writes (has wrote m)) (ne_eqb m x ne)
+
+        pub one_wrote : Wrote wrote words among → Wrote later words next
+        one_wrote before = record { same = same_now; other = other_now }
+          where
+            same_now : (m : ℕ) → m < 64 → has later m ≡ false → words_of next m ≡ words_of words m
+            same_now m s out = elim (at_or_not m) [
+              | inl e ↦ subst (λ y. words_of next y ≡ words_of words y) (sym e) (words_here ∙ same (sym told_here ∙ ap (has later) (sym e) ∙ out) ∙ words_there)
+              | inr ne ↦ words_other m ne ∙ before.same m s (sym (told_other m s ne) ∙ out)
+            ]
+
+            other_now : (m : ℕ) → m < 64 → has later m ≡ true → words_of next m ≡ words_of words m → ⊥
+            other_now m s told alike = elim (at_or_not m) [
+              | inl e ↦ other (sym told_here ∙ ap (has later) (sym e) ∙ told) (sym words_here ∙ subst (λ y. words_of next y ≡ words_of words y) e alike ∙ sym words_there)
+              | inr ne ↦ before.other m s (sym (told_other m s ne) ∙ told) (sym (words_other m ne) ∙ alike)
+            ]
+
+        pub one_within : ((m : ℕ) → m < 64 → has wrote m ≡ true → has modules m ≡ true) → (m : ℕ) → m < 64 → has later m ≡ true → has modules m ≡ true
+        one_within before m s told = elim (at_or_not m) [
+          | inl e ↦ ap (has modules) e ∙ here
+          | inr ne ↦ before m s (sym (told_other m s ne) ∙ told)
+        ]
 
       module _ (new : Queues Request) (next : List (List Stored)) (later : List Reply) (request : Request) (w : List Stored) (r : Reply)
           (there : x < length now.queues) (words_in : x < length among)

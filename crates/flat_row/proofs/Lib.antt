@@ -14,6 +14,7 @@ pub mod Loading
 pub mod Loaded
 pub mod Placing
 pub mod Remembering
+pub mod Following
 pub mod Wording
 pub mod Forthing
 pub mod Staying
@@ -24,6 +25,7 @@ pub mod Meeting
 pub mod Crossed
 pub mod Staging
 pub mod Ending
+pub mod Writing
 pub mod FirstBit
 pub mod Processing
 pub mod Stepping
@@ -37,3 +39,10 @@ pub mod Still
 pub mod Touching
 pub mod Quiet
 pub mod Stepped
+pub mod Telling
+pub mod Waiting
+pub mod Handed
+pub mod Handing
+pub mod Laters
+pub mod Aside
+pub mod Blank

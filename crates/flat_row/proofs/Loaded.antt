@@ -8,7 +8,7 @@ use Rattle.machine_cells.specs.declared.state.MachineState.{MachineState}
 use Rattle.machine_cells.specs.declared.state.MachineState.TheVariants.{Proc, Module, Low, Comb}
 use Rattle.state_words.specs.Words.{proc_head, module_head, low_head, comb_head}
 use Rattle.state_words.specs.Reading.{proc_from, module_from, low_from, comb_from}
-use Rattle.state_words.specs.States.{IsState, words_of, with_memory}
+use Rattle.machine_cells.specs.Words.{IsState, words_of, with_memory}
 use Rattle.state_words.proofs.Stating.{proc_with, proc_head_is, module_with, module_head_is, low_with, low_head_is, comb_with, comb_head_is}
 use Rattle.flat_row.specs.Row.{Arrays, module_of, proc_of, state_of}
 use Rattle.flat_row.specs.Loading.{CanHold}

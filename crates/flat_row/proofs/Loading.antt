@@ -74,26 +74,26 @@ other_switch k s j t i o u z x lt small il ol ul ne a b same e =
     ne same (omega (arith, line, ol, ul))
 
 -- a low switch, a combining one, a module and a processor by their parts
-abbrev low_made : ArrayVec Request → ArrayVec Request → ℕ → ℕ → ArrayVec Reply → ArrayVec Reply → ℕ → ℕ → LowState
+abbrev pub low_made : ArrayVec Request → ArrayVec Request → ℕ → ℕ → ArrayVec Reply → ArrayVec Reply → ℕ → ℕ → LowState
 low_made a b c d e f g h = record { fwd = a ∷ b ∷ []; turn = c ∷ d ∷ []; rev = e ∷ f ∷ []; rturn = g ∷ h ∷ [] }
 
-low_same : (a a1 b b1 : ArrayVec Request) (c c1 d d1 : ℕ) (e e1 f f1 : ArrayVec Reply) (g g1 h h1 : ℕ)
+pub low_same : (a a1 b b1 : ArrayVec Request) (c c1 d d1 : ℕ) (e e1 f f1 : ArrayVec Reply) (g g1 h h1 : ℕ)
     → a ≡ a1 → b ≡ b1 → c ≡ c1 → d ≡ d1 → e ≡ e1 → f ≡ f1 → g ≡ g1 → h ≡ h1 → low_made a b c d e f g h ≡ low_made a1 b1 c1 d1 e1 f1 g1 h1
 low_same a a1 b b1 c c1 d d1 e e1 f f1 g g1 h h1 i j k l m n o p =
     ap (λ z. low_made z b c d e f g h) i ∙ ap (λ z. low_made a1 z c d e f g h) j ∙ ap (λ z. low_made a1 b1 z d e f g h) k ∙ ap (λ z. low_made a1 b1 c1 z e f g h) l
     ∙ ap (λ z. low_made a1 b1 c1 d1 z f g h) m ∙ ap (λ z. low_made a1 b1 c1 d1 e1 z g h) n ∙ ap (λ z. low_made a1 b1 c1 d1 e1 f1 z h) o ∙ ap (λ z. low_made a1 b1 c1 d1 e1 f1 g1 z) p
 
-abbrev comb_made : ArrayVec Request → ArrayVec Request → ArrayVec Reply → ArrayVec Reply → ArrayVec Waiting → ℕ → ℕ → ℕ → ℕ → CombState
+abbrev pub comb_made : ArrayVec Request → ArrayVec Request → ArrayVec Reply → ArrayVec Reply → ArrayVec Waiting → ℕ → ℕ → ℕ → ℕ → CombState
 comb_made a b c d w e f g n = record { fwd = a ∷ b ∷ []; rev = c ∷ d ∷ []; wait = w; turn = e ∷ f ∷ []; rturn = g; combined = n }
 
-comb_same : (a a1 b b1 : ArrayVec Request) (c c1 d d1 : ArrayVec Reply) (w w1 : ArrayVec Waiting) (e e1 f f1 g g1 n n1 : ℕ)
+pub comb_same : (a a1 b b1 : ArrayVec Request) (c c1 d d1 : ArrayVec Reply) (w w1 : ArrayVec Waiting) (e e1 f f1 g g1 n n1 : ℕ)
     → a ≡ a1 → b ≡ b1 → c ≡ c1 → d ≡ d1 → w ≡ w1 → e ≡ e1 → f ≡ f1 → g ≡ g1 → n ≡ n1 → comb_made a b c d w e f g n ≡ comb_made a1 b1 c1 d1 w1 e1 f1 g1 n1
 comb_same a a1 b b1 c c1 d d1 w w1 e e1 f f1 g g1 n n1 h i j k l m o p q =
     ap (λ z. comb_made z b c d w e f g n) h ∙ ap (λ z. comb_made a1 z c d w e f g n) i ∙ ap (λ z. comb_made a1 b1 z d w e f g n) j ∙ ap (λ z. comb_made a1 b1 c1 z w e f g n) k
     ∙ ap (λ z. comb_made a1 b1 c1 d1 z e f g n) l ∙ ap (λ z. comb_made a1 b1 c1 d1 w1 z f g n) m ∙ ap (λ z. comb_made a1 b1 c1 d1 w1 e1 z g n) o
     ∙ ap (λ z. comb_made a1 b1 c1 d1 w1 e1 f1 z n) p ∙ ap (λ z. comb_made a1 b1 c1 d1 w1 e1 f1 g1 z) q
 
-abbrev module_made : List Stored → ArrayVec Request → ArrayVec Request → ArrayVec Reply → ArrayVec Reply → Net → Bool → ModuleState
+abbrev pub module_made : List Stored → ArrayVec Request → ArrayVec Request → ArrayVec Reply → ArrayVec Reply → Net → Bool → ModuleState
 module_made ws a b c d t v = record { words = ws; requests = a ∷ b ∷ []; replies = c ∷ d ∷ []; turn = t; served = v }
 
 pub module_same : (ws : List Stored) (a a1 b b1 : ArrayVec Request) (c c1 d d1 : ArrayVec Reply) (t t1 : Net) (v v1 : Bool)

@@ -1,10 +1,10 @@
 -- Marks of queues.
-use Rattle.std.proofs.Common.{◌≡◌, ℕ, ◌*◌, ◌%◌, ◌^◌, ◌<◌, ◌≤◌, Bool, true, false, cond, refl, ap, sym, ◌∙◌, subst, inl, inr, List, length, get_or, replicate}
+use Rattle.std.proofs.Common.{◌≡◌, ℕ, ◌+◌, ◌*◌, ◌%◌, ◌^◌, ◌<◌, ◌≤◌, Bool, true, false, cond, refl, ap, sym, ◌∙◌, subst, ◌⊎◌, inl, inr, List, length, get_or, replicate, arith}
 use Rattle.std.proofs.Math.ListN.{set, length-set}
 use Rattle.std.proofs.lemmas.List.{get_or-set_same, get_or-set_other, get_or_default, get_or-replicate, get_or_past, length-replicate}
 use Rattle.std.specs.Prelude.{◌==◌, bit_and, bit_or, [], IsSome}
 use Rattle.std.specs.Int.{bit_not, w64}
-use Rattle.std.proofs.lemmas.Bool.{cases_lt, eq-eqb, eqb-true}
+use Rattle.std.proofs.lemmas.Bool.{cases_lt, eq-eqb, eqb-true, ne_eqb}
 use Rattle.std.proofs.lemmas.Nat.Bits.{bit_at_set_same, bit_at_set_other, bit_at_clear_same, bit_at_clear_other, bit_at_ones, bit_at-zero}
 use Rattle.flat_row.specs.declared.marks.Shown.{Shown}
 use Rattle.flat_row.specs.declared.marks.Marks.{Marks}
@@ -120,3 +120,39 @@ module _ {T : Type 0} where
         | inl h ↦ get_or-replicate lines x empty empty h
         | inr h ↦ get_or_past (replicate lines empty) x empty (subst (λ n. n ≤ x) (sym (length-replicate lines empty)) h)
       ]
+
+  -- the marks of the queues below n, and of the others those of an empty one
+  pub record PartlyMarked (route : T → ℕ) (rule : Rule) (queues : List (ArrayVec T)) (n : ℕ) (marks : Marks) : Type 0 where
+    pub done : (y : ℕ) → y < 64 → y < n → shown_at marks y ≡ shown_of route rule (queue_at queues y).items
+    pub rest : (y : ℕ) → y < 64 → n ≤ y → shown_at marks y ≡ shown_of route rule []
+
+  module _ (route : T → ℕ) (rule : Rule) (queues : List (ArrayVec T)) where
+    pub none_marked : (marks : Marks) → ((y : ℕ) → y < 64 → shown_at marks y ≡ shown_of route rule []) → PartlyMarked route rule queues 0 marks
+    none_marked marks alike = record { done = λ y within h. absurd (omega (arith, h)); rest = λ y within h. alike y within }
+
+    pub one_marked : (n : ℕ) (marks next : Marks) (q : ArrayVec T) (seen : List T) (shown : Shown) → PartlyMarked route rule queues n marks
+        → n < length queues → q ≡ get_or queues n q → seen ≡ q.items → shown ≡ shown_of route rule seen
+        → ((y : ℕ) → y < 64 → shown_at next y ≡ cond (y == n) shown (shown_at marks y)) → PartlyMarked route rule queues (n + 1) next
+    one_marked n marks next q seen shown partly there at same_items is changed = record {
+      done = λ y within h. changed y within ∙ by_test y within h (y == n) refl;
+      rest = λ y within h. changed y within ∙ ap (λ t. cond t shown (shown_at marks y)) (ne_eqb y n (λ e. omega (arith, e, h))) ∙ partly.rest y within (omega (arith, h));
+    }
+      where
+        by_test : (y : ℕ) → y < 64 → y < n + 1 → (t : Bool) → (y == n) ≡ t → cond t shown (shown_at marks y) ≡ shown_of route rule (queue_at queues y).items
+        by_test y within h true e =
+            let same : y ≡ n = eqb-true y n e in
+            is ∙ ap (shown_of route rule) same_items ∙ ap (λ p. shown_of route rule p.items) (found queues n q at there ∙ ap (queue_at queues) (sym same))
+        by_test y within h false e = elim (cases_lt y n) [
+          | inl g ↦ partly.done y within g
+          | inr g ↦ absurd (false_true (sym e ∙ eq-eqb y n (omega (arith, g, h))))
+        ]
+          where
+            false_true : false ≡ true → ⊥
+            false_true e = cc
+
+    pub all_marked : (n : ℕ) (marks : Marks) → length queues ≤ 64 → n ≡ length queues → PartlyMarked route rule queues n marks → AreMarked route rule queues marks
+    all_marked n marks few all partly = record { few = few; marked = λ y within. by_place y within (cases_lt y n) }
+      where
+        by_place : (y : ℕ) → y < 64 → (y < n) ⊎ (n ≤ y) → shown_at marks y ≡ shown_of route rule (queue_at queues y).items
+        by_place y within (inl h) = partly.done y within h
+        by_place y within (inr h) = partly.rest y within h ∙ ap (λ p. shown_of route rule p.items) (sym (get_or_past queues y empty (omega (arith, h, all))))

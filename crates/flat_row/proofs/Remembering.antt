@@ -8,7 +8,7 @@ use Rattle.omega_net.specs.declared.component.Component.TheVariants.{Proc as Pro
 use Rattle.omega_net.specs.Numbers.{Exists}
 use Rattle.mem_module.specs.declared.words.Stored.{Stored}
 use Rattle.machine_cells.specs.declared.state.MachineState.TheVariants.{Module}
-use Rattle.state_words.specs.States.{with_memory}
+use Rattle.machine_cells.specs.Words.{with_memory}
 use Rattle.flat_row.specs.Row.{Arrays, module_of, state_of}
 use Rattle.flat_row.specs.Loading.{OnlyState}
 

@@ -94,7 +94,7 @@ network_of P net = record {
 }
 
 -- no label is in the empty set
-none_in : (x : ℕ) → has 0 x ≡ true → ⊥
+pub none_in : (x : ℕ) → has 0 x ≡ true → ⊥
 none_in x e = false_true (sym (ap (λ b. b == 1) (bit_at-zero x)) ∙ e)
   where
     false_true : false ≡ true → ⊥

@@ -1,5 +1,5 @@
 -- A step of the row, from what its parts promise.
-use Rattle.std.proofs.Common.{◌≡◌, ℕ, zero, suc, ◌+◌, ◌-◌, ◌^◌, ◌<◌, ◌≤◌, Bool, true, false, cond, List, [], ◌∷◌, length, drop, refl, ap, sym, ◌∙◌, subst, inl, inr, None, Some, arith}
+use Rattle.std.proofs.Common.{◌≡◌, ℕ, zero, suc, ◌+◌, ◌-◌, ◌^◌, ◌<◌, ◌≤◌, Bool, true, false, cond, List, [], ◌∷◌, length, drop, refl, ap, sym, ◌∙◌, subst, inl, inr, Option, None, Some, arith}
 use Rattle.std.proofs.Math.Pow.{pow_mono}
 use Rattle.std.proofs.lemmas.List.{get_or_past}
 use Rattle.std.proofs.lemmas.Bool.{cases_lt, eqb-true, eq-eqb}
@@ -22,7 +22,7 @@ use Rattle.machine_cells.specs.declared.state.MachineState.TheVariants.{Proc, Mo
 use Rattle.machine_cells.specs.Moves.{Move, moves}
 use Rattle.machine_cells.specs.Cycle.{cycle, part_of, comb_settings, proc_settings, proc_traffic, module_traffic, switch_traffic}
 use Rattle.ref_proc.specs.RefProc.{proc_after}
-use Rattle.mem_module.specs.MemModule.{words_after, answer_to, module_after}
+use Rattle.mem_module.specs.MemModule.{is_net, served_net, words_after, answer_to, module_after}
 use Rattle.comb_switch.specs.CombSwitch.{comb_after}
 use Rattle.low_switch.specs.LowSwitch.{low_after}
 use Rattle.flat_row.specs.declared.changed.Changed.{Changed}
@@ -36,9 +36,9 @@ use Rattle.flat_row.specs.Row.{Rests, out_from, Network, Buffers, Arrays, IsRow,
 use Rattle.flat_row.specs.Rows.{if_leaves, network}
 use Rattle.flat_row.specs.Moving.{SameShape, AllWait, AllWaitBack, arrival, leaves_forth, forth_after, left_back, leaves_back, back_after}
 use Rattle.flat_row.specs.Stages.{CombForth, HasBuffers, buffers_in}
-use Rattle.flat_row.specs.Ends.{ShowsOne, Stays, reply_at, got_at, words_of, proc_at, shown_with}
+use Rattle.flat_row.specs.Ends.{Wrote, ShowsOne, Stays, reply_at, got_at, words_of, proc_at, shown_with}
 use Rattle.flat_row.specs.Step.{Serves, OnlyModules, BothServed, Departed, BothActed, Returned, CombsReturned, IsPlan}
-use Rattle.flat_row.specs.Changed.{none_changed, SameOutside, crosses, has_combined, AreTouched}
+use Rattle.flat_row.specs.Changed.{none_changed, SameOutside, TellsMemory, crosses, has_combined, AreTouched}
 use Rattle.flat_row.proofs.Passing.{level_within, shape_twice}
 use Rattle.flat_row.proofs.Processing.{label_small, with_out, neither, not_false}
 use Rattle.flat_row.proofs.Staging.{levels_still, buffers_still}
@@ -104,6 +104,16 @@ module _ (P : Project) (isp : IsProject P) (R : Arrays) (row : IsRow R) (of : Is
 
   pub comb_wide_of : (m : ℕ) → m < 64 → has served.comb m ≡ true → m < lines P.k
   comb_wide_of m small has_it = subst (λ k. m < lines k) of.size (comb_wide m small has_it)
+
+  -- no module serves both networks
+  pub serve_apart : (m : ℕ) → m < 64 → has served.low m ≡ true → has served.comb m ≡ true → ⊥
+  serve_apart m small low_so comb_so =
+      let within = comb_wide_of m small comb_so in by_net (served_net (module_of R m) (depth_of P ModuleQueue)) (sym (serves.low_so m within) ∙ low_so) (sym (serves.comb_so m within) ∙ comb_so)
+    where
+      by_net : (n : Option Net) → is_net LowNet n ≡ true → is_net CombNet n ≡ true → ⊥
+      by_net None e f = cc
+      by_net (Some LowNet) e f = cc
+      by_net (Some CombNet) e f = cc
 
   pub has_buffers : HasBuffers P.k (lines P.k) R.buffers
   has_buffers = subst (λ k. HasBuffers k (lines k) R.buffers) of.size (record { many = row.buffers; each = row.entries })
@@ -448,9 +458,9 @@ module _ (P : Project) (isp : IsProject P) (R : Arrays) (row : IsRow R) (of : Is
           new_states = cycle_is P R new of.size of.size each_part
 
           -- outside of where something moves, of marks that fall and of the processors that don't rest, all is as it was
-          module _ (touched : Changed) (are : AreTouched R.k R served low comb touched) (set : ℕ) (awake : IsSetOf (λ p. not (has rests p) || has touched.procs p) set) where
+          module _ (touched : Changed) (are : AreTouched R.k R served low comb touched) (set wrote : ℕ) (awake : IsSetOf (λ p. not (has rests p) || has touched.procs p) set) where
             abbrev changed : Changed
-            changed = record touched { procs = set }
+            changed = record touched { procs = set; wrote = wrote }
 
             here : AreTouched P.k R served low comb touched
             here = subst (λ k. AreTouched k R served low comb touched) of.size are
@@ -499,6 +509,9 @@ module _ (P : Project) (isp : IsProject P) (R : Arrays) (row : IsRow R) (of : Is
                 ∙ ap (λ t. Comb (comb_after (comb_settings P s) t (comb_of R.k R.comb s j (wait_of (buffers_at R s) (switch_label R.k s j)) (combined_of (buffers_at R s) (switch_label R.k s j)))))
                 (is_quiet P few R CombNet comb comb_plan s j h.0 h.1 n.0)
                 ∙ ap (λ c. Comb (comb_of R.k R.comb s j (wait_of (buffers_at R s) (switch_label R.k s j)) c)) (sym none)
+
+            pub memory : Wrote wrote R.words W → TellsMemory P.k changed R new
+            memory written = record { same = λ m within. written.same m (small_line m within); other = λ m within. written.other m (small_line m within) }
 
             pub still : none_changed changed ≡ true → states_of new ≡ states_of R
             still e = states_alike R new P.k of.size of.size (λ x h. outside x h (none_in P.k changed e x))

@@ -1,16 +1,16 @@
 -- What a step changes of a row: sets of components, outside of which each is as it was.
-use Rattle.std.specs.Prelude.{◌≡◌, ℕ, suc, ◌-◌, ◌<◌, ◌==◌, ◌&&◌, ◌||◌, Bool, false, Some, slice_index_or}
+use Rattle.std.specs.Prelude.{◌≡◌, ℕ, suc, ◌-◌, ◌<◌, ◌==◌, ◌&&◌, ◌||◌, Bool, true, false, Some, slice_index_or}
 use Rattle.omega_net.specs.declared.component.Net.TheVariants.{Low as LowNet, Comb as CombNet}
 use Rattle.omega_net.specs.declared.component.Component.{Component}
 use Rattle.omega_net.specs.declared.component.Component.TheVariants.{Proc as ProcAt, Module as ModuleAt, Switch}
-use Rattle.omega_net.specs.Numbers.{Exists}
+use Rattle.omega_net.specs.Numbers.{lines, Exists}
 use Rattle.omega_net.specs.Wires.{bit}
 use Rattle.flat_row.specs.declared.changed.Changed.{Changed}
 use Rattle.flat_row.specs.declared.decide.Served.{Served}
 use Rattle.flat_row.specs.declared.leaving.Plan.{Plan}
 use Rattle.flat_row.specs.Labels.{port, switch_label}
 use Rattle.flat_row.specs.Masks.{has, are_empty, IsSetOf}
-use Rattle.flat_row.specs.Row.{Arrays, Buffers, buffers_at, state_of}
+use Rattle.flat_row.specs.Row.{Arrays, Buffers, buffers_at, module_of, state_of}
 use Rattle.flat_row.specs.Moving.{leaves_forth, leaves_back}
 
 -- whether a component of a machine of 2^k processors is in these sets: a switch by its label of port 0
@@ -27,6 +27,11 @@ none_changed c = (c.procs == 0) && ((c.modules == 0) && (are_empty c.low && are_
 -- outside of these sets each component of the machine is as it was
 abbrev pub SameOutside : ℕ → Changed → Arrays → Arrays → Type 0
 SameOutside k changed old new = (c : Component) → Exists k c → has_changed k changed c ≡ false → state_of new (Some c) ≡ state_of old (Some c)
+
+-- the modules that are said to have written, and no others of the machine, have other words of memory than before
+pub record TellsMemory (k : ℕ) (c : Changed) (old new : Arrays) : Type 0 where
+  pub same : (m : ℕ) → m < lines k → has c.wrote m ≡ false → (module_of new m).words ≡ (module_of old m).words
+  pub other : (m : ℕ) → m < lines k → has c.wrote m ≡ true → (module_of new m).words ≡ (module_of old m).words → ⊥
 
 -- whether a message comes to a switch of a stage at the port of a label, or leaves it there, by what leaves the levels
 abbrev pub passes : ℕ → Plan → ℕ → ℕ → Bool

@@ -34,6 +34,11 @@ pub record AllServed (modules : ℕ) (old new : Queues Request) (words next : Li
   pub stored : (m : ℕ) → m < 64 → words_of next m ≡ words_after (words_of words m) (if_leaves (has modules m) (queue_at old.queues m))
   pub made : (m : ℕ) → m < 64 → has modules m ≡ true → Some (reply_at answers m) ≡ answer_to (words_of words m) (head (queue_at old.queues m))
 
+-- the modules of a set, and no others, have other words than before
+pub record Wrote (set : ℕ) (words next : List (List Stored)) : Type 0 where
+  pub same : (m : ℕ) → m < 64 → has set m ≡ false → words_of next m ≡ words_of words m
+  pub other : (m : ℕ) → m < 64 → has set m ≡ true → words_of next m ≡ words_of words m → ⊥
+
 -- the answers of these modules wait
 abbrev pub AreAnswered : ℕ → List Reply → Queues Reply → Queues Reply → Type 0
 AreAnswered modules answers old new = (m : ℕ) → m < 64 → queue_at new.queues m ≡ joined (queue_at old.queues m) (if has modules m then Some (reply_at answers m) else None)

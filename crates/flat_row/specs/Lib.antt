@@ -15,3 +15,5 @@ pub mod Looks
 pub mod Changed
 pub mod Parts
 pub mod Loading
+pub mod Follow
+pub mod Next

@@ -227,7 +227,7 @@ fn issued(next: &ProcState) -> Option<Outgoing>
 }
 
 /// What a processor reads of a project where its script has come to that index.
-fn proc_settings(project: &Project, proc: u8, index: u16) -> ProcSettings
+pub(crate) fn proc_settings(project: &Project, proc: u8, index: u16) -> ProcSettings
     ensures { result ≡ proc_settings project.now proc index }
 {
     let entry = project.entry(u32::from(proc), u32::from(index));

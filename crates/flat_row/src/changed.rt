@@ -15,13 +15,15 @@ use crate::row::Row;
 use omega_net::{Component, Net, Shape};
 
 /// Sets of components, a bit for each: processors and modules by number, the switches of each network by stage and the label of
-/// port 0.
+/// port 0; and the modules that wrote.
 #[derive(Clone, Copy, Debug)]
 pub struct Changed {
     pub procs: u64,
     pub modules: u64,
     pub low: [u64; 6],
     pub comb: [u64; 6],
+    /// Those in which a word of memory is another one.
+    pub wrote: u64,
 }
 
 impl Changed {
@@ -48,6 +50,14 @@ impl Changed {
         }
     }
 
+    /// Whether a word of a module's memory is another one.
+    pub fn has_written(&self, m: u32) -> bool
+        requires { m < 64 }
+        ensures { result ≡ has self.now.wrote m }
+    {
+        has(self.wrote, m)
+    }
+
     /// Whether nothing is in the sets.
     pub fn is_empty(&self) -> bool
         ensures { result ≡ none_changed self.now }
@@ -69,7 +79,7 @@ fn has_switch(sets: &[u64; 6], shape: Shape, stage: u32, index: u32) -> bool
 }
 
 impl Row {
-    /// Where something moves in a cycle, or a mark of the cycle before falls.
+    /// Where something moves in a cycle, or a mark of the cycle before falls. What modules write isn't told.
     pub(crate) fn touched(&self, served: &Served, low: &Plan, comb: &Plan) -> Changed
         ensures { AreTouched self.now.k self.now served.now low.now comb.now result }
     {
@@ -83,6 +93,7 @@ impl Row {
             modules: (serving | entering) | leaving,
             low: crossed(shape, low),
             comb: self.combs_crossed(comb),
+            wrote: 0,
         }
     }
 

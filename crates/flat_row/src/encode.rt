@@ -6,24 +6,26 @@ ghost use Rattle.omega_net.specs.declared.component.Component.TheVariants.{Proc 
 ghost use Rattle.omega_net.specs.declared.component.Net.TheVariants.{Low as LowNet, Comb as CombNet};
 ghost use Rattle.omega_net.specs.Wires.{net_number};
 ghost use Rattle.ref_proc.specs.RefProc.{net_for};
-ghost use Rattle.state_words.specs.States.{words_of};
-ghost use Rattle.state_words.specs.Words.{one_if};
+ghost use Rattle.grid_law.specs.Codec.{IsTold};
+ghost use Rattle.machine_cells.specs.Codec.{rp3_codec};
+ghost use Rattle.machine_cells.specs.Words.{words_of};
+ghost use Rattle.state_words.specs.Words.{bytes, one_if};
 ghost use Rattle.flat_row.specs.Masks.{has};
 ghost use Rattle.flat_row.specs.Parts.{parts_body, parts_words};
-ghost use Rattle.flat_row.specs.Row.{state_of};
+ghost use Rattle.flat_row.specs.Row.{buffers_at, combined_of, state_of, turn_of};
 
 use crate::bits::bit_in;
 use crate::read::{messages_at, ports};
 use crate::row::Row;
 use comb_switch::Waiting;
-use machine_cells::MachineState;
+use machine_cells::{MachineState, encode};
 use omega_net::{Component, Net, Reply, Request};
-use state_words::{bytes, encode, queues_head, write_messages};
+use state_words::{bytes, queues_head, write_messages};
 use std::alloc::AllocError;
 
 impl Row {
-    /// Appends the words of a component's state, as [`state_words::encode`] writes them: a module's memory is not among them. It takes
-    /// memory only where there is no room for them.
+    /// Appends the words of a component's state, as [`machine_cells::encode`] writes them: a module's memory is not among them. With its
+    /// memory they tell it. It takes memory only where there is no room for them.
     ///
     /// # Errors
     ///
@@ -33,7 +35,9 @@ impl Row {
         ensures ok { OnOk result (words.new.items ≡ words.old.items ++ words_of (state_of self.now (Some component))) }
         ensures err { OnErr result (words.new.items ≡ words.old.items) }
         ensures room { vec_len words.old + length (words_of (state_of self.now (Some component))) ≤ vec_capacity words.old → IsOk result }
+        ensures told { IsTold rp3_codec (state_of self.now (Some component)) }
     {
+        self.is_told(component);
         match component {
             Component::Proc(p) => self.proc_words(u32::from(p), words),
             Component::Module(m) => self.module_words(u32::from(m), words),
@@ -73,8 +77,6 @@ impl Row {
         let comb_requests = messages_at(&self.comb.requests, k + 1, m);
         let low_replies = messages_at(&self.low.replies, k, m);
         let comb_replies = messages_at(&self.comb.replies, k, m);
-        let turn = bit_in(self.module_turns, m) as u64;
-        let served = bit_in(self.served, m) as u64;
         write_parts(
             words,
             1,
@@ -83,7 +85,7 @@ impl Row {
             low_replies,
             comb_replies,
             &[],
-            turn + 2 * served,
+            self.module_small(m),
         )
     }
 
@@ -102,14 +104,16 @@ impl Row {
         let second = messages_at(&side.requests, s + 1, y);
         let first_back = messages_at(&side.replies, s, x);
         let second_back = messages_at(&side.replies, s, y);
-        let (turns, back) = (side.turns[s], side.back_turns[s]);
-        let turns = bytes(
-            bit_in(turns, x),
-            bit_in(turns, y),
-            bit_in(back, x),
-            bit_in(back, y),
-        );
-        write_parts(words, 2, first, second, first_back, second_back, &[], turns)
+        write_parts(
+            words,
+            2,
+            first,
+            second,
+            first_back,
+            second_back,
+            &[],
+            self.low_small(s, x, y),
+        )
     }
 
     /// Appends the words of a combining switch.
@@ -128,12 +132,6 @@ impl Row {
         let second = messages_at(&side.requests, s + 1, y);
         let first_back = messages_at(&side.replies, s, x);
         let second_back = messages_at(&side.replies, s, y);
-        let small = bytes(
-            bit_in(side.turns[s], x),
-            bit_in(side.turns[s], y),
-            bit_in(side.back_turns[s], x),
-            bit_in(waits.once, x) + bit_in(waits.twice, x),
-        );
         write_parts(
             words,
             3,
@@ -142,7 +140,53 @@ impl Row {
             first_back,
             second_back,
             waits.entries[x as usize].as_slice(),
-            small,
+            self.comb_small(s, x, y),
+        )
+    }
+
+    /// What is small of a module: whose turn it is, and whether it served.
+    pub(crate) fn module_small(&self, m: u32) -> u64
+        requires { m < lines self.now.k }
+        ensures value { result ≡ net_number (net_for (has self.now.module_turns m)) + 2 * one_if (has self.now.served m) }
+        ensures fits { result < 2 ^ 32 }
+    {
+        self.is_row();
+        bit_in(self.module_turns, m) as u64 + 2 * bit_in(self.served, m) as u64
+    }
+
+    /// What is small of a low switch: its turns and its turns back.
+    pub(crate) fn low_small(&self, s: usize, x: u32, y: u32) -> u64
+        requires stage { s < self.now.k }
+        requires labels { (x < 64) × (y < 64) }
+        ensures value { result ≡ bytes (turn_of self.now.low.turns s x) (turn_of self.now.low.turns s y) (turn_of self.now.low.back_turns s x) (turn_of self.now.low.back_turns s y) }
+        ensures fits { result < 2 ^ 32 }
+    {
+        self.is_row();
+        let side = &self.low;
+        let (turns, back) = (side.turns[s], side.back_turns[s]);
+        bytes(
+            bit_in(turns, x),
+            bit_in(turns, y),
+            bit_in(back, x),
+            bit_in(back, y),
+        )
+    }
+
+    /// What is small of a combining switch: its turns, its turn back, and how many requests it combined.
+    pub(crate) fn comb_small(&self, s: usize, x: u32, y: u32) -> u64
+        requires stage { s < self.now.k }
+        requires labels { (x < 64) × (y < 64) }
+        ensures value { result ≡ bytes (turn_of self.now.comb.turns s x) (turn_of self.now.comb.turns s y) (turn_of self.now.comb.back_turns s x) (combined_of (buffers_at self.now s) x) }
+        ensures fits { result < 2 ^ 32 }
+    {
+        self.is_row();
+        let side = &self.comb;
+        let waits = &self.waits[s];
+        bytes(
+            bit_in(side.turns[s], x),
+            bit_in(side.turns[s], y),
+            bit_in(side.back_turns[s], x),
+            bit_in(waits.once, x) + bit_in(waits.twice, x),
         )
     }
 }
@@ -150,7 +194,7 @@ impl Row {
 /// Appends the words of a module or a switch: of its kind, of the requests and the replies that wait at its ports, of the entries of its
 /// wait buffer, and of what is small.
 #[tactic(auto, using(crate::proofs::Encoding::parts_long))]
-fn write_parts(
+pub(crate) fn write_parts(
     words: &mut Vec<u64>,
     kind: u64,
     first: &[Request],

@@ -161,7 +161,7 @@ impl Row {
     }
 
     /// The requests that leave before a stage.
-    fn requests_at(&self, project: &Project, net: Net, stage: u32) -> Decided
+    pub(crate) fn requests_at(&self, project: &Project, net: Net, stage: u32) -> Decided
         requires of { IsRowOf project.now self.now }
         requires stage { stage < project.now.k }
         ensures { StageForth project.now self.now net stage result.leave result.turn }
@@ -178,7 +178,7 @@ impl Row {
 
     /// The replies that leave behind a stage: apart on the low network, where each queue takes them by itself, and together on the
     /// combining one.
-    fn replies_at(&self, project: &Project, net: Net, stage: u32) -> Decided
+    pub(crate) fn replies_at(&self, project: &Project, net: Net, stage: u32) -> Decided
         requires of { IsRowOf project.now self.now }
         requires stage { stage < project.now.k }
         ensures { StageBack project.now self.now net stage result.leave result.turn }

@@ -5,7 +5,7 @@ ghost use Rattle.omega_net.specs.Limits.{queue_places};
 ghost use Rattle.omega_net.specs.Queues.{head, without_head, joined};
 ghost use Rattle.flat_row.specs.Masks.{has, IsSetOf};
 ghost use Rattle.state_words.specs.Reading.{after, queue_from};
-ghost use Rattle.flat_row.specs.Queues.{shown_of, shown_at, asks_one, with_queue};
+ghost use Rattle.flat_row.specs.Queues.{AreMarked, shown_of, shown_at, asks_one, with_queue};
 
 use crate::marks::{Marks, Routed, Rule, shown_by, with_shown};
 use crate::queue::Places;
@@ -105,6 +105,28 @@ impl<T: Routed> Level<T> {
         self.marks = with_shown(self.marks, x, shown);
     }
 
+    /// Asks the same queues by another rule.
+    pub fn follow(&mut self, rule: Rule)
+        ensures { self.new ≡ record self.old { rule = rule } }
+    {
+        if rule != self.rule {
+            self.marks = marks_of(rule, &self.queues);
+            self.rule = rule;
+        }
+    }
+
+    /// Puts these messages in the place of a queue's.
+    pub fn copy(&mut self, x: u32, messages: &[T])
+        requires there { x < length self.old.queues }
+        requires few { length messages.now ≤ queue_places }
+        ensures { self.new ≡ with_queue self.old x (record { items = messages.now }) }
+    {
+        let queue = &mut self.queues[x as usize];
+        queue.copy(messages);
+        let shown = shown_by(self.rule, queue.as_slice());
+        self.marks = with_shown(self.marks, x, shown);
+    }
+
     /// Puts another message in the place of one.
     pub fn set(&mut self, x: u32, index: usize, message: T)
         requires there { x < length self.old.queues }
@@ -162,6 +184,19 @@ fn empty_marks<T: Routed>(rule: Rule) -> Marks
         two: all_or_none(shown.two),
         one: all_or_none(shown.one),
     }
+}
+
+/// What these queues show, by label; a label without one shows what an empty queue does.
+fn marks_of<T: Routed>(rule: Rule, queues: &[Places<T>]) -> Marks
+    requires { length queues.now ≤ 64 }
+    ensures { AreMarked T.route rule queues.now result }
+{
+    let mut marks = empty_marks::<T>(rule);
+    for x in 0..queues.len() {
+        let shown = shown_by(rule, queues[x].as_slice());
+        marks = with_shown(marks, x as u32, shown);
+    }
+    marks
 }
 
 /// All labels, or none.

@@ -11,7 +11,7 @@ ghost use Rattle.project_book.specs.Project.{Project};
 ghost use Rattle.ref_proc.specs.RefProc.{out_on};
 ghost use Rattle.state_words.specs.Messages.{request_from, reply_from, wait_from};
 ghost use Rattle.state_words.specs.Reading.{after, after_replies, queue_from, count_in, proc_from, module_from, low_from, comb_from};
-ghost use Rattle.state_words.specs.States.{IsState, words_of, memory_of, with_memory};
+ghost use Rattle.machine_cells.specs.Words.{IsState, words_of, memory_of, with_memory};
 ghost use Rattle.flat_row.specs.Loading.{AreBits, CanHold, OnlyState, PortsPut, RepliesPut, RequestsPut, TurnPut, TurnsPut, with_at};
 ghost use Rattle.flat_row.specs.Moving.{SameShape};
 ghost use Rattle.flat_row.specs.Row.{IsRowOf, combined_of, level_at, module_of, proc_of, queue_of, state_of, states_of};

@@ -77,6 +77,18 @@ impl<T> Places<T> {
         self.messages.clear();
     }
 
+    /// Puts these messages in the place of those that wait.
+    pub fn copy(&mut self, messages: &[T])
+    where
+        T: Copy,
+        requires { length messages.now ≤ queue_places }
+        ensures { self.new ≡ record { items = messages.now } }
+    {
+        self.messages.clear();
+        // The places are there, so nothing grows and nothing is refused.
+        let _ = self.messages.extend_from_slice(messages);
+    }
+
     /// Puts one message, or none, in the place of those that wait.
     pub fn hold(&mut self, message: Option<T>)
     where

@@ -4,7 +4,7 @@ ghost use Rattle.omega_net.specs.Numbers.{lines, half, Exists};
 ghost use Rattle.omega_net.specs.Wires.{bit};
 ghost use Rattle.omega_net.specs.declared.component.Component.TheVariants.{Module as ModuleAt};
 ghost use Rattle.mem_module.specs.Memory.{IsAscending};
-ghost use Rattle.state_words.specs.States.{with_memory};
+ghost use Rattle.machine_cells.specs.Words.{with_memory};
 ghost use Rattle.flat_row.specs.Labels.{switch_label};
 ghost use Rattle.flat_row.specs.Loading.{AreBits, CanHold, OnlyState};
 ghost use Rattle.flat_row.specs.Row.{buffers_at, comb_of, combined_of, low_of, module_of, proc_of, state_of, wait_of};

@@ -81,7 +81,7 @@ fn reply_levels(alloc: Global, project: &Project, net: Net) -> Result<Vec<Level<
 }
 
 /// What the queues of a level of requests are asked.
-fn request_rule(project: &Project, net: Net, level: u32) -> Rule
+pub(crate) fn request_rule(project: &Project, net: Net, level: u32) -> Rule
     ensures { result ≡ request_rule project.now net level }
 {
     let k = project.k();
@@ -98,7 +98,7 @@ fn request_rule(project: &Project, net: Net, level: u32) -> Rule
 }
 
 /// What the queues of a level of replies are asked.
-fn reply_rule(project: &Project, net: Net, level: u32) -> Rule
+pub(crate) fn reply_rule(project: &Project, net: Net, level: u32) -> Rule
     requires { level ≤ project.now.k }
     ensures { result ≡ reply_rule project.now net level }
 {

@@ -1,16 +1,16 @@
 //! One network in a step.
-ghost use Rattle.std.specs.Prelude.{◌≡◌, ℕ, suc, ◌+◌, ◌<◌, ◌≤◌, length, IsSome, true, false, OnOk};
+ghost use Rattle.std.specs.Prelude.{◌≡◌, ℕ, suc, ◌+◌, ◌<◌, ◌≤◌, length, IsSome, true, false, IfOk, OnOk};
 ghost use Rattle.omega_net.specs.Numbers.{lines};
 ghost use Rattle.omega_net.specs.Queues.{head};
 ghost use Rattle.flat_row.specs.Masks.{has};
 ghost use Rattle.flat_row.specs.Row.{HasLevels, level_at, queue_of};
 ghost use Rattle.flat_row.specs.Moving.{AllWait, AllWaitBack, forth_after, back_after};
 ghost use Rattle.flat_row.specs.Stages.{HasBuffers, CombForth, CombBack};
-ghost use Rattle.flat_row.specs.Ends.{AllServed, ShowsOne, Stays, shown_with};
+ghost use Rattle.flat_row.specs.Ends.{AllServed, Wrote, ShowsOne, Stays, shown_with};
 ghost use Rattle.flat_row.specs.Step.{OnlyModules, NetReceived, NetAnswered, OnlyRequests, OnlyReplies, BothActed, BothServed, Departed, Returned, CombsReturned};
 
 use crate::acting::{Replies, act_all, receive};
-use crate::bits::are_empty;
+use crate::bits::{are_empty, either};
 use crate::decide::Served;
 use crate::leaving::Plan;
 use crate::moving::{move_back, move_forth};
@@ -25,7 +25,7 @@ use project_book::Project;
 use ref_proc::ProcState;
 
 impl Side {
-    /// Modules serve the heads of their requests.
+    /// Modules serve the heads of their requests: those that left another word.
     ///
     /// # Errors
     ///
@@ -36,13 +36,15 @@ impl Side {
         words: &mut Vec<Words>,
         modules: u64,
         answers: &mut [Reply; 64],
-    ) -> Result<(), NoMemory>
+    ) -> Result<u64, NoMemory>
         requires levels { HasLevels (shape + 2) (lines shape) self.old.requests }
         requires some { (m : ℕ) → m < 64 → has modules m ≡ true → IsSome (head (queue_of self.old.requests (suc shape) m)) }
         requires there { lines shape ≤ length words.old.items }
         ensures only { OnlyModules shape self.old self.new }
         ensures many { length words.new.items ≡ length words.old.items }
         ensures served { OnOk result (AllServed modules (level_at self.old.requests (suc shape)) (level_at self.new.requests (suc shape)) words.old.items words.new.items answers.new) }
+        ensures wrote { IfOk result (λ wrote. Wrote wrote words.old.items words.new.items) }
+        ensures within { IfOk result (λ wrote. (m : ℕ) → m < 64 → has wrote m ≡ true → has modules m ≡ true) }
     {
         let last = shape.k() as usize + 1;
         let level = &mut self.requests[last];
@@ -220,7 +222,7 @@ impl Side {
     }
 }
 
-/// Modules serve both networks, the low one first.
+/// Modules serve both networks, the low one first: those that left another word.
 ///
 /// # Errors
 ///
@@ -233,19 +235,22 @@ pub(crate) fn serve_both(
     served: &Served,
     low_answers: &mut [Reply; 64],
     comb_answers: &mut [Reply; 64],
-) -> Result<(), NoMemory>
+) -> Result<u64, NoMemory>
     requires low { HasLevels (shape + 2) (lines shape) low.old.requests }
     requires comb { HasLevels (shape + 2) (lines shape) comb.old.requests }
     requires low_some { (m : ℕ) → m < 64 → has served.now.low m ≡ true → IsSome (head (queue_of low.old.requests (suc shape) m)) }
     requires comb_some { (m : ℕ) → m < 64 → has served.now.comb m ≡ true → IsSome (head (queue_of comb.old.requests (suc shape) m)) }
     requires there { lines shape ≤ length words.old.items }
+    requires apart { (m : ℕ) → m < 64 → has served.now.low m ≡ true → has served.now.comb m ≡ true → ⊥ }
     ensures low { OnlyModules shape low.old low.new }
     ensures comb { OnlyModules shape comb.old comb.new }
     ensures many { length words.new.items ≡ length words.old.items }
     ensures both { OnOk result (BothServed shape served.now.low served.now.comb low.old low.new comb.old comb.new words.old.items words.new.items low_answers.new comb_answers.new) }
+    ensures wrote { IfOk result (λ wrote. Wrote wrote words.old.items words.new.items) }
 {
-    low.serve(shape, words, served.low, low_answers)?;
-    comb.serve(shape, words, served.comb, comb_answers)
+    let low_wrote = low.serve(shape, words, served.low, low_answers)?;
+    let comb_wrote = comb.serve(shape, words, served.comb, comb_answers)?;
+    Ok(either(low_wrote, comb_wrote))
 }
 
 /// The processors that may act do, and show on both networks: which processors have stayed as they were, and rest.

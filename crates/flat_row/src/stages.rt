@@ -117,7 +117,7 @@ fn stage_back(
 }
 
 /// What the combining switches of a stage read of a project.
-fn comb_settings(project: &Project, stage: u32) -> CombSettings
+pub(crate) fn comb_settings(project: &Project, stage: u32) -> CombSettings
     requires { stage < project.now.k }
     ensures { result ≡ comb_settings project.now stage }
 {

@@ -1,7 +1,7 @@
 //! The row one cycle later.
 ghost use Rattle.std.specs.Prelude.{◌≡◌, ℕ, ◌<◌, true, false, IfOk, OnOk};
 ghost use Rattle.machine_cells.specs.Cycle.{cycle};
-ghost use Rattle.flat_row.specs.Changed.{SameOutside, none_changed};
+ghost use Rattle.flat_row.specs.Changed.{SameOutside, TellsMemory, none_changed};
 ghost use Rattle.flat_row.specs.Masks.{has};
 ghost use Rattle.flat_row.specs.Moving.{leaves_forth};
 
@@ -18,8 +18,8 @@ impl Row {
     ghost use Rattle.flat_row.specs.Row.{IsRowOf, states_of};
 
     /// The row one cycle later: all that moves is decided on the row as it is; then modules serve, requests move, processors
-    /// receive and act, replies move, and modules answer. The answer tells which components may be other ones than before; where it is
-    /// empty the machine stands still, in this cycle and in every later one.
+    /// receive and act, replies move, and modules answer. The answer tells which components may be other ones than before, and which
+    /// modules have other words of memory; where it is empty the machine stands still, in this cycle and in every later one.
     ///
     /// # Errors
     ///
@@ -30,6 +30,7 @@ impl Row {
         ensures states { OnOk result (states_of self.new ≡ cycle project.now (states_of self.old)) }
         ensures of { IsRowOf project.now self.new }
         ensures outside { IfOk result (λ changed. SameOutside project.now.k changed self.old self.new) }
+        ensures wrote { IfOk result (λ changed. TellsMemory project.now.k changed self.old self.new) }
         ensures still { IfOk result (λ changed. none_changed changed ≡ true → states_of self.new ≡ states_of self.old) }
     {
         project.is_project();
@@ -38,7 +39,7 @@ impl Row {
         let comb = self.plan(project, Net::Comb);
         let touched = self.touched(&served, &low, &comb);
         let shape = self.shape;
-        serve_both(
+        let wrote = serve_both(
             shape,
             &mut self.low,
             &mut self.comb,
@@ -74,6 +75,7 @@ impl Row {
         self.rests = rests;
         Ok(Changed {
             procs: either(not_in(rests), touched.procs),
+            wrote,
             ..touched
         })
     }

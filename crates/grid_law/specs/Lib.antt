@@ -1,5 +1,6 @@
 pub mod Limits
 pub mod Rules
+pub mod Codec
 pub mod Run
 pub mod Numbers
 pub mod Line

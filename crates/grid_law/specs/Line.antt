@@ -5,6 +5,7 @@ use Rattle.grid_law.specs.declared.numbers.LineSlot.{LineSlot}
 use Rattle.grid_law.specs.declared.numbers.LineSlot.TheVariants.{Seed, Add}
 use Rattle.grid_law.specs.Numbers.{number_at, place_of, slot_value}
 use Rattle.grid_law.specs.Rules.{Rules, reader_at}
+use Rattle.grid_law.specs.Codec.{Codec}
 use Rattle.grid_law.specs.declared.reader.Reader.{Reader}
 
 -- the neighbours of c among n places, where there are any
@@ -56,3 +57,10 @@ line_rules = record {
   SameShape = λ a b. length a ≡ length b;
   SameAt = λ a b slot. slot_value a slot ≡ slot_value b slot;
 }
+
+-- a number is one word, and there is no memory
+abbrev pub number_from : List ℕ → ℕ
+number_from ws = slice_index ws 0 % 2 ^ 32
+
+abbrev pub line_codec : Codec ℕ (Unit {0})
+line_codec = record { words = λ x. x ∷ []; memory = λ x. None; state = λ ws memory. number_from ws }

@@ -9,7 +9,8 @@ use Rattle.grid_law.specs.declared.numbers.LineSlot.{LineSlot}
 use Rattle.grid_law.specs.declared.numbers.LineSlot.TheVariants.{Seed, Add}
 use Rattle.grid_law.specs.declared.reader.Reader.{Reader}
 use Rattle.grid_law.specs.Rules.{Laws, Agrees, IsBefore, IsAscending, reader_at, result_of, is_first}
-use Rattle.grid_law.specs.Line.{line_rules, line_near, left_of, right_of, line_reads, reader_of, line_readers, line_step, is_odd, same_read}
+use Rattle.grid_law.specs.Codec.{CodecLaws}
+use Rattle.grid_law.specs.Line.{line_rules, line_codec, line_near, left_of, right_of, line_reads, reader_of, line_readers, line_step, is_odd, same_read}
 use Rattle.grid_law.specs.Numbers.{number_at, place_of, slot_value}
 
 -- a neighbour is a place of the line
@@ -123,4 +124,10 @@ line_laws = record {
   readers = λ s near c slot h r. line_reads_readers (length s) near c slot h r;
   readers_exist = λ s slot. all_within (length s) slot;
   readers_ascend = λ s slot. alone_ascends (reader_of slot) (ltb (place_of slot) (length s));
+}
+
+pub line_codec_laws : CodecLaws line_codec
+line_codec_laws = record {
+  some = λ x e. search rules;
+  alone = λ ws m n e. refl;
 }

@@ -1,6 +1,7 @@
 //! The trait of machines that are simulated cell by cell.
-ghost use Rattle.std.specs.Prelude.{◌≡◌, ◌<◌, ◌↔◌, IsTrue, IfOk, map, option_map, ◌∷◌, []};
+ghost use Rattle.std.specs.Prelude.{◌≡◌, ◌<◌, ◌≤◌, ◌+◌, ◌↔◌, IsTrue, IfOk, IsOk, OnOk, OnErr, Option, length, map, option_map, ◌∷◌, ◌++◌, [], vec_len, vec_capacity};
 ghost use Rattle.std.specs.Arc.{arc_value};
+ghost use Rattle.grid_law.specs.Codec.{Codec, CodecLaws, IsTold};
 ghost use Rattle.grid_law.specs.Rules.{Rules, Laws, Agrees, IsNext};
 
 use crate::{NoMemory, Reader};
@@ -16,8 +17,12 @@ use std::sync::Arc;
 /// state, so a cell can be computed again from its near states alone, also long after they were
 /// read and while the table that they came from goes on.
 ///
+/// A state can also be kept as words of 64 bits and a memory: `encode` and `memory` take it apart, `decode` puts it together, and
+/// two states are equal exactly where their words and their memories are; `is_code` compares them without taking it apart.
+///
 /// The calls are total: they answer for every value of the types, also for states that no run of
-/// these slots would reach. Only `readers`, `start`, `step`, `next` and `share` take memory.
+/// these slots would reach, and for words that no state has. Only `readers`, `start`, `step`, `next`, `share`, `encode` and `decode`
+/// take memory.
 pub trait Grid {
     /// What a component is at one cycle.
     type State: Drop;
@@ -28,11 +33,20 @@ pub trait Grid {
     /// The name of one setting.
     type Slot: Drop;
 
+    /// What of a state isn't in its words: something large that few steps change, so that many states have the same.
+    type Memory: Drop;
+
     /// What the calls below mean.
     ghost rules: { Rules Self.State Self.Slots Self.Slot };
 
     /// What every grid keeps.
     ghost laws: { Laws rules };
+
+    /// The words of a state and its memory, and the state that has them.
+    ghost codec: { Codec Self.State Self.Memory };
+
+    /// What they keep in every grid.
+    ghost codec_laws: { CodecLaws codec };
 
     /// How many components there are. No edit of a slot changes it.
     fn components(s: &Self::Slots) -> u32
@@ -112,6 +126,60 @@ pub trait Grid {
     /// Whether two states are equal.
     fn same(a: &Self::State, b: &Self::State) -> bool
         ensures { IsTrue result ↔ (a.now ≡ b.now) };
+
+    /// Appends the words of a state, of which there is at least one. With its memory they tell it. It takes memory only where there
+    /// is no room for them.
+    ///
+    /// # Errors
+    ///
+    /// Where the growth was refused. Then nothing was appended.
+    fn encode(x: &Self::State, words: &mut Vec<u64>) -> Result<(), NoMemory>
+        ensures ok { OnOk result (words.new.items ≡ words.old.items ++ codec.words x.now) }
+        ensures err { OnErr result (words.new.items ≡ words.old.items) }
+        ensures room { vec_len words.old + length (codec.words x.now) ≤ vec_capacity words.old → IsOk result }
+        ensures told { IsTold codec x.now };
+
+    /// What of a state isn't in its words, where there is anything, with one more owner.
+    ///
+    /// # Errors
+    ///
+    /// Where it has as many owners as can be counted. Nothing is changed.
+    fn memory(x: &Self::State) -> Result<Option<Self::Memory>, NoMemory>
+        ensures { IfOk result (λ memory. memory ≡ codec.memory x.now) };
+
+    /// The state that has these words and this memory. Where no state has them, some state.
+    ///
+    /// # Errors
+    ///
+    /// Where a growth was refused, or the memory has as many owners as can be counted.
+    fn decode(
+        alloc: Global,
+        words: &[u64],
+        memory: Option<&Self::Memory>,
+    ) -> Result<Arc<Self::State>, NoMemory>
+        ensures { IfOk result (λ x. arc_value x ≡ codec.state words.now (option_map (λ held. held.now) memory.entry)) };
+
+    /// As `reads_later`, where its own state has these words, whatever its memory is.
+    fn words_read(s: &Self::Slots, words: &[u64], c: u32, slot: &Self::Slot) -> bool
+        requires { c < rules.components s.now }
+        ensures { (memory : Option Self.Memory) → result ≡ rules.reads s.now (codec.state words.now memory ∷ []) c slot.now };
+
+    /// The same memory, with one more owner.
+    ///
+    /// # Errors
+    ///
+    /// Where it has as many owners as can be counted. Nothing is changed.
+    fn share_memory(memory: &Self::Memory) -> Result<Self::Memory, NoMemory>
+        ensures { IfOk result (λ shared. shared ≡ memory.now) };
+
+    /// Whether two memories are equal.
+    fn same_memory(a: &Self::Memory, b: &Self::Memory) -> bool
+        ensures { IsTrue result ↔ (a.now ≡ b.now) };
+
+    /// Whether a state has just these words, and this memory or none.
+    fn is_code(x: &Self::State, words: &[u64], memory: Option<&Self::Memory>) -> bool
+        ensures told { IsTold codec x.now }
+        ensures same { IsTrue result ↔ ((codec.words x.now ≡ words.now) × (codec.memory x.now ≡ option_map (λ held. held.now) memory.entry)) };
 
     /// Whether `a` and `b` have the same shape, and the same value in each slot that `c` reads
     /// under `a` at these near states. Then `c` gets the same state under both.

@@ -1,7 +1,7 @@
 //! A line of numbers, the smallest grid.
-ghost use Rattle.std.specs.Prelude.{◌≡◌, map, slice_get, sum, ◌%◌, ◌^◌};
+ghost use Rattle.std.specs.Prelude.{◌≡◌, ◌↔◌, IsTrue, ◌∷◌, [], map, slice_get, sum, ◌%◌, ◌^◌};
 ghost use Rattle.std.specs.Arc.{arc_value};
-ghost use Rattle.grid_law.specs.Line.{same_read, reader_of};
+ghost use Rattle.grid_law.specs.Line.{same_read, reader_of, number_from};
 
 use crate::{Grid, LineSlot, NoMemory, Number, Numbers, Reader};
 use arrayvec::ArrayVec;
@@ -14,11 +14,13 @@ use std::sync::Arc;
 /// even one to left neighbour plus itself plus right neighbour, where a missing neighbour counts 0
 /// and each sum wraps at 2^32. So a place reads `Seed(c)` at cycle 0 and nothing else; later it
 /// reads `Add(c)` exactly where its own number is odd, and otherwise no slot at all.
+///
+/// A number is one word, which tells all of it: no place has a memory.
 pub struct Line;
 
 impl Grid for Line {
-    ghost use Rattle.grid_law.specs.Line.{line_rules};
-    ghost use Rattle.grid_law.specs.LineLaws.{line_laws};
+    ghost use Rattle.grid_law.specs.Line.{line_rules, line_codec};
+    ghost use Rattle.grid_law.specs.LineLaws.{line_laws, line_codec_laws};
 
     type State = u32;
 
@@ -26,9 +28,15 @@ impl Grid for Line {
 
     type Slot = LineSlot;
 
+    type Memory = ();
+
     ghost rules = { line_rules };
 
     ghost laws = { line_laws };
+
+    ghost codec = { line_codec };
+
+    ghost codec_laws = { line_codec_laws };
 
     fn components(s: &Numbers) -> u32 {
         s.count()
@@ -106,6 +114,38 @@ impl Grid for Line {
         *a == *b
     }
 
+    fn encode(x: &u32, words: &mut Vec<u64>) -> Result<(), NoMemory> {
+        words.push(u64::from(*x))?;
+        Ok(())
+    }
+
+    fn memory(_x: &u32) -> Result<Option<()>, NoMemory> {
+        Ok(None)
+    }
+
+    fn decode(alloc: Global, words: &[u64], _memory: Option<&()>) -> Result<Arc<u32>, NoMemory> {
+        Ok(Arc::new(alloc, number_from(words))?)
+    }
+
+    fn words_read(_s: &Numbers, words: &[u64], c: u32, slot: &LineSlot) -> bool {
+        match slot {
+            LineSlot::Seed(_) => false,
+            LineSlot::Add(place) => *place == c && number_from(words) % 2 == 1,
+        }
+    }
+
+    fn share_memory(_memory: &()) -> Result<(), NoMemory> {
+        Ok(())
+    }
+
+    fn same_memory(_a: &(), _b: &()) -> bool {
+        true
+    }
+
+    fn is_code(x: &u32, words: &[u64], memory: Option<&()>) -> bool {
+        is_word(words, *x) && memory.is_none()
+    }
+
     #[tactic(auto, using(crate::specs::LineLaws::agrees_from_test, crate::specs::LineLaws::test_from_agrees))]
     fn agree(a: &Numbers, b: &Numbers, near: &[Arc<u32>], c: u32) -> bool {
         a.count() == b.count() && agree_at(a.at(c), b.at(c), own_state(near))
@@ -123,6 +163,26 @@ fn own_state(near: &[Arc<u32>]) -> Option<u32>
     match near.first() {
         Some(own) => Some(**own),
         None => None,
+    }
+}
+
+/// The number that words are: the first one's lowest 32 bits, 0 where there is none.
+fn number_from(words: &[u64]) -> u32
+    ensures { result ≡ number_from words.now }
+{
+    match words.first() {
+        Some(word) => (*word % 4_294_967_296) as u32,
+        None => 0,
+    }
+}
+
+/// Whether words are this number alone.
+fn is_word(words: &[u64], number: u32) -> bool
+    ensures { IsTrue result ↔ (number ∷ [] ≡ words.now) }
+{
+    match words {
+        [word] => *word == u64::from(number),
+        _ => false,
     }
 }
 

@@ -1,5 +1,6 @@
 pub mod Adding
 pub mod ColumnSteps
+pub mod EditRows
 pub mod Fields
 pub mod Given
 pub mod Halves
@@ -15,5 +16,6 @@ pub mod Settings
 pub mod Stages
 pub mod Stops
 pub mod SweepRows
+pub mod SweptTexts
 pub mod Tasks
 pub mod WordByWord

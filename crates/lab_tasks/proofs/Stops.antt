@@ -69,3 +69,26 @@ pub not_made : (bytes : List ℕ) (Refused : Project → Type 0) (e : End) → I
 not_made bytes Refused e (inl memory) = inl memory
 not_made bytes Refused e (inr (inl refused)) = inr (inl refused)
 not_made bytes Refused e (inr (inr other)) = absurd other.2
+
+-- and by a reason that follows from another one
+pub or_stop_by : (Reason Other : End → Type 0) (e : End) → (Reason e → Other e) → OrStop Reason e → OrStop Other e
+or_stop_by Reason Other end.Done f h = f h
+or_stop_by Reason Other end.Words f h = f h
+or_stop_by Reason Other (end.Word option word reason) f h = f h
+or_stop_by Reason Other (end.NotRead name) f h = f h
+or_stop_by Reason Other (end.NotWritten name) f h = f h
+or_stop_by Reason Other (end.Project fault) f h = f h
+or_stop_by Reason Other end.Memory f h = tt
+or_stop_by Reason Other end.Spent f h = tt
+or_stop_by Reason Other end.Output f h = f h
+
+pub or_memory_by : (Reason Other : End → Type 0) (e : End) → (Reason e → Other e) → OrMemory Reason e → OrMemory Other e
+or_memory_by Reason Other end.Memory f h = tt
+or_memory_by Reason Other end.Done f h = f h
+or_memory_by Reason Other end.Words f h = f h
+or_memory_by Reason Other (end.Word option word reason) f h = f h
+or_memory_by Reason Other (end.NotRead name) f h = f h
+or_memory_by Reason Other (end.NotWritten name) f h = f h
+or_memory_by Reason Other (end.Project fault) f h = f h
+or_memory_by Reason Other end.Spent f h = f h
+or_memory_by Reason Other end.Output f h = f h

@@ -81,7 +81,7 @@ concat-push (first ∷ rows) row = ap (λ text. first ++ text) (concat-push rows
 pub rows-none : {T : Type 0} (Row : T → List ℕ → Type 0) (first : List ℕ) → HasRows Row first [] first
 rows-none Row first = ([], tt, sym (append-nil first))
 
-rows-more : {T : Type 0} (Row : T → List ℕ → Type 0) (first old new more : List ℕ) (things : List T) (i : ℕ) (d : T) → i < length things
+pub rows-more : {T : Type 0} (Row : T → List ℕ → Type 0) (first old new more : List ℕ) (things : List T) (i : ℕ) (d : T) → i < length things
     → HasRows Row first (take i things) old → Row (get_or things i d) more → new ≡ old ++ more → HasRows Row first (take (i + 1) things) new
 rows-more {T} Row first old new more things i d lt h is written = (
   h.0 ++ more ∷ [],

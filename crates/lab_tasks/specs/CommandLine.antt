@@ -6,18 +6,25 @@ use Rattle.clap.specs.declared.builder.command.Command.{Command}
 use Rattle.clap.specs.declared.builder.command.Command.TheViews.{out-Command}
 use Rattle.clap.specs.declared.builder.action.ArgAction.TheVariants.{Set, Append, SetTrue}
 
--- an argument `--ID VALUE`, one that is given once or more, one without a value, and the project file
+-- an argument `--ID VALUE`, one that is given once or more, one that is given as often as one likes, one without a value, one by its position,
+-- and the project file
 abbrev pub option_rule : Text → Rule
 option_rule id = record (new_rule id) { long = Some id; action = Some Set; value_names = 1 }
 
 abbrev pub several_rule : Text → Rule
 several_rule id = record (new_rule id) { long = Some id; action = Some Append; value_names = 1; required = true }
 
+abbrev pub any_number_rule : Text → Rule
+any_number_rule id = record (new_rule id) { long = Some id; action = Some Append; value_names = 1 }
+
 abbrev pub flag_rule : Text → Rule
 flag_rule id = record (new_rule id) { long = Some id; action = Some SetTrue }
 
+abbrev pub position_rule : Text → Rule
+position_rule id = record (new_rule id) { required = true }
+
 abbrev pub file_rule : Rule
-file_rule = record (new_rule (codes "FILE")) { required = true }
+file_rule = position_rule (codes "FILE")
 
 -- a task with these arguments
 abbrev pub task : Text → List Rule → Shape
@@ -35,6 +42,9 @@ latency_task = task (codes "latency") (file_rule ∷ map option_rule (codes "pro
 abbrev pub done_task : Shape
 done_task = task (codes "done") (file_rule ∷ [])
 
+abbrev pub trace_task : Shape
+trace_task = task (codes "trace") (file_rule ∷ position_rule (codes "P") ∷ position_rule (codes "I") ∷ [])
+
 abbrev pub measured_rules : List Rule
 measured_rules = map option_rule (codes "k" ∷ codes "hot" ∷ codes "cycles" ∷ codes "seed" ∷ [])
 
@@ -51,7 +61,10 @@ abbrev pub delays_task : Shape
 delays_task = task (codes "delays") (measured_rules ++ kept_rules)
 
 abbrev pub sweep_task : Shape
-sweep_task = task (codes "sweep") (file_rule ∷ several_rule (codes "depth") ∷ several_rule (codes "ask") ∷ option_rule (codes "csv") ∷ [])
+sweep_task =
+    task (codes "sweep")
+    (file_rule ∷ any_number_rule (codes "setup") ∷ any_number_rule (codes "depth") ∷ any_number_rule (codes "edit") ∷ flag_rule (codes "zip")
+    ∷ several_rule (codes "ask") ∷ option_rule (codes "csv") ∷ [])
 
 abbrev pub check_task : Shape
 check_task = task (codes "check") (file_rule ∷ [])
@@ -61,7 +74,7 @@ convert_task = task (codes "convert") (file_rule ∷ option_rule (codes "out") �
 
 -- the tasks
 abbrev pub tasks : List Shape
-tasks = map_task ∷ order_task ∷ latency_task ∷ done_task ∷ rates_task ∷ delays_task ∷ sweep_task ∷ check_task ∷ convert_task ∷ []
+tasks = map_task ∷ order_task ∷ latency_task ∷ done_task ∷ trace_task ∷ rates_task ∷ delays_task ∷ sweep_task ∷ check_task ∷ convert_task ∷ []
 
 -- no task has this name
 abbrev pub IsNoTask : Text → Type 0

@@ -13,7 +13,7 @@ use Rattle.lab_tasks.specs.declared.plan.CurvePlan.{CurvePlan}
 use Rattle.lab_tasks.specs.declared.tables.RatePoint.{RatePoint}
 use Rattle.lab_tasks.specs.declared.tables.DelayPoint.{DelayPoint}
 use Rattle.lab_tasks.specs.declared.words.Asked.{Asked}
-use Rattle.lab_tasks.specs.declared.words.Asked.TheVariants.{Map, Order, Latency, Done as Completed, Rates, Delays, Sweep, Check, Convert}
+use Rattle.lab_tasks.specs.declared.words.Asked.TheVariants.{Map, Order, Latency, Done as Completed, Trace, Rates, Delays, Sweep, Check, Convert}
 use Rattle.lab_tasks.specs.declared.words.MapWords.{MapWords}
 use Rattle.lab_tasks.specs.declared.words.CurveWords.{CurveWords}
 use Rattle.lab_tasks.specs.declared.words.SweepWords.{SweepWords}
@@ -31,9 +31,12 @@ use Rattle.lab_tasks.specs.Points.{rate_loads, delay_loads, IsRate, IsDelay}
 use Rattle.lab_tasks.specs.Tables.{table_text, rate_row, delay_row}
 use Rattle.lab_tasks.specs.Outcomes.{IsGiven, AreGiven}
 use Rattle.lab_tasks.specs.Kept.{IsWithKept}
+use Rattle.lab_tasks.specs.SetUps.{IsSetUp, IsNoSetUp}
 use Rattle.lab_tasks.specs.SweepTables.{IsTable, IsNoTable, OrStop}
+use Rattle.lab_tasks.specs.EditSweeps.{IsEditTable, IsNoEditTable}
 use Rattle.lab_tasks.specs.Summaries.{IsSummary}
 use Rattle.lab_tasks.specs.ProjectTexts.{project_text}
+use Rattle.lab_tasks.specs.Traces.{IsNoTag, IsTraceText}
 use Rattle.lab_tasks.specs.Ends.{Refuses}
 
 -- a text that is made of the project that a file's bytes are goes to a file, or to standard output
@@ -75,12 +78,26 @@ AreDelays words outcome =
     (plan : CurvePlan) × (points : List DelayPoint) × IsCurves words plan × AllZip (IsDelay plan) (delay_loads plan) points
     × IsTableWithKept words (delay_loads plan) (IsDelayPicture plan points) (table_text delay_header delay_row points) outcome
 
--- the table that the words of a sweep ask for, and why there is none
+-- the table that the words of a sweep ask for of the project that they set up: of depths alone, or of depths and edits
+abbrev pub IsSweptText : SweepWords → List (List ℕ) → Project → List ℕ → Type 0
+IsSweptText words [] Q text = IsTable Q (texts_of words.depths.items) (texts_of words.asks.items) text
+IsSweptText words edits Q text = IsEditTable Q words.zip (texts_of words.depths.items) edits (texts_of words.asks.items) text
+
 abbrev pub IsSweepText : SweepWords → Project → List ℕ → Type 0
-IsSweepText words P text = IsTable P (texts_of words.depths.items) (texts_of words.asks.items) text
+IsSweepText words P text = (Q : Project) × IsSetUp P (texts_of words.setups.items) Q × IsSweptText words (texts_of words.edits.items) Q text
+
+-- why there is none: a word that sets nothing up, else the reason against a table of the project that is set up
+abbrev pub IsNoSwept : SweepWords → List (List ℕ) → Project → End → Type 0
+IsNoSwept words [] Q e = IsNoTable Q (texts_of words.depths.items) (texts_of words.asks.items) e
+IsNoSwept words edits Q e = IsNoEditTable Q words.zip (texts_of words.depths.items) edits (texts_of words.asks.items) e
+
+abbrev pub IsNoSweepText : SweepWords → Project → End → Type 0
+IsNoSweepText words P e =
+    IsNoSetUp P (texts_of words.setups.items) e
+    ⊎ ((Q : Project) × IsSetUp P (texts_of words.setups.items) Q × IsNoSwept words (texts_of words.edits.items) Q e)
 
 abbrev pub IsNoSweep : SweepWords → End → Project → Type 0
-IsNoSweep words e P = OrStop (IsNoTable P (texts_of words.depths.items) (texts_of words.asks.items)) e
+IsNoSweep words e P = OrStop (IsNoSweepText words P) e
 
 -- a name is that of the file that is read, which may not be written over
 abbrev pub names_source : Option (List ℕ) → List ℕ → Bool
@@ -104,6 +121,7 @@ IsDone (Map words) bytes outcome = IsMapMade words bytes outcome
 IsDone (Order words) bytes outcome = IsMadeOf bytes (text_of words.out) (IsOrderText words) outcome
 IsDone (Latency words) bytes outcome = IsMadeOf bytes None (IsLatencyText words) outcome
 IsDone (Completed file) bytes outcome = IsMadeOf bytes None IsCompletionText outcome
+IsDone (Trace words) bytes outcome = IsMadeOf bytes None (IsTraceText words) outcome
 IsDone (Rates words) bytes outcome = AreRates words outcome
 IsDone (Delays words) bytes outcome = AreDelays words outcome
 IsDone (Sweep words) bytes outcome = IsMadeOf bytes (text_of words.csv) (IsSweepText words) outcome
@@ -124,6 +142,7 @@ IsNotDone (Map words) bytes e = IsNotMade bytes (λ P. IsNoMap P words e) e
 IsNotDone (Order words) bytes e = IsNotMade bytes (λ P. IsNoOrder P words e) e
 IsNotDone (Latency words) bytes e = IsNotMade bytes (λ P. IsNoCondition P words e) e
 IsNotDone (Completed file) bytes e = IsNotMade bytes (λ P. ⊥) e
+IsNotDone (Trace words) bytes e = IsNotMade bytes (λ P. IsNoTag P words e) e
 IsNotDone (Rates words) bytes e = (e ≡ end.Memory) ⊎ IsNoCurve words e
 IsNotDone (Delays words) bytes e = (e ≡ end.Memory) ⊎ IsNoCurve words e
 IsNotDone (Sweep words) bytes e = IsNotMade bytes (IsNoSweep words e) e

@@ -7,7 +7,7 @@ use Rattle.project_file.specs.Faults.{number_of}
 use Rattle.experiments.specs.declared.fault.Fault.{Fault}
 use Rattle.experiments.specs.declared.fault.Fault.TheVariants as fault
 use Rattle.lab_tasks.specs.declared.end.Reason.{Reason}
-use Rattle.lab_tasks.specs.declared.end.Reason.TheVariants.{Form, Within, Backwards, Refused, Source}
+use Rattle.lab_tasks.specs.declared.end.Reason.TheVariants.{Form, Within, Backwards, Refused, RefusedEdit, Source}
 use Rattle.lab_tasks.specs.declared.end.End.{End}
 use Rattle.lab_tasks.specs.declared.end.End.TheVariants.{Done, Words, Word, NotRead, NotWritten, Project, Memory, Spent, Output}
 
@@ -54,6 +54,7 @@ reason_text (Form wanted) = codes "is not " ++ wanted.now
 reason_text (Within least most) = codes "is not within " ++ decimal least ++ codes " to " ++ decimal most
 reason_text Backwards = codes "ends before it begins"
 reason_text (Refused n) = codes "is answered bad " ++ decimal n
+reason_text (RefusedEdit n) = codes "is answered refused " ++ decimal n
 reason_text Source = codes "is the file that is read; --force writes over it"
 
 -- the line on standard error

@@ -6,6 +6,7 @@ pub mod Counts
 pub mod CurvePictures
 pub mod DelayPictures
 pub mod Done
+pub mod EditSweeps
 pub mod Elsewhere
 pub mod Ends
 pub mod Heats
@@ -20,8 +21,10 @@ pub mod Plans
 pub mod Points
 pub mod ProjectTexts
 pub mod RatePictures
+pub mod SetUps
 pub mod Summaries
 pub mod SweepTables
 pub mod Sweeps
 pub mod Tables
+pub mod Traces
 pub mod Words

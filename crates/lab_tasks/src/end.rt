@@ -23,6 +23,8 @@ pub enum Reason {
     Backwards,
     /// The question was refused with this number.
     Refused(u8),
+    /// The edit was refused with this number.
+    RefusedEdit(u8),
     /// It names the file that is read, which isn't to be written over.
     Source,
 }
@@ -64,7 +66,10 @@ pub fn status(end: &End<'_>) -> u8
         End::Words => 2,
         End::Word { reason, .. } => match reason {
             Reason::Form(_) | Reason::Source => 2,
-            Reason::Within(_, _) | Reason::Backwards | Reason::Refused(_) => 7,
+            Reason::Within(_, _)
+            | Reason::Backwards
+            | Reason::Refused(_)
+            | Reason::RefusedEdit(_) => 7,
         },
         End::NotRead(_) | End::NotWritten(_) => 3,
         End::Project(_) => 4,
@@ -96,6 +101,7 @@ impl fmt::Display for Reason {
             Reason::Within(least, most) => write!(f, "is not within {least} to {most}"),
             Reason::Backwards => write!(f, "ends before it begins"),
             Reason::Refused(number) => write!(f, "is answered bad {number}"),
+            Reason::RefusedEdit(number) => write!(f, "is answered refused {number}"),
             Reason::Source => write!(f, "is the file that is read; --force writes over it"),
         }
     }

@@ -11,7 +11,8 @@
 //! [`perform`] does for each command, and why it doesn't, is in `specs/Done.antt`: how
 //! numbers, lists and ranges are read (`specs/Numbers.antt`), which word is refused first (`specs/Plans.antt`), which points
 //! are measured and that each is that of its load's run (`specs/Points.antt`), rates, means, the bound and fields of tables
-//! (`specs/Tables.antt`), the table of a sweep (`specs/SweepTables.antt`), what a summary counts and says
+//! (`specs/Tables.antt`), the table of a sweep (`specs/SweepTables.antt`, `specs/EditSweeps.antt`), how a project is set up for it
+//! (`specs/SetUps.antt`), what a summary counts and says
 //! (`specs/Counts.antt`, `specs/Summaries.antt`), the text of a converted file (`specs/ProjectTexts.antt`), which project
 //! files are kept (`specs/Kept.antt`), the statuses and lines (`specs/Ends.antt`), the pictures of `rates` and `delays`
 //! (`specs/RatePictures.antt`, `specs/DelayPictures.antt`), and when it is told that a map draws the network where no reference
@@ -25,6 +26,7 @@ mod convert;
 mod curves;
 mod delay_picture;
 mod delays;
+mod edit_sweep;
 mod end;
 mod host;
 mod hot;
@@ -40,10 +42,12 @@ mod points;
 mod progress;
 mod rate_picture;
 mod rates;
+mod setup;
 mod sweep;
 mod swept;
 mod tables;
 mod task;
+mod trace;
 mod words;
 
 pub use convert::ConvertWords;
@@ -54,4 +58,5 @@ pub use order::OrderWords;
 pub use outcome::{OutFile, Outcome};
 pub use progress::{Progress, Silent};
 pub use task::perform;
+pub use trace::TraceWords;
 pub use words::{Asked, CurveWords, MapWords, SweepWords, read_words};

@@ -92,7 +92,7 @@ fn swept_in<'a>(word: &'a str) -> Result<Swept, End<'a>>
 }
 
 /// What the words sweep, in turn.
-fn all_swept<'a>(alloc: Global, words: &[&'a str]) -> Result<Vec<Swept>, End<'a>>
+pub(crate) fn all_swept<'a>(alloc: Global, words: &[&'a str]) -> Result<Vec<Swept>, End<'a>>
     ensures swept { IfOk result (λ all. AllZip IsSwept (map (λ word. word.now) words.entry.now) all.items) }
     ensures refused { IfErr result (OrMemory (AreNotSwept (map (λ word. word.now) words.entry.now))) }
 {
@@ -126,7 +126,7 @@ fn query_in<'a>(project: &Project, word: &'a str) -> Result<Query, End<'a>>
 }
 
 /// The questions of the words, in turn.
-fn all_queries<'a>(
+pub(crate) fn all_queries<'a>(
     alloc: Global,
     project: &Project,
     words: &[&'a str],
@@ -145,7 +145,7 @@ fn all_queries<'a>(
 }
 
 /// How many rows a table may have.
-const MOST_ROWS: u32 = 10_000;
+pub(crate) const MOST_ROWS: u32 = 10_000;
 
 /// How many depths some queues go through.
 fn count_of(swept: Swept) -> u32
@@ -156,7 +156,7 @@ fn count_of(swept: Swept) -> u32
 }
 
 /// How many rows there are: each depth with each. From 2^32 on it is the number before.
-fn count_rows(all: &[Swept]) -> u32
+pub(crate) fn count_rows(all: &[Swept]) -> u32
     ensures { result ≡ min (length (rows_of all.now)) (2 ^ 32 - 1) }
 {
     let mut rows: u32 = 1;
@@ -204,7 +204,7 @@ fn rows_before(
 }
 
 /// The rows of a table.
-fn all_rows(alloc: Global, all: &[Swept]) -> Result<Vec<Vec<Setting>>, AllocError>
+pub(crate) fn all_rows(alloc: Global, all: &[Swept]) -> Result<Vec<Vec<Setting>>, AllocError>
     ensures { IfOk result (λ rows. map (λ row. row.items) rows.items ≡ rows_of all.now) }
 {
     let Some((first, others)) = all.split_first() else {
@@ -218,7 +218,7 @@ fn all_rows(alloc: Global, all: &[Swept]) -> Result<Vec<Vec<Setting>>, AllocErro
 }
 
 /// Adds a field of a row, with a comma before it but for the first.
-fn add_field(text: &mut String, place: usize, field: &str) -> Result<(), AllocError>
+pub(crate) fn add_field(text: &mut String, place: usize, field: &str) -> Result<(), AllocError>
     ensures { OnOk result (string_bytes text.new ≡ string_bytes text.old ++ ((if place == 0 then [] else codes ",") ++ field_text field.now)) }
 {
     let field = Field(field);
@@ -230,7 +230,7 @@ fn add_field(text: &mut String, place: usize, field: &str) -> Result<(), AllocEr
 }
 
 /// Adds the names of the queues, each with a comma behind.
-fn add_queues(text: &mut String, all: &[Swept]) -> Result<(), AllocError>
+pub(crate) fn add_queues(text: &mut String, all: &[Swept]) -> Result<(), AllocError>
     ensures { OnOk result (string_bytes text.new ≡ string_bytes text.old ++ flat_map (λ swept. queue_text swept.queue ++ codes ",") all.now) }
 {
     for swept in all {
@@ -241,7 +241,7 @@ fn add_queues(text: &mut String, all: &[Swept]) -> Result<(), AllocError>
 }
 
 /// Adds the questions, with commas between.
-fn add_asks(text: &mut String, asks: &[&str]) -> Result<(), AllocError>
+pub(crate) fn add_asks(text: &mut String, asks: &[&str]) -> Result<(), AllocError>
     ensures { OnOk result (string_bytes text.new ≡ string_bytes text.old ++ fields_text (map (λ ask. ask.now) asks.entry.now)) }
 {
     for (place, ask) in asks.iter().enumerate() {
@@ -297,7 +297,7 @@ fn said(alloc: Global, says: &Result<Body, u8>) -> Result<String, AllocError>
 }
 
 /// Adds what is said to the questions of a row, with commas between.
-fn add_answers(
+pub(crate) fn add_answers(
     alloc: Global,
     text: &mut String,
     bodies: &[Result<Body, u8>],

@@ -14,6 +14,7 @@ ghost use Rattle.lab_tasks.specs.Plans.{IsNoCurve, IsNoMap};
 ghost use Rattle.lab_tasks.specs.RatePictures.{IsRatePicture};
 ghost use Rattle.lab_tasks.specs.Summaries.{IsSummary};
 ghost use Rattle.lab_tasks.specs.Tables.{delay_row, rate_row, table_text};
+ghost use Rattle.lab_tasks.specs.Traces.{IsNoTag, IsTraceText};
 ghost use Rattle.lab_tasks.specs.Words.{text_of};
 
 use crate::check::summary;
@@ -21,6 +22,7 @@ use crate::completion::completion_report;
 use crate::convert::{ConvertWords, convert_file, refuse_source};
 use crate::delay_picture::delay_picture;
 use crate::delays::{delay_points, delay_table};
+use crate::edit_sweep::edit_table;
 use crate::end::End;
 use crate::latency::{LatencyWords, condition, report};
 use crate::map::map_picture;
@@ -32,8 +34,10 @@ use crate::points::{delay_loads, rate_loads};
 use crate::progress::Progress;
 use crate::rate_picture::rate_picture;
 use crate::rates::{rate_points, rate_table};
+use crate::setup::set_up;
 use crate::sweep::sweep_table;
 use crate::tables::{DelayPoint, RatePoint};
+use crate::trace::{TraceWords, trace_line, traced};
 use crate::words::{Asked, CurveWords, MapWords, SweepWords};
 use experiments::{Load, project_of};
 use page_map::MAX_K;
@@ -141,6 +145,16 @@ fn done<'a>(alloc: Global, bytes: &[u8]) -> Result<Outcome, End<'a>>
 {
     let project = project_in(alloc, bytes)?;
     let text = completion_report(alloc, &project)?;
+    Ok(to_file_or_output(alloc, None, text.into_bytes())?)
+}
+
+fn trace<'a>(alloc: Global, words: &TraceWords<'a>, bytes: &[u8]) -> Result<Outcome, End<'a>>
+    ensures done { IfOk result (IsMadeOf bytes.now None (IsTraceText words.now)) }
+    ensures refused { IfErr result (λ end. IsNotMade bytes.now (λ P. IsNoTag P words.now end) end) }
+{
+    let project = project_in(alloc, bytes)?;
+    let tag = traced(words, &project)?;
+    let text = trace_line(alloc, &project, tag)?;
     Ok(to_file_or_output(alloc, None, text.into_bytes())?)
 }
 
@@ -323,6 +337,29 @@ fn delays<'a, T: Threads + Sync, P: Progress>(
     with_kept(alloc, words, loads.as_slice(), outcome)
 }
 
+/// The table that the words of a sweep ask for.
+#[tactic(auto, using(crate::proofs::Stops::or_stop_memory, crate::proofs::Stops::or_stop_by))]
+fn swept<'a, T: Threads + Sync>(
+    rt: &T,
+    alloc: Global,
+    words: &SweepWords<'a>,
+    project: Project,
+) -> Result<String, End<'a>>
+    ensures done { IfOk result (λ text. IsSweepText words.now project (string_bytes text)) }
+    ensures refused { IfErr result (λ end. IsNoSweep words.now end project) }
+{
+    let (depths, asks) = (words.depths.as_slice(), words.asks.as_slice());
+    let project = match set_up(project, words.setups.as_slice()) {
+        Ok(project) => project,
+        Err(end) => return Err(end),
+    };
+    let edits = words.edits.as_slice();
+    if edits.is_empty() {
+        return sweep_table(rt, alloc, project, depths, asks);
+    }
+    edit_table(rt, alloc, &project, words.zip, depths, edits, asks)
+}
+
 #[tactic(auto, using(crate::proofs::Stops::not_made))]
 fn sweep<'a, T: Threads + Sync>(
     rt: &T,
@@ -334,8 +371,7 @@ fn sweep<'a, T: Threads + Sync>(
     ensures refused { IfErr result (λ end. IsNotMade bytes.now (IsNoSweep words.now end) end) }
 {
     let project = project_in(alloc, bytes)?;
-    let (depths, asks) = (words.depths.as_slice(), words.asks.as_slice());
-    let table = match sweep_table(rt, alloc, project, depths, asks) {
+    let table = match swept(rt, alloc, words, project) {
         Ok(table) => table,
         Err(end) => return Err(end),
     };
@@ -384,6 +420,7 @@ pub fn perform<'a, T: Threads + Sync, P: Progress>(
             let outcome = done(alloc, bytes)?;
             Ok(outcome)
         }
+        Asked::Trace(words) => trace(alloc, words, bytes),
         Asked::Rates(words) => rates(rt, alloc, words, progress),
         Asked::Delays(words) => delays(rt, alloc, words, progress),
         Asked::Sweep(words) => sweep(rt, alloc, words, bytes),

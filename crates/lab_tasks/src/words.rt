@@ -4,12 +4,13 @@ ghost use Rattle.std.specs.Option.{option_map_or};
 ghost use Rattle.clap.specs.Matches.{matched_of, raw_values};
 ghost use Rattle.clap.specs.Walk.{texts};
 ghost use Rattle.clap.specs.Words.{FailsBy, fault_of, first_of, found_of, new_app, rows_of, rule_of, subcommand_of};
-ghost use Rattle.lab_tasks.specs.CommandLine.{bare, check_task, convert_task, delays_task, done_task, file_rule, flag_rule, kept_rules, lab, map_task, latency_task, measured_task, option_rule, order_task, rates_task, several_rule, sweep_task, HasAll, HasMore, HasTask, IsApp, IsLab, IsNoTask, IsTask};
-ghost use Rattle.lab_tasks.specs.Words.{file_at, is_given, text_of, texts_at, AreConvertWords, AreCurveWords, AreLatencyWords, AreMapWords, AreOrderWords, AreSweepWords, AsksFor};
+ghost use Rattle.lab_tasks.specs.CommandLine.{any_number_rule, bare, check_task, convert_task, delays_task, done_task, file_rule, flag_rule, kept_rules, lab, map_task, latency_task, measured_task, option_rule, order_task, position_rule, rates_task, several_rule, sweep_task, trace_task, HasAll, HasMore, HasTask, IsApp, IsLab, IsNoTask, IsTask};
+ghost use Rattle.lab_tasks.specs.Words.{file_at, is_given, text_of, texts_at, AreConvertWords, AreCurveWords, AreLatencyWords, AreMapWords, AreOrderWords, AreSweepWords, AreTraceWords, AsksFor};
 
 use crate::convert::ConvertWords;
 use crate::latency::LatencyWords;
 use crate::order::OrderWords;
+use crate::trace::TraceWords;
 use clap::{Arg, ArgAction, ArgMatches, Command, Error};
 use std::alloc::{AllocError, Global};
 
@@ -43,7 +44,10 @@ pub struct CurveWords<'a> {
 #[derive(Drop)]
 pub struct SweepWords<'a> {
     pub file: &'a str,
+    pub setups: Vec<&'a str>,
     pub depths: Vec<&'a str>,
+    pub edits: Vec<&'a str>,
+    pub zip: bool,
     pub asks: Vec<&'a str>,
     pub csv: Option<&'a str>,
 }
@@ -55,6 +59,7 @@ pub enum Asked<'a> {
     Order(OrderWords<'a>),
     Latency(LatencyWords<'a>),
     Done { file: &'a str },
+    Trace(TraceWords<'a>),
     Rates(CurveWords<'a>),
     Delays(CurveWords<'a>),
     Sweep(SweepWords<'a>),
@@ -74,6 +79,7 @@ impl<'a> Asked<'a> {
             Asked::Order(words) => Some(words.file),
             Asked::Latency(words) => Some(words.file),
             Asked::Done { file } => Some(*file),
+            Asked::Trace(words) => Some(words.file),
             Asked::Rates(_) | Asked::Delays(_) => None,
             Asked::Sweep(words) => Some(words.file),
             Asked::Check { file } => Some(*file),
@@ -95,13 +101,17 @@ const LATENCY_ABOUT: &str =
 const DONE_ABOUT: &str =
     "Says when each processor had its last reply and came to the end of its script: the earliest, the latest and a table";
 
+const TRACE_ABOUT: &str =
+    "Says where a reference, or the one that it was combined into, was at each cycle";
+
 const RATES_ABOUT: &str =
     "Measures references answered per cycle against the number of processors, for some shares of hot references";
 
 const DELAYS_ABOUT: &str =
     "Measures how long references that aren't hot wait for their replies, against the share of hot ones";
 
-const SWEEP_ABOUT: &str = "Asks a project the same for each depth of some queues";
+const SWEEP_ABOUT: &str =
+    "Asks a project the same for each depth of some queues, and after each of some edits";
 
 const CHECK_ABOUT: &str = "Says in words what a project file is, or where it is wrong";
 
@@ -117,6 +127,17 @@ const DELAYS_MEASURED: &str = "\
 Each processor issues 256 references, at most 8 of them unanswered: of a hundred as many as --hot says add 1 to word 0, the
 others load a word of page 1, which is spread over all modules. They are drawn from --seed. The second half of the cycles is
 measured. Without --csv and --out the table goes to standard output.";
+
+const SWEPT: &str = "\
+A TEMPLATE is an edit of the workbench with braces in it: a range of numbers {A..B}, where k is the project's k, or words
+{A,B,..}. Each number or word makes a row, and all of them have to make edits. --depth and --edit may be given several times:
+each with each, those of --depth before those of --edit, and the first varying slowest. Each row stands for the project of
+the file, after --setup, with the row's own edits alone. An edit that the project refuses puts 'refused N' in the place of
+the answers; 'bad N' is a question that it has no answer to.
+
+Status: 0 done; 2 the command line; 3 a file can't be read or written; 4 the project is refused; 5 no memory, or standard
+output can't be written; 7 a number outside of what there is. A file is written beside its name and then renamed, so none
+stays half written.";
 
 const ENDS: &str = "\
 Status: 0 done; 2 the command line; 3 a file can't be read or written; 4 the project is refused; 5 no memory, or standard
@@ -146,6 +167,17 @@ fn several<'a>(alloc: Global, id: &'a str, value: &'a str, help: &'a str) -> Arg
         .help(help)
 }
 
+fn any_number<'a>(alloc: Global, id: &'a str, value: &'a str, help: &'a str) -> Arg<'a>
+    ensures rule { rule_of result ≡ any_number_rule id.entry.now }
+    ensures global { result.global ≡ false }
+{
+    Arg::new(alloc, id)
+        .long(id)
+        .value_name(value)
+        .action(ArgAction::Append)
+        .help(help)
+}
+
 fn flag<'a>(alloc: Global, id: &'a str, help: &'a str) -> Arg<'a>
     ensures rule { rule_of result ≡ flag_rule id.entry.now }
     ensures global { result.global ≡ false }
@@ -156,11 +188,18 @@ fn flag<'a>(alloc: Global, id: &'a str, help: &'a str) -> Arg<'a>
         .help(help)
 }
 
+fn position<'a>(alloc: Global, id: &'a str, help: &'a str) -> Arg<'a>
+    ensures rule { rule_of result ≡ position_rule id.entry.now }
+    ensures global { result.global ≡ false }
+{
+    Arg::new(alloc, id).required(true).help(help)
+}
+
 fn file_argument<'a>(alloc: Global) -> Arg<'a>
     ensures rule { rule_of result ≡ file_rule }
     ensures global { result.global ≡ false }
 {
-    Arg::new(alloc, "FILE").required(true).help(FILE_HELP)
+    position(alloc, "FILE", FILE_HELP)
 }
 
 /// A task without arguments, with a text behind its help.
@@ -182,6 +221,17 @@ fn with_file<'a>(alloc: Global, task: Command<'a>) -> Result<Command<'a>, AllocE
     ensures { IfOk result (HasMore task.entry file_rule) }
 {
     with(task, file_argument(alloc))
+}
+
+fn with_position<'a>(
+    alloc: Global,
+    task: Command<'a>,
+    id: &'a str,
+    help: &'a str,
+) -> Result<Command<'a>, AllocError>
+    ensures { IfOk result (HasMore task.entry (position_rule id.entry.now)) }
+{
+    with(task, position(alloc, id, help))
 }
 
 fn with_option<'a>(
@@ -206,6 +256,18 @@ fn with_several<'a>(
     ensures { IfOk result (HasMore task.entry (several_rule id.entry.now)) }
 {
     with(task, several(alloc, id, value, help))
+}
+
+fn with_any_number<'a>(
+    alloc: Global,
+    task: Command<'a>,
+    id: &'a str,
+    value: &'a str,
+    help: &'a str,
+) -> Result<Command<'a>, AllocError>
+    ensures { IfOk result (HasMore task.entry (any_number_rule id.entry.now)) }
+{
+    with(task, any_number(alloc, id, value, help))
 }
 
 fn with_flag<'a>(
@@ -313,6 +375,20 @@ fn done_command<'a>(alloc: Global) -> Result<Command<'a>, AllocError>
     Ok(task)
 }
 
+fn trace_command<'a>(alloc: Global) -> Result<Command<'a>, AllocError>
+    ensures { IfOk result (IsTask trace_task) }
+{
+    let task = with_file(alloc, named(alloc, "trace", TRACE_ABOUT, ENDS))?;
+    let task = with_position(alloc, task, "P", "The processor that issues it")?;
+    let task = with_position(
+        alloc,
+        task,
+        "I",
+        "Its number among the references of that processor, from 0",
+    )?;
+    Ok(task)
+}
+
 /// A task of curves, with the arguments that say what is measured.
 fn measured_command<'a>(
     alloc: Global,
@@ -403,13 +479,33 @@ fn delays_command<'a>(alloc: Global) -> Result<Command<'a>, AllocError>
 fn sweep_command<'a>(alloc: Global) -> Result<Command<'a>, AllocError>
     ensures { IfOk result (IsTask sweep_task) }
 {
-    let task = with_file(alloc, named(alloc, "sweep", SWEEP_ABOUT, ENDS))?;
-    let task = with_several(
+    let task = with_file(alloc, named(alloc, "sweep", SWEEP_ABOUT, SWEPT))?;
+    let task = with_any_number(
+        alloc,
+        task,
+        "setup",
+        "EDIT",
+        "An edit of the workbench that is made before all rows, as 'horizon 500'",
+    )?;
+    let task = with_any_number(
         alloc,
         task,
         "depth",
         "QUEUES=FROM..TO",
         "The depths of some queues, as low-forward=2..16; where given several times, each with each",
+    )?;
+    let task = with_any_number(
+        alloc,
+        task,
+        "edit",
+        "TEMPLATE",
+        "Edits of the workbench, as 'combine {0..2} on' or 'window {1,2,4,8}'",
+    )?;
+    let task = with_flag(
+        alloc,
+        task,
+        "zip",
+        "Takes the first rows of all --edit, then the second ones and so on, and not each with each",
     )?;
     let task = with_several(
         alloc,
@@ -488,6 +584,7 @@ fn lab_command<'a>(alloc: Global) -> Result<Command<'a>, AllocError>
     let command = with_task(command, order_command(alloc)?)?;
     let command = with_task(command, latency_command(alloc)?)?;
     let command = with_task(command, done_command(alloc)?)?;
+    let command = with_task(command, trace_command(alloc)?)?;
     let command = with_task(command, rates_command(alloc)?)?;
     let command = with_task(command, delays_command(alloc)?)?;
     let command = with_task(command, sweep_command(alloc)?)?;
@@ -572,6 +669,16 @@ fn latency_words<'a>(matches: &ArgMatches<'a>) -> LatencyWords<'a>
     }
 }
 
+fn trace_words<'a>(matches: &ArgMatches<'a>) -> TraceWords<'a>
+    ensures { AreTraceWords (rows_of (found_of matches.now)) result }
+{
+    TraceWords {
+        file: file_in(matches),
+        processor: text_in(matches, "P"),
+        number: text_in(matches, "I"),
+    }
+}
+
 fn curve_words<'a>(matches: &ArgMatches<'a>) -> CurveWords<'a>
     ensures { AreCurveWords (rows_of (found_of matches.now)) result }
 {
@@ -591,11 +698,16 @@ fn curve_words<'a>(matches: &ArgMatches<'a>) -> CurveWords<'a>
 fn sweep_words<'a>(alloc: Global, matches: &ArgMatches<'a>) -> Result<SweepWords<'a>, AllocError>
     ensures { IfOk result (AreSweepWords (rows_of (found_of matches.now))) }
 {
+    let setups = all_of(alloc, matches, "setup")?;
     let depths = all_of(alloc, matches, "depth")?;
+    let edits = all_of(alloc, matches, "edit")?;
     let asks = all_of(alloc, matches, "ask")?;
     Ok(SweepWords {
         file: file_in(matches),
+        setups,
         depths,
+        edits,
+        zip: flag_in(matches, "zip"),
         asks,
         csv: text_in(matches, "csv"),
     })
@@ -627,6 +739,7 @@ fn asked_of<'a>(
         "done" => Some(Asked::Done {
             file: file_in(matches),
         }),
+        "trace" => Some(Asked::Trace(trace_words(matches))),
         "rates" => Some(Asked::Rates(curve_words(matches))),
         "delays" => Some(Asked::Delays(curve_words(matches))),
         "sweep" => Some(Asked::Sweep(sweep_words(alloc, matches)?)),

@@ -98,6 +98,101 @@ fn depths_are_gone_through(rt: HostRuntime) -> Result<(), Fail> {
     Ok(())
 }
 
+// Each row begins with the word that was set up, and none with that of the row before.
+#[test]
+fn edits_are_gone_through(rt: HostRuntime) -> Result<(), Fail> {
+    let words = [
+        "sweep",
+        "two.toml",
+        "--setup",
+        "word 7 3",
+        "--edit",
+        "word {7,8} {1..2}",
+        "--ask",
+        "memory 7 8",
+        "--ask",
+        "memory 8 8",
+    ];
+    let outcome = made(&rt, &words, TWO)?;
+    let table = b"word {} *,word * {},memory 7 8,memory 8 8
+7,1,1,0
+7,2,2,0
+8,1,3,1
+8,2,3,2
+";
+    assert!(rt; equal(&rt, outcome.printed.as_slice(), table.as_slice()));
+    Ok(())
+}
+
+// Two processors have one stage, so the second row's edit is refused.
+#[test]
+fn edits_are_gone_through_in_step(rt: HostRuntime) -> Result<(), Fail> {
+    let words = [
+        "sweep",
+        "two.toml",
+        "--edit",
+        "word 7 {1..2}",
+        "--edit",
+        "combine {0..k} on",
+        "--zip",
+        "--ask",
+        "memory 7 8",
+        "--ask",
+        "memory 8 8",
+    ];
+    let outcome = made(&rt, &words, TWO)?;
+    let table = b"word 7 {},combine {} on,memory 7 8,memory 8 8
+1,0,1,0
+2,1,refused 8,refused 8
+";
+    assert!(rt; equal(&rt, outcome.printed.as_slice(), table.as_slice()));
+    Ok(())
+}
+
+#[test]
+fn depths_stand_before_edits(rt: HostRuntime) -> Result<(), Fail> {
+    let words = [
+        "sweep",
+        "two.toml",
+        "--edit",
+        "word 7 {0..k}",
+        "--depth",
+        "module=4..5",
+        "--ask",
+        "memory 7 8",
+    ];
+    let outcome = made(&rt, &words, TWO)?;
+    let table = b"module,word 7 {},memory 7 8
+4,0,0
+4,1,1
+5,0,0
+5,1,1
+";
+    assert!(rt; equal(&rt, outcome.printed.as_slice(), table.as_slice()));
+    Ok(())
+}
+
+#[test]
+fn a_project_is_asked_as_it_is_set_up(rt: HostRuntime) -> Result<(), Fail> {
+    let words = [
+        "sweep",
+        "two.toml",
+        "--setup",
+        "word 7 3",
+        "--ask",
+        "memory 7 8",
+    ];
+    let outcome = made(&rt, &words, TWO)?;
+    assert!(rt;
+        equal(
+            &rt,
+            outcome.printed.as_slice(),
+            b"memory 7 8\n3\n".as_slice()
+        )
+    );
+    Ok(())
+}
+
 // By cycle 8 the first processor has issued references 0 and 1 of word 5, and never a fifth.
 #[test]
 fn what_has_no_answer_is_told(rt: HostRuntime) -> Result<(), Fail> {

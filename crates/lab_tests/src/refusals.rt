@@ -163,6 +163,75 @@ fn sweeps_are_refused(rt: HostRuntime) -> Result<(), Fail> {
     Ok(())
 }
 
+#[test]
+fn edits_are_refused(rt: HostRuntime) -> Result<(), Fail> {
+    let wanted = "is not an edit in each row, as 'combine {0..2} on'";
+    let refused = [
+        ("--edit", "word 7 {0..1", 2, wanted),
+        ("--edit", "word 7 {1,x}", 2, wanted),
+        ("--edit", "word 7 {2..1}", 2, wanted),
+        ("--edit", "memory 7 {1,2}", 2, wanted),
+        ("--edit", "word 7 {0..10000}", 7, "is not within 1 to 10000"),
+        (
+            "--edit",
+            "word {0..99} {0..100}",
+            7,
+            "is not within 1 to 10000",
+        ),
+        (
+            "--setup",
+            "memory 7 8",
+            2,
+            "is not an edit, as 'horizon 500'",
+        ),
+        ("--setup", "horizon 2001", 7, "is answered refused 12"),
+    ];
+    for (option, word, number, reason) in refused {
+        let words = ["sweep", "two.toml", option, word, "--ask", "place 0"];
+        let (told, text) = ending(&rt, &words, TWO)?;
+        assert!(rt; equal(&rt, told, number));
+        assert!(rt;
+            equal(
+                &rt,
+                text.as_str(),
+                format!(in rt.alloc(); "lab: {option}: {word} {reason}")?.as_str()
+            )
+        );
+    }
+    Ok(())
+}
+
+#[test]
+fn edits_that_do_not_fit_are_refused(rt: HostRuntime) -> Result<(), Fail> {
+    let refused: [(&[&str], u8, &str); 2] = [
+        (
+            &["--edit", "word 7 {0..99}", "--edit", "word 8 {0..100}"],
+            7,
+            "lab: --edit: each with each is not within 1 to 10000",
+        ),
+        (
+            &[
+                "--edit",
+                "word 7 {0..1}",
+                "--edit",
+                "word 8 {0..2}",
+                "--zip",
+            ],
+            2,
+            "lab: --zip: each edit is not of as many rows as the first",
+        ),
+    ];
+    for (words, number, line) in refused {
+        let mut all = Vec::new(rt.alloc());
+        all.extend_from_slice(["sweep", "two.toml", "--ask", "place 0"].as_slice())?;
+        all.extend_from_slice(words)?;
+        let (told, text) = ending(&rt, all.as_slice(), TWO)?;
+        assert!(rt; equal(&rt, told, number));
+        assert!(rt; equal(&rt, text.as_str(), line));
+    }
+    Ok(())
+}
+
 // 15 depths of each of four queues are 50,625 rows.
 #[test]
 fn a_table_has_at_most_ten_thousand_rows(rt: HostRuntime) -> Result<(), Fail> {

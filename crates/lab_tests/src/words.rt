@@ -66,6 +66,32 @@ fn curves_need_no_words(rt: HostRuntime) -> Result<(), Fail> {
 }
 
 #[test]
+fn words_of_a_sweep_of_edits_are_taken(rt: HostRuntime) -> Result<(), Fail> {
+    let words = [
+        "sweep",
+        "a.toml",
+        "--edit",
+        "window {1,2}",
+        "--zip",
+        "--setup",
+        "horizon 9",
+        "--edit=combine {0..k} on",
+        "--ask",
+        "place 0",
+    ];
+    let asked = read_words(rt.alloc(), &words)?;
+    let Asked::Sweep(sweep) = &asked else {
+        return Err(Fail::from("a sweep"));
+    };
+    let edits = ["window {1,2}", "combine {0..k} on"];
+    assert!(rt; sweep.edits.as_slice() == edits.as_slice());
+    assert!(rt; sweep.setups.as_slice() == ["horizon 9"].as_slice());
+    assert!(rt; sweep.zip);
+    assert!(rt; sweep.depths.is_empty());
+    Ok(())
+}
+
+#[test]
 fn words_of_a_sweep_are_taken(rt: HostRuntime) -> Result<(), Fail> {
     let words = [
         "sweep",
@@ -123,7 +149,7 @@ const REFUSED: [(&[&str], u8); 14] = [
     (&["rates", "--k", "-1"], 2),
     (&["delays", "--seeds", "2"], 2),
     (&["rates", "--k", "1", "--k", "2"], 2),
-    (&["sweep", "a.toml", "--ask", "place 0"], 2),
+    (&["sweep", "a.toml", "--zip=yes", "--ask", "place 0"], 2),
     (&["sweep", "a.toml", "--depth", "module=2..3"], 2),
     (&["--version"], 0),
     (&["sweep", "--help"], 0),

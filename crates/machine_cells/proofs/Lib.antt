@@ -13,3 +13,4 @@ pub mod Keeping
 pub mod Staying
 pub mod Listing
 pub mod Entries
+pub mod Telling

@@ -5,8 +5,12 @@ pub mod Putting
 pub mod Cells
 pub mod Reads
 pub mod GridRules
+pub mod Words
+pub mod Codec
 pub mod laws
 pub mod GridLaws
+pub mod CodecLaws
+pub mod WordLaws
 pub mod Runs
 pub mod Texts
 pub mod Pulls

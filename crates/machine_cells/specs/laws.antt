@@ -5,3 +5,4 @@ pub mod Reading
 pub mod Readers
 pub mod Starts
 pub mod Grid
+pub mod Words

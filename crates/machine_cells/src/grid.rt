@@ -11,11 +11,13 @@ use crate::MachineState;
 use crate::agree::{agree_later, same_memory};
 use crate::near::state_at;
 use crate::readers::readers;
-use crate::reads::{fixed_reads, later_reads, start_reads};
+use crate::reads::{fixed_reads, later_reads, start_reads, words_read};
 use crate::start::start_of;
 use crate::step::{moved, pulled};
+use crate::words::{encode, has_memory, has_words, is_state, read_state};
 use arrayvec::ArrayVec;
 use grid_law::{Grid, NoMemory, Reader};
+use mem_module::SharedWords;
 use omega_net::{Component, Shape};
 use project_book::{Project, Slot};
 use std::alloc::Global;
@@ -54,6 +56,8 @@ pub(crate) fn first_state(
 impl Grid for Rp3 {
     ghost use Rattle.machine_cells.specs.GridRules.{rp3_rules};
     ghost use Rattle.machine_cells.specs.GridLaws.{rp3_laws};
+    ghost use Rattle.machine_cells.specs.Codec.{rp3_codec};
+    ghost use Rattle.machine_cells.specs.CodecLaws.{rp3_codec_laws};
 
     type State = MachineState;
 
@@ -61,9 +65,15 @@ impl Grid for Rp3 {
 
     type Slot = Slot;
 
+    type Memory = SharedWords;
+
     ghost rules = { rp3_rules };
 
     ghost laws = { rp3_laws };
+
+    ghost codec = { rp3_codec };
+
+    ghost codec_laws = { rp3_codec_laws };
 
     fn components(s: &Project) -> u32 {
         s.shape().components()
@@ -138,6 +148,51 @@ impl Grid for Rp3 {
 
     fn same(a: &MachineState, b: &MachineState) -> bool {
         a.same(b)
+    }
+
+    #[tactic(auto, using(crate::proofs::Telling::told_state))]
+    fn encode(x: &MachineState, words: &mut Vec<u64>) -> Result<(), NoMemory> {
+        is_state(x);
+        encode(x, words)?;
+        Ok(())
+    }
+
+    fn memory(x: &MachineState) -> Result<Option<SharedWords>, NoMemory> {
+        match x {
+            MachineState::Module(s) => Ok(Some(s.words.share()?)),
+            _ => Ok(None),
+        }
+    }
+
+    fn decode(
+        alloc: Global,
+        words: &[u64],
+        memory: Option<&SharedWords>,
+    ) -> Result<Arc<MachineState>, NoMemory> {
+        let state = read_state(alloc, words, memory)?;
+        Ok(Arc::new(alloc, state)?)
+    }
+
+    fn words_read(s: &Project, words: &[u64], c: u32, slot: &Slot) -> bool {
+        let component = component_at(s.shape(), c);
+        match slot {
+            Slot::Shape => true,
+            _ => words_read(s, component, words, *slot),
+        }
+    }
+
+    fn share_memory(memory: &SharedWords) -> Result<SharedWords, NoMemory> {
+        memory.share()
+    }
+
+    fn same_memory(a: &SharedWords, b: &SharedWords) -> bool {
+        a.same(b)
+    }
+
+    #[tactic(auto, using(crate::proofs::Telling::told_state))]
+    fn is_code(x: &MachineState, words: &[u64], memory: Option<&SharedWords>) -> bool {
+        is_state(x);
+        has_words(x, words) && has_memory(x, memory)
     }
 
     fn agree(a: &Project, b: &Project, near: &[Arc<MachineState>], c: u32) -> bool {

@@ -2,6 +2,7 @@
 ghost use Rattle.machine_cells.specs.Kept.{NoMessageIsLost};
 ghost use Rattle.machine_cells.specs.Stay.{MessagesStay};
 ghost use Rattle.machine_cells.specs.Runs.{StartsAreParts, CellsAreParts, RunsAreOne};
+ghost use Rattle.machine_cells.specs.WordLaws.{WordsTell, WordsAreStates, WordsAreWords, HeadsTellLengths};
 
 /// A cell's first state is its part of the machine's first states, and the step of its near states
 /// is its part of the whole machine's cycle, for every whole state and not only for those that a run
@@ -29,4 +30,17 @@ pub fn no_message_is_lost()
 /// of a wait buffer waits on where no reply to its first request comes.
 pub fn messages_stay()
     ensures { MessagesStay }
+{}
+
+/// Two states have the same words exactly where they are the same but for the words of a module's memory; and where those are the
+/// same too, exactly where they are the same.
+pub fn words_tell()
+    ensures states { WordsTell }
+    ensures same_memory { WordsAreStates }
+{}
+
+/// Each word of a state is below 2^64; there are as many as the head says, and at least one.
+pub fn words_are_words()
+    ensures fit { WordsAreWords }
+    ensures lengths { HeadsTellLengths }
 {}

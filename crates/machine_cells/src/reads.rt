@@ -1,7 +1,9 @@
 //! What a cell reads of its project.
-ghost use Rattle.std.specs.Prelude.{◌≡◌, ◌<◌, ◌∷◌, Some};
+ghost use Rattle.std.specs.Prelude.{◌≡◌, ◌<◌, ◌∷◌, Some, List};
+ghost use Rattle.mem_module.specs.declared.words.Stored.{Stored};
 ghost use Rattle.project_book.specs.declared.slot.Slot.TheVariants.{Depth, Wait, Combine};
 ghost use Rattle.project_book.specs.declared.edit.Depths.TheVariants.{LowForward, LowReverse, CombForward, CombReverse, ModuleQueue};
+ghost use Rattle.machine_cells.specs.Words.{state_from};
 ghost use Rattle.machine_cells.specs.Reads.{is_listed, index_reads, entry_reads, out_reads, last_reads, back_reads, fixed_reads, later_reads, start_reads, later_may_read, proc_may_read};
 
 use crate::MachineState;
@@ -9,6 +11,7 @@ use omega_net::{Component, Net, ScriptEntry};
 use page_map::{ADDRESSES, PAGE_WORDS, PAGES};
 use project_book::{Depths, Project, SCRIPT_ENTRIES, Slot};
 use ref_proc::{Outgoing, ProcState};
+use state_words::{read_proc, split_first};
 
 /// Whether a component reads a slot at cycle 0, beside the shape: a module all first words and pages.
 pub(crate) fn start_reads(component: Component, slot: Slot) -> bool
@@ -34,6 +37,28 @@ pub(crate) fn later_reads(
     match (component, own) {
         (Component::Proc(proc), MachineState::Proc(s)) => proc_reads(project, proc, s, slot),
         _ => fixed_reads(project.k(), component, slot),
+    }
+}
+
+/// The same, where its own state has these words. Only a processor's are looked at: what others read doesn't hang on their states.
+pub(crate) fn words_read(project: &Project, component: Component, words: &[u64], slot: Slot) -> bool
+    ensures { (memory : List Stored) → result ≡ is_listed (later_reads project.now (Some component) (state_from words.now memory)) slot }
+{
+    match component {
+        Component::Proc(proc) => proc_words_read(project, proc, words, slot),
+        _ => fixed_reads(project.k(), component, slot),
+    }
+}
+
+/// Whether a processor whose state has these words does.
+fn proc_words_read(project: &Project, proc: u8, words: &[u64], slot: Slot) -> bool
+    ensures { (memory : List Stored) → result ≡ is_listed (later_reads project.now (Some (Component.Proc proc)) (state_from words.now memory)) slot }
+{
+    let (head, body) = split_first(words);
+    if head % 4 == 0 {
+        proc_reads(project, proc, &read_proc(head, body), slot)
+    } else {
+        false
     }
 }
 

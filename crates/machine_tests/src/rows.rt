@@ -3,7 +3,7 @@ ghost use Rattle.flat_row.specs.Row.{IsRowOf};
 
 use flat_row::{Changed, Row};
 use machine_cells::{MachineState, from_scratch};
-use omega_net::ScriptEntry;
+use omega_net::{Component, ScriptEntry};
 use project_book::{Edit, Project};
 use std::alloc::Global;
 use std::sync::Arc;
@@ -73,7 +73,22 @@ fn is_run(alloc: Global, project: &Project) -> Result<bool, Fail> {
     Ok(true)
 }
 
-/// Whether these are the components whose states differ between two rows.
+/// Whether a module is said to have written exactly where its words are other ones.
+fn tells_words(
+    changed: &Changed,
+    component: Component,
+    was: &MachineState,
+    is: &MachineState,
+) -> bool {
+    match (component, was, is) {
+        (Component::Module(m), MachineState::Module(was), MachineState::Module(is)) if m < 64 => {
+            changed.has_written(u32::from(m)) == (was.words.as_slice() != is.words.as_slice())
+        }
+        _ => true,
+    }
+}
+
+/// Whether these are the components whose states differ between two rows, and the modules whose words do.
 fn tells(
     alloc: Global,
     project: &Project,
@@ -88,8 +103,10 @@ fn tells(
     for c in 0..shape.components() {
         let component = shape.component(c).ok_or("no such component")?;
         let was = before.read(alloc, component)?;
-        let same = after.read(alloc, component)?.same(&was);
-        if changed.has(shape, component) == same {
+        let is = after.read(alloc, component)?;
+        if changed.has(shape, component) == is.same(&was)
+            || !tells_words(changed, component, &was, &is)
+        {
             return Ok(false);
         }
     }

@@ -2,14 +2,15 @@
 
 use comb_switch::{CombState, Waiting};
 use expect::{equal, equal_at};
+use grid_law::Grid;
 use low_switch::LowState;
-use machine_cells::{MachineState, from_scratch};
-use mem_module::{ModuleState, SharedWords, Stored, Words};
+use machine_cells::{MachineState, Rp3, decode, encode, from_scratch};
+use mem_module::{ModuleState, SharedWords, Words};
 use omega_net::{Net, Queue, Reply, Request, ScriptEntry, Tag};
 use page_map::Place;
-use project_book::{Edit, Project};
+use project_book::{Edit, Project, Slot};
 use ref_proc::{Outgoing, ProcState};
-use state_words::{decode, encode, length_of};
+use state_words::length_of;
 use std::alloc::Global;
 use std::test::Fail;
 use word_ops::{Kind, Op};
@@ -86,15 +87,12 @@ fn full<T: Copy>(alloc: Global, message: T) -> Result<Queue<T>, Fail> {
     Ok(queue)
 }
 
-/// A copy of a module's words of memory; of other states none.
-fn memory_of(alloc: Global, state: &MachineState) -> Result<Words, Fail> {
-    let mut memory = Words::new(alloc);
-    if let MachineState::Module(module) = state {
-        for Stored { row, word } in module.words.as_slice() {
-            memory.put(*row, *word)?;
-        }
+/// A module's memory.
+fn memory_of(state: &MachineState) -> Option<&SharedWords> {
+    match state {
+        MachineState::Module(module) => Some(&module.words),
+        _ => None,
     }
-    Ok(memory)
 }
 
 /// Appends the words of a state, and says whether they give it back and are as many as the head says.
@@ -103,7 +101,7 @@ fn told(alloc: Global, words: &mut Vec<u64>, state: &MachineState) -> Result<boo
     encode(state, words)?;
     let own = words.get(before..).ok_or("no words")?;
     let head = own.first().ok_or("no head")?;
-    let again = decode(alloc, own, memory_of(alloc, state)?)?;
+    let again = decode(alloc, own, memory_of(state))?;
     Ok(own.len() == length_of(*head) && again.same(state))
 }
 
@@ -191,5 +189,84 @@ fn run_is_told(alloc: Global) -> Result<bool, Fail> {
 #[test]
 fn states_of_a_run_are_told(rt: HostRuntime) -> Result<(), Fail> {
     assert!(rt; run_is_told(rt.alloc())?);
+    Ok(())
+}
+
+/// What a state of a grid is kept as, and put together again: its words, and the same memory with another owner.
+fn kept<G: Grid>(alloc: Global, state: &G::State) -> Result<bool, Fail> {
+    let mut words = Vec::new(alloc);
+    G::encode(state, &mut words)?;
+    let memory = match G::memory(state)? {
+        Some(memory) => Some(G::share_memory(&memory)?),
+        None => None,
+    };
+    let again = G::decode(alloc, &words, memory.as_ref())?;
+    let same = match (G::memory(&again)?, memory) {
+        (Some(a), Some(b)) => G::same_memory(&a, &b),
+        (None, None) => true,
+        _ => false,
+    };
+    Ok(same && G::same(&again, state))
+}
+
+#[test]
+fn states_are_kept_by_the_grid(rt: HostRuntime) -> Result<(), Fail> {
+    let alloc = rt.alloc();
+    assert!(rt; kept::<Rp3>(alloc, &MachineState::Proc(PROC))?);
+    for state in &full_states(alloc)? {
+        assert!(rt; kept::<Rp3>(alloc, state)?);
+    }
+    Ok(())
+}
+
+/// Whether a state has its own words, and no longer where one of them is another or the last isn't there.
+fn has_code(words: &mut Vec<u64>, state: &MachineState) -> Result<bool, Fail> {
+    words.clear();
+    encode(state, words)?;
+    let memory = memory_of(state);
+    let mut has = Rp3::is_code(state, words, memory);
+    for place in 0..words.len() {
+        words[place] ^= 1;
+        has = has && !Rp3::is_code(state, words, memory);
+        words[place] ^= 1;
+    }
+    has = has && words.pop().is_some() && !Rp3::is_code(state, words, memory);
+    Ok(has)
+}
+
+#[test]
+fn states_are_compared_with_words(rt: HostRuntime) -> Result<(), Fail> {
+    let alloc = rt.alloc();
+    let mut words = Vec::new(alloc);
+    let processor = MachineState::Proc(PROC);
+    assert!(rt; has_code(&mut words, &processor)?);
+    for state in &full_states(alloc)? {
+        assert!(rt; has_code(&mut words, state)?);
+    }
+    words.clear();
+    encode(&processor, &mut words)?;
+    let memory = SharedWords::new(alloc, Words::new(alloc))?;
+    assert!(rt; !Rp3::is_code(&processor, &words, Some(&memory)));
+    Ok(())
+}
+
+// A processor at its entry 3 reads that one, whatever it has sent, and no other; a switch's words say nothing of what it reads.
+#[test]
+fn words_are_read(rt: HostRuntime) -> Result<(), Fail> {
+    let alloc = rt.alloc();
+    let project = four(alloc)?;
+    let mut own = PROC;
+    own.index = 3;
+    let mut words = Vec::new(alloc);
+    Rp3::encode(&MachineState::Proc(own), &mut words)?;
+    if Rp3::components(&project) < 9 {
+        return Err(Fail::from("no such component"));
+    }
+    for (component, index, reads) in [(2, 3, true), (2, 4, false), (8, 3, false)] {
+        let slot = Slot::Entry(2, index);
+        let read = Rp3::words_read(&project, &words, component, &slot);
+        assert!(rt; equal_at(&rt, (component, index), read, reads));
+    }
+    assert!(rt; Rp3::words_read(&project, &[], 8, &Slot::Shape));
     Ok(())
 }

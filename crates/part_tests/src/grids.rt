@@ -1,3 +1,6 @@
+ghost use Rattle.std.specs.Prelude.{◌≡◌, IfOk};
+ghost use Rattle.std.specs.Arc.{arc_value};
+
 use arrayvec::ArrayVec;
 use expect::{equal, equal_at};
 use grid_law::{Grid, Line, LineSlot, NoMemory, Number, Numbers, Reader, SlotFault};
@@ -132,4 +135,47 @@ fn next_states(rt: HostRuntime) -> Result<(), Fail> {
     let next = Line::next(alloc, &line, &[&2, &3, &5], 1)?.ok_or("another state")?;
     assert!(rt; equal(&rt, *next, 10));
     Ok(())
+}
+
+/// A state as a table keeps it, its words and its memory, put together again.
+fn kept<G: Grid>(alloc: Global, state: &G::State) -> Result<Arc<G::State>, NoMemory>
+    ensures { IfOk result (λ again. arc_value again ≡ state.now) }
+{
+    let mut words = Vec::new(alloc);
+    G::encode(state, &mut words)?;
+    let memory = G::memory(state)?;
+    G::decode(alloc, &words, memory.as_ref())
+}
+
+// A number is one word behind those that stand there, an odd one reads its own addend, and there is no memory.
+#[test]
+fn states_as_words(rt: HostRuntime) -> Result<(), Fail> {
+    let alloc = rt.alloc();
+    let line = three(alloc)?;
+    if Line::components(&line) < 2 {
+        return Err(Fail::from("no such place"));
+    }
+    let mut words = vec![in alloc; 9]?;
+    Line::encode(&4294967295, &mut words)?;
+    assert!(rt; equal(&rt, words.as_slice(), [9, 4294967295].as_slice()));
+    assert!(rt; equal(&rt, *kept::<Line>(alloc, &4294967295)?, 4294967295));
+    assert!(rt; Line::memory(&7)?.is_none());
+    for (word, place, reads) in [(7, 1, true), (8, 1, false), (7, 0, false)] {
+        let read = Line::words_read(&line, &[word], place, &LineSlot::Add(1));
+        assert!(rt; equal_at(&rt, (word, place), read, reads));
+    }
+    assert!(rt; !Line::words_read(&line, &[7], 1, &LineSlot::Seed(1)));
+    Line::share_memory(&())?;
+    assert!(rt; Line::same_memory(&(), &()));
+    Ok(())
+}
+
+// A number is its own word alone, beside no memory.
+#[test]
+fn states_beside_words(rt: HostRuntime) {
+    assert!(rt; Line::is_code(&7, &[7], None));
+    assert!(rt; !Line::is_code(&7, &[8], None));
+    assert!(rt; !Line::is_code(&7, &[7, 7], None));
+    assert!(rt; !Line::is_code(&7, &[], None));
+    assert!(rt; !Line::is_code(&7, &[7], Some(&())));
 }

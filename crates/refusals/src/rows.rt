@@ -4,11 +4,9 @@ ghost use Rattle.flat_row.specs.Row.{IsRowOf};
 use crate::again::again;
 use crate::projects::project;
 use flat_row::Row;
-use grid_law::NoMemory;
-use machine_cells::{MachineState, from_scratch};
-use mem_module::{Stored, Words};
+use grid_law::{Grid, NoMemory};
+use machine_cells::{MachineState, Rp3, decode, encode, from_scratch};
 use project_book::Project;
-use state_words::{decode, encode};
 use std::alloc::{AllocError, Global};
 use std::sync::Arc;
 
@@ -61,22 +59,12 @@ pub(crate) fn stepped(alloc: Global) -> bool {
     }
 }
 
-/// A copy of a module's words of memory; of other states none.
-fn memory_of(alloc: Global, state: &MachineState) -> Result<Words, NoMemory> {
-    let mut memory = Words::new(alloc);
-    if let MachineState::Module(module) = state {
-        for Stored { row, word } in module.words.as_slice() {
-            memory.put(*row, *word)?;
-        }
-    }
-    Ok(memory)
-}
-
 /// The state that has the words of another one, with the same memory.
 fn copied(alloc: Global, state: &MachineState) -> Result<MachineState, NoMemory> {
     let mut words = Vec::new(alloc);
     encode(state, &mut words)?;
-    decode(alloc, &words, memory_of(alloc, state)?)
+    let memory = Rp3::memory(state)?;
+    decode(alloc, &words, memory.as_ref())
 }
 
 /// Whether each state of a run is told by its words.

@@ -5,7 +5,7 @@ use std::process::Abort;
 use std::test::Fail;
 
 /// Components of these tables: three words of marks.
-const WIDTH: u32 = 130;
+pub(crate) const WIDTH: u32 = 130;
 
 /// What is done to a table.
 #[derive(Clone, Copy, Debug)]
@@ -62,7 +62,7 @@ const CHANGES: [Step; 5] = [
 ];
 
 /// The words of a component at a step: up to three.
-fn words(alloc: Global, c: u32, number: u64) -> Result<Vec<u64>, Fail> {
+pub(crate) fn words(alloc: Global, c: u32, number: u64) -> Result<Vec<u64>, Fail> {
     let mut words = Vec::new(alloc);
     let count = (u64::from(c) + number % 100) % 4;
     for k in 0..count {
@@ -73,19 +73,19 @@ fn words(alloc: Global, c: u32, number: u64) -> Result<Vec<u64>, Fail> {
 
 /// A table kept cell by cell.
 #[derive(Drop)]
-struct Plain {
+pub(crate) struct Plain {
     rows: Vec<Vec<Vec<u64>>>,
 }
 
 impl Plain {
-    fn words(&self, t: u32, c: u32) -> &[u64] {
+    pub(crate) fn words(&self, t: u32, c: u32) -> &[u64] {
         match self.rows.get(t as usize) {
             Some(row) => words_of(row, c),
             None => &[],
         }
     }
 
-    fn put(&mut self, t: u32, c: u32, words: Vec<u64>) {
+    pub(crate) fn put(&mut self, t: u32, c: u32, words: Vec<u64>) {
         if let Some(row) = self.rows.get_mut(t as usize) {
             put_in(row, c, words);
         }
@@ -113,7 +113,7 @@ impl Plain {
     }
 }
 
-fn is_member(set: &[u64], c: u32) -> bool {
+pub(crate) fn is_member(set: &[u64], c: u32) -> bool {
     match set.get(c as usize / 64) {
         Some(word) => (*word >> (c % 64)) % 2 == 1,
         None => false,
@@ -141,23 +141,32 @@ fn blank(alloc: Global) -> Result<Vec<Vec<u64>>, Fail> {
     Ok(row)
 }
 
+/// A table of n rows without words.
+pub(crate) fn blank_rows(alloc: Global, n: u32) -> Result<Plain, Fail> {
+    let mut plain = Plain {
+        rows: Vec::new(alloc),
+    };
+    plain.grow(alloc, n)?;
+    Ok(plain)
+}
+
 fn draft_of(alloc: Global, components: &[u32], number: u64) -> Result<Cells, Fail> {
     let mut draft = Cells::new(alloc);
     for c in components {
-        push(alloc, &mut draft, *c, number)?;
+        push(&mut draft, *c, &words(alloc, *c, number)?)?;
     }
     Ok(draft)
 }
 
-fn push(alloc: Global, draft: &mut Cells, c: u32, number: u64) -> Result<(), Fail> {
+pub(crate) fn push(draft: &mut Cells, c: u32, words: &[u64]) -> Result<(), Fail> {
     if draft.end() > u64::from(c) {
         return Err(Fail::from("the components of a draft ascend"));
     }
-    draft.push(c, &words(alloc, c, number)?)?;
+    draft.push(c, words)?;
     Ok(())
 }
 
-fn put(alloc: Global, rows: &mut Rows, t: u32, draft: &Cells) -> Result<(), Fail> {
+pub(crate) fn put(alloc: Global, rows: &mut Rows, t: u32, draft: &Cells) -> Result<(), Fail> {
     if t >= rows.len() || draft.end() > u64::from(rows.width()) {
         return Err(Fail::from("no such cells"));
     }
@@ -165,7 +174,7 @@ fn put(alloc: Global, rows: &mut Rows, t: u32, draft: &Cells) -> Result<(), Fail
     Ok(())
 }
 
-fn grow(alloc: Global, rows: &mut Rows, m: u32) -> Result<(), Fail> {
+pub(crate) fn grow(alloc: Global, rows: &mut Rows, m: u32) -> Result<(), Fail> {
     if u64::from(rows.len()) + u64::from(m) > u64::from(u32::MAX) {
         return Err(Fail::from("too many rows"));
     }
@@ -218,7 +227,7 @@ fn play_plain(alloc: Global, plain: &mut Plain, step: Step) -> Result<(), Fail> 
 }
 
 /// Whether a cell is as in the plain table, and goes on where it is said.
-fn is_alike(rows: &Rows, plain: &Plain, t: u32, c: u32) -> bool {
+pub(crate) fn is_alike(rows: &Rows, plain: &Plain, t: u32, c: u32) -> bool {
     let wanted = plain.words(t, c);
     rows.words(t, c) == wanted
         && (rows.begins(t, c) || plain.words(t.saturating_sub(1), c) == wanted)

@@ -3,3 +3,4 @@ pub mod Telling
 pub mod Stating
 pub mod Saying
 pub mod Measuring
+pub mod Passing

@@ -1,5 +1,5 @@
--- What words say of states.
-use Rattle.std.proofs.Common.{◌≡◌, ℕ, suc, ◌+◌, ◌*◌, ◌/◌, ◌%◌, ◌^◌, ◌<◌, ◌≤◌, false, cond, List, [], ◌∷◌, length, refl, sym, ap, ◌∙◌, Option, Some, None, is_some, arith, nat_eq, All}
+-- What words say of components.
+use Rattle.std.proofs.Common.{◌≡◌, ℕ, ◌+◌, ◌*◌, ◌/◌, ◌%◌, ◌^◌, ◌<◌, ◌≤◌, false, cond, List, [], ◌∷◌, refl, ap, ◌∙◌, Option, Some, None, is_some, arith, nat_eq, All}
 use Rattle.std.proofs.lemmas.List.Elements.{All-nil, All-cons, All-head, All-tail}
 use Rattle.arrayvec.specs.ArrayVec.{ArrayVec}
 use Rattle.omega_net.specs.declared.message.Request.{Request}
@@ -8,40 +8,31 @@ use Rattle.omega_net.specs.Wires.{net_number}
 use Rattle.omega_net.specs.Limits.{queue_places}
 use Rattle.omega_net.specs.Ports.{queue_at, message_at}
 use Rattle.ref_proc.specs.declared.state.Outgoing.{Outgoing}
-use Rattle.mem_module.specs.declared.words.Stored.{Stored}
+use Rattle.ref_proc.specs.declared.state.ProcState.{ProcState}
+use Rattle.mem_module.specs.declared.state.ModuleState.{ModuleState}
+use Rattle.low_switch.specs.declared.state.LowState.{LowState}
+use Rattle.comb_switch.specs.declared.state.CombState.{CombState}
 use Rattle.comb_switch.specs.declared.waiting.Waiting.{Waiting}
-use Rattle.machine_cells.specs.declared.state.MachineState.{MachineState}
-use Rattle.machine_cells.specs.declared.state.MachineState.TheVariants.{Proc, Module, Low, Comb}
 use Rattle.state_words.specs.Messages.{request_first, request_second, out_first, out_second, reply_first, reply_second, wait_first, wait_second, message_words}
 use Rattle.state_words.specs.Words.{one_if, queues_head, bytes, queues_words, option_words, proc_head, proc_body, module_head, module_body, low_head, low_body, comb_head, comb_body, length_of}
-use Rattle.state_words.specs.Fits.{IsRequest, IsReply, IsOutgoing, IsWaiting, AreQueues, IfThere}
-use Rattle.state_words.specs.States.{head_of, words_of, memory_of, with_memory, state_from, IsState}
-use Rattle.state_words.specs.Laws.{WordsTell, WordsAreStates, WordsAreWords, HeadsTellLengths}
+use Rattle.state_words.specs.Fits.{IsRequest, IsReply, IsOutgoing, IsWaiting, AreQueues, IfThere, IsProc, IsModule, IsLow, IsComb}
+use Rattle.state_words.specs.Laws.{ProcsAreTold, ModulesAreTold, LowsAreTold, CombsAreTold, ProcsAreWords, ModulesAreWords, LowsAreWords, CombsAreWords}
 use Rattle.state_words.proofs.Telling.{IsHead, IsProcHead, kind_small, net_small, one_small}
 use Rattle.state_words.proofs.Measuring.{proc_long, module_long, low_long, comb_long}
-use Rattle.state_words.proofs.Stating.{state_back, module_head_is, low_head_is, comb_head_is, proc_head_is}
+use Rattle.state_words.proofs.Stating.{proc_with, module_with, low_with, comb_with, module_head_is, low_head_is, comb_head_is, proc_head_is}
 
--- a state with its own memory is itself, and memory is in no word
-own_memory : (s : MachineState) → with_memory (memory_of s) s ≡ s
-own_memory (Proc s) = refl
-own_memory (Module s) = refl
-own_memory (Low s) = refl
-own_memory (Comb s) = refl
+-- a component is told
+pub procs_are_told : ProcsAreTold
+procs_are_told s h = proc_with (proc_head s) s (proc_head_is s h) h
 
-no_memory : (s : MachineState) (memory : List Stored) → words_of (with_memory memory s) ≡ words_of s
-no_memory (Proc s) memory = refl
-no_memory (Module s) memory = refl
-no_memory (Low s) memory = refl
-no_memory (Comb s) memory = refl
+pub modules_are_told : ModulesAreTold
+modules_are_told s memory h = module_with (module_head s) s memory (module_head_is s h) h
 
-told : (s u : MachineState) → IsState s → IsState u → words_of s ≡ words_of u → with_memory (memory_of u) s ≡ u
-told s u a b e = sym (state_back s (memory_of u) a) ∙ ap (λ ws. state_from ws (memory_of u)) e ∙ state_back u (memory_of u) b ∙ own_memory u
+pub lows_are_told : LowsAreTold
+lows_are_told s h = low_with (low_head s) s (low_head_is s h) h
 
-pub words_tell : WordsTell
-words_tell s u a b = (told s u a b, λ e. sym (no_memory s (memory_of u)) ∙ ap words_of e)
-
-pub words_are_states : WordsAreStates
-words_are_states s u a b e = (λ w. sym (ap (λ m. with_memory m s) (sym e) ∙ own_memory s) ∙ told s u a b w, λ same. ap words_of same)
+pub combs_are_told : CombsAreTold
+combs_are_told s h = comb_with (comb_head s) s (comb_head_is s h) h
 
 -- words are below 2^64
 abbrev IsWord : ℕ → Type 0
@@ -111,25 +102,31 @@ bytes_fit a b c d ha hb hc hd = omega (arith, ha, hb, hc, hd)
 bits_fit : (a b : ℕ) → a < 2 → b < 2 → a + 2 * b < 2 ^ 32
 bits_fit a b ha hb = omega (arith, ha, hb)
 
-pub words_are_words : WordsAreWords
-words_are_words (Proc s) h =
+proc_fit : (s : ProcState) → IsProc s → All IsWord (proc_head s ∷ proc_body s)
+proc_fit s h =
     All-cons IsWord (proc_head s) (proc_body s)
     (proc_fits _ _ _ _ s.index s.pending (one_small (is_some s.out)) (one_small (is_some (message_at s.got 0))) (one_small (is_some (message_at s.got 1))) (one_small s.sent) h.index h.pending)
     (All-cons IsWord (s.spent + 2 ^ 32 * s.issued) _ (halves_fit s.spent s.issued h.spent h.issued)
     (option_fits out_first out_second IsOutgoing (λ o is. request_first_fits o.request is.request) out_second_fits s.out _ h.out
     (option_fits reply_first reply_second IsReply reply_first_fits reply_second_fits (message_at s.got 0) _ h.first
     (option_fits reply_first reply_second IsReply reply_first_fits reply_second_fits (message_at s.got 1) [] h.second (All-nil IsWord)))))
-words_are_words (Module s) h =
+
+module_fit : (s : ModuleState) → IsModule s → All IsWord (module_head s ∷ module_body s)
+module_fit s h =
     All-cons IsWord (module_head s) (module_body s)
     (head_fits 1 _ _ _ _ 0 _ (omega arith) h.requests.first.fits h.requests.second.fits h.replies.first.fits h.replies.second.fits (omega arith)
     (bits_fit (net_number s.turn) (one_if s.served) (net_small s.turn) (one_small s.served)))
     (queues_fit s.requests s.replies [] h.requests h.replies (All-nil IsWord))
-words_are_words (Low s) h =
+
+low_fit : (s : LowState) → IsLow s → All IsWord (low_head s ∷ low_body s)
+low_fit s h =
     All-cons IsWord (low_head s) (low_body s)
     (head_fits 2 _ _ _ _ 0 _ (omega arith) h.fwd.first.fits h.fwd.second.fits h.rev.first.fits h.rev.second.fits (omega arith)
     (bytes_fit _ _ _ _ h.turn.first h.turn.second h.rturn.first h.rturn.second))
     (queues_fit s.fwd s.rev [] h.fwd h.rev (All-nil IsWord))
-words_are_words (Comb s) h =
+
+comb_fit : (s : CombState) → IsComb s → All IsWord (comb_head s ∷ comb_body s)
+comb_fit s h =
     All-cons IsWord (comb_head s) (comb_body s)
     (head_fits 3 _ _ _ _ _ _ (omega arith) h.fwd.first.fits h.fwd.second.fits h.rev.first.fits h.rev.second.fits h.wait.fits
     (bytes_fit _ _ _ _ h.turn.first h.turn.second h.rturn h.combined))
@@ -157,20 +154,32 @@ proc_head_long h o f g t i p is =
     sums : (v w x p q r : ℕ) → v ≡ p → w ≡ q → x ≡ r → 2 + 2 * (v + w + x) ≡ 2 + 2 * (p + q + r)
     sums v w x p q r h1 h2 h3 = omega (arith, h1, h2, h3)
 
-one_more : (n m a : ℕ) → n ≡ 1 + a → m ≡ 2 + a → suc n ≡ m
+one_more : (n m a : ℕ) → n ≡ 1 + a → m ≡ 2 + a → 1 + n ≡ m
 one_more n m a x y = omega (arith, x, y)
 
-head_more : (n m a : ℕ) → n ≡ a → m ≡ 1 + a → suc n ≡ m
+head_more : (n m a : ℕ) → n ≡ a → m ≡ 1 + a → 1 + n ≡ m
 head_more n m a x y = omega (arith, x, y)
 
 no_waits : (m a : ℕ) → m ≡ 1 + 2 * (a + 0) → m ≡ 1 + 2 * a
 no_waits m a h = omega (arith, h)
 
-exact : (s : MachineState) → IsState s → length (words_of s) ≡ length_of (head_of s)
-exact (Proc s) h = one_more _ _ _ (proc_long s) (proc_head_long (proc_head s) _ _ _ _ _ _ (proc_head_is s h))
-exact (Module s) h = head_more _ _ _ (module_long s) (no_waits _ _ (head_long (module_head s) 1 _ _ _ _ _ _ refl (module_head_is s h)))
-exact (Low s) h = head_more _ _ _ (low_long s) (no_waits _ _ (head_long (low_head s) 2 _ _ _ _ _ _ refl (low_head_is s h)))
-exact (Comb s) h = head_more _ _ _ (comb_long s) (head_long (comb_head s) 3 _ _ _ _ _ _ refl (comb_head_is s h))
+-- a component's words
+pub procs_are_words : ProcsAreWords
+procs_are_words s h =
+    let is = proc_head_is s h in
+    record { kind = is.kind; exact = one_more _ _ _ (proc_long s) (proc_head_long (proc_head s) _ _ _ _ _ _ is); fit = proc_fit s h }
 
-pub heads_tell_lengths : HeadsTellLengths
-heads_tell_lengths s h = record { exact = exact s h; some = omega arith }
+pub modules_are_words : ModulesAreWords
+modules_are_words s h =
+    let is = module_head_is s h in
+    record { kind = is.kind; exact = head_more _ _ _ (module_long s) (no_waits _ _ (head_long (module_head s) 1 _ _ _ _ _ _ refl is)); fit = module_fit s h }
+
+pub lows_are_words : LowsAreWords
+lows_are_words s h =
+    let is = low_head_is s h in
+    record { kind = is.kind; exact = head_more _ _ _ (low_long s) (no_waits _ _ (head_long (low_head s) 2 _ _ _ _ _ _ refl is)); fit = low_fit s h }
+
+pub combs_are_words : CombsAreWords
+combs_are_words s h =
+    let is = comb_head_is s h in
+    record { kind = is.kind; exact = head_more _ _ _ (comb_long s) (head_long (comb_head s) 3 _ _ _ _ _ _ refl is); fit = comb_fit s h }

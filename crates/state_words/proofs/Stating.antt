@@ -1,5 +1,5 @@
 -- Components are told by their words.
-use Rattle.std.proofs.Common.{◌≡◌, ℕ, suc, ◌+◌, ◌*◌, ◌/◌, ◌%◌, ◌^◌, ◌<◌, Bool, List, [], ◌∷◌, length, drop, slice_index, slice_index_or, ◌≢◌, refl, sym, ap, ◌∙◌, Option, Some, None, is_some, arith, ◌==◌, All, if◌then◌else◌, Result, Ok, Err, IfOk}
+use Rattle.std.proofs.Common.{◌≡◌, ℕ, suc, ◌+◌, ◌*◌, ◌/◌, ◌%◌, ◌^◌, ◌<◌, Bool, List, [], ◌∷◌, length, drop, slice_index, slice_index_or, refl, ap, ◌∙◌, Option, Some, None, is_some, arith, All}
 use Rattle.std.proofs.lemmas.List.Elements.{All-head, All-tail}
 use Rattle.arrayvec.specs.ArrayVec.{ArrayVec}
 use Rattle.omega_net.specs.declared.component.Net.{Net}
@@ -14,13 +14,10 @@ use Rattle.mem_module.specs.declared.state.ModuleState.{ModuleState}
 use Rattle.low_switch.specs.declared.state.LowState.{LowState}
 use Rattle.comb_switch.specs.declared.waiting.Waiting.{Waiting}
 use Rattle.comb_switch.specs.declared.state.CombState.{CombState}
-use Rattle.machine_cells.specs.declared.state.MachineState.{MachineState}
-use Rattle.machine_cells.specs.declared.state.MachineState.TheVariants.{Proc, Module, Low, Comb}
 use Rattle.state_words.specs.Messages.{request_first, request_second, request_from, out_first, out_second, out_from, reply_first, reply_second, reply_from, wait_first, wait_second, wait_from, net_from, message_words}
 use Rattle.state_words.specs.Words.{one_if, size_at, bytes, ports_words, queues_words, option_words, proc_head, proc_body, module_head, module_body, low_head, low_body, comb_head, comb_body}
 use Rattle.state_words.specs.Reading.{messages_from, after, queue_from, queues_from, option_from, after_option, count_in, mark_in, proc_from, module_from, low_from, comb_from, after_requests, after_replies}
 use Rattle.state_words.specs.Fits.{IsRequest, IsReply, IsOutgoing, IsWaiting, IsQueue, AreQueues, IfThere, IsProc, IsModule, IsLow, IsComb}
-use Rattle.state_words.specs.States.{words_of, with_memory, state_with, state_from, IsState}
 use Rattle.state_words.proofs.Telling.{request_back, out_back, reply_back, wait_back, IsHead, head_parts, IsProcHead, proc_parts, bytes_back, turn_bit, served_bit, one_back, one_small, net_back, net_small, counted}
 
 -- messages
@@ -216,31 +213,3 @@ proc_with h s head is =
 pub proc_head_is : (s : ProcState) → IsProc s
     → IsProcHead (proc_head s) (one_if (is_some s.out)) (one_if (is_some (message_at s.got 0))) (one_if (is_some (message_at s.got 1))) (one_if s.sent) s.index s.pending
 proc_head_is s is = proc_parts _ _ _ _ s.index s.pending (one_small (is_some s.out)) (one_small (is_some (message_at s.got 0))) (one_small (is_some (message_at s.got 1))) (one_small s.sent) is.index is.pending
-
--- a state
-chosen : (h k : ℕ) (ws : List ℕ) (memory : List Stored) → h % 2 ^ 2 ≡ k
-    → state_with h ws memory ≡ (if k == 0 then Proc (proc_from h ws) else if k == 1 then Module (module_from h ws memory) else if k == 2 then Low (low_from h ws) else Comb (comb_from h ws))
-chosen h k ws memory e = ap (λ n. if n == 0 then Proc (proc_from h ws) else if n == 1 then Module (module_from h ws memory) else if n == 2 then Low (low_from h ws) else Comb (comb_from h ws)) e
-
-pub state_back : (s : MachineState) (memory : List Stored) → IsState s → state_from (words_of s) memory ≡ with_memory memory s
-state_back (Proc s) memory is =
-    let head = proc_head_is s is in chosen (proc_head s) 0 (proc_body s) memory head.kind ∙ ap Proc (proc_with (proc_head s) s head is)
-state_back (Module s) memory is =
-    let head = module_head_is s is in chosen (module_head s) 1 (module_body s) memory head.kind ∙ ap Module (module_with (module_head s) s memory head is)
-state_back (Low s) memory is =
-    let head = low_head_is s is in chosen (low_head s) 2 (low_body s) memory head.kind ∙ ap Low (low_with (low_head s) s head is)
-state_back (Comb s) memory is =
-    let head = comb_head_is s is in chosen (comb_head s) 3 (comb_body s) memory head.kind ∙ ap Comb (comb_with (comb_head s) s head is)
-
--- what a call answers where it answers state_from
-pub read_back : {E : Type 0} (r : Result MachineState E) (ws : List ℕ) (memory : List Stored) → IfOk r (λ x. x ≡ state_from ws memory)
-    → (s : MachineState) → IsState s → ws ≡ words_of s → IfOk r (λ x. x ≡ with_memory memory s)
-read_back (Ok x) ws memory h s is e = h ∙ ap (λ v. state_from v memory) e ∙ state_back s memory is
-read_back (Err x) ws memory h s is e = h
-
--- of the last kind is what is of no other
-pub comb_read : (ws : List ℕ) (memory : List Stored) (h : ℕ) (rest : List ℕ) (s : CombState) → h ≡ slice_index ws 0 → rest ≡ drop 1 ws
-    → h % 2 ^ 2 ≢ 0 → h % 2 ^ 2 ≢ 1 → h % 2 ^ 2 ≢ 2 → s ≡ comb_from h rest → Comb s ≡ state_from ws memory
-comb_read ws memory h rest s a b no_proc no_module no_low is =
-    ap Comb is ∙ sym (chosen h 3 rest memory (omega (arith, no_proc, no_module, no_low)))
-    ∙ ap (λ n. state_with n rest memory) a ∙ ap (λ v. state_with (slice_index ws 0) v memory) b

@@ -1,25 +1,41 @@
--- What words say of states.
-use Rattle.std.specs.Prelude.{◌≡◌, ◌^◌, ◌<◌, ◌↔◌, length, All}
-use Rattle.machine_cells.specs.declared.state.MachineState.{MachineState}
-use Rattle.state_words.specs.Words.{length_of}
-use Rattle.state_words.specs.States.{head_of, words_of, memory_of, with_memory, IsState}
+-- What words say of components.
+use Rattle.std.specs.Prelude.{◌≡◌, ℕ, ◌+◌, ◌%◌, ◌^◌, ◌<◌, List, ◌∷◌, length, All}
+use Rattle.ref_proc.specs.declared.state.ProcState.{ProcState}
+use Rattle.mem_module.specs.declared.words.Stored.{Stored}
+use Rattle.mem_module.specs.declared.state.ModuleState.{ModuleState}
+use Rattle.low_switch.specs.declared.state.LowState.{LowState}
+use Rattle.comb_switch.specs.declared.state.CombState.{CombState}
+use Rattle.state_words.specs.Words.{proc_head, proc_body, module_head, module_body, low_head, low_body, comb_head, comb_body, length_of}
+use Rattle.state_words.specs.Fits.{IsProc, IsModule, IsLow, IsComb}
+use Rattle.state_words.specs.Reading.{proc_from, module_from, low_from, comb_from}
 
--- states of the same words are the same but for the words of a module's memory
-abbrev pub WordsTell : Type 0
-WordsTell = (s u : MachineState) → IsState s → IsState u → (words_of s ≡ words_of u) ↔ (with_memory (memory_of u) s ≡ u)
+-- a component is the one that its head and the words after it are; a module's memory stands beside them
+abbrev pub ProcsAreTold : Type 0
+ProcsAreTold = (s : ProcState) → IsProc s → proc_from (proc_head s) (proc_body s) ≡ s
 
--- so where that is the same too, states are the same exactly where their words are
-abbrev pub WordsAreStates : Type 0
-WordsAreStates = (s u : MachineState) → IsState s → IsState u → memory_of s ≡ memory_of u → (words_of s ≡ words_of u) ↔ (s ≡ u)
+abbrev pub ModulesAreTold : Type 0
+ModulesAreTold = (s : ModuleState) (memory : List Stored) → IsModule s → module_from (module_head s) (module_body s) memory ≡ record s { words = memory }
 
--- each word has 64 bits
-abbrev pub WordsAreWords : Type 0
-WordsAreWords = (s : MachineState) → IsState s → All (λ w. w < 2 ^ 64) (words_of s)
+abbrev pub LowsAreTold : Type 0
+LowsAreTold = (s : LowState) → IsLow s → low_from (low_head s) (low_body s) ≡ s
 
--- there are as many of them as the head says, which are never none
-pub record HasLength (s : MachineState) : Type 0 where
-  pub exact : length (words_of s) ≡ length_of (head_of s)
-  pub some : 0 < length (words_of s)
+abbrev pub CombsAreTold : Type 0
+CombsAreTold = (s : CombState) → IsComb s → comb_from (comb_head s) (comb_body s) ≡ s
 
-abbrev pub HeadsTellLengths : Type 0
-HeadsTellLengths = (s : MachineState) → IsState s → HasLength s
+-- a head has the number of the kind, says how many words there are, and each word has 64 bits
+pub record AreWords (number head : ℕ) (body : List ℕ) : Type 0 where
+  pub kind : head % 2 ^ 2 ≡ number
+  pub exact : 1 + length body ≡ length_of head
+  pub fit : All (λ w. w < 2 ^ 64) (head ∷ body)
+
+abbrev pub ProcsAreWords : Type 0
+ProcsAreWords = (s : ProcState) → IsProc s → AreWords 0 (proc_head s) (proc_body s)
+
+abbrev pub ModulesAreWords : Type 0
+ModulesAreWords = (s : ModuleState) → IsModule s → AreWords 1 (module_head s) (module_body s)
+
+abbrev pub LowsAreWords : Type 0
+LowsAreWords = (s : LowState) → IsLow s → AreWords 2 (low_head s) (low_body s)
+
+abbrev pub CombsAreWords : Type 0
+CombsAreWords = (s : CombState) → IsComb s → AreWords 3 (comb_head s) (comb_body s)

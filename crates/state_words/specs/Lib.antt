@@ -2,5 +2,4 @@ pub mod Messages
 pub mod Words
 pub mod Fits
 pub mod Reading
-pub mod States
 pub mod Laws

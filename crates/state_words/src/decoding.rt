@@ -6,14 +6,14 @@ use crate::fields::{byte, high, low, net_from, short};
 use crate::heads::{count_in, mark_in};
 use crate::reading::{read_option, read_ports, read_queue, split_first};
 use comb_switch::CombState;
-use grid_law::NoMemory;
 use low_switch::LowState;
-use mem_module::{ModuleState, SharedWords, Words};
+use mem_module::{ModuleState, SharedWords};
 use ref_proc::ProcState;
 use std::alloc::{AllocError, Global};
 
-/// The processor of a head and what follows it.
-pub(crate) fn read_proc(head: u64, words: &[u64]) -> ProcState
+/// The processor of a head and what follows it. Of those that a processor has, it is that one ([`crate::components_are_told`]), and so
+/// with the others below; where no component has them, some component.
+pub fn read_proc(head: u64, words: &[u64]) -> ProcState
     ensures { result ≡ proc_from head words.now }
 {
     let (counts, rest) = split_first(words);
@@ -32,18 +32,22 @@ pub(crate) fn read_proc(head: u64, words: &[u64]) -> ProcState
 }
 
 /// The module of a head and what follows it, with this memory.
-pub(crate) fn read_module(
+///
+/// # Errors
+///
+/// Where a growth was refused: one for each queue in which messages wait. The memory is dropped.
+pub fn read_module(
     alloc: Global,
     head: u64,
     words: &[u64],
-    memory: Words,
-) -> Result<ModuleState, NoMemory>
+    memory: SharedWords,
+) -> Result<ModuleState, AllocError>
     ensures { IfOk result (λ s. s ≡ module_from head words.now memory) }
 {
     let (requests, rest) = read_ports(alloc, words, count_in(head >> 2), count_in(head >> 7))?;
     let (replies, _) = read_ports(alloc, rest, count_in(head >> 12), count_in(head >> 17))?;
     Ok(ModuleState {
-        words: SharedWords::new(alloc, memory)?,
+        words: memory,
         requests,
         replies,
         turn: net_from((head >> 27) % 2),
@@ -52,7 +56,11 @@ pub(crate) fn read_module(
 }
 
 /// The low switch of a head and what follows it.
-pub(crate) fn read_low(alloc: Global, head: u64, words: &[u64]) -> Result<LowState, AllocError>
+///
+/// # Errors
+///
+/// Where a growth was refused: one for each queue in which messages wait.
+pub fn read_low(alloc: Global, head: u64, words: &[u64]) -> Result<LowState, AllocError>
     ensures { IfOk result (λ s. s ≡ low_from head words.now) }
 {
     let (fwd, rest) = read_ports(alloc, words, count_in(head >> 2), count_in(head >> 7))?;
@@ -66,7 +74,11 @@ pub(crate) fn read_low(alloc: Global, head: u64, words: &[u64]) -> Result<LowSta
 }
 
 /// The combining switch of a head and what follows it.
-pub(crate) fn read_comb(alloc: Global, head: u64, words: &[u64]) -> Result<CombState, AllocError>
+///
+/// # Errors
+///
+/// Where a growth was refused: one for each queue in which messages wait.
+pub fn read_comb(alloc: Global, head: u64, words: &[u64]) -> Result<CombState, AllocError>
     ensures { IfOk result (λ s. s ≡ comb_from head words.now) }
 {
     let (fwd, rest) = read_ports(alloc, words, count_in(head >> 2), count_in(head >> 7))?;

@@ -10,9 +10,13 @@ use mem_module::ModuleState;
 use ref_proc::ProcState;
 use std::alloc::AllocError;
 
-/// Appends a processor's words.
+/// Appends a processor's words: its head, and what follows it. It takes memory only where there is no room for them, as those below.
+///
+/// # Errors
+///
+/// Where the growth was refused. Then nothing was appended.
 #[tactic(auto, using(crate::proofs::Measuring::proc_long))]
-pub(crate) fn write_proc(words: &mut Vec<u64>, s: &ProcState) -> Result<(), AllocError>
+pub fn write_proc(words: &mut Vec<u64>, s: &ProcState) -> Result<(), AllocError>
     ensures ok { OnOk result (words.new.items ≡ words.old.items ++ proc_head s.now ∷ proc_body s.now) }
     ensures err { OnErr result (words.new.items ≡ words.old.items) }
     ensures room { vec_len words.old + 1 + length (proc_body s.now) ≤ vec_capacity words.old → IsOk result }
@@ -30,8 +34,12 @@ pub(crate) fn write_proc(words: &mut Vec<u64>, s: &ProcState) -> Result<(), Allo
 }
 
 /// Appends a module's words, those of its memory left out.
+///
+/// # Errors
+///
+/// Where the growth was refused. Then nothing was appended.
 #[tactic(auto, using(crate::proofs::Measuring::module_long))]
-pub(crate) fn write_module(words: &mut Vec<u64>, s: &ModuleState) -> Result<(), AllocError>
+pub fn write_module(words: &mut Vec<u64>, s: &ModuleState) -> Result<(), AllocError>
     ensures ok { OnOk result (words.new.items ≡ words.old.items ++ module_head s.now ∷ module_body s.now) }
     ensures err { OnErr result (words.new.items ≡ words.old.items) }
     ensures room { vec_len words.old + 1 + length (module_body s.now) ≤ vec_capacity words.old → IsOk result }
@@ -45,8 +53,12 @@ pub(crate) fn write_module(words: &mut Vec<u64>, s: &ModuleState) -> Result<(), 
 }
 
 /// Appends a low switch's words.
+///
+/// # Errors
+///
+/// Where the growth was refused. Then nothing was appended.
 #[tactic(auto, using(crate::proofs::Measuring::low_long))]
-pub(crate) fn write_low(words: &mut Vec<u64>, s: &LowState) -> Result<(), AllocError>
+pub fn write_low(words: &mut Vec<u64>, s: &LowState) -> Result<(), AllocError>
     ensures ok { OnOk result (words.new.items ≡ words.old.items ++ low_head s.now ∷ low_body s.now) }
     ensures err { OnErr result (words.new.items ≡ words.old.items) }
     ensures room { vec_len words.old + 1 + length (low_body s.now) ≤ vec_capacity words.old → IsOk result }
@@ -60,8 +72,12 @@ pub(crate) fn write_low(words: &mut Vec<u64>, s: &LowState) -> Result<(), AllocE
 }
 
 /// Appends a combining switch's words.
+///
+/// # Errors
+///
+/// Where the growth was refused. Then nothing was appended.
 #[tactic(auto, using(crate::proofs::Measuring::comb_long))]
-pub(crate) fn write_comb(words: &mut Vec<u64>, s: &CombState) -> Result<(), AllocError>
+pub fn write_comb(words: &mut Vec<u64>, s: &CombState) -> Result<(), AllocError>
     ensures ok { OnOk result (words.new.items ≡ words.old.items ++ comb_head s.now ∷ comb_body s.now) }
     ensures err { OnErr result (words.new.items ≡ words.old.items) }
     ensures room { vec_len words.old + 1 + length (comb_body s.now) ≤ vec_capacity words.old → IsOk result }

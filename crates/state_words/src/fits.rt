@@ -28,8 +28,8 @@ pub(crate) fn is_tag(tag: Tag)
     is_word(tag.issue);
 }
 
-/// The numbers of messages fit.
-fn all_fit<T: TwoWords>(messages: &[T])
+/// The numbers of messages fit their types. Nothing is done when it runs.
+pub fn all_fit<T: TwoWords>(messages: &[T])
     ensures { All T.fits messages.now }
 {
     for i in 0..messages.len() {
@@ -67,7 +67,8 @@ fn is_option<T: TwoWords>(message: &Option<T>)
     }
 }
 
-pub(crate) fn is_proc(s: &ProcState)
+/// The numbers of a processor fit their types. Nothing is done when it runs.
+pub fn is_proc(s: &ProcState)
     ensures { IsProc s.now }
 {
     is_short(s.index);
@@ -79,14 +80,16 @@ pub(crate) fn is_proc(s: &ProcState)
     is_option(&s.got[1]);
 }
 
-pub(crate) fn is_module(s: &ModuleState)
+/// The numbers of a module fit their types. Nothing is done when it runs.
+pub fn is_module(s: &ModuleState)
     ensures { IsModule s.now }
 {
     are_queues(&s.requests);
     are_queues(&s.replies);
 }
 
-pub(crate) fn is_low(s: &LowState)
+/// The numbers of a low switch fit their types. Nothing is done when it runs.
+pub fn is_low(s: &LowState)
     ensures { IsLow s.now }
 {
     are_queues(&s.fwd);
@@ -95,7 +98,8 @@ pub(crate) fn is_low(s: &LowState)
     are_turns(&s.rturn);
 }
 
-pub(crate) fn is_comb(s: &CombState)
+/// The numbers of a combining switch fit their types. Nothing is done when it runs.
+pub fn is_comb(s: &CombState)
     ensures { IsComb s.now }
 {
     are_queues(&s.fwd);

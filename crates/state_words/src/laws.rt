@@ -1,15 +1,18 @@
-//! What words say of states.
-ghost use Rattle.state_words.specs.Laws.{WordsTell, WordsAreStates, WordsAreWords, HeadsTellLengths};
+//! What words say of components.
+ghost use Rattle.state_words.specs.Laws.{ProcsAreTold, ModulesAreTold, LowsAreTold, CombsAreTold, ProcsAreWords, ModulesAreWords, LowsAreWords, CombsAreWords};
 
-/// Two states have the same words exactly where they are the same but for the words of a module's memory; and where those are the
-/// same too, exactly where they are the same.
-pub fn words_tell()
-    ensures states { WordsTell }
-    ensures same_memory { WordsAreStates }
+/// A component is the one that its head and the words after it are, a module with the memory beside them.
+pub fn components_are_told()
+    ensures procs { ProcsAreTold }
+    ensures modules { ModulesAreTold }
+    ensures lows { LowsAreTold }
+    ensures combs { CombsAreTold }
 {}
 
-/// Each word is below 2^64; there are as many as the head says, and at least one.
+/// A head says of which kind its component is, and how many words there are; each word is below 2^64.
 pub fn words_are_words()
-    ensures fit { WordsAreWords }
-    ensures lengths { HeadsTellLengths }
+    ensures procs { ProcsAreWords }
+    ensures modules { ModulesAreWords }
+    ensures lows { LowsAreWords }
+    ensures combs { CombsAreWords }
 {}

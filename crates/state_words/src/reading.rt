@@ -7,8 +7,8 @@ use crate::TwoWords;
 use omega_net::Queue;
 use std::alloc::{AllocError, Global};
 
-/// The first word, 0 where there is none, and what follows it.
-pub(crate) fn split_first(words: &[u64]) -> (u64, &[u64])
+/// The head, the first of these words, 0 where there is none, and what follows it.
+pub fn split_first(words: &[u64]) -> (u64, &[u64])
     ensures first { result.0 ≡ slice_index words.now 0 }
     ensures rest { result.1.now ≡ drop 1 words.now }
 {

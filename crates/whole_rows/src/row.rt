@@ -4,7 +4,7 @@ ghost use Rattle.omega_net.specs.declared.component.Component.TheVariants.{Modul
 ghost use Rattle.omega_net.specs.Numbers.{components, component_of, number_of, lines, Exists};
 ghost use Rattle.project_book.specs.Project.{Project};
 ghost use Rattle.mem_module.specs.declared.words.Stored.{Stored as Memory};
-ghost use Rattle.state_words.specs.States.{with_memory, words_of};
+ghost use Rattle.machine_cells.specs.Words.{with_memory, words_of};
 ghost use Rattle.flat_row.specs.Row.{IsRowOf, state_of};
 ghost use Rattle.flat_row.specs.Loading.{CanHold, OnlyState};
 
@@ -12,11 +12,10 @@ use crate::memory::is_ascending;
 use cell_table::WholeRow;
 use flat_row::{Changed, Row, can_hold};
 use grid_law::NoMemory;
-use machine_cells::{MachineState, Rp3};
+use machine_cells::{MachineState, Rp3, encode, is_state};
 use mem_module::Stored;
 use omega_net::{Component, Shape};
 use project_book::Project;
-use state_words::{encode, is_state};
 use std::alloc::Global;
 use std::marker::Model;
 use std::sync::Arc;

@@ -8,8 +8,9 @@
 //! Promise: without workers, what a session that ends well has written is the `output` of all that it read, and after a
 //! fault a beginning of it. Beside workers all its lines through the last `ok ..` are those of the output, and none behind
 //! it begins with `ok`. Whatever ends a session, its own edits are those of lines that were read, a fault comes only for its
-//! cause, and all workers that were started have ended (`specs/Serving.antt`). One that can't start has read and written
-//! nothing. A pass stands, as a desk, for the project of its opening with its own edits (`specs/Seated.antt`).
+//! cause, want of memory or of a thread aside, and all workers that were started have ended (`specs/Serving.antt`). One that
+//! can't start has read and written nothing. A pass stands, as a desk, for the project of its opening with its own edits
+//! (`specs/Seated.antt`).
 //!
 //! It stands on `bench_shell` for runs and desks, on `shared_bench` for passes, and on `wave_workers` for workers and
 //! waves.

@@ -1,12 +1,12 @@
-use Rattle.std.proofs.Common.{◌<◌, ◌∙◌, ap, length, arith, refl, Some, []}
+use Rattle.std.proofs.Common.{◌<◌, ◌∙◌, ap, sym, length, arith, refl, Some, []}
 use Rattle.std.proofs.Math.ListN.{length-set}
 use Rattle.std.proofs.lemmas.List.{get_or_default}
 use Rattle.mem_module.specs.MemModule.{words_after, answer_to}
-use Rattle.flat_row.proofs.Ending.{none_served, some_served, within_now, within_words, one_served, all_served, level_twice, changed_same}
+use Rattle.flat_row.proofs.Ending.{none_wrote, none_within, one_wrote, one_within, none_served, some_served, within_now, within_words, one_served, all_served, level_twice, changed_same}
 use Rattle.flat_row.proofs.serving.serve.Goals as goal
 
 pub loop-m-init : goal.loop-m-init
-loop-m-init c = record { within = omega arith; partly = none_served c.args.modules c.args.level.now c.args.words.now.items _ c.told-answers }
+loop-m-init c = record { within = omega arith; partly = none_served c.args.modules c.args.level.now c.args.words.now.items _ c.told-answers; wrote = none_wrote c.args.words.now.items; among = λ m small. none_within c.args.modules m small }
 
 pub take-request-requires-clause-there : goal.take-request-requires-clause-there
 take-request-requires-clause-there c = within_now c.args.modules c.args.level.now c.args.words.now.items c.loop-m.next c.loop-m.level c.loop-m.words.items c.loop-m.answers c.loop-m.invariant.partly c.in-Some.m c.in-Some.ensures.there.1 c.in-Some.ensures.there.0 c.in-Some.ensures.passed c.in-Some.ensures.there.2 c.requires.some
@@ -31,6 +31,10 @@ loop-m-preserved c =
           there place c.take-request.ensures.value c.take-request.ensures.after
           (c.in_ok-reply.ensures.words ∙ ap (λ v. words_after v (Some c.take-request.result)) stored) refl
           (c.in_ok-reply.ensures.answer ∙ ap (λ v. answer_to v (Some c.take-request.result)) stored) refl;
+      wrote = one_wrote c.args.modules c.args.level.now c.args.words.now.items c.loop-m.next c.loop-m.level c.loop-m.words.items c.loop-m.answers c.loop-m.invariant.partly c.in-Some.m c.in-Some.ensures.there.1 c.in-Some.ensures.there.0 c.in-Some.ensures.passed c.in-Some.ensures.there.2
+          c.loop-m.wrote c.with_mark-wrote.result _ c.serve_request.new.words c.in_ok-reply.writes place refl (λ same. c.in_ok-reply.ensures.same same ∙ stored) (λ told alike. c.in_ok-reply.ensures.other told (alike ∙ sym stored)) c.with_mark-wrote.ensures c.loop-m.invariant.wrote;
+      among = one_within c.args.modules c.args.level.now c.args.words.now.items c.loop-m.next c.loop-m.level c.loop-m.words.items c.loop-m.answers c.loop-m.invariant.partly c.in-Some.m c.in-Some.ensures.there.1 c.in-Some.ensures.there.0 c.in-Some.ensures.passed c.in-Some.ensures.there.2
+          c.loop-m.wrote c.with_mark-wrote.result _ c.serve_request.new.words c.in_ok-reply.writes place refl (λ same. c.in_ok-reply.ensures.same same ∙ stored) (λ told alike. c.in_ok-reply.ensures.other told (alike ∙ sym stored)) c.with_mark-wrote.ensures c.loop-m.invariant.among;
     }
 
 pub returns-clause-shape : goal.returns-clause-shape

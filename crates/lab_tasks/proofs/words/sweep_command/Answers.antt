@@ -7,4 +7,7 @@ returns c =
     let one = c.in_ok-task.ensures (new_app (codes "sweep")) c.named.ensures in
     let two = c.in_ok-task-2.ensures _ one in
     let three = c.in_ok-task-3.ensures _ two in
-    c.in_ok-task-4.ensures _ three
+    let four = c.in_ok-task-4.ensures _ three in
+    let five = c.in_ok-task-5.ensures _ four in
+    let six = c.in_ok-task-6.ensures _ five in
+    c.in_ok-task-7.ensures _ six

@@ -1,5 +1,5 @@
 use Rattle.std.proofs.Common.{Some}
-use Rattle.state_words.specs.States.{memory_of, with_memory}
+use Rattle.machine_cells.specs.Words.{memory_of, with_memory}
 use Rattle.flat_row.specs.Row.{state_of}
 use Rattle.flat_row.proofs.Placing.{states_put}
 use Rattle.flat_row.proofs.row.Row.load.Goals as goal

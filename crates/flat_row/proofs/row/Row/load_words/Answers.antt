@@ -4,7 +4,7 @@ use Rattle.omega_net.specs.declared.component.Net.TheVariants.{Low as LowNet, Co
 use Rattle.omega_net.specs.declared.component.Component.{Component}
 use Rattle.omega_net.specs.declared.component.Component.TheVariants.{Proc as ProcAt, Module as ModuleAt, Switch}
 use Rattle.machine_cells.specs.declared.state.MachineState.{MachineState}
-use Rattle.state_words.specs.States.{IsState, words_of, memory_of, with_memory}
+use Rattle.machine_cells.specs.Words.{IsState, words_of, memory_of, with_memory}
 use Rattle.flat_row.specs.Row.{state_of}
 use Rattle.flat_row.specs.Loading.{CanHold}
 use Rattle.flat_row.proofs.Loaded.{told_proc, told_module, told_low, told_comb}

@@ -1,0 +1,40 @@
+use Rattle.std.proofs.Common.{◌≡◌, ◌<◌, ◌≤◌, ◌-◌, ◌∙◌, sym, ap, arith, length}
+use Rattle.std.proofs.lemmas.Result.{err_from_is_err_and}
+use Rattle.change_rows.specs.Rows.{Table}
+use Rattle.change_rows.proofs.Tables.{length_table}
+use Rattle.change_rows.proofs.Viewing.{cells, view_filled, view_same, view_words, view_before}
+use Rattle.change_rows.proofs.rows.Rows.fill.Goals as goal
+
+pub fill-requires-clause-row : goal.fill-requires-clause-row
+fill-requires-clause-row g c =
+    let i = c.self.inside.changes in
+    omega (arith, c.requires.row, length_table (cells i.rows.items i.seam i.at) (length i.rows.items) i.width, ap (λ (v : Table). length v.rows) c.self.view_is)
+
+pub fill-requires-clause-none : goal.fill-requires-clause-none
+fill-requires-clause-none g c = λ d small.
+    let i = c.self.inside.changes in
+    let width : i.width ≡ c.args.self.now.width = ap (λ (v : Table). v.width) c.self.view_is in
+    let here : c.args.t < length i.rows.items = omega (arith, c.requires.row, length_table (cells i.rows.items i.seam i.at) (length i.rows.items) i.width, ap (λ (v : Table). length v.rows) c.self.view_is) in
+    sym (view_words i.rows.items i.seam i.at i.width c.args.t d c.args.self.now c.self.view_is here small) ∙ c.requires.none d (omega (arith, small, width))
+
+pub fill-requires-clause-still : goal.fill-requires-clause-still
+fill-requires-clause-still g c = λ d small still.
+    let i = c.self.inside.changes in
+    let width : i.width ≡ c.args.self.now.width = ap (λ (v : Table). v.width) c.self.view_is in
+    let here : c.args.t < length i.rows.items = omega (arith, c.requires.row, length_table (cells i.rows.items i.seam i.at) (length i.rows.items) i.width, ap (λ (v : Table). length v.rows) c.self.view_is) in
+    let p = c.requires.still d (omega (arith, small, width)) still in
+    p.1 ∙ view_before i.rows.items i.seam i.at i.width c.args.t d c.args.self.now c.self.view_is here small p.0
+
+pub returns-in_err-fill : goal.returns-in_err-fill
+returns-in_err-fill g c =
+    let i = c.self.inside.changes in
+    let s = c.fill.new.s in
+    let p = err_from_is_err_and c.from_residual.result c.from_residual.ensures.1 in
+    rw (p.1) (view_same i.rows.items s.rows.items i.seam s.seam i.at s.at i.width s.width c.args.self.now c.self.view_is c.in_err-fill.ensures.width c.in_err-fill.ensures.len c.in_err-fill.ensures.err)
+
+pub returns : goal.returns
+returns g c =
+    let i = c.self.inside.changes in
+    let s = c.fill.new.s in
+    let here : c.args.t < length i.rows.items = omega (arith, c.requires.row, length_table (cells i.rows.items i.seam i.at) (length i.rows.items) i.width, ap (λ (v : Table). length v.rows) c.self.view_is) in
+    view_filled i.rows.items s.rows.items i.seam s.seam i.at s.at i.width s.width c.args.t (g.S.Source.words c.args.source.now) c.args.self.now c.self.view_is c.in_ok-fill.ensures.width c.in_ok-fill.ensures.len here c.in_ok-fill.ensures.filled

@@ -1,0 +1,9 @@
+use Rattle.std.proofs.Common.{◌≡◌, ℕ, ◌<◌, ◌/◌, length, false}
+use Rattle.change_rows.specs.Marks.{is_in}
+use Rattle.change_rows.proofs.sets.wipe.Given as goal
+
+abbrev pub invariant-loop-w : goal.invariant-loop-w
+invariant-loop-w l = record {
+  len : length l.set ≡ length l.initial.set;
+  done : (c : ℕ) → c / 64 < l.w → is_in l.set c ≡ false;
+}

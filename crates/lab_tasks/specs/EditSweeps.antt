@@ -1,0 +1,159 @@
+-- The table of a sweep of edits, and why there is none.
+use Rattle.std.specs.Prelude.{◌≡◌, ◌≤◌, ◌<◌, ◌⊎◌, ℕ, ◌*◌, ◌==◌, ◌&&◌, not, nat_le, Bool, true, false, List, [], ◌∷◌, ◌++◌, map, length, MatchBool, Option, None, Some, option_map, Result, Ok, Err, codes, decimal, string_bytes}
+use Rattle.std.specs.List.{flat_map, list_all, AllZip}
+use Rattle.project_book.specs.declared.edit.Edit.{Edit}
+use Rattle.project_book.specs.declared.edit.Edit.TheVariants.{Depth}
+use Rattle.project_book.specs.declared.fault.EditFault.{EditFault}
+use Rattle.project_book.specs.Faults.{number_of}
+use Rattle.project_book.specs.Project.{Project}
+use Rattle.run_queries.specs.declared.query.Query.{Query}
+use Rattle.run_queries.specs.declared.body.Body.{Body}
+use Rattle.run_queries.specs.Answers.{answer}
+use Rattle.edit_templates.specs.declared.step.Axis.{Axis}
+use Rattle.edit_templates.specs.Templates.{Template, template_of, ways}
+use Rattle.edit_templates.specs.Steps.{Step, each, first_length, followed, in_turn}
+use Rattle.edit_templates.specs.Lines.{axis_of, steps_of}
+use Rattle.edit_templates.specs.Edited.{after_edits}
+use Rattle.lab_tasks.specs.declared.end.End.{End}
+use Rattle.lab_tasks.specs.declared.swept.Swept.{Swept}
+use Rattle.lab_tasks.specs.declared.swept.Setting.{Setting}
+use Rattle.lab_tasks.specs.Ends.{RefusesForm, RefusesRange}
+use Rattle.lab_tasks.specs.Sweeps.{queue_text, rows_of, IsSwept, IsAsked}
+use Rattle.lab_tasks.specs.SweepTables.{max_rows, shown, HasRows, RefusesFirst, SayAll, AreNotSwept, AreNotAsked}
+use Rattle.lab_tasks.specs.Tables.{field_text, fields_text}
+
+-- ---- what is gone through
+
+-- the edit with braces that a word is: its names and steps, of which there are not too many
+abbrev pub axis_kept : Axis → List (List ℕ) × List Step
+axis_kept axis = (map string_bytes axis.names.items, axis.steps.items)
+
+abbrev pub IsAxisOf : ℕ → Option Template → Axis → Type 0
+IsAxisOf k None axis = ⊥
+IsAxisOf k (Some template) axis = (ways template.1 ≤ max_rows) × (axis_of k template ≡ Some (axis_kept axis))
+
+abbrev pub IsAxis : ℕ → List ℕ → Axis → Type 0
+IsAxis k word axis = IsAxisOf k (template_of k word) axis
+
+-- why a word is none: a brace isn't closed, there are too many steps, or with some words put in it is no edit
+abbrev pub RefusesLine : List ℕ → End → Type 0
+RefusesLine word end = RefusesForm (codes "--edit") word (codes "an edit in each row, as 'combine {0..2} on'") end
+
+abbrev pub RefusesTemplate : ℕ → List ℕ → Option Template → End → Type 0
+RefusesTemplate k word None end = RefusesLine word end
+RefusesTemplate k word (Some template) end =
+    MatchBool (nat_le (ways template.1) max_rows) ((axis_of k template ≡ None) × RefusesLine word end) (RefusesRange (codes "--edit") word 1 max_rows end)
+
+abbrev pub RefusesEdit : ℕ → List ℕ → End → Type 0
+RefusesEdit k word end = RefusesTemplate k word (template_of k word) end
+
+abbrev pub AreNotEdits : ℕ → List (List ℕ) → End → Type 0
+AreNotEdits k words end = RefusesFirst (IsAxis k) (λ word. RefusesEdit k word end) words
+
+-- depths as a step
+abbrev pub settings_step : List Setting → Step
+settings_step row = (map (λ s. decimal s.depth) row, map (λ s. Depth s.queue s.depth) row)
+
+-- the steps of the edits: each with each, or the first ones, the second ones and so on
+abbrev pub axes_steps : List Axis → List (List Step)
+axes_steps axes = map (λ axis. axis.steps.items) axes
+
+abbrev pub edit_steps : Bool → List Axis → List Step
+edit_steps false axes = each (axes_steps axes)
+edit_steps true axes = in_turn (axes_steps axes)
+
+-- the rows: those of the depths, each with each step of the edits
+abbrev pub steps_behind : List Step → List Step → List Step
+steps_behind firsts others = flat_map (λ step. map (followed step) others) firsts
+
+abbrev pub sweep_steps : Bool → List Swept → List Axis → List Step
+sweep_steps zip swept axes = steps_behind (map settings_step (rows_of swept)) (edit_steps zip axes)
+
+-- how many rows there are
+abbrev pub product_of : List Axis → ℕ
+product_of [] = 1
+product_of (axis ∷ axes) = length axis.steps.items * product_of axes
+
+abbrev pub edit_count : Bool → List Axis → ℕ
+edit_count false axes = product_of axes
+edit_count true axes = first_length (axes_steps axes)
+
+abbrev pub row_count : Bool → List Swept → List Axis → ℕ
+row_count zip swept axes = length (rows_of swept) * edit_count zip axes
+
+-- all axes have as many steps as the first one
+abbrev pub are_even : List Axis → Bool
+are_even axes = list_all (λ axis. length axis.steps.items == first_length (axes_steps axes)) axes
+
+-- ---- the table
+
+-- what the project after some edits says to each question, or the number of the reason why one of the edits is refused
+abbrev pub says_after : Result Project EditFault → List Query → Result (List (Result Body ℕ)) ℕ
+says_after (Ok Q) queries = Ok (map (answer Q) queries)
+says_after (Err fault) queries = Err (number_of fault)
+
+-- its fields: each answer, or `refused N` in the place of each
+abbrev pub refused_text : ℕ → List ℕ
+refused_text n = codes "refused " ++ decimal n
+
+abbrev pub shown_row : List Query → Result (List (Result Body ℕ)) ℕ → List (Option (List ℕ))
+shown_row queries (Ok bodies) = map shown bodies
+shown_row queries (Err n) = map (λ query. Some (refused_text n)) queries
+
+-- a row: the words that are put in, each with a comma behind, then the answers as fields
+abbrev pub words_text : List (List ℕ) → List ℕ
+words_text words = flat_map (λ word. field_text word ++ codes ",") words
+
+abbrev pub edit_row_text : List (List ℕ) → List (List ℕ) → List ℕ
+edit_row_text words cells = words_text words ++ (fields_text cells ++ codes "\n")
+
+-- a text goes on with the fields of a row, and with the row
+abbrev pub HasCells : List Query → Result (List (Result Body ℕ)) ℕ → List ℕ → List ℕ → Type 0
+HasCells queries says old new = (cells : List (List ℕ)) × (shown_row queries says ≡ map Some cells) × (new ≡ old ++ fields_text cells)
+
+abbrev pub HasEditRow : List Query → Step → Result (List (Result Body ℕ)) ℕ → List ℕ → List ℕ → Type 0
+HasEditRow queries step says old new = (cells : List (List ℕ)) × (shown_row queries says ≡ map Some cells) × (new ≡ old ++ edit_row_text step.0 cells)
+
+-- a row has what the project after the row's edits says to each question
+abbrev pub IsEditRow : Project → List Query → Step → List ℕ → Type 0
+IsEditRow P queries step text =
+    (cells : List (List ℕ)) × (shown_row queries (says_after (after_edits P step.1) queries) ≡ map Some cells) × (text ≡ edit_row_text step.0 cells)
+
+-- the first row: the names of the queues and of the braces, then the questions
+abbrev pub axes_names : List Axis → List (List ℕ)
+axes_names axes = flat_map (λ axis. map string_bytes axis.names.items) axes
+
+abbrev pub edit_header : List Swept → List Axis → List (List ℕ) → List ℕ
+edit_header swept axes asks = flat_map (λ s. queue_text s.queue ++ codes ",") swept ++ (words_text (axes_names axes) ++ (fields_text asks ++ codes "\n"))
+
+-- the table: the depths and the edits that the words sweep, and the answers to the questions that the words ask
+pub record IsEditTable (P : Project) (zip : Bool) (depths edits asks : List (List ℕ)) (text : List ℕ) : Type 0 where
+  pub swept : List Swept
+  pub axes : List Axis
+  pub queries : List Query
+  pub are_swept : AllZip IsSwept depths swept
+  pub are_edits : AllZip (IsAxis P.k) edits axes
+  pub are_asked : AllZip (IsAsked P) asks queries
+  pub even : (zip && not (are_even axes)) ≡ false
+  pub few : row_count zip swept axes ≤ max_rows
+  pub rows : HasRows (IsEditRow P queries) (edit_header swept axes asks) (sweep_steps zip swept axes) text
+
+-- the edits aren't of one length, or there are too many rows
+abbrev pub AreUneven : Project → Bool → List (List ℕ) → End → Type 0
+AreUneven P zip edits end =
+    (axes : List Axis) × AllZip (IsAxis P.k) edits axes × ((zip && not (are_even axes)) ≡ true)
+    × RefusesForm (codes "--zip") (codes "each edit") (codes "of as many rows as the first") end
+
+abbrev pub AreTooManyRows : Project → Bool → List (List ℕ) → List (List ℕ) → End → Type 0
+AreTooManyRows P zip depths edits end =
+    (swept : List Swept) × (axes : List Axis) × AllZip IsSwept depths swept × AllZip (IsAxis P.k) edits axes
+    × ((zip && not (are_even axes)) ≡ false) × (max_rows < row_count zip swept axes) × RefusesRange (codes "--edit") (codes "each with each") 1 max_rows end
+
+-- why there is no table: a word that sweeps nothing, else one that is no edit, else one that asks nothing, else edits that are not of one length,
+-- else too many rows
+abbrev pub AreNoRows : Project → Bool → List (List ℕ) → List (List ℕ) → List (List ℕ) → End → Type 0
+AreNoRows P zip depths edits asks end = SayAll (IsAsked P) asks × (AreUneven P zip edits end ⊎ AreTooManyRows P zip depths edits end)
+
+abbrev pub IsNoEditTable : Project → Bool → List (List ℕ) → List (List ℕ) → List (List ℕ) → End → Type 0
+IsNoEditTable P zip depths edits asks end =
+    AreNotSwept depths end ⊎ (SayAll IsSwept depths × (AreNotEdits P.k edits end ⊎ (SayAll (IsAxis P.k) edits × (AreNotAsked P asks end ⊎ AreNoRows P zip depths edits asks end))))

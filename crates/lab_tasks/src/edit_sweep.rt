@@ -1,0 +1,443 @@
+//! The table of a sweep of edits.
+ghost use Rattle.std.specs.Prelude.{◌≡◌, ◌-◌, ◌^◌, ◌≤◌, ◌++◌, ◌∷◌, ◌&&◌, [], not, Err, Ok, IfErr, IfOk, OnOk, codes, false, map, min, nat_le, string_bytes, true};
+ghost use Rattle.std.specs.List.{flat_map, AllZip};
+ghost use Rattle.edit_templates.specs.Braces.{put_text};
+ghost use Rattle.edit_templates.specs.Edited.{after_edits};
+ghost use Rattle.lab_tasks.specs.EditSweeps.{are_even, axes_names, edit_count, edit_header, edit_steps, refused_text, row_count, says_after, settings_step, sweep_steps, words_text, HasCells, HasEditRow, IsAxis, IsEditRow, IsEditTable, IsNoEditTable, AreNotEdits, RefusesEdit};
+ghost use Rattle.lab_tasks.specs.Ends.{IsStop};
+ghost use Rattle.lab_tasks.specs.Sweeps.{rows_of, IsAsked, IsSwept};
+ghost use Rattle.lab_tasks.specs.SweepTables.{max_rows, HasRows, OrMemory, OrStop};
+ghost use Rattle.lab_tasks.specs.Tables.{field_text, fields_text};
+
+use crate::end::{End, Reason};
+use crate::sweep::{
+    MOST_ROWS, add_answers, add_asks, add_field, add_queues, all_queries, all_rows, all_swept,
+    count_rows,
+};
+use crate::swept::{Setting, Swept};
+use crate::tables::Field;
+use bench_core::Bench;
+use edit_templates::{Axis, Put, Step, Template, after_edits, behind, each, in_turn};
+use experiments::{Fault, told_each};
+use project_book::{Edit, EditFault, Project};
+use run_queries::{Body, Query};
+use std::alloc::{AllocError, Global};
+use std::fmt::Write;
+use std::thread::Threads;
+
+/// The edit with braces that a word is for a project: its names and steps.
+fn axis_in<'a>(alloc: Global, project: &Project, word: &'a str) -> Result<Axis<'a>, End<'a>>
+    ensures axis { IfOk result (IsAxis project.now.k word.entry.now) }
+    ensures refused { IfErr result (OrMemory (RefusesEdit project.now.k word.entry.now)) }
+{
+    let refused = |reason: Reason| End::Word {
+        option: "--edit",
+        word,
+        reason,
+    };
+    let Some(template) = Template::read(alloc, project.k(), word)? else {
+        return Err(refused(Reason::Form("an edit in each row, as 'combine {0..2} on'")));
+    };
+    if template.ways() > u64::from(MOST_ROWS) {
+        return Err(refused(Reason::Within(1, MOST_ROWS)));
+    }
+    match template.axis(alloc, project.shape())? {
+        Some(axis) => Ok(axis),
+        None => Err(refused(Reason::Form("an edit in each row, as 'combine {0..2} on'"))),
+    }
+}
+
+/// The edits with braces that the words are, in turn.
+fn all_axes<'a>(
+    alloc: Global,
+    project: &Project,
+    words: &[&'a str],
+) -> Result<Vec<Axis<'a>>, End<'a>>
+    ensures axes { IfOk result (λ all. AllZip (IsAxis project.now.k) (map (λ word. word.now) words.entry.now) all.items) }
+    ensures refused { IfErr result (OrMemory (AreNotEdits project.now.k (map (λ word. word.now) words.entry.now))) }
+{
+    let mut all = Vec::new(alloc);
+    for word in words {
+        match axis_in(alloc, project, word) {
+            Ok(axis) => all.push(axis)?,
+            Err(end) => return Err(end),
+        }
+    }
+    Ok(all)
+}
+
+/// The depths of a row as a step.
+fn settings_step<'a>(alloc: Global, row: &[Setting]) -> Result<Step<'a>, AllocError>
+    ensures { IfOk result (λ step. step ≡ settings_step row.now) }
+{
+    let mut puts = Vec::new(alloc);
+    let mut edits = Vec::new(alloc);
+    for setting in row {
+        puts.push(Put::Number(setting.depth))?;
+        edits.push(Edit::Depth {
+            queue: setting.queue,
+            depth: setting.depth,
+        })?;
+    }
+    Ok(Step::new(puts, edits))
+}
+
+/// The depths of rows as steps.
+fn settings_steps<'a>(alloc: Global, rows: &[Vec<Setting>]) -> Result<Vec<Step<'a>>, AllocError>
+    ensures { IfOk result (λ steps. steps.items ≡ map settings_step (map (λ row. row.items) rows.now)) }
+{
+    let mut steps = Vec::new(alloc);
+    for row in rows {
+        let step = settings_step(alloc, row.as_slice())?;
+        steps.push(step)?;
+    }
+    Ok(steps)
+}
+
+/// The depths of all rows as steps.
+fn depth_steps<'a>(alloc: Global, all: &[Swept]) -> Result<Vec<Step<'a>>, AllocError>
+    ensures { IfOk result (λ steps. steps.items ≡ map settings_step (rows_of all.now)) }
+{
+    let rows = all_rows(alloc, all)?;
+    let steps = settings_steps(alloc, rows.as_slice())?;
+    Ok(steps)
+}
+
+/// The steps of the edits: each with each, or all first ones, all second ones and so on.
+fn edit_steps<'a>(alloc: Global, zip: bool, axes: &[Axis<'a>]) -> Result<Vec<Step<'a>>, AllocError>
+    ensures { IfOk result (λ steps. steps.items ≡ edit_steps zip axes.now) }
+{
+    if zip {
+        in_turn(alloc, axes)
+    } else {
+        each(alloc, axes)
+    }
+}
+
+/// The rows: those of the depths, each with each step of the edits.
+fn sweep_steps<'a>(
+    alloc: Global,
+    zip: bool,
+    all: &[Swept],
+    axes: &[Axis<'a>],
+) -> Result<Vec<Step<'a>>, AllocError>
+    ensures { IfOk result (λ steps. steps.items ≡ sweep_steps zip all.now axes.now) }
+{
+    let depths = depth_steps(alloc, all)?;
+    let edits = edit_steps(alloc, zip, axes)?;
+    behind(alloc, depths.as_slice(), edits.as_slice())
+}
+
+/// How many steps the edits have. From 2^64 on it is the number before.
+fn edit_count(zip: bool, axes: &[Axis<'_>]) -> u64
+    ensures { result ≡ min (edit_count zip axes.now) (2 ^ 64 - 1) }
+{
+    if zip {
+        first_length(axes) as u64
+    } else {
+        product(axes)
+    }
+}
+
+/// How many steps the first axis has.
+fn first_length(axes: &[Axis<'_>]) -> usize
+    ensures { result ≡ edit_count true axes.now }
+{
+    match axes.first() {
+        Some(axis) => axis.steps.len(),
+        None => 0,
+    }
+}
+
+/// How many there are of each with each. From 2^64 on it is the number before.
+fn product(axes: &[Axis<'_>]) -> u64
+    ensures { result ≡ min (edit_count false axes.now) (2 ^ 64 - 1) }
+{
+    let mut count: u64 = 1;
+    for axis in axes {
+        count = count.saturating_mul(axis.steps.as_slice().len() as u64);
+    }
+    count
+}
+
+/// Whether there are no more rows than there may be.
+fn are_few(zip: bool, all: &[Swept], axes: &[Axis<'_>]) -> bool
+    ensures { result ≡ nat_le (row_count zip all.now axes.now) max_rows }
+{
+    let rows = u64::from(count_rows(all)).saturating_mul(edit_count(zip, axes));
+    rows <= u64::from(MOST_ROWS)
+}
+
+/// Whether all axes have as many steps as the first one.
+fn are_even(axes: &[Axis<'_>]) -> bool
+    ensures { result ≡ are_even axes.now }
+{
+    let first = first_length(axes);
+    axes.iter().all(|axis| axis.steps.len() == first)
+}
+
+/// What is swept and asked.
+#[derive(Drop)]
+struct Plan<'a> {
+    swept: Vec<Swept>,
+    axes: Vec<Axis<'a>>,
+    queries: Vec<Query>,
+}
+
+/// What the words sweep and ask.
+#[tactic(auto, using(crate::proofs::Stops::or_memory_by))]
+fn edit_plan<'a>(
+    alloc: Global,
+    project: &Project,
+    zip: bool,
+    depths: &[&'a str],
+    edits: &[&'a str],
+    asks: &[&'a str],
+) -> Result<Plan<'a>, End<'a>>
+    ensures swept { IfOk result (λ plan. AllZip IsSwept (map (λ word. word.now) depths.entry.now) plan.swept.items) }
+    ensures edits { IfOk result (λ plan. AllZip (IsAxis project.now.k) (map (λ word. word.now) edits.entry.now) plan.axes.items) }
+    ensures asked { IfOk result (λ plan. AllZip (IsAsked project.now) (map (λ word. word.now) asks.entry.now) plan.queries.items) }
+    ensures even { IfOk result (λ plan. (zip && not (are_even plan.axes.items)) ≡ false) }
+    ensures few { IfOk result (λ plan. row_count zip plan.swept.items plan.axes.items ≤ max_rows) }
+    ensures refused { IfErr result (OrMemory (IsNoEditTable project.now zip (map (λ word. word.now) depths.entry.now) (map (λ word. word.now) edits.entry.now) (map (λ word. word.now) asks.entry.now))) }
+{
+    let swept = match all_swept(alloc, depths) {
+        Ok(swept) => swept,
+        Err(end) => return Err(end),
+    };
+    let axes = match all_axes(alloc, project, edits) {
+        Ok(axes) => axes,
+        Err(end) => return Err(end),
+    };
+    let queries = match all_queries(alloc, project, asks) {
+        Ok(queries) => queries,
+        Err(end) => return Err(end),
+    };
+    if zip && !are_even(axes.as_slice()) {
+        return Err(End::Word {
+            option: "--zip",
+            word: "each edit",
+            reason: Reason::Form("of as many rows as the first"),
+        });
+    }
+    if !are_few(zip, swept.as_slice(), axes.as_slice()) {
+        return Err(End::Word {
+            option: "--edit",
+            word: "each with each",
+            reason: Reason::Within(1, MOST_ROWS),
+        });
+    }
+    Ok(Plan {
+        swept,
+        axes,
+        queries,
+    })
+}
+
+/// What the project after some edits says to each question, or the number of the reason why one of the edits is refused.
+///
+/// A bench of its own is begun for each row: none goes on from the row before.
+fn says<T: Threads + Sync>(
+    rt: &T,
+    alloc: Global,
+    project: &Project,
+    edits: &[Edit],
+    queries: &[Query],
+) -> Result<Result<Vec<Result<Body, u8>>, u8>, Fault>
+    ensures told { IfOk result (λ says. IfOk says (λ bodies. says_after (after_edits project.now edits.now) queries.now ≡ Ok bodies.items)) }
+    ensures refused { IfOk result (λ says. IfErr says (λ n. says_after (after_edits project.now edits.now) queries.now ≡ Err n)) }
+{
+    let after = match after_edits(project, edits) {
+        Ok(after) => after,
+        Err(EditFault::Memory) => return Err(Fault::Memory),
+        Err(fault) => return Ok(Err(fault.number())),
+    };
+    let Ok(mut bench) = Bench::new(alloc, after, 0) else {
+        return Err(Fault::Memory);
+    };
+    match told_each(rt, alloc, &mut bench, queries) {
+        Ok(bodies) => Ok(Ok(bodies)),
+        Err(fault) => Err(fault),
+    }
+}
+
+/// A word that is put in, as text.
+fn put_word(alloc: Global, put: Put<'_>) -> Result<String, AllocError>
+    ensures { IfOk result (λ text. string_bytes text ≡ put_text put.entry) }
+{
+    format!(in alloc; "{put}")
+}
+
+/// Adds the words that are put in, each with a comma behind.
+fn add_puts(alloc: Global, text: &mut String, puts: &[Put<'_>]) -> Result<(), AllocError>
+    ensures { OnOk result (string_bytes text.new ≡ string_bytes text.old ++ words_text (map put_text puts.now)) }
+{
+    for put in puts {
+        let word = put_word(alloc, *put)?;
+        add_word(text, word.as_str())?;
+    }
+    Ok(())
+}
+
+/// Adds a word as a field, with a comma behind.
+fn add_word(text: &mut String, word: &str) -> Result<(), AllocError>
+    ensures { OnOk result (string_bytes text.new ≡ string_bytes text.old ++ (field_text word.now ++ codes ",")) }
+{
+    let field = Field(word);
+    write!(text, "{field},")
+}
+
+/// What stands in place of an answer where an edit is refused, by the number of the reason.
+fn refused_word(alloc: Global, number: u8) -> Result<String, AllocError>
+    ensures { IfOk result (λ text. string_bytes text ≡ refused_text number) }
+{
+    format!(in alloc; "refused {number}")
+}
+
+/// Adds `refused N` in the place of each answer, with commas between.
+fn add_refused(
+    alloc: Global,
+    text: &mut String,
+    number: u8,
+    queries: &[Query],
+) -> Result<(), AllocError>
+    ensures { OnOk result (string_bytes text.new ≡ string_bytes text.old ++ fields_text (map (λ query. refused_text number) queries.now)) }
+{
+    for (place, _query) in queries.iter().enumerate() {
+        let refused = refused_word(alloc, number)?;
+        add_field(text, place, refused.as_str())?;
+    }
+    Ok(())
+}
+
+/// Adds the fields of a row's answers.
+fn add_cells(
+    alloc: Global,
+    text: &mut String,
+    queries: &[Query],
+    says: &Result<Vec<Result<Body, u8>>, u8>,
+) -> Result<(), AllocError>
+    ensures told { OnOk result (IfOk says.now (λ bodies. HasCells queries.now (Ok bodies.items) (string_bytes text.old) (string_bytes text.new))) }
+    ensures refused { OnOk result (IfErr says.now (λ n. HasCells queries.now (Err n) (string_bytes text.old) (string_bytes text.new))) }
+{
+    match says {
+        Ok(bodies) => add_answers(alloc, text, bodies.as_slice()),
+        Err(number) => add_refused(alloc, text, *number, queries),
+    }
+}
+
+/// Adds a row: its words, then its answers.
+fn add_edit_row<T: Threads + Sync>(
+    rt: &T,
+    alloc: Global,
+    text: &mut String,
+    project: &Project,
+    step: &Step<'_>,
+    queries: &[Query],
+) -> Result<(), Fault>
+    ensures { OnOk result (HasEditRow queries.now step.now (says_after (after_edits project.now step.now.1) queries.now) (string_bytes text.old) (string_bytes text.new)) }
+{
+    let says = says(rt, alloc, project, step.edits(), queries)?;
+    add_puts(alloc, text, step.puts())?;
+    add_cells(alloc, text, queries, &says)?;
+    writeln!(text, "")?;
+    Ok(())
+}
+
+/// Adds all rows.
+#[tactic(auto, using(crate::proofs::Stops::is_stop))]
+fn add_edit_rows<'a, T: Threads + Sync>(
+    rt: &T,
+    alloc: Global,
+    text: &mut String,
+    project: &Project,
+    steps: &[Step<'_>],
+    queries: &[Query],
+) -> Result<(), End<'a>>
+    ensures rows { OnOk result (HasRows (IsEditRow project.now queries.now) (string_bytes text.old) steps.now (string_bytes text.new)) }
+    ensures refused { IfErr result IsStop }
+{
+    for step in steps {
+        add_edit_row(rt, alloc, text, project, step, queries)?;
+    }
+    Ok(())
+}
+
+/// Adds the names of an axis, each with a comma behind.
+fn add_names(text: &mut String, names: &[String]) -> Result<(), AllocError>
+    ensures { OnOk result (string_bytes text.new ≡ string_bytes text.old ++ words_text (map string_bytes names.now)) }
+{
+    for name in names {
+        add_word(text, name.as_str())?;
+    }
+    Ok(())
+}
+
+/// Adds the names of all axes, each with a comma behind.
+fn add_axes(text: &mut String, axes: &[Axis<'_>]) -> Result<(), AllocError>
+    ensures { OnOk result (string_bytes text.new ≡ string_bytes text.old ++ words_text (axes_names axes.now)) }
+{
+    for axis in axes {
+        add_names(text, axis.names.as_slice())?;
+    }
+    Ok(())
+}
+
+/// The first row: the names of the queues and of the braces, then the questions.
+fn edit_header(
+    alloc: Global,
+    all: &[Swept],
+    axes: &[Axis<'_>],
+    asks: &[&str],
+) -> Result<String, AllocError>
+    ensures { IfOk result (λ text. string_bytes text ≡ edit_header all.now axes.now (map (λ ask. ask.now) asks.entry.now)) }
+{
+    let mut text = String::new(alloc);
+    add_queues(&mut text, all)?;
+    add_axes(&mut text, axes)?;
+    add_asks(&mut text, asks)?;
+    writeln!(text, "")?;
+    Ok(text)
+}
+
+/// The table of what is swept and asked.
+#[tactic(auto, using(crate::proofs::Stops::is_stop_memory))]
+fn edit_table_of<'a, T: Threads + Sync>(
+    rt: &T,
+    alloc: Global,
+    project: &Project,
+    zip: bool,
+    plan: &Plan<'_>,
+    asks: &[&'a str],
+) -> Result<String, End<'a>>
+    ensures rows { IfOk result (λ text. HasRows (IsEditRow project.now plan.now.queries.items) (edit_header plan.now.swept.items plan.now.axes.items (map (λ ask. ask.now) asks.entry.now)) (sweep_steps zip plan.now.swept.items plan.now.axes.items) (string_bytes text)) }
+    ensures refused { IfErr result IsStop }
+{
+    let (all, axes) = (plan.swept.as_slice(), plan.axes.as_slice());
+    let mut text = edit_header(alloc, all, axes, asks)?;
+    let steps = sweep_steps(alloc, zip, all, axes)?;
+    let queries = plan.queries.as_slice();
+    add_edit_rows(rt, alloc, &mut text, project, steps.as_slice(), queries)?;
+    Ok(text)
+}
+
+/// The table of a sweep of edits over a project.
+#[tactic(auto, using(crate::proofs::Stops::or_stop, crate::proofs::Stops::or_stop_memory))]
+pub(crate) fn edit_table<'a, T: Threads + Sync>(
+    rt: &T,
+    alloc: Global,
+    project: &Project,
+    zip: bool,
+    depths: &[&'a str],
+    edits: &[&'a str],
+    asks: &[&'a str],
+) -> Result<String, End<'a>>
+    ensures table { IfOk result (λ text. IsEditTable project.now zip (map (λ word. word.now) depths.entry.now) (map (λ word. word.now) edits.entry.now) (map (λ word. word.now) asks.entry.now) (string_bytes text)) }
+    ensures refused { IfErr result (OrStop (IsNoEditTable project.now zip (map (λ word. word.now) depths.entry.now) (map (λ word. word.now) edits.entry.now) (map (λ word. word.now) asks.entry.now))) }
+{
+    let plan = match edit_plan(alloc, project, zip, depths, edits, asks) {
+        Ok(plan) => plan,
+        Err(end) => return Err(end),
+    };
+    edit_table_of(rt, alloc, project, zip, &plan, asks)
+}

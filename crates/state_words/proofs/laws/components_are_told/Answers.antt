@@ -1,0 +1,14 @@
+use Rattle.state_words.proofs.Saying as laws
+use Rattle.state_words.proofs.laws.components_are_told.Goals as goal
+
+pub returns-clause-procs : goal.returns-clause-procs
+returns-clause-procs c = laws.procs_are_told
+
+pub returns-clause-modules : goal.returns-clause-modules
+returns-clause-modules c = laws.modules_are_told
+
+pub returns-clause-lows : goal.returns-clause-lows
+returns-clause-lows c = laws.lows_are_told
+
+pub returns-clause-combs : goal.returns-clause-combs
+returns-clause-combs c = laws.combs_are_told

@@ -1,8 +1,0 @@
-use Rattle.state_words.proofs.Saying as laws
-use Rattle.state_words.proofs.laws.words_tell.Goals as goal
-
-pub returns-clause-states : goal.returns-clause-states
-returns-clause-states c = laws.words_tell
-
-pub returns-clause-same_memory : goal.returns-clause-same_memory
-returns-clause-same_memory c = laws.words_are_states
