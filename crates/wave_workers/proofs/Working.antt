@@ -96,3 +96,7 @@ given_one given.NotDue = refl
 given_one given.Overtaken = refl
 given_one given.Foreign = refl
 given_one (given.Memory back) = refl
+
+pub none_left : (left : List (Given (Computed MachineState Project))) → length left ≡ 0 → left ≡ []
+none_left [] h = refl
+none_left (x ∷ xs) h = absurd (omega arith)

@@ -1,8 +1,7 @@
 use Rattle.std.proofs.Common.{◌≡◌, ◌+◌, ◌∷◌, [], length, ap, sym, ◌∙◌, arith}
 use Rattle.std.specs.Vec.Iter.{into_iter_items}
-use Rattle.shared_bench.proofs.Lots.{nothing_left}
 use Rattle.wave_workers.specs.Working.{came_for, counted, given_by, stored_by, stored_in}
-use Rattle.wave_workers.proofs.Working.{counted_on, all_counted, given_one}
+use Rattle.wave_workers.proofs.Working.{counted_on, all_counted, given_one, none_left}
 use Rattle.wave_workers.proofs.lot.tally_of.Goals as goal
 
 pub loop-given-preserved : goal.loop-given-preserved
@@ -28,11 +27,11 @@ loop-given-preserved c =
 pub returns-clause-given : goal.returns-clause-given
 returns-clause-given c =
     let at = c.loop-given in
-    let empty : into_iter_items at.given-iterator ≡ [] = nothing_left _ (sym at.invariant.left ∙ c.in-None.ensures.steps.0) in
+    let empty : into_iter_items at.given-iterator ≡ [] = none_left (into_iter_items at.given-iterator) (sym at.invariant.left ∙ c.in-None.ensures.steps.0) in
     sym (all_counted at.tally.given (omega arith)) ∙ (sym (ap (λ l. counted at.tally.given (length l)) empty) ∙ at.invariant.given)
 
 pub returns-clause-stored : goal.returns-clause-stored
 returns-clause-stored c =
     let at = c.loop-given in
-    let empty : into_iter_items at.given-iterator ≡ [] = nothing_left _ (sym at.invariant.left ∙ c.in-None.ensures.steps.0) in
+    let empty : into_iter_items at.given-iterator ≡ [] = none_left (into_iter_items at.given-iterator) (sym at.invariant.left ∙ c.in-None.ensures.steps.0) in
     sym (all_counted at.tally.stored (omega arith)) ∙ (sym (ap (λ l. counted at.tally.stored (stored_in l)) empty) ∙ at.invariant.stored)
