@@ -1,4 +1,5 @@
 pub mod Keeping
+pub mod Lined
 pub mod Counts
 pub mod Marking
 pub mod Tables

@@ -13,6 +13,7 @@ ghost use Rattle.cell_table.specs.Noted.{noted};
 ghost use Rattle.cell_marks.specs.Marked.{has as has_mark};
 ghost use Rattle.cell_table.specs.Filling.{is_awake};
 
+mod looks;
 mod standing;
 
 use crate::Cell;
@@ -37,32 +38,32 @@ use std::sync::Arc;
 /// The cells of the first cycles: for each component a line of states, and by cycle which cells are
 /// due, and their versions.
 #[derive(Drop)]
-pub(crate) struct Cells<S> {
-    lines: Vec<Line<S>>,
+pub(crate) struct Cells<G: Grid> {
+    lines: Vec<Line<G::State>>,
     due: Marks,
     versions: Vec<Versions>,
 }
 
-impl<S> Model for Cells<S> {
+impl<G: Grid> Model for Cells<G> {
     ghost use Rattle.std.specs.Prelude.{List};
     ghost use Rattle.cell_table.specs.Seen.{Held};
-    ghost use Rattle.cell_table.specs.Layout.{rows_of, IsLayout};
+    ghost use Rattle.cell_table.specs.Layout.{rows_of, state_at, IsLayout, IsLined};
 
-    ghost Value = { List (List (Held S)) };
+    ghost Value = { List (List (Held G.State)) };
 
-    ghost view = { λ k. rows_of k.lines.items k.due k.versions.items };
+    ghost view = { λ k. rows_of (state_at k.lines.items) k.due k.versions.items };
 
-    ghost invariant = { λ k. IsLayout k.lines.items k.due k.versions.items };
+    ghost invariant = { λ k. IsLined k.lines.items k.due × IsLayout k.due k.versions.items };
 }
 
-impl<S: Drop> Cells<S> {
+impl<G: Grid> Cells<G> {
     /// New cells of `cycles` cycles, all due.
     pub(crate) fn new(
         alloc: Global,
         count: u32,
         cycles: u32,
         version: u64,
-    ) -> Result<Cells<S>, NoMemory>
+    ) -> Result<Cells<G>, NoMemory>
         ensures { IfOk result (λ k. k ≡ replicate cycles (replicate count (fresh version))) }
     {
         let lines = lines_of(alloc, count, cycles)?;
@@ -90,14 +91,14 @@ impl<S: Drop> Cells<S> {
 
     /// The state that a cell holds.
     #[inline(always)]
-    pub(crate) fn state(&self, cell: Cell) -> Option<&S>
+    fn state(&self, cell: Cell) -> Option<&G::State>
         ensures { option_copied result ≡ (held_at self.now cell.cycle cell.component).state }
     {
         state_in(&self.lines, cell)
     }
 
     /// One more owner of the state that a cell holds.
-    pub(crate) fn shared(&self, cell: Cell) -> Result<Option<Arc<S>>, NoMemory>
+    pub(crate) fn shared(&self, cell: Cell) -> Result<Option<Arc<G::State>>, NoMemory>
         ensures { IfOk result (λ o. option_map arc_value o ≡ (held_at self.now cell.cycle cell.component).state) }
     {
         shared_in(&self.lines, cell)
@@ -188,7 +189,7 @@ impl<S: Drop> Cells<S> {
 
     /// Puts another state for a cell, which isn't due then. Where memory is wanting, nothing is
     /// changed, and the state comes back.
-    pub(crate) fn put(&mut self, cell: Cell, state: Arc<S>) -> Result<(), Arc<S>>
+    pub(crate) fn put(&mut self, cell: Cell, state: Arc<G::State>) -> Result<(), Arc<G::State>>
         requires cycle { cell.cycle < length self.old }
         requires component { cell.component < length (row_at self.old cell.cycle) }
         ensures ok { OnOk result (IsOtherCell self.old self.new cell.cycle cell.component (stored (arc_value state))) }
@@ -335,7 +336,7 @@ impl<S: Drop> Cells<S> {
     {
         for component in near {
             let component = *component;
-            if self.state(Cell { cycle, component }).is_none() {
+            if !self.has_state(Cell { cycle, component }) {
                 return false;
             }
         }
@@ -347,7 +348,7 @@ impl<S: Drop> Cells<S> {
         &self,
         cycle: u32,
         near: &[u32],
-        states: &mut Vec<Arc<S>>,
+        states: &mut Vec<Arc<G::State>>,
     ) -> Result<bool, NoMemory>
         ensures { IfOk result (λ all. (if all then Some (map arc_value states.new.items) else None) ≡ states_of (row_at self.now cycle) near.now) }
     {
@@ -381,7 +382,7 @@ impl<S: Drop> Cells<S> {
 
 /// Whether these components hold these states at a cycle.
 pub(crate) fn are_held<G: Grid>(
-    cells: &Cells<G::State>,
+    cells: &Cells<G>,
     cycle: u32,
     near: &[u32],
     states: &[Arc<G::State>],
@@ -393,13 +394,8 @@ pub(crate) fn are_held<G: Grid>(
     }
     for i in 0..near.len() {
         let component = near[i];
-        match cells.state(Cell { cycle, component }) {
-            Some(state) => {
-                if !G::same(state, &states[i]) {
-                    return false;
-                }
-            }
-            None => return false,
+        if !cells.holds(Cell { cycle, component }, &states[i]) {
+            return false;
         }
     }
     true
@@ -438,7 +434,7 @@ fn clear_rows(due: &mut Marks, from: u32, to: u32)
 /// Fills the cells, which hold the run to before a cycle and nothing from there on, with the run, to before `end`: to
 /// before which cycle. What is filled isn't due. Where memory is wanting, it ends earlier.
 pub(crate) fn fill_cells<G: Grid>(
-    cells: &mut Cells<G::State>,
+    cells: &mut Cells<G>,
     slots: &G::Slots,
     neighbours: &Neighbours,
     readers: &Readers,
@@ -468,8 +464,8 @@ pub(crate) fn fill_cells<G: Grid>(
 
 /// Lets the components that change keep the state of the cycle before `from` to before `to`, and no cell of these cycles
 /// is due then. Where memory is wanting, nothing is changed.
-pub(crate) fn repeat_cells<S: Drop>(
-    cells: &mut Cells<S>,
+pub(crate) fn repeat_cells<G: Grid>(
+    cells: &mut Cells<G>,
     changes: &Row,
     from: u32,
     to: u32,
@@ -497,10 +493,10 @@ pub(crate) fn repeat_cells<S: Drop>(
 
 /// Puts what is new for each component that changes at a cycle, or where nothing is new the state of the cycle before, and no cell of
 /// that cycle is due then. Where memory is wanting, nothing is changed.
-pub(crate) fn put_cells<S: Drop>(
-    cells: &mut Cells<S>,
+pub(crate) fn put_cells<G: Grid>(
+    cells: &mut Cells<G>,
     changes: &Row,
-    news: &mut Vec<Option<Arc<S>>>,
+    news: &mut Vec<Option<Arc<G::State>>>,
     cycle: u32,
 ) -> Result<(), NoMemory>
     requires later { 0 < cycle }

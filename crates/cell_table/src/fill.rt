@@ -1,6 +1,6 @@
 //! Filling cycles whose cells hold no state yet: the run, cycle by cycle, where only components near one that changed
 //! are looked at.
-ghost use Rattle.std.specs.Prelude.{◌≡◌, ℕ, ◌+◌, ◌-◌, ◌<◌, ◌≤◌, ◌||◌, ◌↔◌, IsTrue, All, IfOk, OnErr, replicate, is_some, OnOk, length, MatchOption, Some, None, option_map, List, map, slice_index_or, ◌∷◌, [], true, false};
+ghost use Rattle.std.specs.Prelude.{◌≡◌, ℕ, ◌+◌, ◌-◌, ◌<◌, ◌≤◌, ◌||◌, ◌↔◌, IsTrue, All, IfOk, OnErr, replicate, is_some, OnOk, length, MatchOption, Some, None, option_map, List, map, take, slice_index_or, ◌∷◌, [], true, false};
 ghost use Rattle.std.specs.Option.{option_copied};
 ghost use Rattle.std.specs.Arc.{arc_value};
 ghost use Rattle.grid_law.specs.Run.{run};
@@ -9,7 +9,6 @@ ghost use Rattle.cell_table.specs.Readers.{has, readers_at, IsIndex, AreNear};
 ghost use Rattle.cell_table.specs.Filling.{last_of, is_awake, Stays, Trails, IsComputed, OthersStay, NearStay};
 
 use crate::lines::reserve_ends;
-use crate::near::first;
 use crate::neighbours::Neighbours;
 use crate::readers::Readers;
 use cell_marks::Row;
@@ -72,6 +71,14 @@ fn five_last<'a, G: Grid>(
         last_near::<G>(lines, slots, near, cycle, 3, own),
         last_near::<G>(lines, slots, near, cycle, 4, own),
     ]
+}
+
+/// So many of the states, from the first on.
+fn first<'a, 'b, S>(states: &'b [&'a S; 5], count: usize) -> &'b [&'a S]
+    requires { count ≤ 5 }
+    ensures { map (λ r. r.now) result.now ≡ take count (map (λ r. r.now) states.now) }
+{
+    &states[..count]
 }
 
 /// The step of a component, or none where it stays as it is.

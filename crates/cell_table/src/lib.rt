@@ -22,8 +22,8 @@
 //! ```
 //!
 //! Claims may be dropped, given back late, or stand twice for one cell, while others are given back
-//! and the project is edited. A state is lent by `state`; `shared` gives one more owner of it, who
-//! keeps it while the table goes on.
+//! and the project is edited. `shared` gives one more owner of a state, who keeps it while the table
+//! goes on; no state is lent.
 //!
 //! # What is promised
 //!
@@ -69,7 +69,6 @@ mod fill;
 mod given;
 mod lines;
 mod marks;
-mod near;
 mod neighbours;
 mod ranges;
 mod readers;

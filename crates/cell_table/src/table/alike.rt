@@ -126,7 +126,7 @@ impl<G: Grid> Table<G> {
             return end;
         }
         let cycle = cycle - 1;
-        let last = self.cells.standing(Cell { cycle, component }, 0).end;
+        let last = self.cells.stands_to(Cell { cycle, component });
         if last < end { last + 1 } else { end }
     }
 
@@ -139,7 +139,7 @@ impl<G: Grid> Table<G> {
         ensures before { result ≤ end }
         ensures stays { StaysAlikeTo G.rules self.now cell.cycle changes.now cell.component result }
     {
-        let mut to = end.min(self.cells.standing(cell, 0).end);
+        let mut to = end.min(self.cells.stands_to(cell));
         for component in self.near(cell.component) {
             to = self.alike_near(*component, cell.cycle, changes, to);
         }

@@ -16,7 +16,6 @@ use super::Table;
 use super::alike::{Passed, Spare};
 use super::wide::Wide;
 use crate::fill::no_news;
-use crate::near::{first, five_lent};
 use crate::watcher::{Nobody, Watcher};
 use crate::whole_row::NoRow;
 use crate::{Cell, SettleFault, Settled, StoreFault, WholeRow};
@@ -95,28 +94,38 @@ impl<G: Grid> Table<G> {
         !self.due(before) && self.cells.all_stay(before.cycle, near)
     }
 
-    /// The state that the present slots and near states give a cell, or none where it is that of
-    /// the cell before.
-    fn stepped(&self, cell: Cell) -> Result<Option<Arc<G::State>>, NoMemory>
+    /// The state that the present slots and near states give a cell.
+    fn stepped(&self, cell: Cell) -> Result<Arc<G::State>, NoMemory>
         requires there { IsThere G.rules self.now cell.cycle cell.component }
         requires ready { is_some (inputs_of G.rules self.now.slots self.now.rows cell.cycle cell.component) ≡ true }
         requires later { 0 < cell.cycle }
-        ensures { IfOk result (λ o. MatchOption o (IsAsBefore G.rules self.now cell.cycle cell.component)
-            (λ x. arc_value x ≡ current_of G.rules self.now.slots self.now.rows cell.cycle cell.component)) }
+        ensures { IfOk result (λ x. arc_value x ≡ current_of G.rules self.now.slots self.now.rows cell.cycle cell.component) }
     {
         let alloc = self.cells.allocator();
-        let near = self.near(cell.component);
+        let mut near = Vec::new(alloc);
+        let all = self.inputs(cell, &mut near)?;
+        if all {
+            G::step(alloc, &self.slots, near.as_slice(), cell.component)
+        } else {
+            unreachable!()
+        }
+    }
+
+    /// A state that was computed for a cell, or none where the cell before holds it.
+    fn other_than_before(&self, cell: Cell, state: Arc<G::State>) -> Option<Arc<G::State>>
+        requires later { 0 < cell.cycle }
+        requires computed { arc_value state ≡ current_of G.rules self.now.slots self.now.rows cell.cycle cell.component }
+        ensures { MatchOption result (IsAsBefore G.rules self.now cell.cycle cell.component)
+            (λ x. arc_value x ≡ current_of G.rules self.now.slots self.now.rows cell.cycle cell.component) }
+    {
         let before = Cell {
             cycle: cell.cycle - 1,
             component: cell.component,
         };
-        match self.cells.state(before) {
-            Some(own) => {
-                let five = five_lent(&self.cells, before.cycle, near, own);
-                let lent = first(&five, near.len());
-                G::next(alloc, &self.slots, lent, cell.component)
-            }
-            None => unreachable!(),
+        if self.holds(before, &state) {
+            None
+        } else {
+            Some(state)
         }
     }
 
@@ -135,7 +144,8 @@ impl<G: Grid> Table<G> {
         if self.is_as_before(cell) {
             return Ok(None);
         }
-        self.stepped(cell)
+        let state = self.stepped(cell)?;
+        Ok(self.other_than_before(cell, state))
     }
 
     /// Whether a cell holds the state of the cell before it, where it may be known that it does.
@@ -149,14 +159,7 @@ impl<G: Grid> Table<G> {
         if stays {
             return true;
         }
-        let before = Cell {
-            cycle: cell.cycle - 1,
-            component: cell.component,
-        };
-        match self.state(before) {
-            Some(state) => self.holds(cell, state),
-            None => false,
-        }
+        self.cells.is_as_before(cell)
     }
 
     /// Stores what was computed, as `settle_cell` does.

@@ -77,13 +77,14 @@ impl<G: Grid> Table<G> {
         let count = G::components(&self.slots);
         let mut row = row;
         for component in 0..count {
-            match self.state(Cell { cycle, component }) {
-                Some(x) => {
-                    if !row.load(&self.slots, component, x) {
+            match self.shared(Cell { cycle, component }) {
+                Ok(Some(x)) => {
+                    if !row.load(&self.slots, component, &x) {
                         return None;
                     }
                 }
-                None => return None,
+                Ok(None) => return None,
+                Err(_) => return None,
             }
         }
         Some(row)
@@ -188,9 +189,9 @@ impl<G: Grid> Table<G> {
             }
             return Ok(());
         }
-        match self.state(cell) {
+        match self.shared(cell)? {
             Some(held) => {
-                if row.is_held(&self.slots, cell.component, held) {
+                if row.is_held(&self.slots, cell.component, &held) {
                     return Ok(());
                 }
             }
@@ -200,10 +201,10 @@ impl<G: Grid> Table<G> {
             cycle: cell.cycle - 1,
             component: cell.component,
         };
-        match self.state(before) {
+        match self.shared(before)? {
             Some(own) => {
                 let alloc = self.cells.allocator();
-                let state = row.read(alloc, &self.slots, cell.component, own)?;
+                let state = row.read(alloc, &self.slots, cell.component, &own)?;
                 news[cell.component as usize] = Some(state);
                 changes.set(cell.component);
                 Ok(())

@@ -1,4 +1,6 @@
-use Rattle.std.proofs.Common.{◌≡◌, ◌+◌, ◌<◌, ◌≤◌, subst, arith, Some}
+use Rattle.std.proofs.Common.{◌≡◌, ◌∙◌, ◌+◌, ◌<◌, ◌≤◌, ap, sym, subst, arith, Some}
+use Rattle.std.specs.Prelude.{option_map}
+use Rattle.std.specs.Arc.{arc_value}
 use Rattle.grid_law.specs.Run.{run}
 use Rattle.cell_table.specs.Seen.{Seen, held_at}
 use Rattle.cell_table.specs.Settling.{NoneDueBefore}
@@ -17,11 +19,11 @@ loop-component-preserved g c =
     let cycle : t ≤ i.horizon = rw (← c.self.view_is) at c.requires.there in
     let inside : n < R.components i.slots = subst (λ m. n < m) c.components-count.ensures c.loop-component-test.true in
     let there : IsThere R v t n = record { cycle = cycle; component = inside } in
-    let held : Some c.in-Some.x.now ≡ (held_at i.cells t n).state = rw (← c.self.view_is) at c.in-Some.ensures in
-    let is_run = same_state R g.G.Grid.laws v c.self.invariant.table t none n there c.in-Some.x.now held in
+    let held : Some (arc_value c.in-Ok-Some.x) ≡ (held_at i.cells t n).state = ap (option_map arc_value) (sym c.in-Ok-Some.field-0-is) ∙ (rw (← c.self.view_is) at c.in-Ok-Some.ensures) in
+    let is_run = same_state R g.G.Grid.laws v c.self.invariant.table t none n there (arc_value c.in-Ok-Some.x) held in
     rw (← c.self.view_is) (record {
       stands = c.load.ensures.stands;
       states = one_more R i.slots (λ d. g.M.WholeRow.holds c.load.new.self d (run R i.slots t d)) n
           (λ d h. c.load.ensures.others d (run R i.slots t d) (omega (arith, h, inside)) (λ e. omega (arith, h, e)) ((rw (← c.self.view_is) at c.loop-component.invariant.states) d h))
-          (subst (g.M.WholeRow.holds c.load.new.self n) is_run (c.load.ensures.loaded c.if-not-load.false));
+          (subst (g.M.WholeRow.holds c.load.new.self n) (c.deref.ensures ∙ is_run) (c.load.ensures.loaded c.if-not-load.false));
     })
