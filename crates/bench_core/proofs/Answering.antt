@@ -16,8 +16,8 @@ use Rattle.bench_core.specs.Told.{TellsAt, TellsAsked, told_at_fault}
 use Rattle.bench_core.specs.Settled.{cycle_unless, SettlesToAs, SettlesOnceAs}
 use Rattle.bench_core.specs.Seeking.{begins_at, SeeksAs}
 use Rattle.bench_core.specs.Answering.{SettlesReplyAs, SettlesAs}
-use Rattle.bench_core.proofs.Settled.{refused_settles}
-use Rattle.bench_core.proofs.Seeking.{seeks_none, seeks_fault, told_is_answer}
+use Rattle.bench_core.proofs.Settled.{refused_settles, nothing_settled}
+use Rattle.bench_core.proofs.Seeking.{begins_within, seeks_none, seeks_fault, told_is_answer}
 
 -- a query that its own numbers refuse
 pub refused_as : (d : Shown) (q : Query) (n : ℕ) → bad_query (project_of d) q ≡ Some n → SettlesAs q (told.BadQuery n) d d
@@ -80,3 +80,13 @@ module _ (d next : Shown) (p n : ℕ) where
   found_told begin v r good same at s =
       let is : answer (project_of next) (Reply p n) ≡ Ok (Replied (Some r)) = subst (λ P. answer P (Reply p n) ≡ Ok (Replied (Some r))) (sym same) (told_is_answer (project_of d) p n s.1 r good s.3 s.5) in
       ((at, is), (at, is))
+
+-- where it couldn't be told how far to look first, nothing was settled
+pub reply_wanting : (d : Shown) (p n : ℕ) → SettlesReplyAs p n told.Memory d d
+reply_wanting d p n = record {
+  begin = begins_at d p n;
+  sought = Err (settle.Memory 0);
+  begins = inl refl;
+  seeks = seeks_fault p n (begins_at d p n) d d (begins_within d p n) (settle.Memory 0) (nothing_settled d (begins_at d p n)) (λ spent. absurd spent);
+  comes = refl;
+}
