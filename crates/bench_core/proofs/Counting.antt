@@ -1,7 +1,8 @@
 -- The counters count the states that are held, and these are the run's.
-use Rattle.std.proofs.Common.{◌≡◌, ℕ, ◌+◌, ◌<◌, ◌≤◌, ◌∙◌, sym, ap, subst, refl, arith, Bool, true, false, cond, Option, None, Some, List, [], ◌∷◌, map}
+use Rattle.std.proofs.Common.{◌≡◌, ℕ, ◌+◌, ◌<◌, ◌≤◌, ◌∙◌, sym, ap, subst, refl, arith, Bool, true, false, cond, Option, None, Some, Result, Ok, Err, List, [], ◌∷◌, map}
 use Rattle.std.specs.Prelude.{nat_lt, nat_le, ◌&&◌, ◌==◌, is_some}
 use Rattle.std.specs.Option.{ForSome, IfSome}
+use Rattle.std.specs.Result.{is_ok, OnOk}
 use Rattle.std.proofs.lemmas.Bool.{eqb-true, and_parts}
 use Rattle.std.proofs.lemmas.Bool.Decides.{nat_tests}
 use Rattle.omega_net.specs.Numbers.{components}
@@ -69,6 +70,12 @@ counted_kept sums old new counts same =
 pub are_kept : (sums : Option Kept) (old new : Seen MachineState Project) → AreCounted sums old → HoldsSame rp3_rules old new → AreCounted sums new
 are_kept None old new counts same = tt
 are_kept (Some sums) old new counts same = counted_kept sums old new counts same
+
+-- sums that are kept where all was counted
+pub are_counted : {T E P : Type 0} (kept : Option Kept) (sums : Kept) (r : Result T E) (v : Seen MachineState Project) → is_some kept ≡ is_ok r → IfSome kept (λ k. k ≡ sums) → OnOk r P → (P → IsCounted sums v) → AreCounted kept v
+are_counted None sums r v there same all counts = tt
+are_counted (Some k) sums (Ok x) v there same all counts = rw same (counts all)
+are_counted (Some k) sums (Err x) v there same all counts = absurd cc
 
 module _ (sums next : Kept) (old new : Seen MachineState Project) (counts : IsCounted sums old) (shape : next.k ≡ sums.k) where
   -- a store

@@ -1,6 +1,7 @@
 //! The counters of a bench.
 ghost use Rattle.std.specs.Prelude.{◌≡◌, ◌+◌, ◌<◌, ◌≤◌, All, IfOk, OnOk, OnErr, None, Some, is_some};
 ghost use Rattle.std.specs.Option.{IsSome, IfSome};
+ghost use Rattle.std.specs.Result.{is_ok};
 ghost use Rattle.omega_net.specs.Numbers.{components};
 ghost use Rattle.cell_table.specs.Touches.{IsWithin};
 ghost use Rattle.bench_core.specs.Shown.{held, IsCounted, AreCounted};
@@ -189,17 +190,27 @@ fn count_ranges(
     Ok(())
 }
 
+/// The sums, once all was counted. Where a state couldn't be shared there are none, and they are counted again when they are next
+/// asked for.
+fn kept(sums: Sums, counted: Result<(), NoMemory>) -> Option<Sums>
+    ensures there { is_some result ≡ is_ok counted }
+    ensures same { IfSome result (λ kept. kept ≡ sums) }
+{
+    match counted {
+        Ok(()) => Some(sums),
+        Err(NoMemory) => None,
+    }
+}
+
 impl Watcher<Rp3> for Counters {
     ghost use Rattle.bench_core.specs.Shown.{AreCounted};
 
     ghost keeps = { λ counters table. (table.horizon ≤ max_horizon) × AreCounted counters table };
 
     fn stored(&mut self, table: &Table<Rp3>, cell: Cell) {
-        // Where a state couldn't be shared there are no sums then, and they are counted again when they are next asked for.
         if let Some(mut sums) = self.sums.take() {
-            if count_cell(&mut sums, table, cell).is_ok() {
-                self.sums = Some(sums);
-            }
+            let counted = count_cell(&mut sums, table, cell);
+            self.sums = kept(sums, counted);
         }
     }
 
@@ -210,17 +221,15 @@ impl Watcher<Rp3> for Counters {
 
     fn filled(&mut self, table: &Table<Rp3>, from: u32, cycles: u32) {
         if let Some(mut sums) = self.sums.take() {
-            if count_all_filled(&mut sums, table, from, from + cycles).is_ok() {
-                self.sums = Some(sums);
-            }
+            let counted = count_all_filled(&mut sums, table, from, from + cycles);
+            self.sums = kept(sums, counted);
         }
     }
 
     fn refilled(&mut self, table: &Table<Rp3>, ranges: &[CellRange]) {
         if let Some(mut sums) = self.sums.take() {
-            if count_ranges(&mut sums, table, ranges).is_ok() {
-                self.sums = Some(sums);
-            }
+            let counted = count_ranges(&mut sums, table, ranges);
+            self.sums = kept(sums, counted);
         }
     }
 }

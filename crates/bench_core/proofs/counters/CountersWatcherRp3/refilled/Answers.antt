@@ -1,5 +1,6 @@
 use Rattle.std.proofs.Common.{arith}
 use Rattle.bench_core.specs.Shown.{IsCounted, AreCounted, present}
+use Rattle.bench_core.proofs.Counting.{are_counted}
 use Rattle.bench_core.proofs.Filling.{counted_refilled}
 use Rattle.bench_core.proofs.counters.CountersWatcherRp3.refilled.Goals.{in-Some, in_default}
 use Rattle.bench_core.proofs.counters.CountersWatcherRp3.refilled.Goals as goal
@@ -14,8 +15,9 @@ returns c =
         | in-Some w ↦
             let sums = w.in-Some.sums in
             let counts : IsCounted sums before = rw w.in-Some.is at were in
-            let f = w.count_ranges.ensures in
-            rw w.self-inside-is (counted_refilled sums w.count_ranges.new.sums before c.args.table.now c.args.ranges.now counts is f.shape (f.stands (present before) counts.counts))
+            let f = w.count_ranges-counted.ensures in
+            rw w.self-inside-is (are_counted w.kept.result w.count_ranges-counted.new.sums w.count_ranges-counted.result c.args.table.now w.kept.ensures.there w.kept.ensures.same f.stands
+                (λ stands. counted_refilled sums w.count_ranges-counted.new.sums before c.args.table.now c.args.ranges.now counts is f.shape (stands (present before) counts.counts)))
         | in_default w ↦ rw (w.self-inside-is, w.in_default.is) tt
       ],
     )

@@ -1,8 +1,6 @@
-use Rattle.std.proofs.Common.{arith, subst}
-use Rattle.monitor_sums.specs.Kept.{StandsFor}
-use Rattle.monitor_sums.specs.Sums.{States, changed}
+use Rattle.std.proofs.Common.{arith}
 use Rattle.bench_core.specs.Shown.{IsCounted, AreCounted}
-use Rattle.bench_core.proofs.Counting.{counted_stored}
+use Rattle.bench_core.proofs.Counting.{are_counted, counted_stored}
 use Rattle.bench_core.proofs.counters.CountersWatcherRp3.stored.Goals.{in-Some, in_default}
 use Rattle.bench_core.proofs.counters.CountersWatcherRp3.stored.Goals as goal
 
@@ -16,8 +14,8 @@ returns c =
         | in-Some w ↦
             let sums = w.in-Some.sums in
             let counts : IsCounted sums c.requires.0 = rw w.in-Some.is at were in
-            let stands = subst (λ x. (at : States) → StandsFor sums at → StandsFor w.change.new.self (changed at cell.cycle cell.component x)) w.state.ensures w.change.ensures.stands in
-            rw w.self-inside-is (counted_stored sums w.change.new.self c.requires.0 c.args.table.now counts w.change.ensures.shape cell.cycle cell.component stored.state stored.changed stored.there stored.after stands)
+            rw w.self-inside-is (are_counted w.kept.result w.count_cell-counted.new.sums w.count_cell-counted.result c.args.table.now w.kept.ensures.there w.kept.ensures.same w.count_cell-counted.ensures.stands
+                (counted_stored sums w.count_cell-counted.new.sums c.requires.0 c.args.table.now counts w.count_cell-counted.ensures.shape cell.cycle cell.component stored.state stored.changed stored.there stored.after))
         | in_default w ↦ rw (w.self-inside-is, w.in_default.is) tt
       ],
     )
