@@ -149,12 +149,7 @@ fn count_filled(
 /// # Errors
 ///
 /// As `count_filled`.
-fn count_all_filled(
-    sums: &mut Sums,
-    table: &Table<Rp3>,
-    from: u32,
-    to: u32,
-) -> Result<(), NoMemory>
+fn count_all_filled(sums: &mut Sums, table: &Table<Rp3>, from: u32, to: u32) -> Result<(), NoMemory>
     requires same { sums.old.k ≡ table.now.slots.k }
     requires later { from ≤ to }
     requires within { to ≤ max_horizon + 1 }
@@ -173,11 +168,7 @@ fn count_all_filled(
 /// # Errors
 ///
 /// As `count_filled`.
-fn count_ranges(
-    sums: &mut Sums,
-    table: &Table<Rp3>,
-    ranges: &[CellRange],
-) -> Result<(), NoMemory>
+fn count_ranges(sums: &mut Sums, table: &Table<Rp3>, ranges: &[CellRange]) -> Result<(), NoMemory>
     requires same { sums.old.k ≡ table.now.slots.k }
     requires short { table.now.horizon ≤ max_horizon }
     requires within { All (IsWithin (table.now.horizon + 1) (components sums.old.k)) ranges.now }

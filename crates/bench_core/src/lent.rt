@@ -23,10 +23,7 @@ pub(crate) fn lent(held: &Option<Arc<MachineState>>) -> Option<&MachineState>
 /// # Errors
 ///
 /// Where a growth was refused.
-pub(crate) fn lend(
-    alloc: Global,
-    row: &[Arc<MachineState>],
-) -> Result<Vec<&MachineState>, NoMemory>
+pub(crate) fn lend(alloc: Global, row: &[Arc<MachineState>]) -> Result<Vec<&MachineState>, NoMemory>
     ensures { IfOk result (λ lent. map (λ r. r.now) lent.items ≡ map arc_value row.now) }
 {
     let mut lent = Vec::new(alloc);

@@ -57,12 +57,7 @@ impl Bench {
     /// # Errors
     ///
     /// As `has_issued`.
-    fn first_reply(
-        &self,
-        proc: u32,
-        issue: u32,
-        last: u32,
-    ) -> Result<Option<Received>, NoMemory>
+    fn first_reply(&self, proc: u32, issue: u32, last: u32) -> Result<Option<Received>, NoMemory>
         requires proc { proc < components (project_of self.now).k }
         requires within { last ≤ (project_of self.now).horizon }
         ensures { IfOk result (λ reply. reply ≡ first_reply (λ t. held self.now.table t proc) issue (suc last)) }

@@ -30,8 +30,7 @@ invariant_of-cells g c =
     let i = c.cells.inside in
     let f = c.fill_lines-to.ensures in
     let r = c.clear_rows.ensures in
-    let marks = marks_filled i.due c.clear_rows.new.due c.args.from c.fill_lines-to.result c.cells.invariant.1.marks r.cleared r.earlier r.later in
-    (
+    let marks = marks_filled i.due c.clear_rows.new.due c.args.from c.fill_lines-to.result c.cells.invariant.1.marks r.cleared r.earlier r.later in (
       lined_along i.lines.items c.fill_lines-to.new.lines.items i.due c.clear_rows.new.due c.cells.invariant.0 f.len f.lens r.width r.len,
       layout_filled (state_at i.lines.items) (state_at c.fill_lines-to.new.lines.items) i.due c.clear_rows.new.due i.versions.items c.args.cells.now (bounded_by i.lines.items i.due c.cells.invariant.0) c.cells.invariant.1 c.cells.view_is (bounded_by c.fill_lines-to.new.lines.items i.due (lined_along i.lines.items c.fill_lines-to.new.lines.items i.due i.due c.cells.invariant.0 f.len f.lens refl refl)) r.width r.len marks,
     )

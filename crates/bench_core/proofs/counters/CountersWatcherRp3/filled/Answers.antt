@@ -18,7 +18,7 @@ returns c =
             let counts : IsCounted sums before = rw w.in-Some.is at were in
             let f = w.count_all_filled-counted.ensures in
             rw w.self-inside-is (are_counted w.kept.result w.count_all_filled-counted.new.sums w.count_all_filled-counted.result c.args.table.now w.kept.ensures.there w.kept.ensures.same f.stands
-                (λ stands. counted_filled sums w.count_all_filled-counted.new.sums before c.args.table.now c.args.from c.args.cycles (components sums.k) counts is f.shape refl (stands (present before) counts.counts)))
+            (λ stands. counted_filled sums w.count_all_filled-counted.new.sums before c.args.table.now c.args.from c.args.cycles (components sums.k) counts is f.shape refl (stands (present before) counts.counts)))
         | in_default w ↦ rw (w.self-inside-is, w.in_default.is) tt
       ],
     )

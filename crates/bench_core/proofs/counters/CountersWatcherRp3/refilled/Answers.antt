@@ -17,7 +17,7 @@ returns c =
             let counts : IsCounted sums before = rw w.in-Some.is at were in
             let f = w.count_ranges-counted.ensures in
             rw w.self-inside-is (are_counted w.kept.result w.count_ranges-counted.new.sums w.count_ranges-counted.result c.args.table.now w.kept.ensures.there w.kept.ensures.same f.stands
-                (λ stands. counted_refilled sums w.count_ranges-counted.new.sums before c.args.table.now c.args.ranges.now counts is f.shape (stands (present before) counts.counts)))
+            (λ stands. counted_refilled sums w.count_ranges-counted.new.sums before c.args.table.now c.args.ranges.now counts is f.shape (stands (present before) counts.counts)))
         | in_default w ↦ rw (w.self-inside-is, w.in_default.is) tt
       ],
     )

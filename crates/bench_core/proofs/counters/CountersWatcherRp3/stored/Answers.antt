@@ -15,7 +15,7 @@ returns c =
             let sums = w.in-Some.sums in
             let counts : IsCounted sums c.requires.0 = rw w.in-Some.is at were in
             rw w.self-inside-is (are_counted w.kept.result w.count_cell-counted.new.sums w.count_cell-counted.result c.args.table.now w.kept.ensures.there w.kept.ensures.same w.count_cell-counted.ensures.stands
-                (counted_stored sums w.count_cell-counted.new.sums c.requires.0 c.args.table.now counts w.count_cell-counted.ensures.shape cell.cycle cell.component stored.state stored.changed stored.there stored.after))
+            (counted_stored sums w.count_cell-counted.new.sums c.requires.0 c.args.table.now counts w.count_cell-counted.ensures.shape cell.cycle cell.component stored.state stored.changed stored.there stored.after))
         | in_default w ↦ rw (w.self-inside-is, w.in_default.is) tt
       ],
     )
