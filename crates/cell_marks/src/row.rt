@@ -91,6 +91,15 @@ impl Row {
         }
     }
 
+    /// The marks as bits, 64 in a word; a bit behind the last component means nothing.
+    pub fn words(&self) -> &[u64]
+        ensures room { length self.now ≤ 64 * length result.now }
+        ensures bits { (c : ℕ) → c < length self.now → bit_in result.now c ≡ is_set self.now c }
+    {
+        let _len = self.len;
+        &self.words
+    }
+
     /// Whether the components marked in one row or the other are just those marked here; 64 of them in one step.
     pub(crate) fn is_union(&self, one: &Row, other: &Row) -> bool
         requires one { length one.now ≡ length self.now }
