@@ -1,5 +1,8 @@
 pub mod Keeping
-pub mod Lined
+pub mod Stated
+pub mod Codes
+pub mod Coded
+pub mod Changed
 pub mod Counts
 pub mod Marking
 pub mod Tables
@@ -14,7 +17,6 @@ pub mod Repeated
 pub mod SettledRow
 pub mod Filled
 pub mod FilledRows
-pub mod PutRows
 pub mod WideRows
 pub mod Woken
 pub mod MarkedCycle

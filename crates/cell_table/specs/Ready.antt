@@ -3,7 +3,7 @@ use Rattle.std.specs.Prelude.{◌≡◌, ℕ, ◌-◌, ◌≤◌, Option, None, 
 use Rattle.grid_law.specs.Codec.{Codec, IsTold}
 use Rattle.change_rows.specs.Rows.{words_at}
 use Rattle.change_lists.specs.Changes.{Changes, held_at as memory_at, held_before, room_at}
-use Rattle.cell_table.specs.declared.states.memory.Change.{Change}
+use Rattle.cell_table.specs.declared.stored.memory.Change.{Change}
 
 module _ {Memory : Type 0} where
   -- what the cell has then: nothing ready, what stands before it goes on

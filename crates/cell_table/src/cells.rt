@@ -20,7 +20,7 @@ use crate::Cell;
 use crate::fill::fill_states;
 use crate::neighbours::Neighbours;
 use crate::readers::Readers;
-use crate::states::States;
+use crate::stored::States;
 use crate::versions::{
     Versions, forget_in, grow_rows, is_noted_in, note_in, rows_of, set_version, set_versions,
     version_in,

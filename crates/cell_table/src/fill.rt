@@ -10,7 +10,7 @@ ghost use Rattle.cell_table.specs.Filling.{is_awake, Stays, IsRowBefore, IsCompu
 use crate::Cell;
 use crate::neighbours::Neighbours;
 use crate::readers::Readers;
-use crate::states::States;
+use crate::stored::States;
 use cell_marks::Row;
 use grid_law::{Grid, NoMemory};
 use std::alloc::Global;

@@ -72,7 +72,7 @@ mod neighbours;
 mod ranges;
 mod readers;
 mod rows;
-mod states;
+mod stored;
 mod table;
 mod versions;
 mod watcher;

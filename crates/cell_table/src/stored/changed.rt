@@ -211,9 +211,12 @@ pub(super) fn put_changed<G: Grid>(
     ensures err { OnErr result ((rows.new ≡ rows.old) × ((c t : ℕ) → memory_at memories.new c t ≡ memory_at memories.old c t)) }
 {
     let end = rows.len();
-    ready_all::<G>(
+    match ready_all::<G>(
         rows, memories, draft, buffer, ready, changes, news, cycle,
-    )?;
+    ) {
+        Ok(()) => {}
+        Err(_) => return Err(NoMemory),
+    }
     match rows.put_row(*buffer.allocator(), cycle, draft) {
         Ok(()) => {}
         Err(_) => return Err(NoMemory),

@@ -177,14 +177,17 @@ impl<G: Grid> States<G> {
         ensures ok { OnOk result (IsOtherState self.old self.new cell.cycle cell.component (Some state.now)) }
         ensures err { OnErr result (IsSameStates self.old self.new) }
     {
-        put_state::<G>(
+        match put_state::<G>(
             &mut self.words,
             &mut self.memories,
             &mut self.draft,
             &mut self.buffer,
             cell,
             state,
-        )
+        ) {
+            Ok(()) => Ok(()),
+            Err(_) => Err(NoMemory),
+        }
     }
 
     /// Gives a cell the state that its component has a cycle before. Where memory is wanting, no state changes.
@@ -196,13 +199,16 @@ impl<G: Grid> States<G> {
         ensures err { OnErr result (IsSameStates self.old self.new) }
     {
         let alloc = *self.buffer.allocator();
-        repeat_state(
+        match repeat_state(
             alloc,
             &mut self.words,
             &mut self.memories,
             &mut self.draft,
             cell,
-        )
+        ) {
+            Ok(()) => Ok(()),
+            Err(_) => Err(NoMemory),
+        }
     }
 
     /// Lets the components that change have the state of the cycle before `from` to before `to`. Where memory is wanting, no state
@@ -227,14 +233,17 @@ impl<G: Grid> States<G> {
         if from >= to {
             return Ok(());
         }
-        repeat_changed(
+        match repeat_changed(
             alloc,
             &mut self.words,
             &mut self.memories,
             changes,
             from,
             to,
-        )
+        ) {
+            Ok(()) => Ok(()),
+            Err(_) => Err(NoMemory),
+        }
     }
 
     /// Puts what is new for each component that changes at a cycle, or where nothing is new the state of the cycle before. Where memory
@@ -255,7 +264,7 @@ impl<G: Grid> States<G> {
         ensures others { OnOk result ((t c : ℕ) → (t ≡ cycle → ⊥) → state_at self.new t c ≡ state_at self.old t c) }
         ensures err { OnErr result (IsSameStates self.old self.new) }
     {
-        put_changed::<G>(
+        match put_changed::<G>(
             &mut self.words,
             &mut self.memories,
             &mut self.draft,
@@ -264,7 +273,10 @@ impl<G: Grid> States<G> {
             changes,
             news,
             cycle,
-        )
+        ) {
+            Ok(()) => Ok(()),
+            Err(_) => Err(NoMemory),
+        }
     }
 
     /// Removes the cycles from n on.
