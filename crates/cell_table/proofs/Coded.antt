@@ -1,5 +1,5 @@
 -- Rows of words and lists of memories as the states of cells.
-use Rattle.std.proofs.Common.{◌≡◌, ℕ, ◌+◌, ◌-◌, ◌<◌, ◌≤◌, ◌∙◌, ◌⊎◌, inl, inr, sym, ap, subst, refl, arith, Bool, true, false, cond, eqb, ◌&&◌, eq-eqb, Option, None, Some, List, [], ◌∷◌, length, map, get_or, unwrap_or}
+use Rattle.std.proofs.Common.{◌≡◌, ℕ, zero, suc, ◌+◌, ◌-◌, ◌<◌, ◌≤◌, ◌∙◌, ◌⊎◌, inl, inr, sym, ap, subst, refl, arith, Bool, true, false, cond, eqb, ◌&&◌, eq-eqb, Option, None, Some, List, [], ◌∷◌, length, map, get_or, unwrap_or}
 use Rattle.std.specs.List.{range_with_len}
 use Rattle.std.proofs.Math.ListN.{set, length-set}
 use Rattle.std.proofs.lemmas.Bool.{cases_lt, cases_eq, ne_eqb}
@@ -124,6 +124,13 @@ module _ {State Memory : Type 0} (C : Codec State Memory) where
       same = λ t c. state_along words words memories memories1 coded refl refl (λ t. refl) t c t c refl (λ h. same c t);
     }
 
+  module _ (words words1 : Words) (memories memories1 : List (Changes Memory)) (coded : IsCoded C words memories) (rows : words1 ≡ words) (same : (c t : ℕ) → memory_at memories1 c t ≡ memory_at memories c t) where
+    pub coded_err : length memories1 ≡ length memories → IsCoded C words1 memories1
+    coded_err many = subst (λ w. IsCoded C w memories1) (sym rows) (coded_same words memories memories1 coded same many)
+
+    pub states_err : (s : Stated State) → states_in C words memories ≡ s → IsSameStates s (states_in C words1 memories1)
+    states_err s e = subst (λ v. IsSameStates v (states_in C words1 memories1)) e (subst (λ w. IsSameStates (states_in C words memories) (states_in C w memories1)) (sym rows) (states_same words memories memories1 coded same))
+
   -- one cell has other words and another memory
   module _ (words words1 : Words) (memories memories1 : List (Changes Memory)) (coded : IsCoded C words memories) (t c : ℕ) (there : t < length words.rows) (inside : c < words.width) (ws : List ℕ) (m : Option Memory) (code : IsCode C ws m)
       (put : words1 ≡ record { width = words.width; rows = set words.rows t (overlaid (get_or words.rows t []) (record { component = c; words = ws } ∷ [])) })
@@ -184,3 +191,19 @@ module _ {State Memory : Type 0} (C : Codec State Memory) where
         by_cell u d (inr p) =
             state_along words words1 memories memories1 coded width cycles lens u d u d (words_put u d ∙ ap (λ b. cond b ws (words_at words.rows u d)) p.0) (λ h. memory_other u d h (cases_eq d c) (cases_eq u t) p.1)
             ∙ ap (λ b. cond b (state_of C ws m) (state_at (states_in C words memories) u d)) (sym p.0)
+
+    pub other_seen : (s : Stated State) → states_in C words memories ≡ s → (o : Option State) → state_of C ws m ≡ o → IsOtherState s (states_in C words1 memories1) t c o
+    other_seen s e o is = subst (λ v. IsOtherState v (states_in C words1 memories1) t c o) e (subst (λ o. IsOtherState (states_in C words memories) (states_in C words1 memories1) t c o) is other_state)
+
+-- the same states are as many
+pub many_same : {State : Type 0} (s : Stated State) → IsAsMany s s
+many_same s = record { width = refl; cycles = refl; lens = λ t. refl }
+
+-- a value that stays step by step stays
+pub stands : {X : Type 0} (f : ℕ → X) (t n : ℕ) → ((u : ℕ) → t < u → u < n → f u ≡ f (u - 1)) → (u : ℕ) → t ≤ u → u < n → f u ≡ f t
+stands f t n step zero h k = ap f (omega (arith, h))
+stands f t n step (suc u) h k = by_cycle (cases_lt t (suc u))
+  where
+    by_cycle : (t < suc u) ⊎ (suc u ≤ t) → f (suc u) ≡ f t
+    by_cycle (inl l) = let e : suc u - 1 ≡ u = omega arith in step (suc u) l k ∙ ap f e ∙ stands f t n step u (omega (arith, l)) (omega (arith, k))
+    by_cycle (inr l) = let e : suc u ≡ t = omega (arith, h, l) in ap f e

@@ -1,6 +1,6 @@
 -- A cell's words and what stands beside them tell its state, and its state tells them.
-use Rattle.std.proofs.Common.{◌≡◌, ◌∙◌, sym, ap, subst, refl, ℕ, Option, None, Some, List, [], ◌∷◌, is_some}
-use Rattle.std.proofs.lemmas.Bool.{false≢true}
+use Rattle.std.proofs.Common.{◌≡◌, ◌∙◌, sym, ap, subst, refl, arith, ℕ, Bool, true, false, not, eqb, Option, None, Some, List, [], ◌∷◌, length, is_some}
+use Rattle.std.proofs.lemmas.Bool.{false≢true, ne_eqb, eqb-true}
 use Rattle.grid_law.specs.Codec.{Codec, CodecLaws, IsTold}
 use Rattle.cell_table.specs.Codes.{state_of, IsCodeOf, IsCode}
 
@@ -13,6 +13,14 @@ value_or d (Some x) = x
 
 some_is : {X : Type 0} (x y : X) → Some x ≡ Some y → x ≡ y
 some_is x y q = ap (value_or x) q
+
+pub is_not : (b : Bool) → not b ≡ true → b ≡ false
+is_not true e = absurd (false≢true e)
+is_not false e = refl
+
+pub empty_words : (ws : List ℕ) → eqb (length ws) 0 ≡ true → ws ≡ []
+empty_words [] e = refl
+empty_words (w ∷ ws) e = absurd (let n : length (w ∷ ws) ≡ 0 = eqb-true _ _ e in omega (arith, n))
 
 module _ {State Memory : Type 0} (C : Codec State Memory) where
   -- equal words and equal memories are equal states
@@ -34,6 +42,15 @@ module _ {State Memory : Type 0} (C : Codec State Memory) where
   pub no_words : (ws : List ℕ) (m : Option Memory) → state_of C ws m ≡ None → ws ≡ []
   no_words [] m e = refl
   no_words (w ∷ ws) m e = absurd (none_some (C.state (w ∷ ws) m) (sym e))
+
+  -- a cell has a state where it has words
+  pub has_state : (ws : List ℕ) (m : Option Memory) → not (eqb (length ws) 0) ≡ is_some (state_of C ws m)
+  has_state [] m = refl
+  has_state (w ∷ ws) m = ap not (ne_eqb (length (w ∷ ws)) 0 (λ e. absurd (omega (arith, e))))
+
+  pub some_state : (ws : List ℕ) (m : Option Memory) → eqb (length ws) 0 ≡ false → state_of C ws m ≡ Some (C.state ws m)
+  some_state [] m e = absurd (false≢true (sym e))
+  some_state (w ∷ ws) m e = refl
 
 module _ {State Memory : Type 0} (C : Codec State Memory) (laws : CodecLaws C) where
   read_back : (words : List ℕ) (memory : Option Memory) (x : State) → IsTold C x → IsCodeOf C words memory x → C.state words memory ≡ x

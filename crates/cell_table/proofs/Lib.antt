@@ -3,6 +3,8 @@ pub mod Stated
 pub mod Codes
 pub mod Coded
 pub mod Changed
+pub mod Grown
+pub mod ChangedRows
 pub mod Counts
 pub mod Marking
 pub mod Tables

@@ -301,13 +301,14 @@ impl<G: Grid> Cells<G> {
             }
         }
         match self.states.grow(m) {
-            Ok(()) => Ok(()),
+            Ok(()) => {}
             Err(_) => {
                 self.due.truncate(n);
                 self.versions.truncate(n as usize);
-                Err(NoMemory)
+                return Err(NoMemory);
             }
         }
+        Ok(())
     }
 
     /// Whether all these components have a state at a cycle.

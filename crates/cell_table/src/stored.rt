@@ -116,7 +116,8 @@ impl<G: Grid> States<G> {
     {
         let before = self.words.words(cell.cycle - 1, cell.component);
         let words = self.words.words(cell.cycle, cell.component);
-        if before != words {
+        let same = before == words;
+        if !same {
             return false;
         }
         if words.is_empty() {
@@ -185,9 +186,10 @@ impl<G: Grid> States<G> {
             cell,
             state,
         ) {
-            Ok(()) => Ok(()),
-            Err(_) => Err(NoMemory),
+            Ok(()) => {}
+            Err(_) => return Err(NoMemory),
         }
+        Ok(())
     }
 
     /// Gives a cell the state that its component has a cycle before. Where memory is wanting, no state changes.
@@ -206,9 +208,10 @@ impl<G: Grid> States<G> {
             &mut self.draft,
             cell,
         ) {
-            Ok(()) => Ok(()),
-            Err(_) => Err(NoMemory),
+            Ok(()) => {}
+            Err(_) => return Err(NoMemory),
         }
+        Ok(())
     }
 
     /// Lets the components that change have the state of the cycle before `from` to before `to`. Where memory is wanting, no state
@@ -241,9 +244,10 @@ impl<G: Grid> States<G> {
             from,
             to,
         ) {
-            Ok(()) => Ok(()),
-            Err(_) => Err(NoMemory),
+            Ok(()) => {}
+            Err(_) => return Err(NoMemory),
         }
+        Ok(())
     }
 
     /// Puts what is new for each component that changes at a cycle, or where nothing is new the state of the cycle before. Where memory
@@ -274,9 +278,10 @@ impl<G: Grid> States<G> {
             news,
             cycle,
         ) {
-            Ok(()) => Ok(()),
-            Err(_) => Err(NoMemory),
+            Ok(()) => {}
+            Err(_) => return Err(NoMemory),
         }
+        Ok(())
     }
 
     /// Removes the cycles from n on.
@@ -295,9 +300,10 @@ impl<G: Grid> States<G> {
     {
         let alloc = *self.buffer.allocator();
         match self.words.grow(alloc, m) {
-            Ok(()) => Ok(()),
-            Err(_) => Err(NoMemory),
+            Ok(()) => {}
+            Err(_) => return Err(NoMemory),
         }
+        Ok(())
     }
 }
 
