@@ -5,7 +5,7 @@ use Rattle.std.proofs.lemmas.Bool.{cases_lt, cases_eq}
 use Rattle.grid_law.specs.Codec.{Codec, CodecLaws}
 use Rattle.change_rows.specs.Rows.{Table as Words, words_at}
 use Rattle.change_lists.specs.declared.begun.Begun.{Begun}
-use Rattle.change_lists.specs.Changes.{Changes, standing, standing_before, held_at as memory_at, held_before}
+use Rattle.change_lists.specs.Changes.{Changes, list_at, standing, standing_before, held_at as memory_at, held_before}
 use Rattle.cell_table.specs.Codes.{state_of, IsCode}
 use Rattle.cell_table.specs.Coded.{coded_at, states_in, IsCoded}
 use Rattle.cell_table.specs.Ready.{words_new, memory_new, IsToldNew}
@@ -18,6 +18,10 @@ use Rattle.cell_table.proofs.Coded.{none_past, state_is, coded_along, whole_alon
 pub before_is : {V : Type 0} (begun : List (Begun V)) (t : ℕ) → 0 < t → standing_before begun t ≡ standing begun (t - 1) None
 before_is begun zero h = absurd (omega (arith, h))
 before_is begun (suc t) h = let e : t ≡ suc t - 1 = omega arith in ap (λ n. standing begun n None) e
+
+-- what stands where a list of changes is the same
+pub memory_same : {V : Type 0} (memories memories1 : List (Changes V)) (c t : ℕ) → list_at memories1 c ≡ list_at memories c → memory_at memories1 c t ≡ memory_at memories c t
+memory_same memories memories1 c t e = ap (λ begun. standing begun t None) e
 
 module _ {State Memory : Type 0} (C : Codec State Memory) (words words1 : Words) (memories memories1 : List (Changes Memory)) (coded : IsCoded C words memories) (width : words1.width ≡ words.width) (cycles : length words1.rows ≡ length words.rows) (lens : (t : ℕ) → length (get_or words1.rows t []) ≡ length (get_or words.rows t [])) where
   -- a cell has the words and the memory that another one had
@@ -62,7 +66,7 @@ module _ {State Memory : Type 0} (C : Codec State Memory) (words words1 : Words)
         (put : (c : ℕ) → is_awake changes c ≡ true → (words_at words1.rows at c ≡ words_new C words.rows at c (new c)) × (memory_at memories1 c at ≡ memory_new C memories at c (new c)))
         (others : (t c : ℕ) → is_awake changes c ≡ false → HasOf t c t c) (at_others : (t c : ℕ) → t < length words.rows → (t ≡ at → ⊥) → HasOf t c t c) where
       -- what is new is a code, and has its state
-      IsNew : ℕ → Option State → List ℕ → Option Memory → Type 0
+      abbrev IsNew : ℕ → Option State → List ℕ → Option Memory → Type 0
       IsNew c o ws m = IsCode C ws m × (state_of C ws m ≡ option_or o (coded_at C words memories (at - 1) c))
 
       is_new : (c : ℕ) (o : Option State) → IsToldNew C o → (o ≡ None → 0 < at) → IsNew c o (words_new C words.rows at c o) (memory_new C memories at c o)

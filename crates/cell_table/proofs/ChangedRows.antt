@@ -1,8 +1,8 @@
 -- Rows in which the components that change have other words.
-use Rattle.std.proofs.Common.{◌≡◌, ℕ, ◌-◌, ◌<◌, ◌≤◌, ◌∙◌, ◌⊎◌, inl, inr, sym, ap, refl, arith, Bool, true, false, cond, ◌&&◌, nat_le, nat_lt, Option, None, Some, List, [], length, map, get_or, unwrap_or}
+use Rattle.std.proofs.Common.{◌≡◌, ℕ, ◌+◌, ◌-◌, ◌<◌, ◌≤◌, ◌∙◌, ◌⊎◌, inl, inr, sym, ap, refl, arith, Bool, true, false, cond, ◌&&◌, nat_le, nat_lt, Option, None, Some, List, [], length, map, get_or, unwrap_or}
 use Rattle.std.specs.List.{range_with_len}
 use Rattle.std.proofs.Math.ListN.{set, length-set}
-use Rattle.std.proofs.lemmas.Bool.{cases_lt, cases_eq, true≢false, le-leb, lt-ltb}
+use Rattle.std.proofs.lemmas.Bool.{cases_lt, cases_eq, true≢false, le-leb, lt-ltb, lt-leb, le-ltb, and_right}
 use Rattle.std.proofs.lemmas.List.{get_or_past, get_or-set_same, get_or-set_other}
 use Rattle.std.proofs.lemmas.List.FromFn.{length-map-range_with_len, get_or-map-range_with_len}
 use Rattle.change_rows.specs.Cells.{Held, found}
@@ -18,6 +18,27 @@ awake_within marks c e = by_place (cases_lt c (length marks))
     by_place : (c < length marks) ⊎ (length marks ≤ c) → c < length marks
     by_place (inl h) = h
     by_place (inr h) = absurd (true≢false (sym e ∙ get_or_past marks c false h))
+
+-- of the marked components up to one, the others were passed before
+pub below : (next cur d : ℕ) (marks : List Bool) → (d ≡ cur → ⊥) → d < cur + 1 → is_awake marks d ≡ true → ((k : ℕ) → next ≤ k → k < cur → is_awake marks k ≡ false) → d < next
+below next cur d marks n h awake between = by_place (cases_lt d next)
+  where
+    by_place : (d < next) ⊎ (next ≤ d) → d < next
+    by_place (inl k) = k
+    by_place (inr k) = absurd (true≢false (sym awake ∙ between d k (omega (arith, n, h))))
+
+pub reached : (next d : ℕ) (marks : List Bool) → is_awake marks d ≡ true → (next ≤ d → is_awake marks d ≡ false) → d < next
+reached next d marks awake none = by_place (cases_lt d next)
+  where
+    by_place : (d < next) ⊎ (next ≤ d) → d < next
+    by_place (inl k) = k
+    by_place (inr k) = absurd (true≢false (sym awake ∙ none k))
+
+pub not_from : (marks : List Bool) (from to t c : ℕ) → t < from → (is_awake marks c && (nat_le from t && nat_lt t to)) ≡ false
+not_from marks from to t c h = and_right (is_awake marks c) _ (rw (lt-leb from t h) refl)
+
+pub not_to : (marks : List Bool) (from to t c : ℕ) → to ≤ t → (is_awake marks c && (nat_le from t && nat_lt t to)) ≡ false
+not_to marks from to t c h = and_right (is_awake marks c) _ (and_right (nat_le from t) _ (le-ltb t to h))
 
 module _ (v v1 : Words) (whole : IsWhole v) (changes : List Bool) (wide : length changes ≡ v.width) where
   -- those that have from one cycle on to before another the words of the cycle before

@@ -202,8 +202,8 @@ many_same s = record { width = refl; cycles = refl; lens = λ t. refl }
 -- a value that stays step by step stays
 pub stands : {X : Type 0} (f : ℕ → X) (t n : ℕ) → ((u : ℕ) → t < u → u < n → f u ≡ f (u - 1)) → (u : ℕ) → t ≤ u → u < n → f u ≡ f t
 stands f t n step zero h k = ap f (omega (arith, h))
-stands f t n step (suc u) h k = by_cycle (cases_lt t (suc u))
+stands f t n step (suc u) h k = by_cycle (cases_lt t (suc u)) (λ l. stands f t n step u (omega (arith, l)) (omega (arith, k)))
   where
-    by_cycle : (t < suc u) ⊎ (suc u ≤ t) → f (suc u) ≡ f t
-    by_cycle (inl l) = let e : suc u - 1 ≡ u = omega arith in step (suc u) l k ∙ ap f e ∙ stands f t n step u (omega (arith, l)) (omega (arith, k))
-    by_cycle (inr l) = let e : suc u ≡ t = omega (arith, h, l) in ap f e
+    by_cycle : (t < suc u) ⊎ (suc u ≤ t) → (t < suc u → f u ≡ f t) → f (suc u) ≡ f t
+    by_cycle (inl l) rest = let e : suc u - 1 ≡ u = omega arith in step (suc u) l k ∙ ap f e ∙ rest l
+    by_cycle (inr l) rest = let e : suc u ≡ t = omega (arith, h, l) in ap f e

@@ -7,7 +7,7 @@ use Rattle.cell_table.specs.Codes.{state_of, IsCodeOf, IsCode}
 none_some : {X : Type 0} (x : X) → None ≡ Some x → ⊥
 none_some x q = absurd (false≢true (ap is_some q))
 
-value_or : {X : Type 0} → X → Option X → X
+abbrev value_or : {X : Type 0} → X → Option X → X
 value_or d None = d
 value_or d (Some x) = x
 
@@ -21,6 +21,9 @@ is_not false e = refl
 pub empty_words : (ws : List ℕ) → eqb (length ws) 0 ≡ true → ws ≡ []
 empty_words [] e = refl
 empty_words (w ∷ ws) e = absurd (let n : length (w ∷ ws) ≡ 0 = eqb-true _ _ e in omega (arith, n))
+
+pub has_words : (ws : List ℕ) → eqb (length ws) 0 ≡ false → ws ≡ [] → ⊥
+has_words ws e n = false≢true (sym e ∙ ap (λ xs. eqb (length xs) 0) n)
 
 module _ {State Memory : Type 0} (C : Codec State Memory) where
   -- equal words and equal memories are equal states

@@ -1,4 +1,5 @@
 use Rattle.std.proofs.Common.{◌∙◌, sym, ap, eqb, length, Some}
+use Rattle.std.specs.Option.{option_copied}
 use Rattle.change_rows.specs.Rows.{words_at}
 use Rattle.change_lists.specs.Changes.{held_at as memory_at}
 use Rattle.cell_table.proofs.Codes.{empty_words, no_state, some_state}
@@ -24,6 +25,6 @@ returns g c =
     let d = c.args.cell.component in
     let m = memory_at i.memories d t in
     let some = ap (λ ws. eqb (length ws) 0) (sym c.words-words.ensures) ∙ sym c.is_empty.ensures ∙ c.if-is_empty.false in
-    ap Some (c.in_ok-state.ensures ∙ ap (λ ws. C.state ws _) c.words-words.ensures ∙ ap (C.state (words_at i.words.rows t d)) c.at-memory.ensures)
+    ap Some (c.in_ok-state.ensures ∙ ap (λ ws. C.state ws (option_copied c.at-memory.result)) c.words-words.ensures ∙ ap (C.state (words_at i.words.rows t d)) c.at-memory.ensures)
     ∙ sym (some_state C (words_at i.words.rows t d) m some)
     ∙ sym (seen_at C i.words i.memories s c.self.view_is c.self.invariant.0.whole t d)

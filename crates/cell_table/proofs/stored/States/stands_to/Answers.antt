@@ -8,7 +8,7 @@ use Rattle.cell_table.proofs.stored.States.stands_to.Goals as goal
 pub overflow_add-next : goal.overflow_add-next
 overflow_add-next g c =
     let i = c.self.inside in
-    omega (arith, c.requires.cycle, seen_cycles g.G.Grid.codec i.words i.memories c.args.self.now c.self.view_is, c.len-end.ensures.count, c.len-end.auto)
+    omega (arith, c.requires.cycle, seen_cycles g.G.Grid.codec i.words i.memories c.args.self.now c.self.view_is, c.len-end.ensures.count)
 
 pub returns-clause-within : goal.returns-clause-within
 returns-clause-within g c =

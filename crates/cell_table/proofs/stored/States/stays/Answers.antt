@@ -12,6 +12,6 @@ returns-then-not-begins g c = λ h.
     let t = c.args.cell.cycle in
     let d = c.args.cell.component in
     let seen = seen_at C i.words i.memories s c.self.view_is c.self.invariant.0.whole in
-    let w = c.begins.ensures (is_not _ c.if-not-begins.true) in
+    let w = c.begins.ensures c.if-not-begins.true in
     let m = c.begins-then-not-begins.ensures.steady (is_not _ h) in
     (w.0, seen (t - 1) d ∙ same_code C _ _ _ _ (sym w.1) (sym (m ∙ before_is _ t w.0)) ∙ sym (seen t d))
