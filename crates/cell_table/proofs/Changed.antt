@@ -1,14 +1,15 @@
 -- Components that change have other words and other memories.
-use Rattle.std.proofs.Common.{◌≡◌, ℕ, zero, suc, ◌-◌, ◌<◌, ◌≤◌, ◌∙◌, ◌⊎◌, inl, inr, sym, ap, refl, arith, Bool, true, false, cond, Option, None, Some, List, [], length, get_or}
+use Rattle.std.proofs.Common.{◌≡◌, ℕ, zero, suc, ◌-◌, ◌<◌, ◌≤◌, ◌∙◌, ◌⊎◌, inl, inr, sym, ap, subst, refl, arith, Bool, true, false, cond, Option, None, Some, List, [], length, get_or}
 use Rattle.std.specs.Option.{option_or}
 use Rattle.std.proofs.lemmas.Bool.{cases_lt, cases_eq}
 use Rattle.grid_law.specs.Codec.{Codec, CodecLaws}
 use Rattle.change_rows.specs.Rows.{Table as Words, words_at}
+use Rattle.cell_table.specs.declared.stored.memory.Change.{Change}
 use Rattle.change_lists.specs.declared.begun.Begun.{Begun}
-use Rattle.change_lists.specs.Changes.{Changes, list_at, standing, standing_before, held_at as memory_at, held_before}
+use Rattle.change_lists.specs.Changes.{Changes, changes_at, list_at, standing, standing_before, held_at as memory_at, held_before}
 use Rattle.cell_table.specs.Codes.{state_of, IsCode}
 use Rattle.cell_table.specs.Coded.{coded_at, states_in, IsCoded}
-use Rattle.cell_table.specs.Ready.{words_new, memory_new, IsToldNew}
+use Rattle.cell_table.specs.Ready.{words_new, memory_new, IsToldNew, value_in, IsReady}
 use Rattle.cell_table.specs.Layout.{state_at, IsAsMany}
 use Rattle.cell_table.specs.Filling.{is_awake}
 use Rattle.cell_table.proofs.Codes.{same_code, code_along, put_is}
@@ -99,3 +100,22 @@ module _ {State Memory : Type 0} (C : Codec State Memory) (words words1 : Words)
 
       pub state_other : (t c : ℕ) → (t ≡ at → ⊥) → state_at (states_in C words1 memories1) t c ≡ state_at (states_in C words memories) t c
       state_other t c n = state_kept t c (λ h. at_others t c h n)
+
+-- what is ready for a component is so where its list is the same
+pub ready_along : {V : Type 0} (memories memories1 : List (Changes V)) (c t : ℕ) (change change1 : Option (Change V)) → changes_at memories1 c ≡ changes_at memories c → change1 ≡ change → IsReady memories c t change → IsReady memories1 c t change1
+ready_along memories memories1 c t change change1 e f ready = subst (IsReady memories1 c t) (sym f) (by_change change ready)
+  where
+    by_change : (o : Option (Change V)) → IsReady memories c t o → IsReady memories1 c t o
+    by_change None r = tt
+    by_change (Some x) r = (r.0 ∙ sym (ap (λ (k : Changes V). standing k.begun t None) e), subst (λ (k : Changes V). 2 ≤ k.room) (sym e) r.1)
+
+pub value_along : {V : Type 0} (memories memories1 : List (Changes V)) (c t : ℕ) (change change1 : Option (Change V)) → changes_at memories1 c ≡ changes_at memories c → change1 ≡ change → value_in memories1 c t change1 ≡ value_in memories c t change
+value_along memories memories1 c t change change1 e f = ap (value_in memories1 c t) f ∙ by_change change
+  where
+    by_change : (o : Option (Change V)) → value_in memories1 c t o ≡ value_in memories c t o
+    by_change None = ap (λ (k : Changes V). standing_before k.begun t) e
+    by_change (Some x) = refl
+
+pub memory_new_along : {State Memory : Type 0} (C : Codec State Memory) (memories memories1 : List (Changes Memory)) (t c : ℕ) (o : Option State) → list_at memories1 c ≡ list_at memories c → memory_new C memories1 t c o ≡ memory_new C memories t c o
+memory_new_along C memories memories1 t c None e = ap (λ begun. standing_before begun t) e
+memory_new_along C memories memories1 t c (Some x) e = refl

@@ -287,7 +287,10 @@ fn fill_cycle<G: Grid>(
 {
     let alloc = states.allocator();
     compute_all::<G>(alloc, row.as_slice(), slots, neighbours, marks, news, cycle)?;
-    states.put_changed(all, news.as_slice(), cycle)?;
+    match states.put_changed(all, news.as_slice(), cycle) {
+        Ok(()) => {}
+        Err(_) => return Err(NoMemory),
+    }
     commit_all::<G>(row, slots, readers, news, marks, later, cycle);
     Ok(())
 }
@@ -355,10 +358,14 @@ fn row_before<G: Grid>(
     if cycle == 0 {
         return no_news(alloc, count as usize);
     }
-    let cycle = cycle - 1;
+    let before = cycle - 1;
     let mut row = Vec::with_capacity(alloc, count as usize)?;
     for component in 0..count {
-        row.push(states.shared(Cell { cycle, component })?)?;
+        let cell = Cell {
+            cycle: before,
+            component,
+        };
+        row.push(states.shared(cell)?)?;
     }
     Ok(row)
 }

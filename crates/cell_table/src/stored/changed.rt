@@ -78,7 +78,7 @@ pub(super) fn repeat_changed<M: Drop>(
 
 /// Gets all that a cell needs to have what is new, or where nothing is what the cell before has: its words in the draft, and its
 /// memory. No cell has another.
-fn ready_cell<G: Grid>(
+fn ready_state<G: Grid>(
     rows: &Rows,
     memories: &mut Lists<G::Memory>,
     draft: &mut Draft,
@@ -89,7 +89,7 @@ fn ready_cell<G: Grid>(
     requires later { option_map arc_value new.now ≡ None → 0 < cell.cycle }
     requires component { cell.component < length memories.old }
     requires ascending { end_of draft.old ≤ cell.component }
-    ensures told { IsToldNew G.codec (option_map arc_value new.now) }
+    ensures told { OnOk result (IsToldNew G.codec (option_map arc_value new.now)) }
     ensures width { length memories.new ≡ length memories.old }
     ensures same { (c : ℕ) → list_at memories.new c ≡ list_at memories.old c }
     ensures others { (c : ℕ) → (c ≡ cell.component → ⊥) → changes_at memories.new c ≡ changes_at memories.old c }
@@ -110,6 +110,35 @@ fn ready_cell<G: Grid>(
             Ok(None)
         }
     }
+}
+
+/// The same, and what is ready is noted.
+fn ready_cell<G: Grid>(
+    rows: &Rows,
+    memories: &mut Lists<G::Memory>,
+    draft: &mut Draft,
+    buffer: &mut Vec<u64>,
+    ready: &mut Vec<Option<Change<G::Memory>>>,
+    cell: Cell,
+    new: &Option<Arc<G::State>>,
+) -> Result<(), NoMemory>
+    requires later { option_map arc_value new.now ≡ None → 0 < cell.cycle }
+    requires component { cell.component < length memories.old }
+    requires ascending { end_of draft.old ≤ cell.component }
+    requires there { cell.component < length ready.old.items }
+    ensures told { OnOk result (IsToldNew G.codec (option_map arc_value new.now)) }
+    ensures width { length memories.new ≡ length memories.old }
+    ensures same { (c : ℕ) → list_at memories.new c ≡ list_at memories.old c }
+    ensures others { (c : ℕ) → (c ≡ cell.component → ⊥) → changes_at memories.new c ≡ changes_at memories.old c }
+    ensures draft { OnOk result (draft.new ≡ draft.old ++ record { component = cell.component; words = words_new G.codec rows.now.rows cell.cycle cell.component (option_map arc_value new.now) } ∷ []) }
+    ensures len { length ready.new.items ≡ length ready.old.items }
+    ensures other_ready { (c : ℕ) → (c ≡ cell.component → ⊥) → slice_index_or ready.new.items c None ≡ slice_index_or ready.old.items c None }
+    ensures ready { OnOk result (IsReady memories.new cell.component cell.cycle (slice_index_or ready.new.items cell.component None)) }
+    ensures value { OnOk result (value_in memories.new cell.component cell.cycle (slice_index_or ready.new.items cell.component None) ≡ memory_new G.codec memories.old cell.cycle cell.component (option_map arc_value new.now)) }
+{
+    let change = ready_state::<G>(rows, memories, draft, buffer, cell, new)?;
+    ready[cell.component as usize] = change;
+    Ok(())
 }
 
 /// Gets all that the components that change need at a cycle. No cell has another.
@@ -144,11 +173,32 @@ fn ready_all<G: Grid>(
     while let Some(component) = changes.first_from(next) {
         let cell = Cell { cycle, component };
         let new = &news[component as usize];
-        let change = ready_cell::<G>(rows, memories, draft, buffer, cell, new)?;
-        ready[component as usize] = change;
+        ready_cell::<G>(rows, memories, draft, buffer, ready, cell, new)?;
         next = component + 1;
     }
     Ok(())
+}
+
+/// A cell has the memory that is ready for it; all others before cycle `end` have what they had.
+fn put_ready<M: Drop>(
+    memories: &mut Lists<M>,
+    ready: &mut Vec<Option<Change<M>>>,
+    cell: Cell,
+    end: u32,
+)
+    requires within { cell.cycle < end }
+    requires component { cell.component < length memories.old }
+    requires there { cell.component < length ready.old.items }
+    requires ready { IsReady memories.old cell.component cell.cycle (slice_index_or ready.old.items cell.component None) }
+    ensures width { length memories.new ≡ length memories.old }
+    ensures here { memory_at memories.new cell.component cell.cycle ≡ value_in memories.old cell.component cell.cycle (slice_index_or ready.old.items cell.component None) }
+    ensures others { (c : ℕ) → (c ≡ cell.component → ⊥) → changes_at memories.new c ≡ changes_at memories.old c }
+    ensures cycles { (t : ℕ) → t < end → (t ≡ cell.cycle → ⊥) → memory_at memories.new cell.component t ≡ memory_at memories.old cell.component t }
+    ensures len { length ready.new.items ≡ length ready.old.items }
+    ensures other_ready { (c : ℕ) → (c ≡ cell.component → ⊥) → slice_index_or ready.new.items c None ≡ slice_index_or ready.old.items c None }
+{
+    let change = ready[cell.component as usize].take();
+    put_memory(memories, cell, end, change);
 }
 
 /// The components that change have at a cycle the memories that are ready for them; all others before cycle `end` have what they had.
@@ -173,8 +223,7 @@ fn put_memories<M: Drop>(
     let _count = changes.len();
     let mut next = 0;
     while let Some(component) = changes.first_from(next) {
-        let change = ready[component as usize].take();
-        put_memory(memories, Cell { cycle, component }, end, change);
+        put_ready(memories, ready, Cell { cycle, component }, end);
         next = component + 1;
     }
 }
