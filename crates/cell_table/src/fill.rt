@@ -19,7 +19,7 @@ use std::sync::Arc;
 
 /// The state of the component at one place of the list, or `own` where there is none.
 fn last_near<'a, G: Grid>(
-    row: &'a [Option<Arc<G::State>>],
+    row: &'a Vec<Option<Arc<G::State>>>,
     slots: &G::Slots,
     near: &[u32],
     cycle: u32,
@@ -27,9 +27,9 @@ fn last_near<'a, G: Grid>(
     own: &'a G::State,
 ) -> &'a G::State
     requires later { 0 < cycle }
-    requires within { All (λ m. m < length row.now) near.now }
-    requires count { length row.now ≡ G.rules.components slots.now }
-    requires row { IsRowBefore G.rules slots.now cycle (λ c. option_map arc_value (slice_index_or row.now c None)) }
+    requires within { All (λ m. m < length row.now.items) near.now }
+    requires count { length row.now.items ≡ G.rules.components slots.now }
+    requires row { IsRowBefore G.rules slots.now cycle (λ c. option_map arc_value (slice_index_or row.now.items c None)) }
     ensures { result.now ≡ slice_index_or (map (run G.rules slots.now (cycle - 1)) near.now) place own.now }
 {
     let _ = slots;
@@ -44,16 +44,16 @@ fn last_near<'a, G: Grid>(
 
 /// The states of up to five near components, and `own` behind them.
 fn five_last<'a, G: Grid>(
-    row: &'a [Option<Arc<G::State>>],
+    row: &'a Vec<Option<Arc<G::State>>>,
     slots: &G::Slots,
     near: &[u32],
     cycle: u32,
     own: &'a G::State,
 ) -> [&'a G::State; 5]
     requires later { 0 < cycle }
-    requires within { All (λ m. m < length row.now) near.now }
-    requires count { length row.now ≡ G.rules.components slots.now }
-    requires row { IsRowBefore G.rules slots.now cycle (λ c. option_map arc_value (slice_index_or row.now c None)) }
+    requires within { All (λ m. m < length row.now.items) near.now }
+    requires count { length row.now.items ≡ G.rules.components slots.now }
+    requires row { IsRowBefore G.rules slots.now cycle (λ c. option_map arc_value (slice_index_or row.now.items c None)) }
     ensures { (xs : List G.State) → map (run G.rules slots.now (cycle - 1)) near.now ≡ xs
         → map (λ r. r.now) result ≡ slice_index_or xs 0 own.now ∷ slice_index_or xs 1 own.now ∷ slice_index_or xs 2 own.now ∷ slice_index_or xs 3 own.now ∷ slice_index_or xs 4 own.now ∷ [] }
 {
@@ -77,7 +77,7 @@ fn first<'a, 'b, S>(states: &'b [&'a S; 5], count: usize) -> &'b [&'a S]
 /// The step of a component, or none where it stays as it is.
 fn stepped<G: Grid>(
     alloc: Global,
-    row: &[Option<Arc<G::State>>],
+    row: &Vec<Option<Arc<G::State>>>,
     slots: &G::Slots,
     neighbours: &Neighbours,
     cycle: u32,
@@ -86,8 +86,8 @@ fn stepped<G: Grid>(
     requires near { AreNear G.rules slots.now neighbours.now }
     requires component { component < G.rules.components slots.now }
     requires later { 0 < cycle }
-    requires count { length row.now ≡ G.rules.components slots.now }
-    requires row { IsRowBefore G.rules slots.now cycle (λ c. option_map arc_value (slice_index_or row.now c None)) }
+    requires count { length row.now.items ≡ G.rules.components slots.now }
+    requires row { IsRowBefore G.rules slots.now cycle (λ c. option_map arc_value (slice_index_or row.now.items c None)) }
     ensures { IfOk result (λ o. IsComputed G.rules slots.now cycle component (option_map arc_value o)) }
 {
     let near = neighbours.of(component);
@@ -104,7 +104,7 @@ fn stepped<G: Grid>(
 /// The state of a component at a cycle, or none where it stays as it is.
 fn next_of<G: Grid>(
     alloc: Global,
-    row: &[Option<Arc<G::State>>],
+    row: &Vec<Option<Arc<G::State>>>,
     slots: &G::Slots,
     neighbours: &Neighbours,
     cycle: u32,
@@ -112,8 +112,8 @@ fn next_of<G: Grid>(
 ) -> Result<Option<Arc<G::State>>, NoMemory>
     requires near { AreNear G.rules slots.now neighbours.now }
     requires component { component < G.rules.components slots.now }
-    requires count { length row.now ≡ G.rules.components slots.now }
-    requires row { IsRowBefore G.rules slots.now cycle (λ c. option_map arc_value (slice_index_or row.now c None)) }
+    requires count { length row.now.items ≡ G.rules.components slots.now }
+    requires row { IsRowBefore G.rules slots.now cycle (λ c. option_map arc_value (slice_index_or row.now.items c None)) }
     ensures { IfOk result (λ o. IsComputed G.rules slots.now cycle component (option_map arc_value o)) }
 {
     if cycle == 0 {
@@ -136,7 +136,7 @@ pub(crate) fn wake(marks: &mut Row, components: &[u32])
 /// Computes a cycle, where only what is marked may change.
 fn compute_all<G: Grid>(
     alloc: Global,
-    row: &[Option<Arc<G::State>>],
+    row: &Vec<Option<Arc<G::State>>>,
     slots: &G::Slots,
     neighbours: &Neighbours,
     marks: &Row,
@@ -144,11 +144,11 @@ fn compute_all<G: Grid>(
     cycle: u32,
 ) -> Result<(), NoMemory>
     requires near { AreNear G.rules slots.now neighbours.now }
-    requires count { length row.now ≡ G.rules.components slots.now }
+    requires count { length row.now.items ≡ G.rules.components slots.now }
     requires news { length news.old.items ≡ G.rules.components slots.now }
     requires marks { length marks.now ≡ G.rules.components slots.now }
     requires none { (c : ℕ) → option_map arc_value (slice_index_or news.old.items c None) ≡ None }
-    requires row { IsRowBefore G.rules slots.now cycle (λ c. option_map arc_value (slice_index_or row.now c None)) }
+    requires row { IsRowBefore G.rules slots.now cycle (λ c. option_map arc_value (slice_index_or row.now.items c None)) }
     requires others { OthersStay G.rules slots.now cycle marks.now }
     ensures len_news { length news.new.items ≡ length news.old.items }
     ensures computed { OnOk result ((c : ℕ) → c < G.rules.components slots.now → IsComputed G.rules slots.now cycle c (option_map arc_value (slice_index_or news.new.items c None))) }
@@ -286,7 +286,7 @@ fn fill_cycle<G: Grid>(
     ensures err { OnErr result (IsFilled G.rules slots.now cycle states.new) }
 {
     let alloc = states.allocator();
-    compute_all::<G>(alloc, row.as_slice(), slots, neighbours, marks, news, cycle)?;
+    compute_all::<G>(alloc, row, slots, neighbours, marks, news, cycle)?;
     match states.put_changed(all, news.as_slice(), cycle) {
         Ok(()) => {}
         Err(_) => return Err(NoMemory),
