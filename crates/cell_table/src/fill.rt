@@ -24,7 +24,7 @@ fn state_in<S>(row: &Vec<Option<Arc<S>>>, c: u32) -> Option<&S>
     ensures { option_copied result ≡ option_map arc_value (slice_index_or row.now.items c None) }
 {
     match &row[c as usize] {
-        Some(state) => Some(state),
+        Some(state) => Some(&**state),
         None => None,
     }
 }
