@@ -103,14 +103,14 @@ module _ {State Memory : Type 0} (C : Codec State Memory) (words words1 : Words)
 
 -- what is ready for a component is so where its list is the same
 pub ready_along : {X : Type 0} (memories memories1 : List (Changes X)) (c t : ℕ) (change change1 : Option (Change X)) → changes_at memories1 c ≡ changes_at memories c → change1 ≡ change → IsReady memories c t change → IsReady memories1 c t change1
-ready_along memories memories1 c t change change1 e f ready = subst (IsReady memories1 c t) (sym f) (by_change change ready)
+ready_along {X} memories memories1 c t change change1 e f ready = subst (IsReady memories1 c t) (sym f) (by_change change ready)
   where
     by_change : (o : Option (Change X)) → IsReady memories c t o → IsReady memories1 c t o
     by_change None r = tt
     by_change (Some x) r = (r.0 ∙ sym (ap (λ (k : Changes X). standing k.begun t None) e), subst (λ (k : Changes X). 2 ≤ k.room) (sym e) r.1)
 
 pub value_along : {X : Type 0} (memories memories1 : List (Changes X)) (c t : ℕ) (change change1 : Option (Change X)) → changes_at memories1 c ≡ changes_at memories c → change1 ≡ change → value_in memories1 c t change1 ≡ value_in memories c t change
-value_along memories memories1 c t change change1 e f = ap (value_in memories1 c t) f ∙ by_change change
+value_along {X} memories memories1 c t change change1 e f = ap (value_in memories1 c t) f ∙ by_change change
   where
     by_change : (o : Option (Change X)) → value_in memories1 c t o ≡ value_in memories c t o
     by_change None = ap (λ (k : Changes X). standing_before k.begun t) e
