@@ -1,4 +1,5 @@
 pub mod Seen
+pub mod Codes
 pub mod Cells
 pub mod Inputs
 pub mod Consistent

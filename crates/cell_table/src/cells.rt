@@ -15,12 +15,14 @@ ghost use Rattle.cell_table.specs.Filling.{is_awake};
 
 mod looks;
 mod standing;
+mod whole;
+
+pub(crate) use whole::put_due;
 
 use crate::Cell;
 use crate::fill::fill_lines;
 use crate::lines::{
-    are_empty_from, bring_to, cut_ends, extend_changed, grow_ends, lines_of, put_changed,
-    put_state, repeat_state, reserve_changed, reserve_ends, shared_in, state_in, stays_in,
+    are_empty_from, bring_to, cut_ends, extend_changed, grow_ends, lines_of, put_state, repeat_state, reserve_changed, reserve_ends, shared_in, state_in, stays_in,
 };
 use crate::neighbours::Neighbours;
 use crate::readers::Readers;
@@ -491,32 +493,3 @@ pub(crate) fn repeat_cells<G: Grid>(
     Ok(())
 }
 
-/// Puts what is new for each component that changes at a cycle, or where nothing is new the state of the cycle before, and no cell of
-/// that cycle is due then. Where memory is wanting, nothing is changed.
-pub(crate) fn put_cells<G: Grid>(
-    cells: &mut Cells<G>,
-    changes: &Row,
-    news: &mut Vec<Option<Arc<G::State>>>,
-    cycle: u32,
-) -> Result<(), NoMemory>
-    requires later { 0 < cycle }
-    requires within { cycle < length cells.old }
-    requires width { (t : ℕ) → t < length cells.old → length (row_at cells.old t) ≡ length changes.now }
-    requires news { length news.old.items ≡ length changes.now }
-    ensures len { length cells.new ≡ length cells.old }
-    ensures lens { (t : ℕ) → t < length cells.old → length (row_at cells.new t) ≡ length changes.now }
-    ensures len_news { length news.new.items ≡ length news.old.items }
-    ensures put { OnOk result ((c : ℕ) → c < length changes.now → held_at cells.new cycle c
-        ≡ cleared (if is_awake changes.now c then option_or (option_map arc_value (slice_index_or news.old.items c None)) (held_at cells.old (cycle - 1) c).state else (held_at cells.old cycle c).state)) }
-    ensures others { OnOk result ((t c : ℕ) → (t ≡ cycle → ⊥) → held_at cells.new t c ≡ held_at cells.old t c) }
-    ensures versions { (t c : ℕ) → (held_at cells.old t c).is_due ≡ false → (held_at cells.old t c).version ≡ 0 }
-    ensures err { OnErr result (cells.new ≡ cells.old) }
-{
-    match reserve_changed(&mut cells.lines, changes, cycle) {
-        Ok(()) => {}
-        Err(_) => return Err(NoMemory),
-    }
-    put_changed(&mut cells.lines, changes, news, cycle);
-    clear_rows(&mut cells.due, cycle, cycle + 1);
-    Ok(())
-}

@@ -72,6 +72,24 @@ pub(crate) fn mark_cycle<G: Grid>(
     }
 }
 
+/// Marks just the components that read one that changes.
+pub(crate) fn reach_in<G: Grid>(
+    slots: &G::Slots,
+    readers: &Readers,
+    changes: &Row,
+    reached: &mut Row,
+)
+    requires index { IsIndex G.rules slots.now readers.now }
+    requires width { length changes.now ≡ G.rules.components slots.now }
+    requires len { length reached.old ≡ G.rules.components slots.now }
+    ensures len { length reached.new ≡ length reached.old }
+    ensures reached { (c : ℕ) → c < G.rules.components slots.now
+        → is_awake reached.new c ≡ any_changes changes.now (G.rules.near slots.now c) (G.rules.components slots.now) }
+{
+    let _ = slots;
+    readers.gather(changes, reached);
+}
+
 /// As `mark_changed`, by the list of readers of each component.
 fn mark_in_turn<G: Grid>(
     cells: &mut Cells<G>,

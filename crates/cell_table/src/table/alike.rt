@@ -12,7 +12,7 @@ use super::Table;
 use super::filling::has_room;
 use crate::cells::repeat_cells;
 use crate::ranges::ranges_of;
-use crate::rows::{clock_filled, mark_changed};
+use crate::rows::{clock_filled, mark_changed, reach_in};
 use crate::watcher::Watcher;
 use crate::{Cell, CellRange};
 use cell_marks::Row;
@@ -173,7 +173,7 @@ impl<G: Grid> Table<G> {
         ensures reached { (c : ℕ) → c < G.rules.components self.now.slots
             → is_awake reached.new c ≡ any_changes changes.now (G.rules.near self.now.slots c) (G.rules.components self.now.slots) }
     {
-        self.readers.gather(changes, reached);
+        reach_in::<G>(&self.slots, &self.readers, changes, reached);
     }
 
     /// To before which cycle, `end` at most, the components due, or among those, are those due at a cycle.

@@ -14,8 +14,7 @@ ghost use Rattle.cell_table.specs.Cost.{Settles, SettlesTo, SettlesFirst, Settle
 
 use super::Table;
 use super::alike::{Passed, Spare};
-use super::wide::Wide;
-use crate::fill::no_news;
+use super::wide::Along;
 use crate::watcher::{Nobody, Watcher};
 use crate::whole_row::NoRow;
 use crate::{Cell, SettleFault, Settled, StoreFault, WholeRow};
@@ -287,20 +286,18 @@ impl<G: Grid> Table<G> {
         from: Cell,
         end: u32,
         spare: &mut Spare,
-        wide: &mut Wide<G::State, M>,
+        along: &mut Option<Along<M>>,
         watcher: &mut W,
     ) -> Result<Option<Passed>, StoreFault>
         requires within { end ≤ self.old.horizon + 1 }
         requires none { NoneDueBefore G.rules self.old from.cycle from.component }
         requires changes { length spare.old.changes ≡ G.rules.components self.old.slots }
         requires reached { length spare.old.reached ≡ G.rules.components self.old.slots }
-        requires news { length wide.old.news.items ≡ G.rules.components self.old.slots }
-        requires along { IfSome wide.old.along (λ a. HoldsRow G.rules M.stands M.holds self.old.slots a.row a.cycle) }
+        requires along { IfSome along.old (λ a. HoldsRow G.rules M.stands M.state self.old.slots a.row a.cycle) }
         requires watched { W.keeps watcher.old self.old }
         ensures changes { length spare.new.changes ≡ length spare.old.changes }
         ensures reached { length spare.new.reached ≡ length spare.old.reached }
-        ensures news { length wide.new.news.items ≡ length wide.old.news.items }
-        ensures along { IfSome wide.new.along (λ a. HoldsRow G.rules M.stands M.holds self.new.slots a.row a.cycle) }
+        ensures along { IfSome along.new (λ a. HoldsRow G.rules M.stands M.state self.new.slots a.row a.cycle) }
         ensures watched { W.keeps watcher.new self.new }
         ensures none { IfOk result (λ o. IfNone o (NoneDueBefore G.rules self.old end 0 × HoldsRunBefore G.rules self.old end 0 × (self.new ≡ self.old))) }
         ensures on { IfOk result (λ o. IfSome o (λ p. (first : Seen G.State G.Slots) (n : ℕ) → IsAt G.rules first self.old from.cycle from.component n → IsAt G.rules first self.new p.to.cycle p.to.component (n + p.computed))) }
@@ -309,7 +306,7 @@ impl<G: Grid> Table<G> {
         ensures err { OnErr result (self.new ≡ self.old) }
         ensures spent { result ≡ Err StoreFault.ClockSpent → IsSpentBefore G.rules end self.old from.cycle from.component }
     {
-        match self.settle_at_once(from, end, spare, wide, watcher) {
+        match self.settle_at_once(from, end, spare, along, watcher) {
             Some(passed) => return Ok(Some(passed)),
             None => {}
         }
@@ -354,13 +351,9 @@ impl<G: Grid> Table<G> {
             Ok(spare) => spare,
             Err(_) => return Err(SettleFault::Memory { computed }),
         };
-        let news = match no_news(self.cells.allocator(), count as usize) {
-            Ok(news) => news,
-            Err(_) => return Err(SettleFault::Memory { computed }),
-        };
-        let mut wide: Wide<G::State, M> = Wide { along: None, news };
+        let mut along: Option<Along<M>> = None;
         loop {
-            match self.settle_more(from, end, &mut spare, &mut wide, watcher) {
+            match self.settle_more(from, end, &mut spare, &mut along, watcher) {
                 Ok(Some(passed)) => {
                     computed += passed.computed;
                     from = passed.to;
