@@ -60,6 +60,7 @@
 //! `arrayvec` for lists of near components, and on `smallvec` for short lists of versions.
 #![tactic(auto)]
 
+mod along;
 mod cell;
 mod cells;
 mod claim;

@@ -45,7 +45,7 @@ pub(crate) fn put_due<G: Grid, M: WholeRow<G>>(
     requires width { length changes.old ≡ G.rules.components slots.now }
     requires before { (c : ℕ) → c < G.rules.components slots.now → (held_at cells.old (cycle - 1) c).state ≡ Some (run G.rules slots.now (cycle - 1) c) }
     requires row { HoldsRow G.rules M.stands M.state slots.now row.now cycle }
-    requires known { IsKnown G.rules G.codec (λ c. M.is_still step.now slots.now c) (λ c. M.has_written step.now slots.now c) slots.now cycle }
+    requires known { IsKnown G.rules G.codec (M.is_still step.now slots.now) (M.has_written step.now slots.now) slots.now cycle }
     ensures len { length cells.new ≡ length cells.old }
     ensures lens { (t : ℕ) → t < length cells.old → length (row_at cells.new t) ≡ G.rules.components slots.now }
     ensures width { length changes.new ≡ length changes.old }

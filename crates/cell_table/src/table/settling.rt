@@ -14,7 +14,7 @@ ghost use Rattle.cell_table.specs.Cost.{Settles, SettlesTo, SettlesFirst, Settle
 
 use super::Table;
 use super::alike::{Passed, Spare};
-use super::wide::Along;
+use crate::along::Along;
 use crate::watcher::{Nobody, Watcher};
 use crate::whole_row::NoRow;
 use crate::{Cell, SettleFault, Settled, StoreFault, WholeRow};

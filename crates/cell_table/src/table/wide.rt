@@ -1,15 +1,15 @@
 //! Settling a cycle at once where many of its cells are due, by a row of all components.
-ghost use Rattle.std.specs.Prelude.{◌≡◌, ℕ, ◌+◌, ◌-◌, ◌<◌, ◌≤◌, IfNone, IfSome, MatchOption, true, length};
-ghost use Rattle.grid_law.specs.Run.{run};
+ghost use Rattle.std.specs.Prelude.{◌≡◌, ℕ, ◌+◌, ◌≤◌, IfNone, IfSome, length};
 ghost use Rattle.cell_table.specs.Seen.{Seen};
-ghost use Rattle.cell_table.specs.Cells.{IsThere, AtOrAfter};
+ghost use Rattle.cell_table.specs.Cells.{AtOrAfter};
 ghost use Rattle.cell_table.specs.Settling.{NoneDueBefore, IsAt, IsFurther};
 ghost use Rattle.cell_table.specs.Passing.{HoldsBut};
-ghost use Rattle.cell_table.specs.WholeRows.{HoldsRow, IsKnown};
+ghost use Rattle.cell_table.specs.WholeRows.{HoldsRow};
 
 use super::Table;
 use super::alike::{Passed, Spare};
 use super::filling::has_room;
+use crate::along::{Along, go_along};
 use crate::cells::put_due;
 use crate::ranges::{make_room, ranges_in};
 use crate::rows::{mark_changed, reach_in};
@@ -23,13 +23,6 @@ const WIDE: u32 = 72;
 
 /// The same where the row holds the cycle before already.
 const STILL_WIDE: u32 = 16;
-
-/// A row, and the cycle whose states it holds.
-#[derive(Drop)]
-pub(super) struct Along<M> {
-    pub row: M,
-    pub cycle: u32,
-}
 
 /// How many cells of a cycle are due at least where a row settles it.
 fn least_due<M>(along: &Option<Along<M>>, cycle: u32) -> u32 {
@@ -46,119 +39,6 @@ fn least_due<M>(along: &Option<Along<M>>, cycle: u32) -> u32 {
 }
 
 impl<G: Grid> Table<G> {
-    /// Puts the state of a cell into a row, by its words and its memory: whether the row holds it then.
-    fn load_one<M: WholeRow<G>>(&self, row: &mut M, cell: Cell) -> bool
-        requires there { IsThere G.rules self.now cell.cycle cell.component }
-        requires none { NoneDueBefore G.rules self.now (cell.cycle + 1) 0 }
-        requires stands { M.stands row.old self.now.slots }
-        ensures stands { M.stands row.new self.now.slots }
-        ensures loaded { result ≡ true → M.state row.new cell.component ≡ run G.rules self.now.slots cell.cycle cell.component }
-        ensures others { (d : ℕ) → d < G.rules.components self.now.slots → (d ≡ cell.component → ⊥) → M.state row.new d ≡ M.state row.old d }
-    {
-        let component = cell.component;
-        if !row.load(&self.slots, component, self.cells.words(cell)) {
-            return false;
-        }
-        match self.cells.memory(cell) {
-            Some(memory) => {
-                let alloc = self.cells.allocator();
-                if !row.load_memory(alloc, &self.slots, component, memory) {
-                    return false;
-                }
-                row.is_told(&self.slots, component);
-                true
-            }
-            None => {
-                row.is_told(&self.slots, component);
-                true
-            }
-        }
-    }
-
-    /// The row, with the states of a cycle; none where it can't hold one of them, or a growth was refused.
-    fn loaded<M: WholeRow<G>>(&self, row: M, cycle: u32) -> Option<M>
-        requires there { cycle ≤ self.now.horizon }
-        requires none { NoneDueBefore G.rules self.now (cycle + 1) 0 }
-        requires stands { M.stands row self.now.slots }
-        ensures { IfSome result (λ row. HoldsRow G.rules M.stands M.state self.now.slots row cycle) }
-    {
-        let count = G::components(&self.slots);
-        let mut row = row;
-        for component in 0..count {
-            if !self.load_one(&mut row, Cell { cycle, component }) {
-                return None;
-            }
-        }
-        Some(row)
-    }
-
-    /// Brings a row to a cycle: whether there is one there then.
-    fn bring<M: WholeRow<G>>(&self, along: &mut Option<Along<M>>, cycle: u32) -> bool
-        requires there { cycle ≤ self.now.horizon }
-        requires none { NoneDueBefore G.rules self.now (cycle + 1) 0 }
-        requires along { IfSome along.old (λ a. HoldsRow G.rules M.stands M.state self.now.slots a.row a.cycle) }
-        ensures along { IfSome along.new (λ a. HoldsRow G.rules M.stands M.state self.now.slots a.row a.cycle) }
-        ensures there { result ≡ true → MatchOption along.new ⊥ (λ a. a.cycle ≡ cycle) }
-    {
-        match along {
-            Some(a) => {
-                if a.cycle == cycle {
-                    return true;
-                }
-            }
-            None => {}
-        }
-        let row = match along.take() {
-            Some(a) => a.row,
-            None => match M::new(self.cells.allocator(), &self.slots) {
-                Some(row) => row,
-                None => return false,
-            },
-        };
-        match self.loaded(row, cycle) {
-            Some(row) => {
-                *along = Some(Along { row, cycle });
-                true
-            }
-            None => false,
-        }
-    }
-
-    /// The row goes on to a cycle from the one before, to which it is brought; none where it can't, and then it is let go.
-    fn go_along<M: WholeRow<G>>(&self, along: &mut Option<Along<M>>, cycle: u32) -> Option<M::Step>
-        requires later { 0 < cycle }
-        requires there { cycle ≤ self.now.horizon }
-        requires none { NoneDueBefore G.rules self.now cycle 0 }
-        requires along { IfSome along.old (λ a. HoldsRow G.rules M.stands M.state self.now.slots a.row a.cycle) }
-        ensures along { IfSome along.new (λ a. HoldsRow G.rules M.stands M.state self.now.slots a.row a.cycle) }
-        ensures there { IfSome result (λ step. MatchOption along.new ⊥ (λ a. a.cycle ≡ cycle)) }
-        ensures known { IfSome result (λ step. IsKnown G.rules G.codec (λ c. M.is_still step self.now.slots c) (λ c. M.has_written step self.now.slots c) self.now.slots cycle) }
-    {
-        if !self.bring(along, cycle - 1) {
-            return None;
-        }
-        let step = match along {
-            Some(a) => self.step_on(&mut a.row, &mut a.cycle, cycle),
-            None => None,
-        };
-        if step.is_none() {
-            *along = None;
-        }
-        step
-    }
-
-    /// The row goes on to a cycle from the one before.
-    fn step_on<M: WholeRow<G>>(&self, row: &mut M, at: &mut u32, cycle: u32) -> Option<M::Step>
-        requires later { 0 < cycle }
-        requires row { HoldsRow G.rules M.stands M.state self.now.slots row.old (cycle - 1) }
-        ensures row { IfSome result (λ step. HoldsRow G.rules M.stands M.state self.now.slots row.new at.new) }
-        ensures at { at.new ≡ cycle }
-        ensures known { IfSome result (λ step. IsKnown G.rules G.codec (λ c. M.is_still step self.now.slots c) (λ c. M.has_written step self.now.slots c) self.now.slots cycle) }
-    {
-        *at = cycle;
-        row.step(&self.slots)
-    }
-
     /// Settles the cells of a cycle before which no cell is due, at once, where many of them are: how many were computed. Only cells of
     /// the ranges may hold other states then.
     fn settle_row<M: WholeRow<G>>(
@@ -190,7 +70,7 @@ impl<G: Grid> Table<G> {
             Ok(()) => {}
             Err(_) => return None,
         }
-        let step = match self.go_along(along, cycle) {
+        let step = match go_along::<G, M>(&self.cells, &self.slots, along, cycle) {
             Some(step) => step,
             None => return None,
         };
