@@ -19,5 +19,5 @@ returns-in-None-clause-loaded g c = λ _.
     let x = run g.G.Grid.rules c.args.slots.now c.args.cell.cycle d in
     let held = c.words.ensures x c.requires.held in
     let first = c.load.ensures.loaded c.if-not-load.false x held.0 held.1 in
-    told_alone g.G.Grid.codec g.met.G.Grid.codec_laws x (g.M.WholeRow.state c.load.new.self d) held.0 c.is_told-in-None.ensures
+    told_alone g.G.Grid.codec g.G.Grid.codec_laws x (g.M.WholeRow.state c.load.new.self d) held.0 c.is_told-in-None.ensures
     (first.words_are ∙ sym held.1) (c.in-None.ensures x c.requires.held)

@@ -28,7 +28,7 @@ go_along-requires-clause-before g c =
     let n = R.components i.slots in
     let there : s ≤ i.horizon = rw (← c.self.view_is) at c.requires.there in
     let none : NoneDueBefore R v s 0 = rw (← c.self.view_is) at c.requires.none in
-    holds_before R g.G.Grid.laws v table s none there (omega (arith, c.if-cycle.false))
+    holds_before R g.G.Grid.laws v table s none there (omega (arith, c.if-cycle-eq0.false))
 
 pub put_due-requires-clause-before : goal.put_due-requires-clause-before
 put_due-requires-clause-before g c =
@@ -40,14 +40,14 @@ put_due-requires-clause-before g c =
     let n = R.components i.slots in
     let there : s ≤ i.horizon = rw (← c.self.view_is) at c.requires.there in
     let none : NoneDueBefore R v s 0 = rw (← c.self.view_is) at c.requires.none in
-    holds_before R g.G.Grid.laws v table s none there (omega (arith, c.if-cycle.false))
+    holds_before R g.G.Grid.laws v table s none there (omega (arith, c.if-cycle-eq0.false))
 
 pub put_due-requires-clause-row : goal.put_due-requires-clause-row
 put_due-requires-clause-row g c =
     let R = g.G.Grid.rules in
     let W = g.M.WholeRow in
-    row_there (λ a. HoldsRow R W.stands W.state c.self.inside.slots a.row a.cycle) (λ a. a.cycle ≡ c.args.cycle) (λ t. HoldsRow R W.stands W.state c.self.inside.slots c.in-Some-go_along-Some.a.row t)
-    c.go_along.new.along c.in-Some.a c.in-Some.a.cycle c.args.cycle c.in-Some.is c.go_along.ensures.along c.go_along.ensures.there (λ h. h) (λ h. h)
+    row_there (λ a. HoldsRow R W.stands W.state c.self.inside.slots a.row a.cycle) (λ a. a.cycle ≡ c.args.cycle) (λ t. HoldsRow R W.stands W.state c.self.inside.slots c.in-Some-along.a.row t)
+    c.go_along.new.along c.in-Some-along.a c.in-Some-along.a.cycle c.args.cycle c.in-Some-along.is c.go_along.ensures.along c.in-Some.ensures.there (λ h. h) (λ h. h)
 
 pub invariant_of-self-2 : goal.invariant_of-self-2
 invariant_of-self-2 g c =
@@ -71,7 +71,7 @@ invariant_of-self-2 g c =
     let cycles = table.whole.cycles in
     let p = c.put_due.ensures in
     let m = c.mark_changed.ensures in
-    let row_put : IsRowPut R i.slots i.cells rows1 s changes = c.in-Ok-put_due.ensures in
+    let row_put : IsRowPut R i.slots i.cells rows1 s changes = c.in-Ok-put_due.ensures.put in
     let whole : IsWhole R i.slots i.horizon rows2 = record {
       cycles = m.len ∙ p.len ∙ cycles;
       components = λ t h. m.lens t ∙ p.lens t (omega (arith, h, cycles));
@@ -108,7 +108,7 @@ returns-clause-on g c =
     let cycles = table.whole.cycles in
     let p = c.put_due.ensures in
     let m = c.mark_changed.ensures in
-    let row_put : IsRowPut R i.slots i.cells rows1 s changes = c.in-Ok-put_due.ensures in
+    let row_put : IsRowPut R i.slots i.cells rows1 s changes = c.in-Ok-put_due.ensures.put in
     let whole : IsWhole R i.slots i.horizon rows2 = record {
       cycles = m.len ∙ p.len ∙ cycles;
       components = λ t h. m.lens t ∙ p.lens t (omega (arith, h, cycles));
@@ -140,7 +140,7 @@ returns-clause-but g c =
     let cycles = table.whole.cycles in
     let p = c.put_due.ensures in
     let m = c.mark_changed.ensures in
-    let row_put : IsRowPut R i.slots i.cells rows1 s changes = c.in-Ok-put_due.ensures in
+    let row_put : IsRowPut R i.slots i.cells rows1 s changes = c.in-Ok-put_due.ensures.put in
     let whole : IsWhole R i.slots i.horizon rows2 = record {
       cycles = m.len ∙ p.len ∙ cycles;
       components = λ t h. m.lens t ∙ p.lens t (omega (arith, h, cycles));
