@@ -1,5 +1,5 @@
 //! All components of a grid at one cycle, stepped together.
-ghost use Rattle.std.specs.Prelude.{◌≡◌, ℕ, ◌<◌, ◌++◌, ◌↔◌, IsTrue, IfSome, IfOk, OnOk, OnErr, map, slice_index_or, true, false, Some};
+ghost use Rattle.std.specs.Prelude.{◌≡◌, ℕ, ◌<◌, ◌++◌, ◌↔◌, IsTrue, IfSome, IfOk, OnOk, OnErr, map, option_map, slice_index_or, true, false, Some};
 ghost use Rattle.grid_law.specs.Codec.{IsTold};
 ghost use Rattle.cell_table.specs.Codes.{IsCodeOf};
 
@@ -100,11 +100,11 @@ pub trait WholeRow<G: Grid>: Drop {
         requires component { c < G.rules.components s.now }
         ensures { result ≡ slice_index_or (G.codec.words (state self.now c)) 0 0 };
 
-    /// Whether it has this memory for a component.
-    fn has_memory(&self, s: &G::Slots, c: u32, memory: &G::Memory) -> bool
+    /// Whether it has this memory for a component, or none as this.
+    fn has_memory(&self, s: &G::Slots, c: u32, memory: Option<&G::Memory>) -> bool
         requires stands { stands self.now s.now }
         requires component { c < G.rules.components s.now }
-        ensures { IsTrue result ↔ (G.codec.memory (state self.now c) ≡ Some memory.now) };
+        ensures { IsTrue result ↔ (G.codec.memory (state self.now c) ≡ option_map (λ held. held.now) memory.entry) };
 
     /// The memory that it has for a component, where that has any.
     ///
@@ -196,7 +196,7 @@ impl<G: Grid> WholeRow<G> for NoRow {
         0
     }
 
-    fn has_memory(&self, s: &G::Slots, c: u32, memory: &G::Memory) -> bool {
+    fn has_memory(&self, s: &G::Slots, c: u32, memory: Option<&G::Memory>) -> bool {
         let _ = s;
         let _ = c;
         let _ = memory;

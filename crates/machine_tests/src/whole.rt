@@ -58,17 +58,10 @@ fn holds(
         row.words(project, c, &mut words)?;
         let memory = row.memory(alloc, project, c)?;
         if !Rp3::is_code(state, words.as_slice(), memory.as_ref())
+            || !row.has_memory(project, c, memory.as_ref())
             || words.first().copied() != Some(row.first_word(project, c))
         {
             return Ok(false);
-        }
-        match &memory {
-            Some(memory) => {
-                if !row.has_memory(project, c, memory) {
-                    return Ok(false);
-                }
-            }
-            None => {}
         }
     }
     Ok(true)

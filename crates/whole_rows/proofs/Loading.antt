@@ -51,21 +51,12 @@ loaded_at R N x ws s can words is = record {
   memory_is = ap memory_in is ∙ same_memory R x s can;
 }
 
--- and of a module the memory is another one, and the words are those that were there
-given_at : (R N : Arrays) (m : ℕ) (memory : List Stored) → state_of N (Some (ModuleAt m)) ≡ with_memory memory (state_of R (Some (ModuleAt m)))
-    → IsCodeOf rp3_codec (words_of (state_of R (Some (ModuleAt m)))) (Some memory) (state_of N (Some (ModuleAt m)))
-given_at R N m memory is = record { words_are = ap words_of is; memory_is = ap memory_in is }
-
-module _ (P : Project) (R N : Arrays) (x : Component) (c : ℕ) (of : IsRowOf P R) (size : N.k ≡ P.k) (is : component_of P.k c ≡ Some x) where
-  old : state_in R c ≡ state_of R (Some x)
-  old = state_is P R of.size c x is
-
-  new : state_in N c ≡ state_of N (Some x)
-  new = state_is P N size c x is
-
-  pub loads : (ws : List ℕ) (s : MachineState) → CanHold x s → words_of s ≡ ws → state_of N (Some x) ≡ with_memory (memory_of (state_of R (Some x))) s
+module _ (P : Project) (R N : Arrays) (x : Component) (c : ℕ) (of : IsRowOf P R) (size : N.k ≡ P.k) where
+  pub loads : component_of P.k c ≡ Some x → (ws : List ℕ) (s : MachineState) → CanHold x s → words_of s ≡ ws → state_of N (Some x) ≡ with_memory (memory_of (state_of R (Some x))) s
       → IsCodeOf rp3_codec ws (memory_in (state_in R c)) (state_in N c)
-  loads ws s can words loaded = rw (old, new) (loaded_at R N x ws s can words loaded)
+  loads is ws s can words loaded =
+      subst (λ (y : MachineState). IsCodeOf rp3_codec ws (memory_in (state_in R c)) y) (sym (state_is P N size c x is))
+      (subst (λ (y : MachineState). IsCodeOf rp3_codec ws (memory_in y) (state_of N (Some x))) (sym (state_is P R of.size c x is)) (loaded_at R N x ws s can words loaded))
 
   -- what other cells hold they still hold
   pub others_hold : number_of P.k x ≡ c → ((y : Component) → Exists R.k y → (y ≡ x → ⊥) → state_of N (Some y) ≡ state_of R (Some y)) → (d : ℕ) → d < components P.k → (d ≡ c → ⊥) → state_in N d ≡ state_in R d
@@ -74,10 +65,6 @@ module _ (P : Project) (R N : Arrays) (x : Component) (c : ℕ) (of : IsRowOf P 
       state_is P N size d has.0 has.1.is
       ∙ others has.0 (subst (λ k. Exists k has.0) (sym of.size) has.1.there) (λ e. ne (sym has.1.number ∙ ap (number_of P.k) e ∙ number))
       ∙ sym (state_is P R of.size d has.0 has.1.is)
-
-pub gives : (P : Project) (R N : Arrays) (m c : ℕ) (memory : List Stored) → IsRowOf P R → N.k ≡ P.k → component_of P.k c ≡ Some (ModuleAt m) → state_of N (Some (ModuleAt m)) ≡ with_memory memory (state_of R (Some (ModuleAt m)))
-    → IsCodeOf rp3_codec (words_of (state_in R c)) (Some memory) (state_in N c)
-gives P R N m c memory of size is given = rw (state_is P R of.size c (ModuleAt m) is, state_is P N size c (ModuleAt m) is) (given_at R N m memory given)
 
 -- the same states under another project of as many processors
 pub follows : (R N : Arrays) → N.k ≡ R.k → ((y : Component) → state_of N (Some y) ≡ state_of R (Some y)) → (c : ℕ) → state_in N c ≡ state_in R c

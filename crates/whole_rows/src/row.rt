@@ -1,5 +1,5 @@
 //! The machine's row beside the cells of a table.
-ghost use Rattle.std.specs.Prelude.{◌≡◌, ◌<◌, ◌↔◌, IsTrue, IfOk, List, Some, Option};
+ghost use Rattle.std.specs.Prelude.{◌≡◌, ◌<◌, ◌↔◌, IsTrue, IfOk, Some, option_map, true};
 ghost use Rattle.omega_net.specs.declared.component.Component.TheVariants.{Module as ModuleAt};
 ghost use Rattle.omega_net.specs.Numbers.{components, component_of, number_of, lines, Exists};
 ghost use Rattle.machine_cells.specs.Codec.{memory_in};
@@ -107,7 +107,7 @@ impl WholeRow<Rp3> for MachineRow {
         self.row.first_word(component_at(s.shape(), c))
     }
 
-    fn has_memory(&self, s: &Project, c: u32, memory: &SharedWords) -> bool {
+    fn has_memory(&self, s: &Project, c: u32, memory: Option<&SharedWords>) -> bool {
         is_memory(&self.row, component_at(s.shape(), c), memory)
     }
 
@@ -144,14 +144,15 @@ fn wrote(step: &Changed, shape: Shape, component: Component) -> bool
     }
 }
 
-/// Whether this is a component's memory.
-fn is_memory(row: &Row, component: Component, memory: &SharedWords) -> bool
+/// Whether this is a component's memory; where it is no module, it has none.
+fn is_memory(row: &Row, component: Component, memory: Option<&SharedWords>) -> bool
     requires { Exists row.now.k component }
-    ensures { IsTrue result ↔ (memory_in (state_of row.now (Some component)) ≡ Some memory.now) }
+    ensures { IsTrue result ↔ (memory_in (state_of row.now (Some component)) ≡ option_map (λ held. held.now) memory.entry) }
 {
-    match component {
-        Component::Module(m) => row.has_memory(u32::from(m), memory.as_slice()),
-        Component::Proc(_) | Component::Switch { .. } => false,
+    match (component, memory) {
+        (Component::Module(m), Some(memory)) => row.has_memory(u32::from(m), memory.as_slice()),
+        (Component::Module(_), None) => false,
+        (Component::Proc(_) | Component::Switch { .. }, memory) => memory.is_none(),
     }
 }
 

@@ -1,5 +1,5 @@
 //! The words of a state, before a row takes them.
-ghost use Rattle.std.specs.Prelude.{◌≡◌, ◌<◌, ◌^◌, All, true};
+ghost use Rattle.std.specs.Prelude.{◌≡◌, ◌<◌, ◌%◌, ◌^◌, All, slice_index, true};
 ghost use Rattle.grid_law.specs.Codec.{IsTold};
 ghost use Rattle.machine_cells.specs.declared.state.MachineState.{MachineState as State};
 ghost use Rattle.machine_cells.specs.Codec.{rp3_codec};
@@ -14,15 +14,22 @@ use omega_net::{Component, Net};
 pub(crate) fn can_hold(component: Component, words: &[u64]) -> bool
     ensures { result ≡ true → (x : State) → IsTold rp3_codec x → words_of x ≡ words.now → CanHold component x }
 {
-    let head = match words.first() {
-        Some(head) => *head,
-        None => return false,
-    };
+    let head = head_in(words);
     match component {
         Component::Proc(_) => head % 4 == 0,
         Component::Module(_) => head % 4 == 1,
         Component::Switch { net: Net::Low, .. } => head % 4 == 2 && are_low_turns(head),
         Component::Switch { net: Net::Comb, .. } => head % 4 == 3 && are_comb_turns(head),
+    }
+}
+
+/// The first word, 0 where there is none.
+fn head_in(words: &[u64]) -> u64
+    ensures { result ≡ slice_index words.now 0 }
+{
+    match words {
+        [head, ..] => *head,
+        [] => 0,
     }
 }
 
@@ -48,7 +55,6 @@ fn byte(word: u64) -> u64
 }
 
 /// Words of 64 bits that tell a state tell one of the machine's types. Nothing is done when it runs.
-#[tactic(auto, using(crate::proofs::Fitting::told_fits))]
 pub(crate) fn are_of_a_state(words: &[u64])
     ensures { (x : State) → IsTold rp3_codec x → words_of x ≡ words.now → IsState x }
 {
