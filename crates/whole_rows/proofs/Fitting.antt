@@ -1,18 +1,14 @@
 -- Words of 64 bits are states of the machine's types, whatever they are.
-use Rattle.std.proofs.Common.{◌≡◌, ℕ, zero, suc, ◌+◌, ◌*◌, ◌/◌, ◌%◌, ◌^◌, ◌<◌, ◌≤◌, ◌==◌, if◌then◌else◌, Bool, true, false, cond, nat_eq, eqb, min, List, [], ◌∷◌, length, drop, slice_index, All, refl, sym, ap, subst, ◌∙◌, Option, None, Some, arith, ◌⊎◌, inl, inr}
-use Rattle.std.proofs.lemmas.Bool.{cases_lt, eqb-true}
+use Rattle.std.proofs.Common.{◌≡◌, ℕ, zero, suc, ◌*◌, ◌/◌, ◌%◌, ◌^◌, ◌<◌, ◌≤◌, ◌==◌, if◌then◌else◌, Bool, true, false, cond, nat_eq, List, [], ◌∷◌, length, drop, slice_index, All, refl, sym, ap, subst, ◌∙◌, arith, ◌⊎◌, inl, inr}
+use Rattle.std.proofs.lemmas.Bool.{cases_lt}
 use Rattle.std.proofs.lemmas.List.{get_or_past}
 use Rattle.std.proofs.lemmas.List.Elements.{All-nil, All-cons, All-drop, All-get_or}
-use Rattle.arrayvec.specs.ArrayVec.{ArrayVec}
-use Rattle.omega_net.specs.declared.component.Component.{Component}
 use Rattle.omega_net.specs.declared.component.Component.TheVariants.{Proc as ProcAt, Module as ModuleAt, Switch}
 use Rattle.omega_net.specs.declared.component.Net.TheVariants.{Low as LowNet, Comb as CombNet}
-use Rattle.omega_net.specs.declared.message.Request.{Request}
-use Rattle.omega_net.specs.declared.message.Reply.{Reply}
 use Rattle.omega_net.specs.Limits.{queue_places}
 use Rattle.mem_module.specs.declared.words.Stored.{Stored}
 use Rattle.grid_law.specs.Codec.{IsTold}
-use Rattle.state_words.specs.Fits.{IsTag, IsRequest, IsOutgoing, IsReply, IsWaiting, IsQueue, AreQueues, AreTurns, IfThere, IsProc, IsModule, IsLow, IsComb}
+use Rattle.state_words.specs.Fits.{IsRequest, IsOutgoing, IsReply, IsWaiting, IsQueue, AreQueues, AreTurns, IfThere, IsProc, IsModule, IsLow, IsComb}
 use Rattle.state_words.specs.Messages.{request_from, out_from, reply_from, wait_from}
 use Rattle.state_words.specs.Reading.{messages_from, queue_from, queues_from, option_from, after_option, after, after_requests, after_replies, count_in, mark_in, proc_from, module_from, low_from, comb_from}
 use Rattle.machine_cells.specs.declared.state.MachineState.{MachineState}

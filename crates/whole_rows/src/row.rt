@@ -111,12 +111,7 @@ impl WholeRow<Rp3> for MachineRow {
         is_memory(&self.row, component_at(s.shape(), c), memory)
     }
 
-    fn memory(
-        &self,
-        alloc: Global,
-        s: &Project,
-        c: u32,
-    ) -> Result<Option<SharedWords>, NoMemory> {
+    fn memory(&self, alloc: Global, s: &Project, c: u32) -> Result<Option<SharedWords>, NoMemory> {
         memory_at(&self.row, alloc, component_at(s.shape(), c))
     }
 }

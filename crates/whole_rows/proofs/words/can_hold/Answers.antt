@@ -1,9 +1,9 @@
-use Rattle.std.proofs.Common.{◌≡◌, ◌%◌, ◌^◌, sym, subst, arith}
+use Rattle.std.proofs.Common.{◌≡◌, sym, subst, arith}
 use Rattle.omega_net.specs.declared.component.Component.{Component}
 use Rattle.omega_net.specs.declared.component.Component.TheVariants.{Switch}
 use Rattle.omega_net.specs.declared.component.Net.TheVariants.{Low as LowNet, Comb as CombNet}
 use Rattle.flat_row.specs.Loading.{CanHold}
-use Rattle.whole_rows.proofs.Fitting.{holds_proc, holds_module, holds_low, holds_comb}
+use Rattle.whole_rows.proofs.Fitting.{holds_low, holds_comb}
 use Rattle.whole_rows.proofs.words.can_hold.Goals as goal
 
 pub returns-then-head-eq2 : goal.returns-then-head-eq2
