@@ -2,11 +2,9 @@
 use Rattle.std.proofs.Common.{◌≡◌, ℕ, ◌-◌, ◌<◌, ◌≤◌, ◌∙◌, ◌⊎◌, inl, inr, sym, ap, arith, Bool, true, false, cond, Option, None, Some, List, length, replicate, get_or, refl}
 use Rattle.std.proofs.lemmas.Bool.{cases_lt}
 use Rattle.std.proofs.lemmas.List.{get_or-replicate, length-replicate}
-use Rattle.state_line.specs.Lined.{Lined, GoesOn}
 use Rattle.cell_marks.specs.Marked.{Marked, row_at as marks_at, has as has_mark}
 use Rattle.cell_table.specs.Seen.{Held, stored, held_at}
-use Rattle.cell_table.specs.Layout.{version_at, line_at, state_at, kept, kept_at, rows_of, cleared, IsLayout, IsBounded, IsSameStates}
-use Rattle.cell_table.specs.Filling.{is_awake}
+use Rattle.cell_table.specs.Layout.{version_at, kept, kept_at, rows_of, cleared, IsLayout, IsBounded}
 use Rattle.cell_table.proofs.Keeping.{seen, held_kept, bounded_along}
 
 -- the rows that were cleared are as long as before
@@ -49,37 +47,3 @@ module _ {State : Type 0} (states states1 : ℕ → ℕ → Option State) (due d
   -- a cell that was filled
   pub passed_cell : (t c : ℕ) (x : State) → c < due.width → marks_at due1.rows t ≡ replicate due.width false → states1 t c ≡ Some x → held_at (rows_of states1 due1 versions) t c ≡ stored x
   passed_cell t c x h m s = cleared_cell t c (Some x) h m s
-
--- lines that go on from a cycle to before another where they are marked
-module _ {State : Type 0} (lines lines1 lines2 : List (Lined State)) (changes : List Bool) (from to : ℕ) (same : IsSameStates lines lines1) (place : (c : ℕ) → is_awake changes c ≡ true → (line_at lines1 c).place ≡ from) (extended : (c : ℕ) → is_awake changes c ≡ true → GoesOn (line_at lines1 c) (line_at lines2 c) × ((line_at lines2 c).place ≡ to)) (others : (c : ℕ) → is_awake changes c ≡ false → line_at lines2 c ≡ line_at lines1 c) where
-  same_at : (t c : ℕ) → state_at lines1 t c ≡ state_at lines t c
-  same_at t c = ap (λ xs. get_or xs t None) (same.same c)
-
-  other_at : (t c : ℕ) → is_awake changes c ≡ false → state_at lines2 t c ≡ state_at lines t c
-  other_at t c e = ap (λ (l : Lined State). get_or l.states t None) (others c e) ∙ same_at t c
-
-  pub earlier_state : (t c : ℕ) → t < from → state_at lines2 t c ≡ state_at lines t c
-  earlier_state t c h = by_change (is_awake changes c) refl
-    where
-      by_change : (b : Bool) → is_awake changes c ≡ b → state_at lines2 t c ≡ state_at lines t c
-      by_change true e = (extended c e).0.before t (omega (arith, place c e, h)) ∙ same_at t c
-      by_change false e = other_at t c e
-
-  pub later_state : (t c : ℕ) → to ≤ t → state_at lines2 t c ≡ state_at lines t c
-  later_state t c h = by_change (is_awake changes c) refl
-    where
-      by_change : (b : Bool) → is_awake changes c ≡ b → state_at lines2 t c ≡ state_at lines t c
-      by_change true e = let x = extended c e in x.0.rest t (omega (arith, x.1, h)) ∙ same_at t c
-      by_change false e = other_at t c e
-
-  pub repeated_state : (t c : ℕ) → from ≤ t → t < to → state_at lines2 t c ≡ state_at lines (cond (is_awake changes c) (from - 1) t) c
-  repeated_state t c h k = by_change (is_awake changes c) refl
-    where
-      by_change : (b : Bool) → is_awake changes c ≡ b → state_at lines2 t c ≡ state_at lines (cond (is_awake changes c) (from - 1) t) c
-      by_change true e =
-          let x = extended c e in
-          x.0.run t (omega (arith, place c e, h)) (omega (arith, x.1, k))
-          ∙ ap (λ n. state_at lines1 (n - 1) c) (place c e)
-          ∙ same_at (from - 1) c
-          ∙ ap (λ b. state_at lines (cond b (from - 1) t) c) (sym e)
-      by_change false e = other_at t c e ∙ ap (λ b. state_at lines (cond b (from - 1) t) c) (sym e)

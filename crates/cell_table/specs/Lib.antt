@@ -20,6 +20,9 @@ pub mod Cones
 pub mod Settling
 pub mod Cost
 pub mod Layout
+pub mod Codes
+pub mod Coded
+pub mod Ready
 pub mod Waves
 pub mod Filling
 pub mod Passing

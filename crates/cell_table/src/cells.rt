@@ -20,28 +20,24 @@ mod whole;
 pub(crate) use whole::put_due;
 
 use crate::Cell;
-use crate::fill::fill_lines;
-use crate::lines::{
-    are_empty_from, bring_to, cut_ends, extend_changed, grow_ends, lines_of, put_state, repeat_state, reserve_changed, reserve_ends, shared_in, state_in, stays_in,
-};
+use crate::fill::fill_states;
 use crate::neighbours::Neighbours;
 use crate::readers::Readers;
+use crate::stored::States;
 use crate::versions::{
     Versions, forget_in, grow_rows, is_noted_in, note_in, rows_of, set_version, set_versions,
     version_in,
 };
 use cell_marks::{Marks, Row};
 use grid_law::{Grid, NoMemory};
-use state_line::Line;
 use std::alloc::Global;
 use std::marker::Model;
 use std::sync::Arc;
 
-/// The cells of the first cycles: for each component a line of states, and by cycle which cells are
-/// due, and their versions.
+/// The cells of the first cycles: the states, and by cycle which cells are due, and their versions.
 #[derive(Drop)]
 pub(crate) struct Cells<G: Grid> {
-    lines: Vec<Line<G::State>>,
+    states: States<G>,
     due: Marks,
     versions: Vec<Versions>,
 }
@@ -49,13 +45,13 @@ pub(crate) struct Cells<G: Grid> {
 impl<G: Grid> Model for Cells<G> {
     ghost use Rattle.std.specs.Prelude.{List};
     ghost use Rattle.cell_table.specs.Seen.{Held};
-    ghost use Rattle.cell_table.specs.Layout.{rows_of, state_at, IsLayout, IsLined};
+    ghost use Rattle.cell_table.specs.Layout.{rows_of, state_at, IsLayout, IsStated};
 
     ghost Value = { List (List (Held G.State)) };
 
-    ghost view = { λ k. rows_of (state_at k.lines.items) k.due k.versions.items };
+    ghost view = { λ k. rows_of (state_at k.states) k.due k.versions.items };
 
-    ghost invariant = { λ k. IsLined k.lines.items k.due × IsLayout k.due k.versions.items };
+    ghost invariant = { λ k. IsStated k.states k.due × IsLayout k.due k.versions.items };
 }
 
 impl<G: Grid> Cells<G> {
@@ -68,12 +64,12 @@ impl<G: Grid> Cells<G> {
     ) -> Result<Cells<G>, NoMemory>
         ensures { IfOk result (λ k. k ≡ replicate cycles (replicate count (fresh version))) }
     {
-        let lines = lines_of(alloc, count, cycles)?;
+        let states = States::new(alloc, count, cycles)?;
         let versions = rows_of(alloc, cycles, count, version)?;
         let mut due = Marks::new(alloc, count);
         due.grow(alloc, cycles, true)?;
         Ok(Cells {
-            lines,
+            states,
             due,
             versions,
         })
@@ -81,7 +77,7 @@ impl<G: Grid> Cells<G> {
 
     /// Where its memory comes from.
     pub(crate) fn allocator(&self) -> Global {
-        *self.lines.allocator()
+        self.states.allocator()
     }
 
     /// How many cycles there are.
@@ -91,19 +87,11 @@ impl<G: Grid> Cells<G> {
         self.due.len()
     }
 
-    /// The state that a cell holds.
-    #[inline(always)]
-    fn state(&self, cell: Cell) -> Option<&G::State>
-        ensures { option_copied result ≡ (held_at self.now cell.cycle cell.component).state }
-    {
-        state_in(&self.lines, cell)
-    }
-
     /// One more owner of the state that a cell holds.
     pub(crate) fn shared(&self, cell: Cell) -> Result<Option<Arc<G::State>>, NoMemory>
         ensures { IfOk result (λ o. option_map arc_value o ≡ (held_at self.now cell.cycle cell.component).state) }
     {
-        shared_in(&self.lines, cell)
+        self.states.shared(cell)
     }
 
     /// Whether a cell holds the state of the cell one cycle earlier, known without a look at
@@ -112,7 +100,7 @@ impl<G: Grid> Cells<G> {
     pub(crate) fn stays(&self, cell: Cell) -> bool
         ensures { result ≡ true → (0 < cell.cycle) × ((held_at self.now (cell.cycle - 1) cell.component).state ≡ (held_at self.now cell.cycle cell.component).state) }
     {
-        stays_in(&self.lines, cell)
+        self.states.stays(cell)
     }
 
     /// Whether no cell holds a state from a cycle on, known by one look at each component; there may
@@ -120,7 +108,7 @@ impl<G: Grid> Cells<G> {
     pub(crate) fn is_empty_from(&self, cycle: u32) -> bool
         ensures { result ≡ true → (t c : ℕ) → cycle ≤ t → (held_at self.now t c).state ≡ None }
     {
-        are_empty_from(&self.lines, cycle)
+        self.states.is_empty_from(cycle)
     }
 
     pub(crate) fn is_due(&self, cell: Cell) -> bool
@@ -180,15 +168,6 @@ impl<G: Grid> Cells<G> {
         self.due.is_alike(cycle, among, other)
     }
 
-    /// Gets these components ready for looks at what they hold at a cycle and the one before. No cell changes.
-    pub(crate) fn bring_to(&mut self, cycle: u32, components: &[u32])
-        requires cycle { cycle < length self.old }
-        requires there { All (λ c. c < length (row_at self.old cycle)) components.now }
-        ensures { self.new ≡ self.old }
-    {
-        bring_to(&mut self.lines, components, cycle);
-    }
-
     /// Puts another state for a cell, which isn't due then. Where memory is wanting, nothing is
     /// changed, and the state comes back.
     pub(crate) fn put(&mut self, cell: Cell, state: Arc<G::State>) -> Result<(), Arc<G::State>>
@@ -198,12 +177,12 @@ impl<G: Grid> Cells<G> {
         ensures err { OnErr result (self.new ≡ self.old) }
         ensures back { IfErr result (λ back. arc_value back ≡ arc_value state) }
     {
-        match put_state(&mut self.lines, cell, state) {
+        match self.states.put(cell, &state) {
             Ok(()) => {
                 self.due.clear(cell.cycle, cell.component);
                 Ok(())
             }
-            Err(state) => Err(state),
+            Err(_) => Err(state),
         }
     }
 
@@ -217,7 +196,7 @@ impl<G: Grid> Cells<G> {
             (cleared (held_at self.old (cell.cycle - 1) cell.component).state)) }
         ensures err { OnErr result (self.new ≡ self.old) }
     {
-        match repeat_state(&mut self.lines, cell) {
+        match self.states.repeat(cell) {
             Ok(()) => {
                 self.due.clear(cell.cycle, cell.component);
                 Ok(())
@@ -298,7 +277,7 @@ impl<G: Grid> Cells<G> {
     pub(crate) fn truncate(&mut self, n: u32)
         ensures { self.new ≡ take n self.old }
     {
-        cut_ends(&mut self.lines, n);
+        self.states.truncate(n);
         self.due.truncate(n);
         self.versions.truncate(n as usize);
     }
@@ -310,13 +289,9 @@ impl<G: Grid> Cells<G> {
         ensures ok { OnOk result (self.new ≡ self.old ++ replicate m (replicate (length (row_at self.old 0)) (fresh version))) }
         ensures err { OnErr result (self.new ≡ self.old) }
     {
-        let alloc = *self.lines.allocator();
-        let count = self.lines.len() as u32;
+        let alloc = self.states.allocator();
+        let count = self.states.width();
         let n = self.due.len();
-        match reserve_ends(&mut self.lines, n) {
-            Ok(()) => {}
-            Err(_) => return Err(NoMemory),
-        }
         match self.due.grow(alloc, m, true) {
             Ok(()) => {}
             Err(_) => return Err(NoMemory),
@@ -328,7 +303,14 @@ impl<G: Grid> Cells<G> {
                 return Err(NoMemory);
             }
         }
-        grow_ends(&mut self.lines, n, m);
+        match self.states.grow(m) {
+            Ok(()) => {}
+            Err(_) => {
+                self.due.truncate(n);
+                self.versions.truncate(n as usize);
+                return Err(NoMemory);
+            }
+        }
         Ok(())
     }
 
@@ -459,7 +441,7 @@ pub(crate) fn fill_cells<G: Grid>(
     ensures rest { (t c : ℕ) → c < G.rules.components slots.now → result ≤ t → t < length cells.old → held_at cells.new t c ≡ held_at cells.old t c }
     ensures versions { (t c : ℕ) → (held_at cells.old t c).is_due ≡ false → (held_at cells.old t c).version ≡ 0 }
 {
-    let to = fill_lines::<G>(&mut cells.lines, slots, neighbours, readers, from, end);
+    let to = fill_states::<G>(&mut cells.states, slots, neighbours, readers, from, end);
     clear_rows(&mut cells.due, from, to);
     to
 }
@@ -484,12 +466,10 @@ pub(crate) fn repeat_cells<G: Grid>(
     ensures versions { (t c : ℕ) → (held_at cells.old t c).is_due ≡ false → (held_at cells.old t c).version ≡ 0 }
     ensures err { OnErr result (cells.new ≡ cells.old) }
 {
-    match reserve_changed(&mut cells.lines, changes, from) {
+    match cells.states.repeat_changed(changes, from, to) {
         Ok(()) => {}
         Err(_) => return Err(NoMemory),
     }
-    extend_changed(&mut cells.lines, changes, from, to);
     clear_rows(&mut cells.due, from, to);
     Ok(())
 }
-

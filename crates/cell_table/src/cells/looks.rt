@@ -13,7 +13,7 @@ impl<G: Grid> Cells<G> {
     pub(crate) fn has_state(&self, cell: Cell) -> bool
         ensures { result ≡ is_some (held_at self.now cell.cycle cell.component).state }
     {
-        self.state(cell).is_some()
+        self.states.has(cell)
     }
 
     /// Whether a cell holds this state, the whole of it.
@@ -21,10 +21,7 @@ impl<G: Grid> Cells<G> {
     pub(crate) fn holds(&self, cell: Cell, state: &G::State) -> bool
         ensures { IsTrue result ↔ ((held_at self.now cell.cycle cell.component).state ≡ Some state.now) }
     {
-        match self.state(cell) {
-            Some(held) => G::same(held, state),
-            None => false,
-        }
+        self.states.holds(cell, state)
     }
 
     /// Whether a cell holds what the cell one cycle earlier holds: the same state, or none as that one.
@@ -32,14 +29,7 @@ impl<G: Grid> Cells<G> {
         requires later { 0 < cell.cycle }
         ensures { IsTrue result ↔ ((held_at self.now (cell.cycle - 1) cell.component).state ≡ (held_at self.now cell.cycle cell.component).state) }
     {
-        let before = Cell {
-            cycle: cell.cycle - 1,
-            component: cell.component,
-        };
-        match self.state(cell) {
-            Some(state) => self.holds(before, state),
-            None => !self.has_state(before),
-        }
+        self.states.is_as_before(cell)
     }
 
     /// Whether a component reads the slot after cycle 0, where its own state one cycle earlier is the cell's and the other near states
@@ -48,9 +38,6 @@ impl<G: Grid> Cells<G> {
         requires { cell.component < G.rules.components slots.now }
         ensures { result ≡ reads_by G.rules slots.now cell.component slot.now (held_at self.now cell.cycle cell.component).state }
     {
-        match self.state(cell) {
-            Some(own) => G::reads_later(slots, own, cell.component, slot),
-            None => false,
-        }
+        self.states.reads(slots, cell, slot)
     }
 }

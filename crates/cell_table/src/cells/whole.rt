@@ -6,7 +6,7 @@ ghost use Rattle.grid_law.specs.Run.{run};
 ghost use Rattle.cell_table.specs.Seen.{held_at, row_at};
 ghost use Rattle.cell_table.specs.WholeRows.{HoldsRow, IsKnown, IsRowPut};
 
-use super::Cells;
+use super::{Cells, clear_rows};
 use crate::{Cell, WholeRow};
 use cell_marks::Row;
 use grid_law::{Grid, NoMemory};
@@ -16,16 +16,14 @@ impl<G: Grid> Cells<G> {
     pub(crate) fn words(&self, cell: Cell) -> &[u64]
         ensures { (x : G.State) → (held_at self.now cell.cycle cell.component).state ≡ Some x → IsTold G.codec x × (G.codec.words x ≡ result.now) }
     {
-        let _ = cell;
-        &[]
+        self.states.words(cell)
     }
 
     /// Its memory.
     pub(crate) fn memory(&self, cell: Cell) -> Option<&G::Memory>
         ensures { (x : G.State) → (held_at self.now cell.cycle cell.component).state ≡ Some x → G.codec.memory x ≡ option_copied result }
     {
-        let _ = cell;
-        None
+        self.states.memory(cell)
     }
 }
 
@@ -53,11 +51,14 @@ pub(crate) fn put_due<G: Grid, M: WholeRow<G>>(
     ensures versions { (t c : ℕ) → (held_at cells.old t c).is_due ≡ false → (held_at cells.old t c).version ≡ 0 }
     ensures err { OnErr result (cells.new ≡ cells.old) }
 {
-    let _ = slots;
-    let _ = row;
-    let _ = step;
-    let _ = cycle;
-    let _ = changes;
-    let _ = cells;
-    Err(NoMemory)
+    let set = cells.due.row(cycle);
+    match cells
+        .states
+        .put_whole::<M>(slots, row, step, set, changes, cycle)
+    {
+        Ok(()) => {}
+        Err(_) => return Err(NoMemory),
+    }
+    clear_rows(&mut cells.due, cycle, cycle + 1);
+    Ok(())
 }

@@ -212,17 +212,6 @@ impl<G: Grid> Table<G> {
         }
     }
 
-    /// Gets the components near a cell ready for a look at them: their states a cycle earlier are found at once then. To move a
-    /// line along costs a step for each stretch that it is moved over, but mostly it is there, from the cycle before or from the
-    /// edit before.
-    fn bring_near(&mut self, cell: Cell)
-        requires { IsThere G.rules self.old cell.cycle cell.component }
-        ensures { self.new ≡ self.old }
-    {
-        self.cells
-            .bring_to(cell.cycle, self.neighbours.of(cell.component));
-    }
-
     /// Computes the cell and stores its state; tells whether the cell held no state or another one.
     pub(super) fn settle_cell(&mut self, cell: Cell) -> Result<bool, StoreFault>
         requires there { IsThere G.rules self.old cell.cycle cell.component }
@@ -234,7 +223,6 @@ impl<G: Grid> Table<G> {
         ensures spent { result ≡ Err StoreFault.ClockSpent → (self.old.clock ≡ 2 ^ 64 - 1)
             × ((held_at self.old.rows cell.cycle cell.component).state ≢ Some (current_of G.rules self.old.slots self.old.rows cell.cycle cell.component)) }
     {
-        self.bring_near(cell);
         match self.computed(cell) {
             Ok(Some(state)) => self.settle_state(cell, state),
             Ok(None) => self.settle_again(cell),

@@ -6,4 +6,4 @@ use Rattle.cell_table.proofs.cells.Cells.cycles.Goals as goal
 pub returns : goal.returns
 returns g c =
     let i = c.self.inside in
-    c.len.ensures ∙ sym (seen_cycles (state_at i.lines.items) i.due i.versions.items c.args.self.now c.self.view_is)
+    c.len.ensures ∙ sym (seen_cycles (state_at i.states) i.due i.versions.items c.args.self.now c.self.view_is)
