@@ -119,3 +119,13 @@ either_false false b e = (refl, e)
 pub both_false : (a b : Bool) → a ≡ false → b ≡ false → (a || b) ≡ false
 both_false true b e f = absurd (true≢false e)
 both_false false b e f = f
+
+pub awake_within : (marks : List Bool) (c : ℕ) → is_awake marks c ≡ true → c < length marks
+awake_within marks c a = by_place (cases_lt c (length marks))
+  where
+    by_place : (c < length marks) ⊎ (length marks ≤ c) → c < length marks
+    by_place (inl h) = h
+    by_place (inr h) = absurd (true≢false (sym a ∙ get_or_past marks c false h))
+
+pub same_value : {X : Type 0} (x y : X) → Some x ≡ Some y → x ≡ y
+same_value x y e = cc
