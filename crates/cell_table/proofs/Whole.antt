@@ -10,6 +10,7 @@ use Rattle.change_rows.specs.Marks.{is_in}
 use Rattle.change_rows.specs.Rows.{Table as Words, words_at, replaced, IsWhole}
 use Rattle.cell_marks.specs.Bits.{bits_of}
 use Rattle.cell_marks.specs.Marked.{union, is_set}
+use Rattle.cell_marks.proofs.Bits.{at_bits}
 use Rattle.cell_table.specs.Codes.{state_of, IsCode}
 use Rattle.cell_table.specs.Filling.{is_awake}
 use Rattle.cell_table.proofs.Codes.{holds_only, put_is}
@@ -129,3 +130,39 @@ awake_within marks c a = by_place (cases_lt c (length marks))
 
 pub same_value : {X : Type 0} (x y : X) → Some x ≡ Some y → x ≡ y
 same_value x y e = cc
+
+-- marks to which those of words were joined
+module _ (old new : List Bool) (words : List ℕ) (joined : new ≡ union old (bits_of words (length old))) (d : ℕ) where
+  joined_is : d < length old → is_awake new d ≡ (is_awake old d || is_in words d)
+  joined_is h = ap (λ m. is_awake m d) joined ∙ marks_joined old (bits_of words (length old)) d h ∙ ap (λ b. is_awake old d || b) (at_bits words (length old) d h)
+
+  cases_bit : (b : Bool) → (b ≡ true) ⊎ (b ≡ false)
+  cases_bit true = inl refl
+  cases_bit false = inr refl
+
+  -- a mark tells what was marked before, or what its bit tells
+  pub joined_tells : (P : Type 0) → d < length old → (is_in words d ≡ true → P → ⊥) → (is_in words d ≡ false → P) → (is_awake new d ≡ false) ↔ (P × (is_awake old d ≡ false))
+  joined_tells P h yes no = (
+    λ e. (let q = either_false (is_awake old d) (is_in words d) (sym (joined_is h) ∙ e) in (no q.1, q.0)),
+    λ q. joined_is h ∙ by_bit q (cases_bit (is_in words d)),
+  )
+    where
+      by_bit : P × (is_awake old d ≡ false) → (is_in words d ≡ true) ⊎ (is_in words d ≡ false) → (is_awake old d || is_in words d) ≡ false
+      by_bit q (inl e) = absurd (yes e q.0)
+      by_bit q (inr e) = both_false (is_awake old d) (is_in words d) q.1 e
+
+  -- where no bit is set, it is what it was
+  pub joined_same : (is_in words d ≡ true → ⊥) → is_awake new d ≡ is_awake old d
+  joined_same none = by_place (cases_lt d (length old)) (cases_bit (is_in words d))
+    where
+      not_more : (b c : Bool) → c ≡ false → (b || c) ≡ b
+      not_more true c e = refl
+      not_more false c e = e
+
+      by_place : (d < length old) ⊎ (length old ≤ d) → (is_in words d ≡ true) ⊎ (is_in words d ≡ false) → is_awake new d ≡ is_awake old d
+      by_place h (inl e) = absurd (none e)
+      by_place (inl h) (inr e) = joined_is h ∙ not_more (is_awake old d) (is_in words d) e
+      by_place (inr h) (inr e) = ap (λ m. is_awake m d) joined ∙ marks_past old (bits_of words (length old)) d h ∙ sym (get_or_past old d false h)
+
+pub long_joined : (old new : List Bool) (words : List ℕ) → new ≡ union old (bits_of words (length old)) → length new ≡ length old
+long_joined old new words joined = ap length joined ∙ length-map-range_with_len (λ c. is_set old c || is_set (bits_of words (length old)) c) 0 (length old)

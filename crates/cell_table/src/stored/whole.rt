@@ -194,6 +194,8 @@ fn put_words<G: Grid, M: WholeRow<G>>(
     ensures unmarked { OnOk result ((c : ℕ) → is_awake set.now c ≡ false → is_awake changes.new c ≡ is_awake changes.old c) }
     ensures err { OnErr result (rows.new ≡ rows.old) }
 {
+    // Each row has a cell for each component.
+    let _end = rows.len();
     let words = set.words();
     make_words(buffer, words.len())?;
     let source: Stepped<'_, G, M> = Stepped { row, step, slots };
