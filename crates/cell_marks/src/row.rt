@@ -146,8 +146,8 @@ impl Row {
         requires { length self.old ≤ 64 * length words.now }
         ensures { self.new ≡ union self.old (bits_of words.now (length self.old)) }
     {
-        let added = add_in(&mut self.words, words, self.len);
-        self.count += added;
+        let more = add_in(&mut self.words, words, self.len);
+        self.count += more;
     }
 
     /// Marks just the components that some row of the list marks, of those rows whose own component is marked in `set`: 64 of
