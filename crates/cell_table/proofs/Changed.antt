@@ -16,12 +16,12 @@ use Rattle.cell_table.proofs.Codes.{same_code, code_along, put_is}
 use Rattle.cell_table.proofs.Coded.{none_past, state_is, coded_along, whole_along, state_along}
 
 -- what stands before a cycle is what stands at the one before it
-pub before_is : {V : Type 0} (begun : List (Begun V)) (t : ℕ) → 0 < t → standing_before begun t ≡ standing begun (t - 1) None
+pub before_is : {X : Type 0} (begun : List (Begun X)) (t : ℕ) → 0 < t → standing_before begun t ≡ standing begun (t - 1) None
 before_is begun zero h = absurd (omega (arith, h))
 before_is begun (suc t) h = let e : t ≡ suc t - 1 = omega arith in ap (λ n. standing begun n None) e
 
 -- what stands where a list of changes is the same
-pub memory_same : {V : Type 0} (memories memories1 : List (Changes V)) (c t : ℕ) → list_at memories1 c ≡ list_at memories c → memory_at memories1 c t ≡ memory_at memories c t
+pub memory_same : {X : Type 0} (memories memories1 : List (Changes X)) (c t : ℕ) → list_at memories1 c ≡ list_at memories c → memory_at memories1 c t ≡ memory_at memories c t
 memory_same memories memories1 c t e = ap (λ begun. standing begun t None) e
 
 module _ {State Memory : Type 0} (C : Codec State Memory) (words words1 : Words) (memories memories1 : List (Changes Memory)) (coded : IsCoded C words memories) (width : words1.width ≡ words.width) (cycles : length words1.rows ≡ length words.rows) (lens : (t : ℕ) → length (get_or words1.rows t []) ≡ length (get_or words.rows t [])) where
@@ -72,7 +72,7 @@ module _ {State Memory : Type 0} (C : Codec State Memory) (words words1 : Words)
 
       is_new : (c : ℕ) (o : Option State) → IsToldNew C o → (o ≡ None → 0 < at) → IsNew c o (words_new C words.rows at c o) (memory_new C memories at c o)
       is_new c None t h =
-          let e = before_is _ at (h refl) in
+          let e = before_is (list_at memories c) at (h refl) in
           (code_along C _ _ _ _ refl e (coded.codes (at - 1) c), same_code C _ _ _ _ refl e)
       is_new c (Some x) t h = let p = put_is C laws (C.words x) (C.memory x) x t (record { words_are = refl; memory_is = refl }) in (p.1, p.0)
 
@@ -102,18 +102,18 @@ module _ {State Memory : Type 0} (C : Codec State Memory) (words words1 : Words)
       state_other t c n = state_kept t c (λ h. at_others t c h n)
 
 -- what is ready for a component is so where its list is the same
-pub ready_along : {V : Type 0} (memories memories1 : List (Changes V)) (c t : ℕ) (change change1 : Option (Change V)) → changes_at memories1 c ≡ changes_at memories c → change1 ≡ change → IsReady memories c t change → IsReady memories1 c t change1
-ready_along memories memories1 c t change change1 e f ready = subst (IsReady memories1 c t) (sym f) (by_change change ready)
+pub ready_along : {X : Type 0} (memories memories1 : List (Changes X)) (c t : ℕ) (change change1 : Option (Change X)) → changes_at memories1 c ≡ changes_at memories c → change1 ≡ change → IsReady memories c t change → IsReady memories1 c t change1
+ready_along {X} memories memories1 c t change change1 e f ready = subst (IsReady memories1 c t) (sym f) (by_change change ready)
   where
-    by_change : (o : Option (Change V)) → IsReady memories c t o → IsReady memories1 c t o
+    by_change : (o : Option (Change X)) → IsReady memories c t o → IsReady memories1 c t o
     by_change None r = tt
-    by_change (Some x) r = (r.0 ∙ sym (ap (λ (k : Changes V). standing k.begun t None) e), subst (λ (k : Changes V). 2 ≤ k.room) (sym e) r.1)
+    by_change (Some x) r = (r.0 ∙ sym (ap (λ (k : Changes X). standing k.begun t None) e), subst (λ (k : Changes X). 2 ≤ k.room) (sym e) r.1)
 
-pub value_along : {V : Type 0} (memories memories1 : List (Changes V)) (c t : ℕ) (change change1 : Option (Change V)) → changes_at memories1 c ≡ changes_at memories c → change1 ≡ change → value_in memories1 c t change1 ≡ value_in memories c t change
-value_along memories memories1 c t change change1 e f = ap (value_in memories1 c t) f ∙ by_change change
+pub value_along : {X : Type 0} (memories memories1 : List (Changes X)) (c t : ℕ) (change change1 : Option (Change X)) → changes_at memories1 c ≡ changes_at memories c → change1 ≡ change → value_in memories1 c t change1 ≡ value_in memories c t change
+value_along {X} memories memories1 c t change change1 e f = ap (value_in memories1 c t) f ∙ by_change change
   where
-    by_change : (o : Option (Change V)) → value_in memories1 c t o ≡ value_in memories c t o
-    by_change None = ap (λ (k : Changes V). standing_before k.begun t) e
+    by_change : (o : Option (Change X)) → value_in memories1 c t o ≡ value_in memories c t o
+    by_change None = ap (λ (k : Changes X). standing_before k.begun t) e
     by_change (Some x) = refl
 
 pub memory_new_along : {State Memory : Type 0} (C : Codec State Memory) (memories memories1 : List (Changes Memory)) (t c : ℕ) (o : Option State) → list_at memories1 c ≡ list_at memories c → memory_new C memories1 t c o ≡ memory_new C memories t c o

@@ -43,7 +43,7 @@ not_to marks from to t c h = and_right (is_awake marks c) _ (and_right (nat_le f
 module _ (v v1 : Words) (whole : IsWhole v) (changes : List Bool) (wide : length changes ≡ v.width) where
   -- those that have from one cycle on to before another the words of the cycle before
   module _ (members : List ℕ) (from to : ℕ) (e : v1 ≡ record { width = v.width; rows = repeated v.rows v.width from to members }) (bits : (c : ℕ) → c < length changes → is_in members c ≡ is_awake changes c) where
-    f : ℕ → ℕ → List ℕ
+    abbrev f : ℕ → ℕ → List ℕ
     f t c = cond (is_in members c && (nat_le from t && nat_lt t to)) (words_at v.rows (from - 1) c) (words_at v.rows t c)
 
     rows_are : v1.rows ≡ map (λ t. map (f t) (range_with_len 0 v.width)) (range_with_len 0 (length v.rows))
@@ -70,7 +70,9 @@ module _ (v v1 : Words) (whole : IsWhole v) (changes : List Bool) (wide : length
     pub words_repeated : to ≤ length v.rows → (t c : ℕ) → is_awake changes c ≡ true → from ≤ t → t < to → words_at v1.rows t c ≡ words_at v.rows (from - 1) c
     words_repeated within t c awake h k =
         at_repeated t c (omega (arith, k, within)) (omega (arith, awake_within changes c awake, wide))
-        ∙ rw (awake, le-leb from t h, lt-ltb t to k) refl
+        ∙ ap (λ b. cond (b && (nat_le from t && nat_lt t to)) (words_at v.rows (from - 1) c) (words_at v.rows t c)) awake
+        ∙ ap (λ b. cond (true && (b && nat_lt t to)) (words_at v.rows (from - 1) c) (words_at v.rows t c)) (le-leb from t h)
+        ∙ ap (λ b. cond (true && (true && b)) (words_at v.rows (from - 1) c) (words_at v.rows t c)) (lt-ltb t to k)
 
     pub words_others : (t c : ℕ) → (is_awake changes c && (nat_le from t && nat_lt t to)) ≡ false → words_at v1.rows t c ≡ words_at v.rows t c
     words_others t c none = by_place (cases_lt t (length v.rows)) (cases_lt c v.width)

@@ -1,5 +1,5 @@
 -- A cell's state is that of the cell before it.
-use Rattle.std.proofs.Common.{◌≡◌, ℕ, ◌-◌, ◌<◌, ◌∙◌, sym, ap, arith, false, Option, None, Some, MatchOption, option_map, unwrap_or, List, [], ◌∷◌, All, Result, Ok, Err, IfOk}
+use Rattle.std.proofs.Common.{◌≡◌, ℕ, ◌-◌, ◌<◌, ◌∙◌, sym, ap, arith, false, Some, unwrap_or, List, [], ◌∷◌, All, Result, Ok, Err, IfOk}
 use Rattle.grid_law.specs.Rules.{Rules, Laws, result_of}
 use Rattle.cell_table.specs.Seen.{Seen, row_at, held_in, held_at}
 use Rattle.cell_table.specs.Cells.{IsThere}
@@ -28,11 +28,6 @@ module _ {State Slots Slot : Type 0} (R : Rules State Slots Slot) (v : Seen Stat
       let near : states_of (row_at v.rows (t - 1)) (R.near v.slots c) ≡ Some xs = sym (inputs_later R v.slots v.rows t c (λ e. absurd (omega (arith, h, e)))) ∙ whole in
       let parts : Parts (held_in (row_at v.rows (t - 1)) c).state (states_of (row_at v.rows (t - 1)) own.0) xs = parts_of (held_in (row_at v.rows (t - 1)) c).state (states_of (row_at v.rows (t - 1)) own.0) xs (ap (states_of (row_at v.rows (t - 1))) (sym own.1) ∙ near) in
       ap (λ ys. R.step v.slots ys c) parts.whole ∙ sym (ap (λ ys. result_of R v.slots ys c) parts.whole) ∙ sym (ap (λ o. result_of R v.slots (unwrap_or o []) c) whole)
-
--- what is told of something that was mapped, told of it itself
-pub match_mapped : {X Y : Type 0} (N : Type 0) (S : Y → Type 0) (f : X → Y) (o : Option X) → MatchOption (option_map f o) N S → MatchOption o N (λ x. S (f x))
-match_mapped N S f None h = h
-match_mapped N S f (Some x) h = h
 
 -- of an answer
 pub ok_along : {X E : Type 0} {P Q : X → Type 0} → ((x : X) → P x → Q x) → (r : Result X E) → IfOk r P → IfOk r Q

@@ -1,7 +1,7 @@
 -- The states of the cells that marks and versions are of.
 use Rattle.std.proofs.Common.{◌≡◌, ℕ, ◌+◌, ◌-◌, ◌<◌, ◌≤◌, ◌∙◌, ◌⊎◌, inl, inr, sym, ap, refl, arith, Option, None, List, [], length, replicate, take, get_or, ◌++◌, length-append, min}
 use Rattle.std.proofs.lemmas.Bool.{cases_lt}
-use Rattle.std.proofs.lemmas.List.{get_or_past, get_or-replicate, length-replicate, get_or-append_right, get_or_append_left, get_or-take, length-take}
+use Rattle.std.proofs.lemmas.List.{get_or_past, get_or-replicate, length-replicate, get_or-append_right, get_or_append_left, get_or-take, length-take, take_at}
 use Rattle.cell_marks.specs.Marked.{Marked}
 use Rattle.cell_table.specs.Seen.{Held, row_at}
 use Rattle.cell_table.specs.Layout.{Stated, state_at, rows_of, IsLayout, IsBounded, IsStated, IsAsMany, IsSameStates}
@@ -92,3 +92,8 @@ module _ {State : Type 0} where
         by_cycle : (t : ℕ) → t < length due.rows + m → (t < length due.rows) ⊎ (length due.rows ≤ t) → length (get_or states1.rows t []) ≡ due.width
         by_cycle t h (inl k) = ap length (row_before t k) ∙ stated.whole t k
         by_cycle t h (inr k) = ap length (row_behind t k h) ∙ length-replicate states.width _ ∙ stated.width
+
+  -- cycles that were added are taken away
+  pub grown_back : (states states1 states2 : Stated State) (m n : ℕ) → states1 ≡ record { width = states.width; rows = states.rows ++ replicate m (replicate states.width None) } → states2 ≡ record { width = states1.width; rows = take n states1.rows } → length states.rows ≡ n → states2 ≡ states
+  grown_back states states1 states2 m n e f len =
+      f ∙ ap (λ (s : Stated State). record { width = s.width; rows = take n s.rows }) e ∙ ap (λ rows. record { width = states.width; rows = rows }) (take_at states.rows (replicate m (replicate states.width None)) n len)

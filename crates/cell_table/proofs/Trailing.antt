@@ -46,11 +46,11 @@ module _ {State Slots Slot : Type 0} (R : Rules State Slots Slot) (s : Slots) wh
   next_runs laws t c h lent all (Some x) e = e ∙ ap (λ xs. R.step s xs c) all ∙ sym (run_steps t c h)
 
   -- what a row before the cycle has
-  pub near_last : (row : ℕ → Option State) (t c : ℕ) (x : State) → IsRowBefore R s t row → 0 < t → c < R.components s → row c ≡ Some x → x ≡ run R s (t - 1) c
-  near_last row t c x known h k e = let same : Some x ≡ Some (run R s (t - 1) c) = sym e ∙ known h c k in cc
+  pub near_last : (row : ℕ → Option State) (t c : ℕ) (x : State) → IsRowBefore R s t row → 0 < t → c < R.components s → Some x ≡ row c → x ≡ run R s (t - 1) c
+  near_last row t c x known h k e = let same : Some x ≡ Some (run R s (t - 1) c) = e ∙ known h c k in cc
 
-  pub no_last : (row : ℕ → Option State) (t c : ℕ) → IsRowBefore R s t row → 0 < t → c < R.components s → row c ≡ None → ⊥
-  no_last row t c known h k e = let same : None ≡ Some (run R s (t - 1) c) = sym e ∙ known h c k in cc
+  pub no_last : (row : ℕ → Option State) (t c : ℕ) → IsRowBefore R s t row → 0 < t → c < R.components s → None ≡ row c → ⊥
+  no_last row t c known h k e = let same : None ≡ Some (run R s (t - 1) c) = e ∙ known h c k in cc
 
   -- the state of a component at the cycle, by what was computed and the one before
   pub computed_runs : (t c : ℕ) (o was : Option State) → IsComputed R s t c o → (0 < t → was ≡ Some (run R s (t - 1) c)) → option_or o was ≡ Some (run R s t c)

@@ -1,5 +1,5 @@
 //! What is held for the cells.
-ghost use Rattle.std.specs.Prelude.{◌≡◌, ℕ, ◌+◌, ◌-◌, ◌<◌, ◌≤◌, ◌++◌, ◌^◌, ◌↔◌, ◌||◌, IsTrue, All, IfOk, OnOk, OnErr, IfErr, length, replicate, map, take, option_map, is_some, true, false, ◌==◌, ◌&&◌, MatchOption, Some, None, if◌then◌else◌, nat_lt, slice_index_or, []};
+ghost use Rattle.std.specs.Prelude.{◌≡◌, ℕ, ◌+◌, ◌-◌, ◌<◌, ◌≤◌, ◌++◌, ◌^◌, ◌↔◌, ◌||◌, IsTrue, All, IfOk, OnOk, OnErr, IfErr, MatchResult, length, replicate, map, take, option_map, is_some, true, false, ◌==◌, ◌&&◌, MatchOption, Some, None, if◌then◌else◌, nat_lt, slice_index_or, []};
 ghost use Rattle.std.specs.Option.{option_copied, option_or};
 ghost use Rattle.std.specs.Arc.{arc_value};
 ghost use Rattle.cell_table.specs.Seen.{fresh, stored, marked, held_at, row_at, due_in_row, due_up_to};
@@ -292,22 +292,14 @@ impl<G: Grid> Cells<G> {
         let alloc = self.states.allocator();
         let count = self.states.width();
         let n = self.due.len();
-        match self.due.grow(alloc, m, true) {
+        match self.states.grow(m) {
             Ok(()) => {}
             Err(_) => return Err(NoMemory),
         }
-        match grow_rows(&mut self.versions, alloc, m, count, version) {
+        match grow_due(&mut self.due, &mut self.versions, alloc, m, count, version) {
             Ok(()) => {}
             Err(_) => {
-                self.due.truncate(n);
-                return Err(NoMemory);
-            }
-        }
-        match self.states.grow(m) {
-            Ok(()) => {}
-            Err(_) => {
-                self.due.truncate(n);
-                self.versions.truncate(n as usize);
+                self.states.truncate(n);
                 return Err(NoMemory);
             }
         }
@@ -383,6 +375,37 @@ pub(crate) fn are_held<G: Grid>(
         }
     }
     true
+}
+
+/// Adds marks and versions of m cycles of new cells; where memory is wanting, nothing is changed.
+fn grow_due(
+    due: &mut Marks,
+    versions: &mut Vec<Versions>,
+    alloc: Global,
+    m: u32,
+    count: u32,
+    version: u64,
+) -> Result<(), NoMemory>
+    requires fits { length due.old.rows + m < 2 ^ 32 }
+    ensures due { MatchResult result
+        (λ _. due.new ≡ record { width = due.old.width; rows = due.old.rows ++ replicate m (replicate due.old.width true) })
+        (λ _. due.new ≡ due.old) }
+    ensures ok { OnOk result (versions.new.items ≡ versions.old.items ++ replicate m (replicate count version)) }
+    ensures err { OnErr result (versions.new.items ≡ versions.old.items) }
+{
+    let n = due.len();
+    match due.grow(alloc, m, true) {
+        Ok(()) => {}
+        Err(_) => return Err(NoMemory),
+    }
+    match grow_rows(versions, alloc, m, count, version) {
+        Ok(()) => {}
+        Err(_) => {
+            due.truncate(n);
+            return Err(NoMemory);
+        }
+    }
+    Ok(())
 }
 
 /// Lets go of the changes that are noted at a cycle of which no cell is due: no version counts there.

@@ -1,6 +1,7 @@
 //! Filling cycles whose cells hold no state yet: the run, cycle by cycle, where only components near one that changed
 //! are looked at.
 ghost use Rattle.std.specs.Prelude.{◌≡◌, ℕ, ◌+◌, ◌-◌, ◌<◌, ◌≤◌, ◌||◌, ◌↔◌, IsTrue, All, IfOk, OnErr, replicate, is_some, OnOk, length, MatchOption, Some, None, option_map, List, map, take, slice_index_or, ◌∷◌, [], true, false};
+ghost use Rattle.std.specs.Option.{option_copied};
 ghost use Rattle.std.specs.Arc.{arc_value};
 ghost use Rattle.grid_law.specs.Run.{run};
 ghost use Rattle.cell_table.specs.Layout.{IsAsMany};
@@ -16,6 +17,17 @@ use grid_law::{Grid, NoMemory};
 use std::alloc::Global;
 use std::mem;
 use std::sync::Arc;
+
+/// The state of a component in a row.
+fn state_in<S>(row: &Vec<Option<Arc<S>>>, c: u32) -> Option<&S>
+    requires { c < length row.now.items }
+    ensures { option_copied result ≡ option_map arc_value (slice_index_or row.now.items c None) }
+{
+    match &row[c as usize] {
+        Some(state) => Some(&**state),
+        None => None,
+    }
+}
 
 /// The state of the component at one place of the list, or `own` where there is none.
 fn last_near<'a, G: Grid>(
@@ -36,7 +48,7 @@ fn last_near<'a, G: Grid>(
     if place >= near.len() {
         return own;
     }
-    match &row[near[place] as usize] {
+    match state_in(row, near[place]) {
         Some(state) => state,
         None => own,
     }
@@ -91,7 +103,7 @@ fn stepped<G: Grid>(
     ensures { IfOk result (λ o. IsComputed G.rules slots.now cycle component (option_map arc_value o)) }
 {
     let near = neighbours.of(component);
-    match &row[component as usize] {
+    match state_in(row, component) {
         Some(own) => {
             let five = five_last::<G>(row, slots, near, cycle, own);
             let lent = first(&five, near.len());

@@ -1,12 +1,16 @@
-use Rattle.std.proofs.Common.{◌≡◌, ◌-◌, ◌∙◌, ap, sym, arith, map, take, length, ◌≤◌, Bor}
-use Rattle.std.specs.Prelude.{option_map}
+use Rattle.std.proofs.Common.{◌≡◌, ℕ, ◌-◌, ◌∙◌, ap, sym, arith, map, take, length, ◌≤◌, Bor}
+use Rattle.std.specs.Prelude.{option_map, slice_index_or, None}
 use Rattle.std.specs.Arc.{arc_value}
 use Rattle.std.proofs.lemmas.List.{length-map}
 use Rattle.grid_law.specs.Run.{run}
 use Rattle.cell_table.proofs.States.{first_five}
 use Rattle.cell_table.proofs.Shortcut.{ok_along}
-use Rattle.cell_table.proofs.Trailing.{next_runs}
+use Rattle.cell_table.proofs.Trailing.{no_last, next_runs}
 use Rattle.cell_table.proofs.fill.stepped.Goals as goal
+
+pub unreachable-requires : goal.unreachable-requires
+unreachable-requires g c =
+    no_last g.G.Grid.rules c.args.slots.now (λ (k : ℕ). option_map arc_value (slice_index_or c.args.row.now.items k None)) c.args.cycle c.args.component c.requires.row c.requires.later c.requires.component c.in-None.ensures
 
 pub returns : goal.returns
 returns g c =

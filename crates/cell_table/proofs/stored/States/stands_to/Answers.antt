@@ -1,4 +1,5 @@
 use Rattle.std.proofs.Common.{◌≡◌, ℕ, ◌-◌, ◌<◌, ◌∙◌, sym, arith}
+use Rattle.change_lists.specs.Changes.{list_at}
 use Rattle.cell_table.specs.Layout.{state_at}
 use Rattle.cell_table.proofs.Codes.{same_code}
 use Rattle.cell_table.proofs.Coded.{seen_at, seen_cycles, stands}
@@ -27,5 +28,5 @@ returns-clause-same g c =
     let step : (u : ℕ) → t < u → u < c.next.result → state_at s u d ≡ state_at s (u - 1) d = λ u h k. (
       let w = c.next_of-to.ensures.steady u (omega (arith, h)) (omega (arith, k, c.next.ensures.to)) in
       let m = c.next.ensures.steady u (omega (arith, h)) k in
-      seen u d ∙ same_code C _ _ _ _ w.1 (m ∙ before_is _ u w.0) ∙ sym (seen (u - 1) d)) in
+      seen u d ∙ same_code C _ _ _ _ w.1 (m ∙ before_is (list_at i.memories d) u w.0) ∙ sym (seen (u - 1) d)) in
     stands (λ u. state_at s u d) t c.next.result step

@@ -1,4 +1,5 @@
 use Rattle.std.proofs.Common.{◌-◌, ◌∙◌, sym}
+use Rattle.change_lists.specs.Changes.{list_at}
 use Rattle.cell_table.proofs.Codes.{same_code, is_not}
 use Rattle.cell_table.proofs.Coded.{seen_at}
 use Rattle.cell_table.proofs.Changed.{before_is}
@@ -14,4 +15,4 @@ returns-then-not-begins g c = λ h.
     let seen = seen_at C i.words i.memories s c.self.view_is c.self.invariant.0.whole in
     let w = c.begins.ensures c.if-not-begins.true in
     let m = c.begins-then-not-begins.ensures.steady (is_not _ h) in
-    (w.0, seen (t - 1) d ∙ same_code C _ _ _ _ (sym w.1) (sym (m ∙ before_is _ t w.0)) ∙ sym (seen t d))
+    (w.0, seen (t - 1) d ∙ same_code C _ _ _ _ (sym w.1) (sym (m ∙ before_is (list_at i.memories d) t w.0)) ∙ sym (seen t d))

@@ -1,6 +1,7 @@
 use Rattle.std.proofs.Common.{◌≡◌, ℕ, ◌+◌, ◌-◌, ◌<◌, ◌≤◌, ◌∙◌, sym, ap, subst, arith, true, false, Option, None, Some, option_map, slice_index_or}
 use Rattle.std.specs.Arc.{arc_value}
 use Rattle.std.proofs.lemmas.Bool.{true≢false}
+use Rattle.std.proofs.lemmas.List.{get_or_default}
 use Rattle.change_rows.specs.Cells.{found, end_of}
 use Rattle.change_rows.proofs.Finding.{end_push}
 use Rattle.change_rows.proofs.Editing.{pushed_same, pushed_other}
@@ -26,7 +27,7 @@ loop-component-preserved g c =
     let r1 = c.ready_cell.new.ready.items in
     let new = λ (d : ℕ). option_map (arc_value {X = g.row.G-State.Denot}) (slice_index_or c.args.news.now d None) in
     let low = λ (d : ℕ) (n : d ≡ cur → ⊥) (h : d < cur + 1) (a : is_awake c.args.changes.now d ≡ true). below c.loop-component.next cur d c.args.changes.now n h a at_cur.0.2 in
-    let same : option_map (arc_value {X = g.row.G-State.Denot}) c.index-new.result.now ≡ new cur = ap (option_map (arc_value {X = g.row.G-State.Denot})) c.index-new.ensures in
+    let same : option_map (arc_value {X = g.row.G-State.Denot}) c.index-news-component.result.now ≡ new cur = ap (option_map (arc_value {X = g.row.G-State.Denot})) (c.index-news-component.ensures ∙ get_or_default c.args.news.now cur _ None (omega (arith, at_cur.1, c.requires.news))) in
     record {
       within = omega (arith, at_cur.1);
       width = e.width ∙ inv.width;
