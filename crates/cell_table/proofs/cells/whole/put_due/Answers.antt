@@ -19,14 +19,14 @@ put_whole-requires-clause-within g c =
 pub put_whole-requires-clause-width : goal.put_whole-requires-clause-width
 put_whole-requires-clause-width g c =
     let i = c.cells.inside in
-    let there = omega (arith, c.requires.within, seen_cycles (state_at i.states) i.due i.versions.items c.args.cells.now c.cells.view_is) in
+    let there : c.args.cycle < length i.due.rows = omega (arith, c.requires.within, seen_cycles (state_at i.states) i.due i.versions.items c.args.cells.now c.cells.view_is) in
     ap length c.row-set.ensures ∙ c.cells.invariant.1.marks c.args.cycle there ∙ sym c.cells.invariant.0.width
 
 pub put_whole-requires-clause-components : goal.put_whole-requires-clause-components
 put_whole-requires-clause-components g c =
     let i = c.cells.inside in
     let some : 0 < length c.args.cells.now = omega (arith, c.requires.within) in
-    let there = omega (arith, c.requires.within, seen_cycles (state_at i.states) i.due i.versions.items c.args.cells.now c.cells.view_is) in
+    let there : c.args.cycle < length i.due.rows = omega (arith, c.requires.within, seen_cycles (state_at i.states) i.due i.versions.items c.args.cells.now c.cells.view_is) in
     ap length c.row-set.ensures ∙ c.cells.invariant.1.marks c.args.cycle there ∙ sym c.cells.invariant.0.width
     ∙ width_each i.states i.due i.versions.items c.args.cells.now (g.G.Grid.rules.components c.args.slots.now) c.cells.invariant.0 c.cells.view_is some c.requires.whole
 
@@ -34,7 +34,7 @@ pub put_whole-requires-clause-changes : goal.put_whole-requires-clause-changes
 put_whole-requires-clause-changes g c =
     let i = c.cells.inside in
     let some : 0 < length c.args.cells.now = omega (arith, c.requires.within) in
-    let there = omega (arith, c.requires.within, seen_cycles (state_at i.states) i.due i.versions.items c.args.cells.now c.cells.view_is) in
+    let there : c.args.cycle < length i.due.rows = omega (arith, c.requires.within, seen_cycles (state_at i.states) i.due i.versions.items c.args.cells.now c.cells.view_is) in
     c.requires.width ∙ sym (ap length c.row-set.ensures ∙ c.cells.invariant.1.marks c.args.cycle there ∙ sym c.cells.invariant.0.width
     ∙ width_each i.states i.due i.versions.items c.args.cells.now (g.G.Grid.rules.components c.args.slots.now) c.cells.invariant.0 c.cells.view_is some c.requires.whole)
 
@@ -42,7 +42,7 @@ pub put_whole-requires-clause-before : goal.put_whole-requires-clause-before
 put_whole-requires-clause-before g c = λ d a.
     let i = c.cells.inside in
     let some : 0 < length c.args.cells.now = omega (arith, c.requires.within) in
-    let there = omega (arith, c.requires.within, seen_cycles (state_at i.states) i.due i.versions.items c.args.cells.now c.cells.view_is) in
+    let there : c.args.cycle < length i.due.rows = omega (arith, c.requires.within, seen_cycles (state_at i.states) i.due i.versions.items c.args.cells.now c.cells.view_is) in
     let wide = ap length c.row-set.ensures ∙ c.cells.invariant.1.marks c.args.cycle there ∙ sym c.cells.invariant.0.width ∙ width_each i.states i.due i.versions.items c.args.cells.now (g.G.Grid.rules.components c.args.slots.now) c.cells.invariant.0 c.cells.view_is some c.requires.whole in
     let seen = seen_state (state_at i.states) i.due i.versions.items c.args.cells.now c.cells.view_is (bounded_by i.states i.due c.cells.invariant.0) c.cells.invariant.1 (c.args.cycle - 1) d in
     ap is_some (sym seen ∙ c.requires.before d (omega (arith, awake_within c.row-set.result.now d a, wide)))
@@ -52,9 +52,9 @@ put_whole-requires-clause-still g c = λ d x a e s.
     let i = c.cells.inside in
     let R = g.G.Grid.rules in
     let some : 0 < length c.args.cells.now = omega (arith, c.requires.within) in
-    let there = omega (arith, c.requires.within, seen_cycles (state_at i.states) i.due i.versions.items c.args.cells.now c.cells.view_is) in
+    let there : c.args.cycle < length i.due.rows = omega (arith, c.requires.within, seen_cycles (state_at i.states) i.due i.versions.items c.args.cells.now c.cells.view_is) in
     let wide = ap length c.row-set.ensures ∙ c.cells.invariant.1.marks c.args.cycle there ∙ sym c.cells.invariant.0.width ∙ width_each i.states i.due i.versions.items c.args.cells.now (R.components c.args.slots.now) c.cells.invariant.0 c.cells.view_is some c.requires.whole in
-    let h = omega (arith, awake_within c.row-set.result.now d a, wide) in
+    let h : d < R.components c.args.slots.now = omega (arith, awake_within c.row-set.result.now d a, wide) in
     let seen = seen_state (state_at i.states) i.due i.versions.items c.args.cells.now c.cells.view_is (bounded_by i.states i.due c.cells.invariant.0) c.cells.invariant.1 (c.args.cycle - 1) d in
     c.requires.row.states d h ∙ c.requires.known.still d h s ∙ same_value (run R c.args.slots.now (c.args.cycle - 1) d) x (sym (c.requires.before d h) ∙ seen ∙ e)
 
@@ -64,9 +64,9 @@ put_whole-requires-clause-kept g c = λ d x a e s.
     let R = g.G.Grid.rules in
     let C = g.G.Grid.codec in
     let some : 0 < length c.args.cells.now = omega (arith, c.requires.within) in
-    let there = omega (arith, c.requires.within, seen_cycles (state_at i.states) i.due i.versions.items c.args.cells.now c.cells.view_is) in
+    let there : c.args.cycle < length i.due.rows = omega (arith, c.requires.within, seen_cycles (state_at i.states) i.due i.versions.items c.args.cells.now c.cells.view_is) in
     let wide = ap length c.row-set.ensures ∙ c.cells.invariant.1.marks c.args.cycle there ∙ sym c.cells.invariant.0.width ∙ width_each i.states i.due i.versions.items c.args.cells.now (R.components c.args.slots.now) c.cells.invariant.0 c.cells.view_is some c.requires.whole in
-    let h = omega (arith, awake_within c.row-set.result.now d a, wide) in
+    let h : d < R.components c.args.slots.now = omega (arith, awake_within c.row-set.result.now d a, wide) in
     let seen = seen_state (state_at i.states) i.due i.versions.items c.args.cells.now c.cells.view_is (bounded_by i.states i.due c.cells.invariant.0) c.cells.invariant.1 (c.args.cycle - 1) d in
     ap C.memory (c.requires.row.states d h) ∙ c.requires.known.kept d h s ∙ ap C.memory (same_value (run R c.args.slots.now (c.args.cycle - 1) d) x (sym (c.requires.before d h) ∙ seen ∙ e))
 
