@@ -111,7 +111,57 @@ fn ready_one<G: Grid, M: WholeRow<G>>(
     ready_memory::<G>(memories, cell, value)
 }
 
-/// The same of all components of a set; those are marked of which the cell has another memory.
+/// Marks a component, or doesn't.
+fn mark_if(changes: &mut Row, component: u32, marked: bool)
+    requires component { component < length changes.old }
+    requires unmarked { is_awake changes.old component ≡ false }
+    ensures len { length changes.new ≡ length changes.old }
+    ensures here { is_awake changes.new component ≡ marked }
+    ensures others { (c : ℕ) → (c ≡ component → ⊥) → is_awake changes.new c ≡ is_awake changes.old c }
+{
+    if marked {
+        changes.set(component);
+    }
+}
+
+/// The same, kept for its component, which is marked where the cell has another memory.
+fn ready_cell<G: Grid, M: WholeRow<G>>(
+    memories: &mut Lists<G::Memory>,
+    ready: &mut Vec<Option<Change<G::Memory>>>,
+    slots: &G::Slots,
+    row: &M,
+    step: &M::Step,
+    changes: &mut Row,
+    cell: Cell,
+) -> Result<(), NoMemory>
+    requires later { 0 < cell.cycle }
+    requires component { cell.component < length memories.old }
+    requires len { length ready.old.items ≡ length memories.old }
+    requires changes { length changes.old ≡ length memories.old }
+    requires there { cell.component < G.rules.components slots.now }
+    requires stands { M.stands row.now slots.now }
+    requires kept { M.has_written step.now slots.now cell.component ≡ false → memory_at memories.old cell.component (cell.cycle - 1) ≡ G.codec.memory (M.state row.now cell.component) }
+    requires unmarked { is_awake changes.old cell.component ≡ false }
+    ensures width { length memories.new ≡ length memories.old }
+    ensures len { length ready.new.items ≡ length ready.old.items }
+    ensures changes { length changes.new ≡ length changes.old }
+    ensures same { (c : ℕ) → list_at memories.new c ≡ list_at memories.old c }
+    ensures others { (c : ℕ) → (c ≡ cell.component → ⊥) → changes_at memories.new c ≡ changes_at memories.old c }
+    ensures other_ready { (c : ℕ) → (c ≡ cell.component → ⊥) → slice_index_or ready.new.items c None ≡ slice_index_or ready.old.items c None }
+    ensures other_changes { (c : ℕ) → (c ≡ cell.component → ⊥) → is_awake changes.new c ≡ is_awake changes.old c }
+    ensures ready { OnOk result (IsReady memories.new cell.component cell.cycle (slice_index_or ready.new.items cell.component None)) }
+    ensures value { OnOk result (value_in memories.new cell.component cell.cycle (slice_index_or ready.new.items cell.component None) ≡ G.codec.memory (M.state row.now cell.component)) }
+    ensures marked { (is_awake changes.new cell.component ≡ false) ↔ (memory_at memories.old cell.component cell.cycle ≡ G.codec.memory (M.state row.now cell.component)) }
+{
+    let other = differs::<G, M>(memories, slots, row, step, cell);
+    mark_if(changes, cell.component, other);
+    let alloc = *ready.allocator();
+    let change = ready_one::<G, M>(memories, alloc, slots, row, step, cell)?;
+    ready[cell.component as usize] = change;
+    Ok(())
+}
+
+/// The same of all components of a set: those are marked of which the cell has another memory.
 fn ready_all<G: Grid, M: WholeRow<G>>(
     memories: &mut Lists<G::Memory>,
     ready: &mut Vec<Option<Change<G::Memory>>>,
@@ -139,17 +189,12 @@ fn ready_all<G: Grid, M: WholeRow<G>>(
     ensures unmarked { OnOk result ((c : ℕ) → is_awake set.now c ≡ false → is_awake changes.new c ≡ false) }
 {
     changes.clear_all();
-    let alloc = *ready.allocator();
     // The number of a component is below this one, so that of the next fits.
     let _count = set.len();
     let mut next = 0;
     while let Some(component) = set.first_from(next) {
         let cell = Cell { cycle, component };
-        if differs::<G, M>(memories, slots, row, step, cell) {
-            changes.set(component);
-        }
-        let change = ready_one::<G, M>(memories, alloc, slots, row, step, cell)?;
-        ready[component as usize] = change;
+        ready_cell::<G, M>(memories, ready, slots, row, step, changes, cell)?;
         next = component + 1;
     }
     Ok(())
