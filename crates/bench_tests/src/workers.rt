@@ -9,7 +9,7 @@ mod waves;
 use bench_core::Asked;
 use benches::opened;
 use expect::equal;
-use gates::{Board, Meeting};
+use gates::{Board, Meeting, Stopping};
 use monitor_sums::Counter;
 use run_queries::{Body, Query};
 use shared_bench::Pass;
@@ -80,5 +80,26 @@ fn example_27_all_cells(rt: HostRuntime) -> Result<(), Fail> {
             }
         )
     );
+    Ok(())
+}
+
+/// Each cell of a lot is a turn for which the gate is asked. A worker that is stopped within its lot of 6 cells gives back what it
+/// has computed, and one that has fewer turns claims no more; all are computed within 66.
+#[test]
+fn a_worker_stops_within_a_lot(rt: HostRuntime) -> Result<(), Fail> {
+    let cases = [
+        (0, 66, 0),
+        (4, 66, 4),
+        (6, 66, 6),
+        (8, 66, 8),
+        (66, 4, 4),
+        (66, 66, 66),
+        (80, 70, 66),
+    ];
+    for (stop, turns, given) in cases {
+        let gates = vec![in rt.alloc(); Stopping::at(stop)]?;
+        let came = worked(&rt, opened(rt.alloc(), 2)?, gates, turns);
+        assert!(rt; equal(&rt, came, (given, given, None)));
+    }
     Ok(())
 }

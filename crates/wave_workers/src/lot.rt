@@ -1,7 +1,7 @@
 //! Lots: cells of one cycle that a worker claims in one turn of the bench, computes one after another outside of every turn,
 //! and gives back in one more.
 ghost use Rattle.std.specs.Prelude.{◌≡◌, ◌+◌, ◌≤◌, vec_len, vec_capacity};
-ghost use Rattle.wave_workers.specs.Working.{IsKept};
+ghost use Rattle.wave_workers.specs.Working.{IsKept, counted, stored_in};
 
 use crate::gate::Gate;
 use crate::tally::{Came, Tally};
@@ -138,7 +138,10 @@ fn compute<G: Gate>(
 }
 
 /// How many results these answers are, and how many of them were stored.
-fn tally_of(answers: Vec<Given<Done<Rp3>>>) -> Tally {
+fn tally_of(answers: Vec<Given<Done<Rp3>>>) -> Tally
+    ensures given { result.given ≡ counted 0 (vec_len answers) }
+    ensures stored { result.stored ≡ counted 0 (stored_in answers.items) }
+{
     let mut tally = Tally::new();
     for given in answers {
         tally = tally.after(Came::of(given));

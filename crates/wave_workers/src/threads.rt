@@ -114,12 +114,14 @@ fn all<R: Threads + Wait + Sync + Send + Copy + 'static, G: Gate + Send + Drop +
 
 /// Computes due cells by one worker for each gate, each in a thread of its own with a pass of its own. A worker claims a lot of
 /// cells of one cycle, as `Pass::claim_many`, computes them one after another, and gives the results back, as
-/// `Pass::give_many`. Each cell is a turn of the worker: it asks its gate whether to go on, before the claim for the first of a
-/// lot, and tells it of the cell when it begins to compute it and when it has. It ends after so many turns, or where its gate stops it;
-/// what it has computed of a lot is then given back, and the rest let go. A lot has as many cells as turns are left, as
-/// fall to each worker of a cycle, or 64, whatever is least. The worker of gate i of n first claims from i lots behind the
-/// begin of cycle 0 on, and later from n lots behind the begin of its last one, or from i lots behind the begin of the next
-/// cycle. Where nothing is due, or a growth is refused, the turn ends, and the worker goes on.
+/// `Pass::give_many`. Each cell is a turn of the worker: it asks its gate whether to go on, for the first of a lot before the
+/// claim, and tells it when it begins to compute the cell and when it has. It ends after so many turns, or where its gate stops
+/// it; what it has computed of a lot is then given back, and the other claims are let go. Where nothing is due, or a growth is
+/// refused, the turn ends, and the worker goes on.
+///
+/// A lot has 64 cells, the part of a cycle that falls to each worker, or as many as turns are left, whatever is least. The
+/// worker of gate i of n first claims from i lots behind the begin of cycle 0 on, and later from n lots behind the begin of its
+/// last one, or, where its cycle ends before, from i lots behind the begin of the next cycle.
 ///
 /// All threads have ended when it answers, and their passes are joined into the one that comes back. On a fault no further
 /// worker was started, and the results of those that were stand. `started` is their number.

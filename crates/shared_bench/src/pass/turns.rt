@@ -106,9 +106,9 @@ impl Pass {
     }
 
     /// Claims of cells of one cycle, at most so many and at most 64, in one turn: greater numbers are taken for 64. The first is
-    /// what `claim` claims from `from` on; each further one is of the next cell of its cycle that is due and can be computed,
-    /// by component; where they are fewer than asked for, the cycle has no further one. None exactly where no cell is due, or none was asked
-    /// for. Nothing of the bench is changed, whatever it answers.
+    /// what `claim` claims from `from` on. Each further one is of the next cell of its cycle, by component, that is due and can
+    /// be computed; where they are fewer than asked for, the cycle has no further one. None exactly where no cell is due, or
+    /// none was asked for. Nothing of the bench is changed, whatever it answers.
     ///
     /// # Errors
     ///
