@@ -1,6 +1,6 @@
 //! Lots: cells of one cycle that a worker claims in one turn of the bench, computes one after another outside of every turn,
 //! and gives back in one more.
-ghost use Rattle.std.specs.Prelude.{◌≡◌, ◌+◌, ◌≤◌, vec_len, vec_capacity};
+ghost use Rattle.std.specs.Prelude.{◌≡◌, ◌+◌, ◌≤◌, length, vec_len, vec_capacity};
 ghost use Rattle.wave_workers.specs.Working.{IsKept, counted, stored_in};
 
 use crate::gate::Gate;
@@ -139,7 +139,7 @@ fn compute<G: Gate>(
 
 /// How many results these answers are, and how many of them were stored.
 fn tally_of(answers: Vec<Given<Done<Rp3>>>) -> Tally
-    ensures given { result.given ≡ counted 0 (vec_len answers) }
+    ensures given { result.given ≡ counted 0 (length answers.items) }
     ensures stored { result.stored ≡ counted 0 (stored_in answers.items) }
 {
     let mut tally = Tally::new();

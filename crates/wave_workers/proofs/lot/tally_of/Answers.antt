@@ -21,8 +21,8 @@ loop-given-preserved c =
     let long : 1 + length left ≡ length (into_iter_items at.given-iterator) = omega arith in
     record {
       left = omega (arith, was, gone, short);
-      given = ap (λ n. counted n (length left)) c.after.ensures.given ∙ (counted_on at.tally.given (given_by c.of.result) (length left) ∙ (ap (counted at.tally.given) (ap (λ n. n + length left) one ∙ long) ∙ inv.given));
-      stored = ap (λ n. counted n (stored_in left)) c.after.ensures.stored ∙ (counted_on at.tally.stored (stored_by c.of.result) (stored_in left) ∙ (ap (counted at.tally.stored) (ap (λ n. n + stored_in left) stored ∙ sym (ap stored_in steps)) ∙ inv.stored));
+      given = ap (λ n. counted n (length left)) c.after-tally.ensures.given ∙ (counted_on at.tally.given (given_by c.of.result) (length left) ∙ (ap (counted at.tally.given) (ap (λ n. n + length left) one ∙ long) ∙ inv.given));
+      stored = ap (λ n. counted n (stored_in left)) c.after-tally.ensures.stored ∙ (counted_on at.tally.stored (stored_by c.of.result) (stored_in left) ∙ (ap (counted at.tally.stored) (ap (λ n. n + stored_in left) stored ∙ sym (ap stored_in steps)) ∙ inv.stored));
     }
 
 pub returns-clause-given : goal.returns-clause-given
