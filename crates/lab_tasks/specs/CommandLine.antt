@@ -6,7 +6,7 @@ use Rattle.clap.specs.declared.builder.command.Command.{Command}
 use Rattle.clap.specs.declared.builder.command.Command.TheViews.{out-Command}
 use Rattle.clap.specs.declared.builder.action.ArgAction.TheVariants.{Set, Append, SetTrue}
 
--- an argument `--ID VALUE`, one that is given once or more, one without a value, and the project file
+-- an argument `--ID VALUE`, one that is given once or more, one without a value, one by its position, and the project file
 abbrev pub option_rule : Text → Rule
 option_rule id = record (new_rule id) { long = Some id; action = Some Set; value_names = 1 }
 
@@ -16,8 +16,11 @@ several_rule id = record (new_rule id) { long = Some id; action = Some Append; v
 abbrev pub flag_rule : Text → Rule
 flag_rule id = record (new_rule id) { long = Some id; action = Some SetTrue }
 
+abbrev pub position_rule : Text → Rule
+position_rule id = record (new_rule id) { required = true }
+
 abbrev pub file_rule : Rule
-file_rule = record (new_rule (codes "FILE")) { required = true }
+file_rule = position_rule (codes "FILE")
 
 -- a task with these arguments
 abbrev pub task : Text → List Rule → Shape
@@ -34,6 +37,9 @@ latency_task = task (codes "latency") (file_rule ∷ map option_rule (codes "pro
 
 abbrev pub done_task : Shape
 done_task = task (codes "done") (file_rule ∷ [])
+
+abbrev pub trace_task : Shape
+trace_task = task (codes "trace") (file_rule ∷ position_rule (codes "P") ∷ position_rule (codes "I") ∷ [])
 
 abbrev pub measured_rules : List Rule
 measured_rules = map option_rule (codes "k" ∷ codes "hot" ∷ codes "cycles" ∷ codes "seed" ∷ [])
@@ -61,7 +67,7 @@ convert_task = task (codes "convert") (file_rule ∷ option_rule (codes "out") �
 
 -- the tasks
 abbrev pub tasks : List Shape
-tasks = map_task ∷ order_task ∷ latency_task ∷ done_task ∷ rates_task ∷ delays_task ∷ sweep_task ∷ check_task ∷ convert_task ∷ []
+tasks = map_task ∷ order_task ∷ latency_task ∷ done_task ∷ trace_task ∷ rates_task ∷ delays_task ∷ sweep_task ∷ check_task ∷ convert_task ∷ []
 
 -- no task has this name
 abbrev pub IsNoTask : Text → Type 0

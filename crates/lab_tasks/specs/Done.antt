@@ -13,7 +13,7 @@ use Rattle.lab_tasks.specs.declared.plan.CurvePlan.{CurvePlan}
 use Rattle.lab_tasks.specs.declared.tables.RatePoint.{RatePoint}
 use Rattle.lab_tasks.specs.declared.tables.DelayPoint.{DelayPoint}
 use Rattle.lab_tasks.specs.declared.words.Asked.{Asked}
-use Rattle.lab_tasks.specs.declared.words.Asked.TheVariants.{Map, Order, Latency, Done as Completed, Rates, Delays, Sweep, Check, Convert}
+use Rattle.lab_tasks.specs.declared.words.Asked.TheVariants.{Map, Order, Latency, Done as Completed, Trace, Rates, Delays, Sweep, Check, Convert}
 use Rattle.lab_tasks.specs.declared.words.MapWords.{MapWords}
 use Rattle.lab_tasks.specs.declared.words.CurveWords.{CurveWords}
 use Rattle.lab_tasks.specs.declared.words.SweepWords.{SweepWords}
@@ -34,6 +34,7 @@ use Rattle.lab_tasks.specs.Kept.{IsWithKept}
 use Rattle.lab_tasks.specs.SweepTables.{IsTable, IsNoTable, OrStop}
 use Rattle.lab_tasks.specs.Summaries.{IsSummary}
 use Rattle.lab_tasks.specs.ProjectTexts.{project_text}
+use Rattle.lab_tasks.specs.Traces.{IsNoTag, IsTraceText}
 use Rattle.lab_tasks.specs.Ends.{Refuses}
 
 -- a text that is made of the project that a file's bytes are goes to a file, or to standard output
@@ -104,6 +105,7 @@ IsDone (Map words) bytes outcome = IsMapMade words bytes outcome
 IsDone (Order words) bytes outcome = IsMadeOf bytes (text_of words.out) (IsOrderText words) outcome
 IsDone (Latency words) bytes outcome = IsMadeOf bytes None (IsLatencyText words) outcome
 IsDone (Completed file) bytes outcome = IsMadeOf bytes None IsCompletionText outcome
+IsDone (Trace words) bytes outcome = IsMadeOf bytes None (IsTraceText words) outcome
 IsDone (Rates words) bytes outcome = AreRates words outcome
 IsDone (Delays words) bytes outcome = AreDelays words outcome
 IsDone (Sweep words) bytes outcome = IsMadeOf bytes (text_of words.csv) (IsSweepText words) outcome
@@ -124,6 +126,7 @@ IsNotDone (Map words) bytes e = IsNotMade bytes (λ P. IsNoMap P words e) e
 IsNotDone (Order words) bytes e = IsNotMade bytes (λ P. IsNoOrder P words e) e
 IsNotDone (Latency words) bytes e = IsNotMade bytes (λ P. IsNoCondition P words e) e
 IsNotDone (Completed file) bytes e = IsNotMade bytes (λ P. ⊥) e
+IsNotDone (Trace words) bytes e = IsNotMade bytes (λ P. IsNoTag P words e) e
 IsNotDone (Rates words) bytes e = (e ≡ end.Memory) ⊎ IsNoCurve words e
 IsNotDone (Delays words) bytes e = (e ≡ end.Memory) ⊎ IsNoCurve words e
 IsNotDone (Sweep words) bytes e = IsNotMade bytes (IsNoSweep words e) e

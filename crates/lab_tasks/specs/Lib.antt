@@ -24,4 +24,5 @@ pub mod Summaries
 pub mod SweepTables
 pub mod Sweeps
 pub mod Tables
+pub mod Traces
 pub mod Words

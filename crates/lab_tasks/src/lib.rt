@@ -44,6 +44,7 @@ mod sweep;
 mod swept;
 mod tables;
 mod task;
+mod trace;
 mod words;
 
 pub use convert::ConvertWords;
@@ -54,4 +55,5 @@ pub use order::OrderWords;
 pub use outcome::{OutFile, Outcome};
 pub use progress::{Progress, Silent};
 pub use task::perform;
+pub use trace::TraceWords;
 pub use words::{Asked, CurveWords, MapWords, SweepWords, read_words};

@@ -14,6 +14,7 @@ ghost use Rattle.lab_tasks.specs.Plans.{IsNoCurve, IsNoMap};
 ghost use Rattle.lab_tasks.specs.RatePictures.{IsRatePicture};
 ghost use Rattle.lab_tasks.specs.Summaries.{IsSummary};
 ghost use Rattle.lab_tasks.specs.Tables.{delay_row, rate_row, table_text};
+ghost use Rattle.lab_tasks.specs.Traces.{IsNoTag, IsTraceText};
 ghost use Rattle.lab_tasks.specs.Words.{text_of};
 
 use crate::check::summary;
@@ -34,6 +35,7 @@ use crate::rate_picture::rate_picture;
 use crate::rates::{rate_points, rate_table};
 use crate::sweep::sweep_table;
 use crate::tables::{DelayPoint, RatePoint};
+use crate::trace::{TraceWords, trace_line, traced};
 use crate::words::{Asked, CurveWords, MapWords, SweepWords};
 use experiments::{Load, project_of};
 use page_map::MAX_K;
@@ -141,6 +143,16 @@ fn done<'a>(alloc: Global, bytes: &[u8]) -> Result<Outcome, End<'a>>
 {
     let project = project_in(alloc, bytes)?;
     let text = completion_report(alloc, &project)?;
+    Ok(to_file_or_output(alloc, None, text.into_bytes())?)
+}
+
+fn trace<'a>(alloc: Global, words: &TraceWords<'a>, bytes: &[u8]) -> Result<Outcome, End<'a>>
+    ensures done { IfOk result (IsMadeOf bytes.now None (IsTraceText words.now)) }
+    ensures refused { IfErr result (λ end. IsNotMade bytes.now (λ P. IsNoTag P words.now end) end) }
+{
+    let project = project_in(alloc, bytes)?;
+    let tag = traced(words, &project)?;
+    let text = trace_line(alloc, &project, tag)?;
     Ok(to_file_or_output(alloc, None, text.into_bytes())?)
 }
 
@@ -384,6 +396,7 @@ pub fn perform<'a, T: Threads + Sync, P: Progress>(
             let outcome = done(alloc, bytes)?;
             Ok(outcome)
         }
+        Asked::Trace(words) => trace(alloc, words, bytes),
         Asked::Rates(words) => rates(rt, alloc, words, progress),
         Asked::Delays(words) => delays(rt, alloc, words, progress),
         Asked::Sweep(words) => sweep(rt, alloc, words, bytes),

@@ -4,12 +4,13 @@ ghost use Rattle.std.specs.Option.{option_map_or};
 ghost use Rattle.clap.specs.Matches.{matched_of, raw_values};
 ghost use Rattle.clap.specs.Walk.{texts};
 ghost use Rattle.clap.specs.Words.{FailsBy, fault_of, first_of, found_of, new_app, rows_of, rule_of, subcommand_of};
-ghost use Rattle.lab_tasks.specs.CommandLine.{bare, check_task, convert_task, delays_task, done_task, file_rule, flag_rule, kept_rules, lab, map_task, latency_task, measured_task, option_rule, order_task, rates_task, several_rule, sweep_task, HasAll, HasMore, HasTask, IsApp, IsLab, IsNoTask, IsTask};
-ghost use Rattle.lab_tasks.specs.Words.{file_at, is_given, text_of, texts_at, AreConvertWords, AreCurveWords, AreLatencyWords, AreMapWords, AreOrderWords, AreSweepWords, AsksFor};
+ghost use Rattle.lab_tasks.specs.CommandLine.{bare, check_task, convert_task, delays_task, done_task, file_rule, flag_rule, kept_rules, lab, map_task, latency_task, measured_task, option_rule, order_task, position_rule, rates_task, several_rule, sweep_task, trace_task, HasAll, HasMore, HasTask, IsApp, IsLab, IsNoTask, IsTask};
+ghost use Rattle.lab_tasks.specs.Words.{file_at, is_given, text_of, texts_at, AreConvertWords, AreCurveWords, AreLatencyWords, AreMapWords, AreOrderWords, AreSweepWords, AreTraceWords, AsksFor};
 
 use crate::convert::ConvertWords;
 use crate::latency::LatencyWords;
 use crate::order::OrderWords;
+use crate::trace::TraceWords;
 use clap::{Arg, ArgAction, ArgMatches, Command, Error};
 use std::alloc::{AllocError, Global};
 
@@ -55,6 +56,7 @@ pub enum Asked<'a> {
     Order(OrderWords<'a>),
     Latency(LatencyWords<'a>),
     Done { file: &'a str },
+    Trace(TraceWords<'a>),
     Rates(CurveWords<'a>),
     Delays(CurveWords<'a>),
     Sweep(SweepWords<'a>),
@@ -74,6 +76,7 @@ impl<'a> Asked<'a> {
             Asked::Order(words) => Some(words.file),
             Asked::Latency(words) => Some(words.file),
             Asked::Done { file } => Some(*file),
+            Asked::Trace(words) => Some(words.file),
             Asked::Rates(_) | Asked::Delays(_) => None,
             Asked::Sweep(words) => Some(words.file),
             Asked::Check { file } => Some(*file),
@@ -94,6 +97,9 @@ const LATENCY_ABOUT: &str =
 
 const DONE_ABOUT: &str =
     "Says when each processor had its last reply and came to the end of its script: the earliest, the latest and a table";
+
+const TRACE_ABOUT: &str =
+    "Says where a reference, or the one that it was combined into, was at each cycle";
 
 const RATES_ABOUT: &str =
     "Measures references answered per cycle against the number of processors, for some shares of hot references";
@@ -156,11 +162,18 @@ fn flag<'a>(alloc: Global, id: &'a str, help: &'a str) -> Arg<'a>
         .help(help)
 }
 
+fn position<'a>(alloc: Global, id: &'a str, help: &'a str) -> Arg<'a>
+    ensures rule { rule_of result ≡ position_rule id.entry.now }
+    ensures global { result.global ≡ false }
+{
+    Arg::new(alloc, id).required(true).help(help)
+}
+
 fn file_argument<'a>(alloc: Global) -> Arg<'a>
     ensures rule { rule_of result ≡ file_rule }
     ensures global { result.global ≡ false }
 {
-    Arg::new(alloc, "FILE").required(true).help(FILE_HELP)
+    position(alloc, "FILE", FILE_HELP)
 }
 
 /// A task without arguments, with a text behind its help.
@@ -182,6 +195,17 @@ fn with_file<'a>(alloc: Global, task: Command<'a>) -> Result<Command<'a>, AllocE
     ensures { IfOk result (HasMore task.entry file_rule) }
 {
     with(task, file_argument(alloc))
+}
+
+fn with_position<'a>(
+    alloc: Global,
+    task: Command<'a>,
+    id: &'a str,
+    help: &'a str,
+) -> Result<Command<'a>, AllocError>
+    ensures { IfOk result (HasMore task.entry (position_rule id.entry.now)) }
+{
+    with(task, position(alloc, id, help))
 }
 
 fn with_option<'a>(
@@ -310,6 +334,20 @@ fn done_command<'a>(alloc: Global) -> Result<Command<'a>, AllocError>
     ensures { IfOk result (IsTask done_task) }
 {
     let task = with_file(alloc, named(alloc, "done", DONE_ABOUT, ENDS))?;
+    Ok(task)
+}
+
+fn trace_command<'a>(alloc: Global) -> Result<Command<'a>, AllocError>
+    ensures { IfOk result (IsTask trace_task) }
+{
+    let task = with_file(alloc, named(alloc, "trace", TRACE_ABOUT, ENDS))?;
+    let task = with_position(alloc, task, "P", "The processor that issues it")?;
+    let task = with_position(
+        alloc,
+        task,
+        "I",
+        "Its number among the references of that processor, from 0",
+    )?;
     Ok(task)
 }
 
@@ -488,6 +526,7 @@ fn lab_command<'a>(alloc: Global) -> Result<Command<'a>, AllocError>
     let command = with_task(command, order_command(alloc)?)?;
     let command = with_task(command, latency_command(alloc)?)?;
     let command = with_task(command, done_command(alloc)?)?;
+    let command = with_task(command, trace_command(alloc)?)?;
     let command = with_task(command, rates_command(alloc)?)?;
     let command = with_task(command, delays_command(alloc)?)?;
     let command = with_task(command, sweep_command(alloc)?)?;
@@ -572,6 +611,16 @@ fn latency_words<'a>(matches: &ArgMatches<'a>) -> LatencyWords<'a>
     }
 }
 
+fn trace_words<'a>(matches: &ArgMatches<'a>) -> TraceWords<'a>
+    ensures { AreTraceWords (rows_of (found_of matches.now)) result }
+{
+    TraceWords {
+        file: file_in(matches),
+        processor: text_in(matches, "P"),
+        number: text_in(matches, "I"),
+    }
+}
+
 fn curve_words<'a>(matches: &ArgMatches<'a>) -> CurveWords<'a>
     ensures { AreCurveWords (rows_of (found_of matches.now)) result }
 {
@@ -627,6 +676,7 @@ fn asked_of<'a>(
         "done" => Some(Asked::Done {
             file: file_in(matches),
         }),
+        "trace" => Some(Asked::Trace(trace_words(matches))),
         "rates" => Some(Asked::Rates(curve_words(matches))),
         "delays" => Some(Asked::Delays(curve_words(matches))),
         "sweep" => Some(Asked::Sweep(sweep_words(alloc, matches)?)),

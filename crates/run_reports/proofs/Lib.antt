@@ -6,3 +6,4 @@ pub mod Numbers
 pub mod Runners
 pub mod Spreading
 pub mod Tallying
+pub mod Tracing

@@ -8,3 +8,5 @@ pub mod Marking
 pub mod References
 pub mod Runners
 pub mod Texts
+pub mod TraceTexts
+pub mod Traces

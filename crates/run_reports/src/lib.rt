@@ -10,10 +10,12 @@
 //!   [`cycles_of`] and [`spread_of`] the earliest and the latest of these cycles.
 //! - [`completion_text`]: these figures as lines, and the completions as a table.
 //! - [`Runner`]: the run that they are counted from, one cycle at a time; nothing of it is kept.
+//! - [`trace`]: where a reference, or the one that it was combined into, was at each cycle, as spans ([`Span`]);
+//!   [`trace_text`]: these as a line.
 //!
 //! The crate stands on `flat_row` for a run that is stepped cycle by cycle and not kept, and on `machine_cells` and `project_book`
 //! for what a run is. It promises that each report is that of the run of the project from cycle 0 (`specs/References.antt`,
-//! `specs/Latencies.antt`, `specs/Completions.antt`), and that each figure is the one of its histogram (`specs/Figures.antt`) or of its
+//! `specs/Latencies.antt`, `specs/Completions.antt`, `specs/Traces.antt`), and that each figure is the one of its histogram (`specs/Figures.antt`) or of its
 //! cycles.
 #![tactic(auto)]
 
@@ -25,7 +27,9 @@ mod latency;
 mod reference;
 mod report;
 mod runner;
+mod spans;
 mod spread;
+mod trace_report;
 
 pub use completion::{Completion, Event, completions};
 pub use completion_report::completion_text;
@@ -34,4 +38,6 @@ pub use latency::{Latencies, latencies_of};
 pub use reference::{Reference, references};
 pub use report::{Summary, latency_text};
 pub use runner::Runner;
+pub use spans::{Span, Spot, trace};
 pub use spread::{Spread, cycles_of, spread_of};
+pub use trace_report::trace_text;
