@@ -31,15 +31,20 @@ pub struct Share {
 
 impl Share {
     /// The share of the worker of this number on a machine of 2^k processors. A lot has 64 cells, the part of a cycle that falls
-    /// to each worker, or as many as the worker has turns, whatever is least.
+    /// to each worker, or as many as the worker has turns, whatever is least. That of a worker alone has one cell: nobody else
+    /// wants the turns that a longer one would save.
     pub fn of(k: u32, number: u32, plan: Plan) -> Share {
         let components = match Shape::new(k) {
             Some(shape) => shape.components(),
             None => 0,
         };
         let workers = plan.workers.max(1);
-        let lot = LOT.min(components.div_ceil(workers)).max(1);
-        let lot = u64::from(lot).min(plan.turns) as u32;
+        let part = if workers == 1 {
+            1
+        } else {
+            components.div_ceil(workers)
+        };
+        let lot = u64::from(LOT.min(part).max(1)).min(plan.turns) as u32;
         Share {
             components,
             first: lot.saturating_mul(number),
@@ -86,14 +91,19 @@ pub struct Lotted {
 }
 
 impl Lotted {
-    /// No cell was due, or a growth was refused: a turn has passed.
-    fn nothing(next: Cell) -> Lotted {
+    /// One turn came to this.
+    fn one(next: Cell, tally: Tally) -> Lotted {
         Lotted {
             next,
             turns: 1,
-            tally: Tally::new(),
+            tally,
             is_last: false,
         }
+    }
+
+    /// No cell was due, or a growth was refused: a turn has passed.
+    fn nothing(next: Cell) -> Lotted {
+        Lotted::one(next, Tally::new())
     }
 }
 
@@ -149,6 +159,30 @@ fn tally_of(answers: Vec<Given<Done<Rp3>>>) -> Tally
     tally
 }
 
+/// Claims the first cell from there on, computes it, and gives it back: a lot of one cell, without lists.
+fn work_one<R: Wait, G: Gate>(
+    rt: &R,
+    pass: &mut Pass,
+    gate: &mut G,
+    share: Share,
+    from: Cell,
+) -> Lotted
+    ensures { IsKept pass.old pass.new }
+{
+    let Ok(Some(claim)) = pass.claim(rt, from) else {
+        return Lotted::nothing(from);
+    };
+    let cell = claim.cell();
+    let next = share.after(cell);
+    gate.claimed(cell);
+    let Ok(done) = claim.compute() else {
+        return Lotted::nothing(next);
+    };
+    gate.computed(cell);
+    let came = Came::of(pass.give(rt, done));
+    Lotted::one(next, Tally::new().after(came))
+}
+
 /// Claims a lot of at most so many cells from there on, computes it, and gives it back.
 pub fn work_lot<R: Wait, G: Gate>(
     rt: &R,
@@ -161,6 +195,9 @@ pub fn work_lot<R: Wait, G: Gate>(
 ) -> Lotted
     ensures { IsKept pass.old pass.new }
 {
+    if share.lot == 1 {
+        return work_one(rt, pass, gate, share, from);
+    }
     let most = u64::from(share.lot).min(most) as u32;
     let Ok(claims) = pass.claim_many(rt, from, most) else {
         return Lotted::nothing(from);

@@ -119,9 +119,9 @@ fn all<R: Threads + Wait + Sync + Send + Copy + 'static, G: Gate + Send + Drop +
 /// it; what it has computed of a lot is then given back, and the other claims are let go. Where nothing is due, or a growth is
 /// refused, the turn ends, and the worker goes on.
 ///
-/// A lot has 64 cells, the part of a cycle that falls to each worker, or as many as turns are left, whatever is least. The
-/// worker of gate i of n first claims from i lots behind the begin of cycle 0 on, and later from n lots behind the begin of its
-/// last one, or, where its cycle ends before, from i lots behind the begin of the next cycle.
+/// A lot has 64 cells, the part of a cycle that falls to each worker, or as many as turns are left, whatever is least; that of a
+/// worker alone has one. The worker of gate i of n first claims from i lots behind the begin of cycle 0 on, and later from n
+/// lots behind the begin of its last one, or, where its cycle ends before, from i lots behind the begin of the next cycle.
 ///
 /// All threads have ended when it answers, and their passes are joined into the one that comes back. On a fault no further
 /// worker was started, and the results of those that were stand. `started` is their number.
