@@ -26,7 +26,7 @@ pub(crate) fn traced<'a>(words: &TraceWords<'a>, project: &Project) -> Result<Ta
     ensures told { IfOk result (IsTag project.now words.now) }
     ensures refused { IfErr result (IsNoTag project.now words.now) }
 {
-    let last = project.processors().saturating_sub(1);
+    let last = project.shape().lines().saturating_sub(1);
     let proc = number_at("P", words.processor, 0, 0, last)?;
     let issue = number_at("I", words.number, 0, 0, project.horizon())?;
     Ok(Tag {
@@ -36,11 +36,7 @@ pub(crate) fn traced<'a>(words: &TraceWords<'a>, project: &Project) -> Result<Ta
 }
 
 /// The trace of a reference as a line.
-pub(crate) fn trace_line<'a>(
-    alloc: Global,
-    project: &Project,
-    tag: Tag,
-) -> Result<String, End<'a>>
+pub(crate) fn trace_line<'a>(alloc: Global, project: &Project, tag: Tag) -> Result<String, End<'a>>
     ensures text { IfOk result (λ text. string_bytes text ≡ trace_text project.now.k tag (trace project.now (state_in (run project.now)) tag)) }
     ensures memory { IsOkUnless result End.Memory }
 {

@@ -52,7 +52,13 @@ fn is_written(was: &ModuleState, is: &ModuleState, left: Option<Stored>) -> bool
 
 /// Whether of each module the words one cycle later are those of the row after its step, where the row has lost its memory and is handed
 /// it.
-fn are_handed(alloc: Global, project: &Project, row: &Row, lost: &Row, next: &Row) -> Result<bool, Fail>
+fn are_handed(
+    alloc: Global,
+    project: &Project,
+    row: &Row,
+    lost: &Row,
+    next: &Row,
+) -> Result<bool, Fail>
     requires row { IsRowOf project.now row.now }
     requires lost { IsRowOf project.now lost.now }
     requires next { IsRowOf project.now next.now }
