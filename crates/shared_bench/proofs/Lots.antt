@@ -1,13 +1,12 @@
 -- Lots: what one claim tells of a cycle's cells, and loops over claims and results.
-use Rattle.std.proofs.Common.{◌≡◌, ◌⊎◌, inl, inr, ℕ, zero, suc, ◌+◌, ◌-◌, ◌<◌, ◌≤◌, Bool, true, false, List, [], ◌∷◌, ◌++◌, length, All, refl, sym, ap, ◌∙◌, subst, arith, append-nil, append_assoc, Option, None, Some, Result, Ok, Err}
+use Rattle.std.proofs.Common.{◌≡◌, inl, inr, ℕ, zero, suc, ◌+◌, ◌-◌, ◌<◌, ◌≤◌, Bool, true, false, List, [], ◌∷◌, ◌++◌, length, All, refl, sym, ap, ◌∙◌, subst, arith, append-nil, append_assoc, Option, None, Some, Result, Ok, Err}
 use Rattle.std.specs.Prelude.{IfOk, IfSome, MatchOption}
 use Rattle.std.proofs.lemmas.List.Elements.{All-nil, All-cons, All-push}
 use Rattle.grid_law.specs.declared.no_memory.NoMemory.{NoMemory}
 use Rattle.cell_table.specs.declared.cell.Cell.{Cell}
 use Rattle.cell_table.specs.declared.given.Given.{Given}
-use Rattle.cell_table.specs.Cells.{IsThere}
 use Rattle.cell_table.specs.Seen.{held_at}
-use Rattle.cell_table.specs.Claims.{Claimed, Computed, is_claimable, NoneDue, IsNextInRow, IsNext, IsNextRound, NoneFrom, IsClaim}
+use Rattle.cell_table.specs.Claims.{Claimed, Computed, is_claimable, NoneDue, IsNextRound, IsClaim}
 use Rattle.cell_table.specs.Settling.{NoneDueFrom, IsNextDue}
 use Rattle.machine_cells.specs.declared.state.MachineState.{MachineState}
 use Rattle.machine_cells.specs.GridRules.{rp3_rules}
