@@ -1,6 +1,5 @@
 //! Which queues of a run were full, and at which cycle they first were.
-ghost use Rattle.std.specs.Prelude.{◌≡◌, ◌<◌, ◌++◌, ◌==◌, IfOk, OnOk, Some, length, map, nat_lt, slice_get};
-ghost use Rattle.omega_net.specs.Numbers.{components};
+ghost use Rattle.std.specs.Prelude.{◌≡◌, ◌+◌, ◌++◌, IfOk, OnOk, Some, map, slice_get};
 ghost use Rattle.omega_net.specs.Ports.{queue_at};
 ghost use Rattle.omega_net.specs.Queues.{free};
 ghost use Rattle.omega_net.specs.Wires.{net_number};
@@ -8,7 +7,7 @@ ghost use Rattle.machine_cells.specs.Run.{run};
 ghost use Rattle.machine_cells.specs.Runs.{state_in};
 ghost use Rattle.flat_row.specs.Row.{states_of};
 ghost use Rattle.run_reports.specs.Filling.{never, with_cycle, AreFirst};
-ghost use Rattle.run_reports.specs.FullQueues.{first_fulls, is_full, parts_of, queues, queues_of};
+ghost use Rattle.run_reports.specs.FullQueues.{first_fulls, is_full, queues, queues_of};
 ghost use Rattle.run_reports.specs.Runners.{IsAt};
 
 use crate::runner::Runner;
@@ -117,55 +116,53 @@ fn port_of(net: Net) -> u8
     }
 }
 
-/// How many messages wait at a port.
-fn at_port<T>(queues: &[Queue<T>; 2], port: u8) -> usize
-    ensures { result ≡ length (queue_at queues.now port).items }
+/// The free places of the queue at a port.
+fn free_at<T>(queues: &[Queue<T>; 2], port: u8, depth: u32) -> u32
+    ensures { result ≡ free depth (queue_at queues.now port) }
 {
     match queues.get(usize::from(port)) {
-        Some(queue) => queue.len(),
-        None => 0,
+        Some(queue) => free(queue, depth),
+        None => depth,
     }
 }
 
-/// The places of a depth that are free where so many wait.
-fn free(depth: u32, length: usize) -> u32
-    requires { length < 2 ^ 32 }
-    ensures { result ≡ depth - length }
+/// The free places of a queue.
+fn free<T>(queue: &Queue<T>, depth: u32) -> u32
+    ensures { result ≡ free depth queue.now }
 {
-    depth.saturating_sub(length as u32)
+    depth.saturating_sub(queue.len() as u32)
 }
 
 /// Whether a queue is full in a component's state.
 fn is_full(project: &Project, part: Part, state: &MachineState) -> bool
     ensures { result ≡ is_full project.now part (Some state.now) }
 {
-    let module = project.depth(Depths::ModuleQueue);
     match (part, state) {
-        (Part::Forward(output), MachineState::Low(s)) => free(
-            project.depth(Depths::LowForward),
-            at_port(&s.fwd, output),
-        ) < 2,
-        (Part::Forward(output), MachineState::Comb(s)) => free(
-            project.depth(Depths::CombForward),
-            at_port(&s.fwd, output),
-        ) < 2,
-        (Part::Reverse(input), MachineState::Low(s)) => free(
-            project.depth(Depths::LowReverse),
-            at_port(&s.rev, input),
-        ) < 2,
-        (Part::Reverse(input), MachineState::Comb(s)) => free(
-            project.depth(Depths::CombReverse),
-            at_port(&s.rev, input),
-        ) < 2,
-        (Part::Requests(net), MachineState::Module(s)) => free(
-            module,
-            at_port(&s.requests, port_of(net)),
-        ) == 0,
-        (Part::Replies(net), MachineState::Module(s)) => free(
-            module,
-            at_port(&s.replies, port_of(net)),
-        ) == 0,
-        (Part::Wait, MachineState::Comb(s)) => free(project.wait(), s.wait.len()) == 0,
+        (Part::Forward(output), MachineState::Low(s)) => {
+            let depth = project.depth(Depths::LowForward);
+            free_at(&s.fwd, output, depth) < 2
+        }
+        (Part::Forward(output), MachineState::Comb(s)) => {
+            let depth = project.depth(Depths::CombForward);
+            free_at(&s.fwd, output, depth) < 2
+        }
+        (Part::Reverse(input), MachineState::Low(s)) => {
+            let depth = project.depth(Depths::LowReverse);
+            free_at(&s.rev, input, depth) < 2
+        }
+        (Part::Reverse(input), MachineState::Comb(s)) => {
+            let depth = project.depth(Depths::CombReverse);
+            free_at(&s.rev, input, depth) < 2
+        }
+        (Part::Requests(net), MachineState::Module(s)) => {
+            let depth = project.depth(Depths::ModuleQueue);
+            free_at(&s.requests, port_of(net), depth) == 0
+        }
+        (Part::Replies(net), MachineState::Module(s)) => {
+            let depth = project.depth(Depths::ModuleQueue);
+            free_at(&s.replies, port_of(net), depth) == 0
+        }
+        (Part::Wait, MachineState::Comb(s)) => free(&s.wait, project.wait()) == 0,
         _ => false,
     }
 }
