@@ -2,7 +2,8 @@
 use Rattle.std.specs.Prelude.{ℕ, suc, ◌==◌, Bool, false, if◌then◌else◌, List, [], ◌++◌, Option, None, Some, codes, decimal, is_some, length}
 use Rattle.std.specs.List.{count_by, flat_map}
 use Rattle.omega_net.specs.Numbers.{component_of}
-use Rattle.omega_net.specs.Wires.{below, net_number}
+use Rattle.omega_net.specs.declared.component.Net.TheVariants.{Low, Comb}
+use Rattle.omega_net.specs.Wires.{below}
 use Rattle.run_reports.specs.declared.full_queues.Part.{Part}
 use Rattle.run_reports.specs.declared.full_queues.Part.TheVariants.{Forward, Reverse, Requests, Replies, Wait}
 use Rattle.run_reports.specs.declared.full_queues.FirstFull.{FirstFull}
@@ -12,8 +13,10 @@ use Rattle.run_reports.specs.TraceTexts.{place_text}
 abbrev pub part_text : Part → List ℕ
 part_text (Forward o) = codes "f" ++ decimal o
 part_text (Reverse i) = codes "r" ++ decimal i
-part_text (Requests net) = codes "q" ++ decimal (net_number net)
-part_text (Replies net) = codes "a" ++ decimal (net_number net)
+part_text (Requests Low) = codes "q0"
+part_text (Requests Comb) = codes "q1"
+part_text (Replies Low) = codes "a0"
+part_text (Replies Comb) = codes "a1"
 part_text Wait = codes "wait"
 
 -- whether a cycle is this one
@@ -35,7 +38,9 @@ full_rows k last fs = flat_map (λ t. flat_map (full_row k t) fs) (below (suc la
 abbrev pub were_full : List FirstFull → ℕ
 were_full fs = count_by (λ f. is_some f.cycle) fs
 
+abbrev pub counted_text : List FirstFull → List ℕ
+counted_text fs = codes "full " ++ decimal (were_full fs) ++ codes " of " ++ decimal (length fs) ++ codes "\n"
+
 -- the report: how many were full, and the table behind an empty line
 abbrev pub full_text : ℕ → ℕ → List FirstFull → List ℕ
-full_text k last fs =
-    codes "full " ++ decimal (were_full fs) ++ codes " of " ++ decimal (length fs) ++ codes "\n\ncycle,component,queue\n" ++ full_rows k last fs
+full_text k last fs = counted_text fs ++ codes "\ncycle,component,queue\n" ++ full_rows k last fs

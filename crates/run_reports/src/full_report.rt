@@ -2,7 +2,7 @@
 ghost use Rattle.std.specs.Prelude.{◌≡◌, ◌++◌, ◌≤◌, IfOk, OnOk, string_bytes};
 ghost use Rattle.std.specs.List.{flat_map};
 ghost use Rattle.project_book.specs.Limits.{max_horizon};
-ghost use Rattle.run_reports.specs.FullTexts.{full_row, full_rows, full_text, is_cycle, part_text, were_full};
+ghost use Rattle.run_reports.specs.FullTexts.{counted_text, full_row, full_rows, full_text, is_cycle, part_text, were_full};
 
 use crate::trace_report::Place;
 use crate::{FirstFull, Part};
@@ -90,6 +90,14 @@ fn were_full(firsts: &[FirstFull]) -> usize
     firsts.iter().filter(|first| first.cycle.is_some()).count()
 }
 
+/// Adds how many queues were full, and how many there are.
+fn add_counts(text: &mut String, firsts: &[FirstFull]) -> Result<(), AllocError>
+    ensures { OnOk result (string_bytes text.new ≡ string_bytes text.old ++ counted_text firsts.now) }
+{
+    let (full, all) = (were_full(firsts), firsts.len());
+    write!(text, "full {full} of {all}\n")
+}
+
 /// The report of full queues: how many were full up to a last cycle, and behind an empty line a table with a row for each of
 /// them, by the cycle at which they first were.
 ///
@@ -106,8 +114,8 @@ pub fn full_text(
     ensures { IfOk result (λ text. string_bytes text ≡ full_text shape last firsts.now) }
 {
     let mut text = String::new(alloc);
-    let (full, all) = (were_full(firsts), firsts.len());
-    write!(text, "full {full} of {all}\n\ncycle,component,queue\n")?;
+    add_counts(&mut text, firsts)?;
+    write!(text, "\ncycle,component,queue\n")?;
     add_all_rows(&mut text, shape, last, firsts)?;
     Ok(text)
 }
