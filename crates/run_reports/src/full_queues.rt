@@ -223,13 +223,12 @@ fn add_cycle(
     Ok(all)
 }
 
-/// All queues, before the first cycle.
-fn none_full(alloc: Global, project: &Project) -> Result<Vec<FirstFull>, AllocError>
-    ensures { IfOk result (λ v. AreFirst project.now 0 v.items) }
+/// These queues, where none was full yet.
+fn none_full(alloc: Global, queues: &[PartQueue]) -> Result<Vec<FirstFull>, AllocError>
+    ensures { IfOk result (λ v. v.items ≡ map never queues.now) }
 {
-    let queues = queues(alloc, project.shape())?;
     let mut all = Vec::with_capacity(alloc, queues.len())?;
-    for queue in &queues {
+    for queue in queues {
         all.push(FirstFull {
             queue: *queue,
             cycle: None,
@@ -249,7 +248,8 @@ pub fn first_fulls(alloc: Global, project: &Project) -> Result<Vec<FirstFull>, N
 {
     project.is_project();
     let mut runner = Runner::start(alloc, project)?;
-    let mut all = none_full(alloc, project)?;
+    let queues = queues(alloc, project.shape())?;
+    let mut all = none_full(alloc, queues.as_slice())?;
     for _cycle in 0..project.horizon() {
         all = add_cycle(alloc, project, &runner, all.as_slice())?;
         runner.step(project)?;
