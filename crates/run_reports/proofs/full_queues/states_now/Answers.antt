@@ -12,9 +12,9 @@ loop-number-preserved c =
     let n = c.loop-number.number in
     let f : ℕ → MachineState = λ m. state_of R (component_of R.k m) in
     let named : component_of R.k n ≡ Some c.unwrap-component.result = ap (λ (k : ℕ). component_of k n) (sym c.shape-shape.ensures) ∙ sym c.component.ensures.value ∙ c.unwrap-component.ensures in
-    let is : c.in_ok-state.state.now ≡ f n = c.in_ok-state.ensures ∙ ap (state_of R) (sym named) in
+    let is : c.in_ok-state.state ≡ f n = c.in_ok-state.ensures ∙ ap (state_of R) (sym named) in
     c.in-Ok.ensures.items
-    ∙ ap (λ (xs : List MachineState). xs ++ c.in_ok-state.state.now ∷ []) c.loop-number.invariant
+    ∙ ap (λ (xs : List MachineState). xs ++ c.in_ok-state.state ∷ []) c.loop-number.invariant
     ∙ ap (λ (s : MachineState). map f (below n) ++ s ∷ []) is
     ∙ sym (one_more_value f n)
 
