@@ -1,5 +1,5 @@
 -- The first cycles of full queues, cycle by cycle.
-use Rattle.std.proofs.Common.{◌≡◌, ℕ, ◌+◌, List, [], ◌∷◌, map, refl, sym, ap, ap₂, ◌∙◌, Option, Some, add-one}
+use Rattle.std.proofs.Common.{◌≡◌, ℕ, ◌+◌, List, [], ◌∷◌, map, refl, sym, ap, ap₂, ◌∙◌, Option, add-one}
 use Rattle.std.specs.Prelude.{slice_get, option_and_then}
 use Rattle.project_book.specs.Project.{Project}
 use Rattle.machine_cells.specs.declared.state.MachineState.{MachineState}
