@@ -111,8 +111,10 @@ fn a_lot_is_the_claims_one_by_one(rt: HostRuntime) -> Result<(), Fail> {
     for (component, most, count) in [(0, 0, 0), (0, 1, 1), (2, 3, 3), (2, 64, 4), (5, 64, 1)] {
         let some = cells_of(&rt, alloc, &mut pass, at(0, component), most)?;
         assert!(rt; equal(&rt, some.len(), count));
-        for (place, cell) in some.iter().enumerate() {
-            assert!(rt; *cell == (0, component.saturating_add(place as u32)));
+        let mut next: u32 = component;
+        for cell in &some {
+            assert!(rt; *cell == (0, next));
+            next = next.saturating_add(1);
         }
     }
     Ok(())
