@@ -3,6 +3,7 @@ ghost use Rattle.std.specs.Prelude.{◌≡◌, ◌<◌, ◌≤◌, IfOk, IfSome}
 
 mod benches;
 mod doing;
+mod lots;
 mod many;
 mod waking;
 

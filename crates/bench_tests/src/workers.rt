@@ -9,7 +9,7 @@ mod waves;
 use bench_core::Asked;
 use benches::opened;
 use expect::equal;
-use gates::{Board, Meeting};
+use gates::{Board, Meeting, Stopping};
 use monitor_sums::Counter;
 use run_queries::{Body, Query};
 use shared_bench::Pass;
@@ -80,5 +80,27 @@ fn example_27_all_cells(rt: HostRuntime) -> Result<(), Fail> {
             }
         )
     );
+    Ok(())
+}
+
+/// Each cell of a lot is a turn for which the gate is asked. One of two workers is stopped at once. The other one, which is
+/// stopped within its lot of 3 cells, gives back what it has computed; where it has fewer turns it claims no more; and in 66 turns
+/// it computes all.
+#[test]
+fn a_worker_stops_within_a_lot(rt: HostRuntime) -> Result<(), Fail> {
+    let cases = [
+        (0, 66, 0),
+        (2, 66, 2),
+        (3, 66, 3),
+        (4, 66, 4),
+        (66, 2, 2),
+        (66, 66, 66),
+        (80, 70, 66),
+    ];
+    for (stop, turns, given) in cases {
+        let gates = vec![in rt.alloc(); Stopping::at(0), Stopping::at(stop)]?;
+        let came = worked(&rt, opened(rt.alloc(), 3)?, gates, turns);
+        assert!(rt; equal(&rt, came, (given, given, None)));
+    }
     Ok(())
 }

@@ -13,13 +13,14 @@ use Rattle.lab_tasks.specs.declared.plan.CurvePlan.{CurvePlan}
 use Rattle.lab_tasks.specs.declared.tables.RatePoint.{RatePoint}
 use Rattle.lab_tasks.specs.declared.tables.DelayPoint.{DelayPoint}
 use Rattle.lab_tasks.specs.declared.words.Asked.{Asked}
-use Rattle.lab_tasks.specs.declared.words.Asked.TheVariants.{Map, Order, Latency, Done as Completed, Trace, Rates, Delays, Sweep, Check, Convert}
+use Rattle.lab_tasks.specs.declared.words.Asked.TheVariants.{Map, Order, Latency, Done as Completed, Trace, Full, Rates, Delays, Sweep, Check, Convert}
 use Rattle.lab_tasks.specs.declared.words.MapWords.{MapWords}
 use Rattle.lab_tasks.specs.declared.words.CurveWords.{CurveWords}
 use Rattle.lab_tasks.specs.declared.words.SweepWords.{SweepWords}
 use Rattle.lab_tasks.specs.declared.convert.ConvertWords.{ConvertWords}
 use Rattle.lab_tasks.specs.Words.{text_of, texts_of}
 use Rattle.lab_tasks.specs.Completions.{IsCompletionText}
+use Rattle.lab_tasks.specs.Fullness.{IsFullText}
 use Rattle.lab_tasks.specs.Latencies.{IsLatencyText, IsNoCondition}
 use Rattle.lab_tasks.specs.Orders.{IsOrderText, IsNoOrder}
 use Rattle.lab_tasks.specs.MapPictures.{IsMapDrawn}
@@ -122,6 +123,7 @@ IsDone (Order words) bytes outcome = IsMadeOf bytes (text_of words.out) (IsOrder
 IsDone (Latency words) bytes outcome = IsMadeOf bytes None (IsLatencyText words) outcome
 IsDone (Completed file) bytes outcome = IsMadeOf bytes None IsCompletionText outcome
 IsDone (Trace words) bytes outcome = IsMadeOf bytes None (IsTraceText words) outcome
+IsDone (Full file) bytes outcome = IsMadeOf bytes None IsFullText outcome
 IsDone (Rates words) bytes outcome = AreRates words outcome
 IsDone (Delays words) bytes outcome = AreDelays words outcome
 IsDone (Sweep words) bytes outcome = IsMadeOf bytes (text_of words.csv) (IsSweepText words) outcome
@@ -143,6 +145,7 @@ IsNotDone (Order words) bytes e = IsNotMade bytes (λ P. IsNoOrder P words e) e
 IsNotDone (Latency words) bytes e = IsNotMade bytes (λ P. IsNoCondition P words e) e
 IsNotDone (Completed file) bytes e = IsNotMade bytes (λ P. ⊥) e
 IsNotDone (Trace words) bytes e = IsNotMade bytes (λ P. IsNoTag P words e) e
+IsNotDone (Full file) bytes e = IsNotMade bytes (λ P. ⊥) e
 IsNotDone (Rates words) bytes e = (e ≡ end.Memory) ⊎ IsNoCurve words e
 IsNotDone (Delays words) bytes e = (e ≡ end.Memory) ⊎ IsNoCurve words e
 IsNotDone (Sweep words) bytes e = IsNotMade bytes (IsNoSweep words e) e

@@ -9,6 +9,7 @@ pub mod Done
 pub mod EditSweeps
 pub mod Elsewhere
 pub mod Ends
+pub mod Fullness
 pub mod Heats
 pub mod Kept
 pub mod Latencies

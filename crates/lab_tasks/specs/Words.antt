@@ -4,7 +4,7 @@ use Rattle.std.specs.Option.{option_map_or}
 use Rattle.std.specs.Borrow.{Bor}
 use Rattle.clap.specs.Words.{Row, Text, all_of, first_of}
 use Rattle.lab_tasks.specs.declared.words.Asked.{Asked}
-use Rattle.lab_tasks.specs.declared.words.Asked.TheVariants.{Map, Order, Latency, Done, Trace, Rates, Delays, Sweep, Check, Convert}
+use Rattle.lab_tasks.specs.declared.words.Asked.TheVariants.{Map, Order, Latency, Done, Trace, Full, Rates, Delays, Sweep, Check, Convert}
 use Rattle.lab_tasks.specs.declared.words.MapWords.{MapWords}
 use Rattle.lab_tasks.specs.declared.convert.ConvertWords.{ConvertWords}
 use Rattle.lab_tasks.specs.declared.latency.LatencyWords.{LatencyWords}
@@ -93,6 +93,7 @@ AsksFor said (Order words) = IsNamed said (codes "order") (λ rows. AreOrderWord
 AsksFor said (Latency words) = IsNamed said (codes "latency") (λ rows. AreLatencyWords rows words)
 AsksFor said (Done file) = IsNamed said (codes "done") (λ rows. file.now ≡ file_at rows)
 AsksFor said (Trace words) = IsNamed said (codes "trace") (λ rows. AreTraceWords rows words)
+AsksFor said (Full file) = IsNamed said (codes "full") (λ rows. file.now ≡ file_at rows)
 AsksFor said (Rates words) = IsNamed said (codes "rates") (λ rows. AreCurveWords rows words)
 AsksFor said (Delays words) = IsNamed said (codes "delays") (λ rows. AreCurveWords rows words)
 AsksFor said (Sweep words) = IsNamed said (codes "sweep") (λ rows. AreSweepWords rows words)
@@ -105,6 +106,7 @@ file_of (Order words) = Some words.file.now
 file_of (Latency words) = Some words.file.now
 file_of (Done file) = Some file.now
 file_of (Trace words) = Some words.file.now
+file_of (Full file) = Some file.now
 file_of (Rates words) = None
 file_of (Delays words) = None
 file_of (Sweep words) = Some words.file.now

@@ -291,7 +291,11 @@ fn refuse_over<'a, R: Files + AllocGlobal>(rt: &R, asked: &Asked<'a>) -> Result<
             }
             refuse_file(rt, words.file, "--out", words.out, Reason::Source)
         }
-        Asked::Latency(_) | Asked::Done { .. } | Asked::Trace(_) | Asked::Check { .. } => Ok(()),
+        Asked::Latency(_)
+        | Asked::Done { .. }
+        | Asked::Trace(_)
+        | Asked::Full { .. }
+        | Asked::Check { .. } => Ok(()),
     }
 }
 

@@ -28,6 +28,7 @@ mod delay_picture;
 mod delays;
 mod edit_sweep;
 mod end;
+mod full;
 mod host;
 mod hot;
 mod latency;

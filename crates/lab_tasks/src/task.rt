@@ -6,6 +6,7 @@ ghost use Rattle.lab_tasks.specs.Added.{Adds};
 ghost use Rattle.lab_tasks.specs.Completions.{IsCompletionText};
 ghost use Rattle.lab_tasks.specs.DelayPictures.{IsDelayPicture};
 ghost use Rattle.lab_tasks.specs.Done.{delay_header, rate_header, is_over, AreDelays, AreRates, IsConverted, IsDone, IsMadeOf, IsMapMade, IsNoSweep, IsNotDone, IsNotMade, IsOver, IsSweepText, IsTableGiven};
+ghost use Rattle.lab_tasks.specs.Fullness.{IsFullText};
 ghost use Rattle.lab_tasks.specs.Kept.{kept_of, load_name, name_text, net_text, IsKept, IsWithKept};
 ghost use Rattle.lab_tasks.specs.Latencies.{IsLatencyText, IsNoCondition};
 ghost use Rattle.lab_tasks.specs.Orders.{IsNoOrder, IsOrderText};
@@ -24,6 +25,7 @@ use crate::delay_picture::delay_picture;
 use crate::delays::{delay_points, delay_table};
 use crate::edit_sweep::edit_table;
 use crate::end::End;
+use crate::full::full_report;
 use crate::latency::{LatencyWords, condition, report};
 use crate::map::map_picture;
 use crate::order::{OrderWords, order_text, order_window};
@@ -155,6 +157,15 @@ fn trace<'a>(alloc: Global, words: &TraceWords<'a>, bytes: &[u8]) -> Result<Outc
     let project = project_in(alloc, bytes)?;
     let tag = traced(words, &project)?;
     let text = trace_line(alloc, &project, tag)?;
+    Ok(to_file_or_output(alloc, None, text.into_bytes())?)
+}
+
+fn full<'a>(alloc: Global, bytes: &[u8]) -> Result<Outcome, End<'a>>
+    ensures done { IfOk result (IsMadeOf bytes.now None IsFullText) }
+    ensures refused { IfErr result (IsNotMade bytes.now (λ P. ⊥)) }
+{
+    let project = project_in(alloc, bytes)?;
+    let text = full_report(alloc, &project)?;
     Ok(to_file_or_output(alloc, None, text.into_bytes())?)
 }
 
@@ -421,6 +432,10 @@ pub fn perform<'a, T: Threads + Sync, P: Progress>(
             Ok(outcome)
         }
         Asked::Trace(words) => trace(alloc, words, bytes),
+        Asked::Full { .. } => {
+            let outcome = full(alloc, bytes)?;
+            Ok(outcome)
+        }
         Asked::Rates(words) => rates(rt, alloc, words, progress),
         Asked::Delays(words) => delays(rt, alloc, words, progress),
         Asked::Sweep(words) => sweep(rt, alloc, words, bytes),

@@ -4,7 +4,7 @@ ghost use Rattle.std.specs.Option.{option_map_or};
 ghost use Rattle.clap.specs.Matches.{matched_of, raw_values};
 ghost use Rattle.clap.specs.Walk.{texts};
 ghost use Rattle.clap.specs.Words.{FailsBy, fault_of, first_of, found_of, new_app, rows_of, rule_of, subcommand_of};
-ghost use Rattle.lab_tasks.specs.CommandLine.{any_number_rule, bare, check_task, convert_task, delays_task, done_task, file_rule, flag_rule, kept_rules, lab, map_task, latency_task, measured_task, option_rule, order_task, position_rule, rates_task, several_rule, sweep_task, trace_task, HasAll, HasMore, HasTask, IsApp, IsLab, IsNoTask, IsTask};
+ghost use Rattle.lab_tasks.specs.CommandLine.{any_number_rule, bare, check_task, convert_task, delays_task, done_task, file_rule, flag_rule, full_task, kept_rules, lab, map_task, latency_task, measured_task, option_rule, order_task, position_rule, rates_task, several_rule, sweep_task, trace_task, HasAll, HasMore, HasTask, IsApp, IsLab, IsNoTask, IsTask};
 ghost use Rattle.lab_tasks.specs.Words.{file_at, is_given, text_of, texts_at, AreConvertWords, AreCurveWords, AreLatencyWords, AreMapWords, AreOrderWords, AreSweepWords, AreTraceWords, AsksFor};
 
 use crate::convert::ConvertWords;
@@ -60,6 +60,7 @@ pub enum Asked<'a> {
     Latency(LatencyWords<'a>),
     Done { file: &'a str },
     Trace(TraceWords<'a>),
+    Full { file: &'a str },
     Rates(CurveWords<'a>),
     Delays(CurveWords<'a>),
     Sweep(SweepWords<'a>),
@@ -80,6 +81,7 @@ impl<'a> Asked<'a> {
             Asked::Latency(words) => Some(words.file),
             Asked::Done { file } => Some(*file),
             Asked::Trace(words) => Some(words.file),
+            Asked::Full { file } => Some(*file),
             Asked::Rates(_) | Asked::Delays(_) => None,
             Asked::Sweep(words) => Some(words.file),
             Asked::Check { file } => Some(*file),
@@ -103,6 +105,9 @@ const DONE_ABOUT: &str =
 
 const TRACE_ABOUT: &str =
     "Says where a reference, or the one that it was combined into, was at each cycle";
+
+const FULL_ABOUT: &str =
+    "Says which queues and wait buffers were full, in the order in which they first were";
 
 const RATES_ABOUT: &str =
     "Measures references answered per cycle against the number of processors, for some shares of hot references";
@@ -389,6 +394,13 @@ fn trace_command<'a>(alloc: Global) -> Result<Command<'a>, AllocError>
     Ok(task)
 }
 
+fn full_command<'a>(alloc: Global) -> Result<Command<'a>, AllocError>
+    ensures { IfOk result (IsTask full_task) }
+{
+    let task = with_file(alloc, named(alloc, "full", FULL_ABOUT, ENDS))?;
+    Ok(task)
+}
+
 /// A task of curves, with the arguments that say what is measured.
 fn measured_command<'a>(
     alloc: Global,
@@ -585,6 +597,7 @@ fn lab_command<'a>(alloc: Global) -> Result<Command<'a>, AllocError>
     let command = with_task(command, latency_command(alloc)?)?;
     let command = with_task(command, done_command(alloc)?)?;
     let command = with_task(command, trace_command(alloc)?)?;
+    let command = with_task(command, full_command(alloc)?)?;
     let command = with_task(command, rates_command(alloc)?)?;
     let command = with_task(command, delays_command(alloc)?)?;
     let command = with_task(command, sweep_command(alloc)?)?;
@@ -740,6 +753,9 @@ fn asked_of<'a>(
             file: file_in(matches),
         }),
         "trace" => Some(Asked::Trace(trace_words(matches))),
+        "full" => Some(Asked::Full {
+            file: file_in(matches),
+        }),
         "rates" => Some(Asked::Rates(curve_words(matches))),
         "delays" => Some(Asked::Delays(curve_words(matches))),
         "sweep" => Some(Asked::Sweep(sweep_words(alloc, matches)?)),

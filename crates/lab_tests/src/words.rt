@@ -122,6 +122,8 @@ fn words_of_a_file_are_taken(rt: HostRuntime) -> Result<(), Fail> {
     compare(&rt, &[asked.file()], &["a.toml"]);
     let asked = read_words(rt.alloc(), &["done", "a.toml"])?;
     compare(&rt, &[asked.file()], &["a.toml"]);
+    let asked = read_words(rt.alloc(), &["full", "a.toml"])?;
+    compare(&rt, &[asked.file()], &["a.toml"]);
     let asked = read_words(rt.alloc(), &["convert", "a.toml", "--out", "b.toml"])?;
     let Asked::Convert(words) = &asked else {
         return Err(Fail::from("a file"));

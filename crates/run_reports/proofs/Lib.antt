@@ -1,5 +1,6 @@
 pub mod Below
 pub mod Figuring
+pub mod Filling
 pub mod Logging
 pub mod Marking
 pub mod Numbers

@@ -1,11 +1,9 @@
 -- The first value that is there, and spans cycle by cycle.
-use Rattle.std.proofs.Common.{◌≡◌, ℕ, zero, suc, ◌+◌, ◌-◌, ◌<◌, List, [], refl, sym, ap, ap₂, ◌∙◌, Option, None, Some, arith, add-one}
-use Rattle.std.specs.Prelude.{option_map}
+use Rattle.std.proofs.Common.{◌≡◌, ℕ, zero, suc, ◌+◌, ◌-◌, ◌<◌, refl, ap, ◌∙◌, Option, None, Some, arith, add-one}
 use Rattle.omega_net.specs.declared.message.Tag.{Tag}
 use Rattle.project_book.specs.Project.{Project}
 use Rattle.machine_cells.specs.declared.state.MachineState.{MachineState}
 use Rattle.run_queries.specs.Answers.{first_of}
-use Rattle.run_reports.specs.declared.spans.Span.{Span}
 use Rattle.run_reports.specs.Traces.{carried_by, carrier_after, first_there, spans_before, spot_of, with_spot}
 
 -- none of the first is there, and the next is not

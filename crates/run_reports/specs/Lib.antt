@@ -2,6 +2,9 @@ pub mod CompletionTexts
 pub mod Completions
 pub mod Conditions
 pub mod Figures
+pub mod Filling
+pub mod FullQueues
+pub mod FullTexts
 pub mod Latencies
 pub mod Logs
 pub mod Marking

@@ -12,10 +12,12 @@
 //! - [`Runner`]: the run that they are counted from, one cycle at a time; nothing of it is kept.
 //! - [`trace`]: where a reference, or the one that it was combined into, was at each cycle, as spans ([`Span`]);
 //!   [`trace_text`]: these as a line.
+//! - [`first_fulls`]: which queues and wait buffers were full, and at which cycle they first were ([`FirstFull`]); [`full_text`]:
+//!   these as a table, by that cycle.
 //!
 //! The crate stands on `flat_row` for a run that is stepped cycle by cycle and not kept, and on `machine_cells` and `project_book`
 //! for what a run is. It promises that each report is that of the run of the project from cycle 0 (`specs/References.antt`,
-//! `specs/Latencies.antt`, `specs/Completions.antt`, `specs/Traces.antt`), and that each figure is the one of its histogram (`specs/Figures.antt`) or of its
+//! `specs/Latencies.antt`, `specs/Completions.antt`, `specs/Traces.antt`, `specs/FullQueues.antt`), and that each figure is the one of its histogram (`specs/Figures.antt`) or of its
 //! cycles.
 #![tactic(auto)]
 
@@ -23,6 +25,8 @@ mod completion;
 mod completion_report;
 mod condition;
 mod figures;
+mod full_queues;
+mod full_report;
 mod latency;
 mod reference;
 mod report;
@@ -34,6 +38,8 @@ mod trace_report;
 pub use completion::{Completion, Event, completions};
 pub use completion_report::completion_text;
 pub use condition::{Condition, HOT_ADDRESS, Window, meets};
+pub use full_queues::{FirstFull, Part, PartQueue, first_fulls};
+pub use full_report::full_text;
 pub use latency::{Latencies, latencies_of};
 pub use reference::{Reference, references};
 pub use report::{Summary, latency_text};

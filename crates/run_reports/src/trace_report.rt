@@ -10,7 +10,7 @@ use std::fmt::Write;
 
 /// A component, under its name.
 #[derive(Clone, Copy)]
-struct Place(Option<Component>);
+pub(crate) struct Place(pub(crate) Option<Component>);
 
 impl fmt::Display for Place {
     ghost use Rattle.std.specs.Prelude.{Some};

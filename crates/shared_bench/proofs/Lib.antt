@@ -7,4 +7,5 @@ pub mod Joining
 pub mod Told
 pub mod Benches
 pub mod Slices
+pub mod Lots
 pub mod Passes

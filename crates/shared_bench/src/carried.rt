@@ -1,9 +1,11 @@
 //! A bench behind a pointer, and what is done with it in a turn.
-ghost use Rattle.std.specs.Prelude.{◌≡◌, ◌≤◌, ◌++◌, ◌∷◌, [], length, true, false, IfOk, IfErr, MatchOption, Ok, Err};
-ghost use Rattle.cell_table.specs.Claims.{NoneDue};
+ghost use Rattle.std.specs.Prelude.{◌≡◌, ◌+◌, ◌<◌, ◌≤◌, ◌↔◌, ◌++◌, ◌∷◌, [], List, min, length, true, false, All, IfOk, IfErr, OnOk, IsTrue, MatchOption, Ok, Err, vec_len, vec_capacity};
+ghost use Rattle.cell_table.specs.Claims.{Claimed, NoneDue};
 ghost use Rattle.cell_table.specs.Gives.{GivesAs};
 ghost use Rattle.cell_table.specs.Settling.{IsClockSpent};
+ghost use Rattle.machine_cells.specs.declared.state.MachineState.{MachineState as CellState};
 ghost use Rattle.machine_cells.specs.GridRules.{rp3_rules};
+ghost use Rattle.project_book.specs.Project.{Project as ProjectValue};
 ghost use Rattle.project_book.specs.Edits.{accepts, edited};
 ghost use Rattle.bench_core.specs.Shown.{project_of, version_of};
 ghost use Rattle.bench_core.specs.Asks.{AsksAs};
@@ -14,6 +16,7 @@ ghost use Rattle.bench_core.specs.Told.{TellsAt, TellsAsked};
 ghost use Rattle.bench_core.specs.Answering.{SettlesAs};
 ghost use Rattle.shared_bench.specs.Answers.{ClaimsAs, EditsAs, IsGivenSpent};
 ghost use Rattle.shared_bench.specs.Slices.{slice_end, IsNextSlice, SlicesAs};
+ghost use Rattle.shared_bench.specs.Lots.{NoneInRow, IsClaimInRow, GoesOn, ClaimsLot, GivesLot};
 
 use bench_core::{Asked, Bench, Told};
 use cell_table::{Cell, Claim, Done, Given, SettleFault};
@@ -33,6 +36,16 @@ fn slice_end(project: &Project, cycle: u32, cells: u32) -> u32
     let last = cycle.saturating_add(cycles.saturating_sub(1));
     last.min(project.horizon())
 }
+
+/// Whether a cell is of that one's cycle, and at or after it.
+fn is_behind(from: Cell, cell: Cell) -> bool
+    ensures { IsTrue result ↔ ((cell.cycle ≡ from.cycle) × (from.component ≤ cell.component)) }
+{
+    cell.cycle == from.cycle && from.component <= cell.component
+}
+
+/// How many cells are claimed in one turn at most.
+const MOST: u32 = 64;
 
 /// A bench on the heap, so that a turn moves one pointer. Contracts see the bench.
 #[derive(Drop)]
@@ -87,6 +100,128 @@ impl Carried {
         ensures { ClaimsAs self.now from result }
     {
         self.bench.claim(from)
+    }
+
+    /// Whether a cell of that cycle is due, at or after that component.
+    #[tactic(auto, using(crate::proofs::Lots::none_due_in_row, crate::proofs::Lots::due_elsewhere))]
+    fn is_row_due(&self, from: Cell) -> bool
+        ensures { result ≡ false → NoneInRow self.now from.cycle from.component }
+    {
+        match self.bench.cells().next_due(from) {
+            Some(due) => due.cycle == from.cycle,
+            None => false,
+        }
+    }
+
+    /// A claim of the first cell of that cycle, at or after that component, that can be claimed.
+    ///
+    /// # Errors
+    ///
+    /// As `claim`.
+    #[tactic(auto, using(crate::proofs::Lots::none_due_at_all))]
+    fn claim_in_row(&self, from: Cell) -> Result<Option<Claim<Rp3>>, NoMemory>
+        ensures { IfOk result (λ r. MatchOption r
+            (NoneInRow self.now from.cycle from.component)
+            (IsClaimInRow self.now from.cycle from.component)) }
+    {
+        if !self.is_row_due(from) {
+            return Ok(None);
+        }
+        match self.claim(from) {
+            Ok(Some(claim)) => {
+                if is_behind(from, claim.cell()) {
+                    Ok(Some(claim))
+                } else {
+                    Ok(None)
+                }
+            }
+            Ok(None) => Ok(None),
+            Err(error) => Err(error),
+        }
+    }
+
+    /// The place behind a cell in its cycle.
+    fn behind(&self, cell: Cell) -> Cell
+        requires { cell.component < rp3_rules.components (project_of self.now) }
+        ensures cycle { result.cycle ≡ cell.cycle }
+        ensures component { result.component ≡ cell.component + 1 }
+    {
+        // The number of a component is below this one, so that of the next fits.
+        let _count = self.bench.project().shape().components();
+        Cell {
+            cycle: cell.cycle,
+            component: cell.component + 1,
+        }
+    }
+
+    /// Adds claims of at most so many cells of that cycle, from that component on.
+    ///
+    /// # Errors
+    ///
+    /// As `claim`.
+    #[tactic(auto, using(crate::proofs::Lots::claims_begin, crate::proofs::Lots::claims_go, crate::proofs::Lots::claims_end, crate::proofs::Lots::claims_full))]
+    fn claim_on(&self, claims: &mut Vec<Claim<Rp3>>, from: Cell, most: u32) -> Result<(), NoMemory>
+        requires { vec_len claims.old + most ≤ vec_capacity claims.old }
+        ensures { OnOk result ((more : List (Claimed CellState ProjectValue)) × (claims.new.items ≡ claims.old.items ++ more) × GoesOn self.now from.cycle from.component most more) }
+    {
+        let mut from = from;
+        for _count in 0..most {
+            match self.claim_in_row(from) {
+                Ok(Some(claim)) => {
+                    from = self.behind(claim.cell());
+                    claims.push_reserved(claim);
+                }
+                Ok(None) => return Ok(()),
+                Err(error) => return Err(error),
+            }
+        }
+        Ok(())
+    }
+
+    /// Claims of at most so many cells of one cycle, and of 64, the first at or after `from`.
+    ///
+    /// # Errors
+    ///
+    /// Where a growth was refused. The bench is as before.
+    #[tactic(auto, using(crate::proofs::Lots::round_there, crate::proofs::Lots::lot_none, crate::proofs::Lots::lot_made))]
+    pub fn claim_many(&self, from: Cell, most: u32) -> Result<Vec<Claim<Rp3>>, NoMemory>
+        ensures { IfOk result (λ claims. ClaimsLot self.now from (min most 64) claims.items) }
+    {
+        let most = most.min(MOST);
+        let mut claims = Vec::with_capacity(*Box::allocator(&self.bench), most as usize)?;
+        if most == 0 {
+            return Ok(claims);
+        }
+        match self.claim(from) {
+            Ok(Some(claim)) => {
+                let next = self.behind(claim.cell());
+                claims.push_reserved(claim);
+                self.claim_on(&mut claims, next, most - 1)?;
+                Ok(claims)
+            }
+            Ok(None) => Ok(claims),
+            Err(error) => Err(error),
+        }
+    }
+
+    /// Gives results back, one after another. Their answers replace what the buffer held, in the same order.
+    #[tactic(auto, using(crate::proofs::Lots::given_begin))]
+    pub fn give_many(&mut self, lot: Vec<Done<Rp3>>, answers: &mut Vec<Given<Done<Rp3>>>)
+        requires { vec_len lot ≤ vec_capacity answers.old }
+        ensures gives { GivesLot self.old lot.items answers.new.items self.new }
+        ensures room { vec_capacity answers.new ≡ vec_capacity answers.old }
+        ensures journal { self.new.journal ≡ self.old.journal }
+        ensures project { project_of self.new ≡ project_of self.old }
+        ensures kept { spent_of self.old ≡ true → spent_of self.new ≡ true }
+        ensures spent { All (λ given. IsGivenSpent given → spent_of self.new ≡ true) answers.new.items }
+        ensures history { HasHistory self.new }
+    {
+        self.history();
+        answers.clear();
+        for done in lot {
+            let given = self.give(done);
+            answers.push_reserved(given);
+        }
     }
 
     /// Gives a result back.

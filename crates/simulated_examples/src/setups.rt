@@ -10,7 +10,10 @@ pub(crate) struct Setup<'a> {
     pub horizon: u32,
     pub window: u32,
     pub low_forward: u32,
+    pub low_reverse: u32,
     pub comb_reverse: u32,
+    pub module_queue: u32,
+    pub wait: u32,
     /// Whether the switches of every stage combine.
     pub combine: bool,
     /// The pages from 0 on that stand whole in one module, each by its module.
@@ -28,7 +31,10 @@ pub(crate) const BASE: Setup = Setup {
     horizon: 10,
     window: 1,
     low_forward: 4,
+    low_reverse: 4,
     comb_reverse: 8,
+    module_queue: 4,
+    wait: 4,
     combine: false,
     modules: &[0, 1],
     word: 10,
@@ -55,7 +61,10 @@ impl Setup<'_> {
         let settings = [
             Edit::Window(self.window),
             depth(Depths::LowForward, self.low_forward),
+            depth(Depths::LowReverse, self.low_reverse),
             depth(Depths::CombReverse, self.comb_reverse),
+            depth(Depths::ModuleQueue, self.module_queue),
+            Edit::WaitDepth(self.wait),
             Edit::Word {
                 address: 0,
                 word: self.word,

@@ -1,15 +1,19 @@
 -- A pass that goes on, and passes that are joined.
-use Rattle.std.proofs.Common.{◌≡◌, ℕ, ◌+◌, ◌<◌, List, [], ◌∷◌, ◌++◌, length, Option, None, Some, Result, Ok, Err, refl, sym, ap, ◌∙◌, arith, subst, length-append, append-nil, append_assoc}
+use Rattle.std.proofs.Common.{◌≡◌, ℕ, ◌+◌, ◌^◌, ◌<◌, List, [], ◌∷◌, ◌++◌, length, Option, None, Some, Result, Ok, Err, refl, sym, ap, ◌∙◌, arith, subst, length-append, append-nil, append_assoc}
 use Rattle.shared_bench.specs.Known.{Known, IsLater, IsSplit, IsJoined, SomeIsLegal}
 use Rattle.shared_bench.specs.Legal.{merge}
 use Rattle.shared_bench.specs.Slices.{SlicesAs}
 use Rattle.shared_bench.proofs.Seats.{starts_trans}
 use Rattle.shared_bench.proofs.Passes.{later_same, later_joined}
-use Rattle.cell_table.specs.Claims.{NoneDue}
+use Rattle.cell_table.specs.Claims.{Computed, NoneDue}
+use Rattle.cell_table.specs.declared.given.Given.{Given}
+use Rattle.cell_table.specs.declared.given.Given.TheVariants as given
 use Rattle.cell_table.specs.declared.given.SettleFault.{SettleFault}
+use Rattle.machine_cells.specs.declared.state.MachineState.{MachineState}
 use Rattle.machine_cells.specs.GridRules.{rp3_rules}
+use Rattle.project_book.specs.Project.{Project}
 use Rattle.bench_core.specs.Shown.{Shown}
-use Rattle.wave_workers.specs.Working.{IsKept, IsWorked, HasLeft, HasLooked, came_for_slice}
+use Rattle.wave_workers.specs.Working.{IsKept, IsWorked, HasLeft, HasLooked, came_for, came_for_slice, given_by, counted}
 use Rattle.wave_workers.specs.declared.tally.Came.{Came}
 use Rattle.wave_workers.specs.declared.tally.Came.TheVariants.{Idle}
 use Rattle.wave_workers.specs.declared.worked.WorkFault.{WorkFault}
@@ -75,3 +79,24 @@ pub idle_slice : (d next : Shown) (cells : ℕ) (r : Result (Option ℕ) SettleF
 idle_slice d next cells (Ok (Some last)) s e = absurd cc
 idle_slice d next cells (Ok None) s e = subst (λ (b : Shown). NoneDue rp3_rules b.table) (sym s.1) s.0
 idle_slice d next cells (Err fault) s e = absurd cc
+
+-- what is counted now, and then, is counted together
+pub counted_on : (a x s : ℕ) → counted (counted a x) s ≡ counted a (x + s)
+counted_on a x s = omega arith
+
+pub all_counted : (a : ℕ) → a < 2 ^ 64 → counted a 0 ≡ a
+all_counted a few = omega arith
+
+-- each result counts as one that was given
+pub given_one : (g : Given (Computed MachineState Project)) → given_by (came_for g) ≡ 1
+given_one (given.Stored changed) = refl
+given_one (given.ClockSpent back) = refl
+given_one given.Gone = refl
+given_one given.NotDue = refl
+given_one given.Overtaken = refl
+given_one given.Foreign = refl
+given_one (given.Memory back) = refl
+
+pub none_left : (left : List (Given (Computed MachineState Project))) → length left ≡ 0 → left ≡ []
+none_left [] h = refl
+none_left (x ∷ xs) h = absurd (omega arith)

@@ -99,6 +99,11 @@ stored_by Refused = 0
 stored_by Stored = 1
 stored_by Settled = 0
 
+-- how many results with these answers were stored
+abbrev pub stored_in : List (Given (Computed MachineState Project)) → ℕ
+stored_in [] = 0
+stored_in (answer ∷ answers) = stored_by (came_for answer) + stored_in answers
+
 -- a sum that stops at the greatest number of 64 bits
 abbrev pub counted : ℕ → ℕ → ℕ
 counted a b = min (a + b) (2 ^ 64 - 1)

@@ -7,10 +7,10 @@ pub trait Gate {
     /// Whether the worker begins this turn. Its turns are counted from 0.
     fn go_on(&mut self, turn: u64) -> bool;
 
-    /// The worker has claimed this cell.
+    /// The worker has claimed this cell, with others of its lot, and begins to compute it.
     fn claimed(&mut self, cell: Cell);
 
-    /// The worker has computed this cell, and hasn't given the result back yet.
+    /// The worker has computed this cell, and hasn't given the result back yet: it does so with those of its lot.
     fn computed(&mut self, cell: Cell);
 }
 

@@ -1,5 +1,5 @@
-//! Workers beside a shared bench: threads that claim due cells, compute them outside of every turn, and give the results
-//! back, or settle the bench slice by slice in their turns.
+//! Workers beside a shared bench: threads that claim due cells, lot by lot, compute them outside of every turn, and give the
+//! results back, or settle the bench slice by slice in their turns.
 //!
 //! `work` splits a pass for each [`Gate`] and starts a thread with it; a gate hears of each claim and each result, and
 //! says whether its worker goes on. `attend` does the same for as long as the gates go on, but its workers settle slices, of
@@ -14,6 +14,7 @@
 #![tactic(auto)]
 
 mod gate;
+mod lot;
 mod tally;
 mod threads;
 mod wave;

@@ -8,9 +8,9 @@ use machine_cells::Rp3;
 /// What a turn came to.
 #[derive(Clone, Copy)]
 pub enum Came {
-    /// No cell was due that could be computed.
+    /// No cell was due.
     Idle,
-    /// A growth was refused before a result was there, or a slice met a fault.
+    /// A slice met a fault.
     Failed,
     /// The result was given, and refused since the clock is spent.
     Spent,

@@ -112,11 +112,16 @@ fn all<R: Threads + Wait + Sync + Send + Copy + 'static, G: Gate + Send + Drop +
     }
 }
 
-/// Computes due cells by one worker for each gate, each in a thread of its own with a pass of its own. In a turn a worker
-/// asks its gate whether to go on, claims a cell, computes it, and gives the result back; it ends after so many turns, or
-/// where its gate stops it. The worker of gate i of n first claims from component i of cycle 0 on, and later from n
-/// components behind its last cell on, in that cell's cycle. Where nothing is due, or a growth is refused, the turn ends,
-/// and the worker goes on.
+/// Computes due cells by one worker for each gate, each in a thread of its own with a pass of its own. A worker claims a lot of
+/// cells of one cycle, as `Pass::claim_many`, computes them one after another, and gives the results back, as
+/// `Pass::give_many`. Each cell is a turn of the worker: it asks its gate whether to go on, for the first of a lot before the
+/// claim, and tells it when it begins to compute the cell and when it has. It ends after so many turns, or where its gate stops
+/// it; what it has computed of a lot is then given back, and the other claims are let go. Where nothing is due, or a growth is
+/// refused, the turn ends, and the worker goes on.
+///
+/// A lot has 64 cells, the part of a cycle that falls to each worker, or as many as turns are left, whatever is least; that of a
+/// worker alone has one. The worker of gate i of n first claims from i lots behind the begin of cycle 0 on, and later from n
+/// lots behind the begin of its last one, or, where its cycle ends before, from i lots behind the begin of the next cycle.
 ///
 /// All threads have ended when it answers, and their passes are joined into the one that comes back. On a fault no further
 /// worker was started, and the results of those that were stand. `started` is their number.

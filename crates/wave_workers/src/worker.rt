@@ -6,8 +6,8 @@ ghost use Rattle.bench_core.specs.Shown.{Shown as AnyBench};
 ghost use Rattle.wave_workers.specs.Working.{IsKept, HasLeft, HasLooked};
 
 use crate::gate::Gate;
+use crate::lot::{Share, work_lot};
 use crate::tally::{Came, Tally};
-use cell_table::Cell;
 use shared_bench::Pass;
 use std::snapshot::Snapshot;
 use std::sync::Wait;
@@ -17,12 +17,11 @@ use std::time::Duration;
 /// How each worker works.
 #[derive(Clone, Copy)]
 pub struct Plan {
-    /// How many workers there are: a worker claims so many components behind its last cell, and settles so small a part of
-    /// `CELLS` in a turn.
+    /// How many workers there are: each claims so small a part of a cycle, or settles so small a part of `CELLS`, in a turn.
     pub workers: u32,
     /// How many turns it makes at most.
     pub turns: u64,
-    /// Whether it settles slices in place of single cells, and sleeps while nothing is due.
+    /// Whether it settles slices in place of claiming cells, and sleeps while nothing is due.
     pub sleeps: bool,
 }
 
@@ -82,36 +81,6 @@ struct Watched {
     length: u32,
 }
 
-/// Claims the first cell from `from` on, computes it and gives it back.
-fn turn<R: Wait, G: Gate>(
-    rt: &R,
-    pass: &mut Pass,
-    gate: &mut G,
-    from: &mut Cell,
-    workers: u32,
-) -> Came
-    ensures kept { IsKept pass.old pass.new }
-    ensures left { (d : AnyBench) × HasLeft pass.new d × (result ≡ Came.Idle → NoneDue rp3_rules d.table) }
-{
-    let claim = match pass.claim(rt, *from) {
-        Ok(Some(claim)) => claim,
-        Ok(None) => return Came::Idle,
-        Err(_) => return Came::Failed,
-    };
-    let cell = claim.cell();
-    *from = Cell {
-        cycle: cell.cycle,
-        component: cell.component.saturating_add(workers),
-    };
-    gate.claimed(cell);
-    let done = match claim.compute() {
-        Ok(done) => done,
-        Err(_) => return Came::Failed,
-    };
-    gate.computed(cell);
-    Came::of(pass.give(rt, done))
-}
-
 /// Settles the next slice, in one turn.
 fn slice<R: Wait>(rt: &R, pass: &mut Pass, workers: u32) -> Came
     ensures kept { IsKept pass.old pass.new }
@@ -120,37 +89,13 @@ fn slice<R: Wait>(rt: &R, pass: &mut Pass, workers: u32) -> Came
     Came::of_slice(pass.settle_some(rt, CELLS / workers.max(1)))
 }
 
-/// A slice where the worker sleeps, else a cell.
-fn work_once<R: Wait, G: Gate>(
-    rt: &R,
-    pass: &mut Pass,
-    gate: &mut G,
-    from: &mut Cell,
-    plan: Plan,
-) -> Came
-    ensures kept { IsKept pass.old pass.new }
-    ensures left { (d : AnyBench) × HasLeft pass.new d × (result ≡ Came.Idle → NoneDue rp3_rules d.table) }
-{
-    if plan.sleeps {
-        slice(rt, pass, plan.workers)
-    } else {
-        turn(rt, pass, gate, from, plan.workers)
-    }
-}
-
-/// A turn, and the journal's length before it.
-fn watched_turn<R: Wait, G: Gate>(
-    rt: &R,
-    pass: &mut Pass,
-    gate: &mut G,
-    from: &mut Cell,
-    plan: Plan,
-) -> Watched
+/// A slice, and the journal's length before it.
+fn watched_slice<R: Wait>(rt: &R, pass: &mut Pass, workers: u32) -> Watched
     ensures kept { IsKept pass.old pass.new }
     ensures looked { HasLooked pass.new result.came result.length }
 {
     let length = pass.length();
-    let came = work_once(rt, pass, gate, from, plan);
+    let came = slice(rt, pass, workers);
     Watched { came, length }
 }
 
@@ -177,49 +122,77 @@ fn hold_back<R: Wait>(rt: &R, pass: &mut Pass)
     }
 }
 
-/// A turn, and the sleep after one that could do nothing, where the plan is to sleep: until the next edit, and as long after it
-/// as edits come. What the turn came to.
-fn turn_and_sleep<R: Wait, G: Gate>(
-    rt: &R,
-    pass: &mut Pass,
-    gate: &mut G,
-    from: &mut Cell,
-    plan: Plan,
-) -> Came
+/// A slice, and the sleep after one that could do nothing: until the next edit, and as long after it as edits come.
+fn slice_and_sleep<R: Wait>(rt: &R, pass: &mut Pass, workers: u32)
     ensures { IsKept pass.old pass.new }
 {
-    let watched = watched_turn(rt, pass, gate, from, plan);
-    if !plan.sleeps || !watched.came.is_for_nothing() {
-        return watched.came;
+    let watched = watched_slice(rt, pass, workers);
+    if watched.came.is_for_nothing() {
+        sleep(rt, pass, watched);
+        hold_back(rt, pass);
     }
-    sleep(rt, pass, watched);
-    hold_back(rt, pass);
-    watched.came
 }
 
-/// A worker that begins at this component: it works until its gate stops it, or its turns are used up. Where it sleeps,
-/// it does so after a turn that could do nothing, until the next edit or until it is woken, and begins once no edit has
-/// come for a millisecond.
-pub fn run_worker<R: Wait, G: Gate + Drop>(
-    rt: &R,
-    mut pass: Pass,
-    mut gate: G,
-    component: u32,
-    plan: Plan,
-) -> Attended
-    ensures { IsKept pass result.pass }
+/// Settles slices until the gate stops it, or its turns are used up. After a turn that could do nothing it sleeps until the
+/// next edit or until it is woken, and begins once no edit has come for a millisecond.
+fn settle_slices<R: Wait, G: Gate>(rt: &R, pass: &mut Pass, gate: &mut G, plan: Plan)
+    ensures { IsKept pass.old pass.new }
 {
-    let mut from = Cell {
-        cycle: 0,
-        component,
-    };
-    let mut tally = Tally::new();
+    pass.base();
     'turns: for number in 0..plan.turns {
         if !gate.go_on(number) {
             break;
         }
-        let came = turn_and_sleep(rt, &mut pass, &mut gate, &mut from, plan);
-        tally = tally.after(came);
+        slice_and_sleep(rt, pass, plan.workers);
     }
+}
+
+/// Computes lots until the gate stops it, or its turns are used up: how many results were given and stored. A worker that stops
+/// within a lot gives back what it has computed, and lets the other claims go.
+fn compute_lots<R: Wait, G: Gate>(
+    rt: &R,
+    pass: &mut Pass,
+    gate: &mut G,
+    share: Share,
+    turns: u64,
+) -> Tally
+    ensures { IsKept pass.old pass.new }
+{
+    pass.base();
+    let mut from = share.start();
+    let mut tally = Tally::new();
+    let mut turn = 0u64;
+    'lots: for _ in 0..turns {
+        if turn >= turns || !gate.go_on(turn) {
+            break;
+        }
+        let lot = work_lot(rt, pass, gate, share, from, turn, turns - turn);
+        from = lot.next;
+        turn = turn.saturating_add(lot.turns);
+        tally = tally.and(lot.tally);
+        if lot.is_last {
+            break;
+        }
+    }
+    tally
+}
+
+/// The worker of this number: it works until its gate stops it, or its turns are used up.
+pub fn run_worker<R: Wait, G: Gate + Drop>(
+    rt: &R,
+    mut pass: Pass,
+    mut gate: G,
+    number: u32,
+    plan: Plan,
+) -> Attended
+    ensures { IsKept pass result.pass }
+{
+    if plan.sleeps {
+        settle_slices(rt, &mut pass, &mut gate, plan);
+        let tally = Tally::new();
+        return Attended { pass, tally };
+    }
+    let share = Share::of(pass.k(), number, plan);
+    let tally = compute_lots(rt, &mut pass, &mut gate, share, plan.turns);
     Attended { pass, tally }
 }

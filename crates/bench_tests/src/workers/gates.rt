@@ -1,4 +1,4 @@
-//! The gates of two workers that meet, or of two pieces of a wave; gates that count.
+//! The gates of two workers that meet, or of two pieces of a wave; gates that count, and that stop a worker.
 use cell_table::Cell;
 use std::alloc::{AllocError, Global};
 use std::sync::Arc;
@@ -152,4 +152,29 @@ impl Gate for Counting {
     fn computed(&mut self, _cell: Cell) {
         self.turns.fetch_add(1, Ordering::SeqCst);
     }
+}
+
+/// A gate that stops its worker at a turn, or where a turn isn't the next one.
+#[derive(Drop)]
+pub(super) struct Stopping {
+    stop: u64,
+    next: u64,
+}
+
+impl Stopping {
+    pub(super) fn at(stop: u64) -> Stopping {
+        Stopping { stop, next: 0 }
+    }
+}
+
+impl Gate for Stopping {
+    fn go_on(&mut self, turn: u64) -> bool {
+        let is_next = turn == self.next && turn < self.stop;
+        self.next = turn.saturating_add(1);
+        is_next
+    }
+
+    fn claimed(&mut self, _cell: Cell) {}
+
+    fn computed(&mut self, _cell: Cell) {}
 }

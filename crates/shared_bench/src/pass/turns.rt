@@ -1,7 +1,7 @@
 //! What a pass does in its turn. Each call waits for the turn, makes one call of the bench, and passes the turn on: one turn
 //! more, with the bench that it met and the bench that it left. While another pass has the turn, the thread sleeps. Where a
 //! call returns is all that is said: that another pass ever passes its turn on isn't.
-ghost use Rattle.std.specs.Prelude.{◌≡◌, true, [], ◌∷◌, ◌++◌, length, IfOk, IfErr, IfSome, Err};
+ghost use Rattle.std.specs.Prelude.{◌≡◌, ◌≤◌, true, [], ◌∷◌, ◌++◌, min, length, All, IfOk, IfErr, IfSome, Err, vec_len, vec_capacity};
 ghost use Rattle.cell_table.specs.Gives.{GivesAs};
 ghost use Rattle.cell_table.specs.Settling.{IsClockSpent};
 ghost use Rattle.machine_cells.specs.GridRules.{rp3_rules};
@@ -12,6 +12,7 @@ ghost use Rattle.bench_core.specs.Told.{TellsAt, TellsAsked, AnswersAt, RefusesA
 ghost use Rattle.bench_core.specs.Answering.{SettlesAs};
 ghost use Rattle.shared_bench.specs.Answers.{project_seen, IsMet, IsInTurn, EditsAs, ClaimsAs, IsGivenSpent};
 ghost use Rattle.shared_bench.specs.Slices.{SlicesAs};
+ghost use Rattle.shared_bench.specs.Lots.{ClaimsLot, GivesLot};
 
 use super::Pass;
 use crate::steps::{leave, leave_edited, wait_turn};
@@ -102,6 +103,55 @@ impl Pass {
         let given = bench.give(done);
         leave(&self.table.shared, &mut self.seat, bench);
         given
+    }
+
+    /// Claims of cells of one cycle, at most so many and at most 64, in one turn: greater numbers are taken for 64. The first is
+    /// what `claim` claims from `from` on. Each further one is of the next cell of its cycle, by component, that is due and can
+    /// be computed; where they are fewer than asked for, the cycle has no further one. None exactly where no cell is due, or
+    /// none was asked for. Nothing of the bench is changed, whatever it answers.
+    ///
+    /// # Errors
+    ///
+    /// As `claim`, for any of the cells: then nothing was claimed. The turn was taken, and the pass has seen what stood
+    /// then.
+    pub fn claim_many<R: Wait>(
+        &mut self,
+        rt: &R,
+        from: Cell,
+        most: u32,
+    ) -> Result<Vec<Claim<Rp3>>, NoMemory>
+        ensures project { IfOk result (λ claims. All (λ claim. claim.slots ≡ project_seen self.new) claims.items) }
+        ensures later { IsLater self.old self.new }
+        ensures own { (self.new.numbers ≡ self.old.numbers) × (self.new.receipts ≡ self.old.receipts) }
+        ensures in_turn { (d : AnyBench) × IsInTurn self.new d × IfOk result (λ claims. ClaimsLot d from (min most 64) claims.items) × TookTurn self.old self.new d d }
+    {
+        let bench = wait_turn(rt, &self.table.shared, &mut self.seat, self.ticket);
+        self.ticket = None;
+        let claims = bench.claim_many(from, most);
+        leave(&self.table.shared, &mut self.seat, bench);
+        claims
+    }
+
+    /// Gives the results of claims back, in this order, each as `give` does to the bench that the one before left, in one turn.
+    /// Their answers, in the same order, replace what the buffer held. It has room for them, so no memory is wanted while
+    /// results are in hand.
+    pub fn give_many<R: Wait>(
+        &mut self,
+        rt: &R,
+        lot: Vec<Done<Rp3>>,
+        answers: &mut Vec<Given<Done<Rp3>>>,
+    )
+        requires { vec_len lot ≤ vec_capacity answers.old }
+        ensures later { IsLater self.old self.new }
+        ensures own { (self.new.numbers ≡ self.old.numbers) × (self.new.receipts ≡ self.old.receipts) }
+        ensures in_turn { (d : AnyBench) × (next : AnyBench) × IsInTurn self.new d × IsInTurn self.new next × GivesLot d lot.items answers.new.items next × TookTurn self.old self.new d next }
+        ensures spent { All (λ given. IsGivenSpent given → self.new.spent ≡ true) answers.new.items }
+        ensures room { vec_capacity answers.new ≡ vec_capacity answers.old }
+    {
+        let mut bench = wait_turn(rt, &self.table.shared, &mut self.seat, self.ticket);
+        self.ticket = None;
+        bench.give_many(lot, answers);
+        leave(&self.table.shared, &mut self.seat, bench);
     }
 
     /// Settles the next slice of the bench, as `Bench::settle_to`, in one turn: from the cycle of its first due cell on, as many

@@ -1,0 +1,11 @@
+use Rattle.std.proofs.Common.{◌≡◌}
+use Rattle.run_reports.specs.Filling.{AreFirst}
+use Rattle.run_reports.specs.Runners.{IsAt}
+use Rattle.run_reports.proofs.full_queues.first_fulls.Given as goal
+
+abbrev pub invariant-loop-cycle : goal.invariant-loop-cycle
+invariant-loop-cycle l = record {
+  at : IsAt l.project l.runner;
+  cycle : l.runner.cycle ≡ l._cycle;
+  firsts : AreFirst l.project l._cycle l.all.items;
+}
