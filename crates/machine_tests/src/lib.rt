@@ -6,7 +6,7 @@
 #[cfg(test)]
 mod cells;
 #[cfg(test)]
-mod loads;
+mod row_words;
 #[cfg(test)]
 mod rows;
 #[cfg(test)]
