@@ -27,11 +27,11 @@ use crate::stages::comb_settings;
 use after::{After, queue_after, without_head, write_after};
 pub use beside::Beside;
 use comb_switch::Waiting;
-use machine_cells::MachineState;
+use machine_cells::{MachineState, encode};
 use mem_module::{SharedWords, Stored};
 use omega_net::{Component, Net, Reply, Request, Traffic, bit_of, turn_after};
 use project_book::Project;
-use state_words::{bytes, encode};
+use state_words::bytes;
 use std::alloc::AllocError;
 use traffic::either_of;
 
