@@ -109,7 +109,7 @@ refused_told b q n is = rw is refl
 pub refused_settles : (d : Shown) (q : Query) (n : ℕ) → bad_query (project_of d) q ≡ Some n → SettlesOnceAs q (told.BadQuery n) d d
 refused_settles d q n is = rw is refl
 
-partly : (last : Option ℕ) (d next : Shown) → IsSettledFrom last d next → IsPartlySettledFrom last d next
+pub partly : (last : Option ℕ) (d next : Shown) → IsSettledFrom last d next → IsPartlySettledFrom last d next
 partly None d next s = s
 partly (Some last) d next s = (s.0, s.1, λ o h stands. let all = s.2 o h stands in record { stands = all.stands; table = all.table.firsts })
 

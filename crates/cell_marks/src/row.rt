@@ -1,6 +1,6 @@
 //! One row of marks.
 ghost use Rattle.std.specs.Prelude.{◌≡◌, ℕ, ◌<◌, ◌≤◌, ◌+◌, ◌*◌, ◌^◌, ◌↔◌, ◌||◌, true, false, IsTrue, MatchOption, IfOk, length, replicate, slice_set, take, if◌then◌else◌};
-ghost use Rattle.cell_marks.specs.Bits.{bit_in};
+ghost use Rattle.cell_marks.specs.Bits.{bit_in, bits_of};
 ghost use Rattle.cell_marks.specs.Marked.{is_set, count_in, union, row_at, any_marks, IsFirstFrom};
 
 use crate::word::word_of;
@@ -91,6 +91,15 @@ impl Row {
         }
     }
 
+    /// The marks as bits, 64 in a word; a bit behind the last component means nothing.
+    pub fn words(&self) -> &[u64]
+        ensures room { length self.now ≤ 64 * length result.now }
+        ensures bits { (c : ℕ) → c < length self.now → bit_in result.now c ≡ is_set self.now c }
+    {
+        let _len = self.len;
+        &self.words
+    }
+
     /// Whether the components marked in one row or the other are just those marked here; 64 of them in one step.
     pub(crate) fn is_union(&self, one: &Row, other: &Row) -> bool
         requires one { length one.now ≡ length self.now }
@@ -129,6 +138,16 @@ impl Row {
         let _len = other.len;
         let added = add_in(&mut self.words, &other.words, self.len);
         self.count += added;
+    }
+
+    /// Marks all components whose bits are set in these words, too; 64 of them in one step.
+    #[tactic(auto, using(crate::proofs::Added::count_le))]
+    pub fn add_words(&mut self, words: &[u64])
+        requires { length self.old ≤ 64 * length words.now }
+        ensures { self.new ≡ union self.old (bits_of words.now (length self.old)) }
+    {
+        let more = add_in(&mut self.words, words, self.len);
+        self.count += more;
     }
 
     /// Marks just the components that some row of the list marks, of those rows whose own component is marked in `set`: 64 of

@@ -1,4 +1,10 @@
 pub mod Keeping
+pub mod Stated
+pub mod Codes
+pub mod Coded
+pub mod Changed
+pub mod Grown
+pub mod ChangedRows
 pub mod Counts
 pub mod Marking
 pub mod Tables
@@ -13,8 +19,8 @@ pub mod Repeated
 pub mod SettledRow
 pub mod Filled
 pub mod FilledRows
-pub mod PutRows
 pub mod WideRows
+pub mod Whole
 pub mod Woken
 pub mod MarkedCycle
 pub mod MarkedRow

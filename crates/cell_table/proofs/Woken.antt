@@ -1,21 +1,21 @@
 -- A cycle is filled, where only the marked components are looked at.
-use Rattle.std.proofs.Common.{◌≡◌, ℕ, ◌+◌, ◌<◌, ◌≤◌, ◌∙◌, sym, subst, arith, Bool, false, ◌⊎◌, inl, inr, Option, None, Some, List, length}
+use Rattle.std.proofs.Common.{◌≡◌, ℕ, ◌+◌, ◌-◌, ◌<◌, ◌≤◌, ◌∙◌, sym, ap, subst, arith, Bool, false, ◌⊎◌, inl, inr, Option, None, Some, List}
 use Rattle.std.proofs.lemmas.Bool.{cases_lt}
-use Rattle.state_line.specs.Lined.{Lined}
 use Rattle.grid_law.specs.Rules.{Rules}
-use Rattle.cell_table.specs.Filling.{is_awake, Stays, Trails, IsComputed, OthersStay, NearStay}
-use Rattle.cell_table.proofs.Trailing.{at_or_other, trails_stay}
+use Rattle.grid_law.specs.Run.{run}
+use Rattle.cell_table.specs.Filling.{is_awake, Stays, IsRowBefore, IsComputed, OthersStay, NearStay}
+use Rattle.cell_table.proofs.Trailing.{at_or_other}
 
 module _ {State Slots Slot : Type 0} (R : Rules State Slots Slot) (s : Slots) (t : ℕ) where
   -- for an unmarked component nothing was computed
-  pub computed_unmarked : (marks : List Bool) (c : ℕ) (line : Lined State) (o : Option State) → OthersStay R s t marks → c < R.components s → is_awake marks c ≡ false → o ≡ None → IsComputed R s t c line o
-  computed_unmarked marks c line None others h e none = others c h e
-  computed_unmarked marks c line (Some x) others h e none = cc
+  pub computed_unmarked : (marks : List Bool) (c : ℕ) (o : Option State) → OthersStay R s t marks → c < R.components s → is_awake marks c ≡ false → o ≡ None → IsComputed R s t c o
+  computed_unmarked marks c None others h e none = others c h e
+  computed_unmarked marks c (Some x) others h e none = cc
 
   -- where nothing was computed, the component stays
-  pub stays_unmarked : (c : ℕ) (line : Lined State) (o : Option State) → IsComputed R s t c line o → o ≡ None → Stays R s t c
-  stays_unmarked c line None computed none = computed
-  stays_unmarked c line (Some x) computed none = cc
+  pub stays_unmarked : (c : ℕ) (o : Option State) → IsComputed R s t c o → o ≡ None → Stays R s t c
+  stays_unmarked c None computed none = computed
+  stays_unmarked c (Some x) computed none = cc
 
   -- components that stay are passed over
   pub near_over : (later : List Bool) (from to : ℕ) → NearStay R s t later from → ((m : ℕ) → from ≤ m → m < to → Stays R s t m) → NearStay R s t later to
@@ -26,33 +26,33 @@ module _ {State Slots Slot : Type 0} (R : Rules State Slots Slot) (s : Slots) (t
       by_place (inr k) = stays m k l
 
   -- one marked component was computed, and those between are passed over
-  pub computed_next : (marks : List Bool) (from c : ℕ) (lines lines1 : ℕ → Lined State) (news news1 : ℕ → Option State) → OthersStay R s t marks → c < R.components s → ((k : ℕ) → from ≤ k → k < c → is_awake marks k ≡ false) → ((k : ℕ) → k < from → IsComputed R s t k (lines k) (news k)) → ((k : ℕ) → from ≤ k → news k ≡ None) → ((k : ℕ) → (k ≡ c → ⊥) → lines1 k ≡ lines k) → ((k : ℕ) → (k ≡ c → ⊥) → news1 k ≡ news k) → IsComputed R s t c (lines1 c) (news1 c) → (k : ℕ) → k < c + 1 → IsComputed R s t k (lines1 k) (news1 k)
-  computed_next marks from c lines lines1 news news1 others within between done rest same same_news computed k h =
-      at_or_other (λ k. k < c + 1 → IsComputed R s t k (lines1 k) (news1 k)) c k (λ l. computed) (λ n l. subst (λ line. IsComputed R s t k line (news1 k)) (sym (same k n)) (subst (IsComputed R s t k (lines k)) (sym (same_news k n)) (before k (omega (arith, n, l)) (cases_lt k from)))) h
+  pub computed_next : (marks : List Bool) (from c : ℕ) (news news1 : ℕ → Option State) → OthersStay R s t marks → c < R.components s → ((k : ℕ) → from ≤ k → k < c → is_awake marks k ≡ false) → ((k : ℕ) → k < from → IsComputed R s t k (news k)) → ((k : ℕ) → from ≤ k → news k ≡ None) → ((k : ℕ) → (k ≡ c → ⊥) → news1 k ≡ news k) → IsComputed R s t c (news1 c) → (k : ℕ) → k < c + 1 → IsComputed R s t k (news1 k)
+  computed_next marks from c news news1 others within between done rest same computed k h =
+      at_or_other (λ k. k < c + 1 → IsComputed R s t k (news1 k)) c k (λ l. computed) (λ n l. subst (IsComputed R s t k) (sym (same k n)) (before k (omega (arith, n, l)) (cases_lt k from))) h
     where
-      before : (k : ℕ) → k < c → (k < from) ⊎ (from ≤ k) → IsComputed R s t k (lines k) (news k)
+      before : (k : ℕ) → k < c → (k < from) ⊎ (from ≤ k) → IsComputed R s t k (news k)
       before k l (inl m) = done k m
-      before k l (inr m) = computed_unmarked marks k (lines k) (news k) others (omega (arith, within, l)) (between k m l) (rest k m)
+      before k l (inr m) = computed_unmarked marks k (news k) others (omega (arith, within, l)) (between k m l) (rest k m)
 
   -- no further one is marked
-  pub computed_all : (marks : List Bool) (from : ℕ) (lines : ℕ → Lined State) (news : ℕ → Option State) → OthersStay R s t marks → ((k : ℕ) → from ≤ k → is_awake marks k ≡ false) → ((k : ℕ) → k < from → IsComputed R s t k (lines k) (news k)) → ((k : ℕ) → from ≤ k → news k ≡ None) → (k : ℕ) → k < R.components s → IsComputed R s t k (lines k) (news k)
-  computed_all marks from lines news others none done rest k h = by_place (cases_lt k from)
+  pub computed_all : (marks : List Bool) (from : ℕ) (news : ℕ → Option State) → OthersStay R s t marks → ((k : ℕ) → from ≤ k → is_awake marks k ≡ false) → ((k : ℕ) → k < from → IsComputed R s t k (news k)) → ((k : ℕ) → from ≤ k → news k ≡ None) → (k : ℕ) → k < R.components s → IsComputed R s t k (news k)
+  computed_all marks from news others none done rest k h = by_place (cases_lt k from)
     where
-      by_place : (k < from) ⊎ (from ≤ k) → IsComputed R s t k (lines k) (news k)
+      by_place : (k < from) ⊎ (from ≤ k) → IsComputed R s t k (news k)
       by_place (inl m) = done k m
-      by_place (inr m) = computed_unmarked marks k (lines k) (news k) others h (none k m) (rest k m)
+      by_place (inr m) = computed_unmarked marks k (news k) others h (none k m) (rest k m)
 
-  module _ (marks : List Bool) (olds : ℕ → Lined State) (news : ℕ → Option State) (trails : (k : ℕ) → k < R.components s → Trails R s (length (olds k).states) t k (olds k)) (computed : (k : ℕ) → k < R.components s → IsComputed R s t k (olds k) (news k)) (unmarked : (k : ℕ) → is_awake marks k ≡ false → news k ≡ None) where
+  module _ (marks : List Bool) (olds news : ℕ → Option State) (known : IsRowBefore R s t olds) (computed : (k : ℕ) → k < R.components s → IsComputed R s t k (news k)) (unmarked : (k : ℕ) → is_awake marks k ≡ false → news k ≡ None) where
     pub stays_at : (k : ℕ) → k < R.components s → is_awake marks k ≡ false → Stays R s t k
-    stays_at k h e = stays_unmarked k (olds k) (news k) (computed k h) (unmarked k e)
+    stays_at k h e = stays_unmarked k (news k) (computed k h) (unmarked k e)
 
-    -- a line that was put or passed over
-    pub trails_over : (from : ℕ) (lines : ℕ → Lined State) → ((k : ℕ) → k < from → Trails R s (length (olds k).states) (t + 1) k (lines k)) → ((k : ℕ) → from ≤ k → lines k ≡ olds k) → (k : ℕ) → k < R.components s → (from ≤ k → is_awake marks k ≡ false) → Trails R s (length (olds k).states) (t + 1) k (lines k)
-    trails_over from lines done rest k h e = by_place (cases_lt k from)
+    -- what a row has that was taken over or passed over
+    pub row_over : (from : ℕ) (row : ℕ → Option State) → ((k : ℕ) → k < from → row k ≡ Some (run R s t k)) → ((k : ℕ) → from ≤ k → row k ≡ olds k) → (k : ℕ) → k < R.components s → (from ≤ k → is_awake marks k ≡ false) → row k ≡ Some (run R s t k)
+    row_over from row done rest k h e = by_place (cases_lt k from)
       where
-        by_place : (k < from) ⊎ (from ≤ k) → Trails R s (length (olds k).states) (t + 1) k (lines k)
+        by_place : (k < from) ⊎ (from ≤ k) → row k ≡ Some (run R s t k)
         by_place (inl m) = done k m
-        by_place (inr m) = subst (Trails R s (length (olds k).states) (t + 1) k) (sym (rest k m)) (trails_stay R s (length (olds k).states) t k (olds k) (trails k h) (stays_at k h (e m)))
+        by_place (inr m) = let stays = stays_at k h (e m) in rest k m ∙ known stays.0 k h ∙ ap Some (sym stays.1)
 
     -- what is left of what was computed
     pub none_over : (from : ℕ) (news1 : ℕ → Option State) → ((k : ℕ) → k < from → news1 k ≡ None) → ((k : ℕ) → from ≤ k → news1 k ≡ news k) → (k : ℕ) → (from ≤ k → is_awake marks k ≡ false) → news1 k ≡ None

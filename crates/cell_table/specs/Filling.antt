@@ -1,16 +1,11 @@
 -- Filling cycles whose cells hold no state yet.
 use Rattle.std.specs.Prelude.{◌≡◌, ℕ, zero, suc, ◌+◌, ◌-◌, ◌<◌, ◌≤◌, ◌==◌, min, if◌then◌else◌, Bool, true, false, Option, None, Some, List, length, slice_index_or}
-use Rattle.state_line.specs.Lined.{Lined}
 use Rattle.grid_law.specs.Rules.{Rules}
 use Rattle.grid_law.specs.Run.{run}
 use Rattle.cell_table.specs.Seen.{Seen, held_at}
 use Rattle.cell_table.specs.Cells.{IsThere}
+use Rattle.cell_table.specs.Layout.{Stated, state_at}
 use Rattle.cell_table.specs.Readers.{has}
-
-module _ {State : Type 0} where
-  -- the state before a line's place
-  abbrev pub last_of : Lined State → Option State
-  last_of line = if line.place == 0 then None else slice_index_or line.states (line.place - 1) None
 
 -- whether a component is marked
 abbrev pub is_awake : List Bool → ℕ → Bool
@@ -21,18 +16,19 @@ module _ {State Slots Slot : Type 0} (R : Rules State Slots Slot) (s : Slots) wh
   abbrev pub Stays : ℕ → ℕ → Type 0
   Stays t c = (0 < t) × (run R s t c ≡ run R s (t - 1) c)
 
-  -- a line of n cycles shows the run up to before cycle t, where what stands before its place goes on from there; and
-  -- it has no state from its place on
-  pub record Trails (n t c : ℕ) (line : Lined State) : Type 0 where
-    pub cycles : length line.states ≡ n
-    pub place : line.place ≤ t
-    pub known : (u : ℕ) → u < t → (0 < line.place) × (slice_index_or line.states (min u (line.place - 1)) None ≡ Some (run R s u c))
-    pub rest : (u : ℕ) → line.place ≤ u → slice_index_or line.states u None ≡ None
+  -- a row has the states of the run one cycle before cycle t, where there is such a cycle
+  abbrev pub IsRowBefore : ℕ → (ℕ → Option State) → Type 0
+  IsRowBefore t row = 0 < t → (c : ℕ) → c < R.components s → row c ≡ Some (run R s (t - 1) c)
 
-  -- what was computed for cycle t: another state, for which the line is ready, or none where the last one stays
-  abbrev pub IsComputed : ℕ → ℕ → Lined State → Option State → Type 0
-  IsComputed t c line None = Stays t c
-  IsComputed t c line (Some x) = (x ≡ run R s t c) × (line.place ≡ t) × (0 < line.room)
+  -- what was computed for cycle t: another state, or none where the last one stays
+  abbrev pub IsComputed : ℕ → ℕ → Option State → Type 0
+  IsComputed t c None = Stays t c
+  IsComputed t c (Some x) = x ≡ run R s t c
+
+  -- to before cycle t the states are those of the run, and from there on there is none
+  pub record IsFilled (t : ℕ) (states : Stated State) : Type 0 where
+    pub known : (u c : ℕ) → c < R.components s → u < t → state_at states u c ≡ Some (run R s u c)
+    pub rest : (u c : ℕ) → c < R.components s → t ≤ u → state_at states u c ≡ None
 
   -- each component that isn't marked stays at cycle t
   abbrev pub OthersStay : ℕ → List Bool → Type 0

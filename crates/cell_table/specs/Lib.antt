@@ -1,4 +1,5 @@
 pub mod Seen
+pub mod Codes
 pub mod Cells
 pub mod Inputs
 pub mod Consistent
@@ -19,6 +20,9 @@ pub mod Cones
 pub mod Settling
 pub mod Cost
 pub mod Layout
+pub mod Codes
+pub mod Coded
+pub mod Ready
 pub mod Waves
 pub mod Filling
 pub mod Passing

@@ -16,7 +16,7 @@ use grid_law::{Grid, NoMemory};
 use std::sync::Arc;
 
 /// Marks the cells of these components at a cycle.
-pub(crate) fn mark_each<S: Drop>(cells: &mut Cells<S>, cycle: u32, components: &[u32], version: u64)
+pub(crate) fn mark_each<G: Grid>(cells: &mut Cells<G>, cycle: u32, components: &[u32], version: u64)
     requires cycle { cycle < length cells.old }
     requires within { All (λ k. k < length (row_at cells.old cycle)) components.now }
     ensures len { length cells.new ≡ length cells.old }
@@ -31,7 +31,7 @@ pub(crate) fn mark_each<S: Drop>(cells: &mut Cells<S>, cycle: u32, components: &
 }
 
 /// Marks the cells that read a cell, one cycle later.
-fn mark_readers<S: Drop>(cells: &mut Cells<S>, readers: &Readers, cell: Cell, version: u64)
+fn mark_readers<G: Grid>(cells: &mut Cells<G>, readers: &Readers, cell: Cell, version: u64)
     requires cycle { cell.cycle < length cells.old }
     requires within { (t : ℕ) → t < length cells.old → All (λ k. k < length (row_at cells.old t)) (readers_at readers.now cell.component) }
     ensures len { length cells.new ≡ length cells.old }
@@ -47,7 +47,7 @@ fn mark_readers<S: Drop>(cells: &mut Cells<S>, readers: &Readers, cell: Cell, ve
 
 /// Marks the cells one cycle later, as the stores of so many components in turn do, the clock being `clock` before them.
 pub(crate) fn mark_cycle<G: Grid>(
-    cells: &mut Cells<G::State>,
+    cells: &mut Cells<G>,
     slots: &G::Slots,
     readers: &Readers,
     cycle: u32,
@@ -72,9 +72,27 @@ pub(crate) fn mark_cycle<G: Grid>(
     }
 }
 
+/// Marks just the components that read one that changes.
+pub(crate) fn reach_in<G: Grid>(
+    slots: &G::Slots,
+    readers: &Readers,
+    changes: &Row,
+    reached: &mut Row,
+)
+    requires index { IsIndex G.rules slots.now readers.now }
+    requires width { length changes.now ≡ G.rules.components slots.now }
+    requires len { length reached.old ≡ G.rules.components slots.now }
+    ensures len { length reached.new ≡ length reached.old }
+    ensures reached { (c : ℕ) → c < G.rules.components slots.now
+        → is_awake reached.new c ≡ any_changes changes.now (G.rules.near slots.now c) (G.rules.components slots.now) }
+{
+    let _ = slots;
+    readers.gather(changes, reached);
+}
+
 /// As `mark_changed`, by the list of readers of each component.
 fn mark_in_turn<G: Grid>(
-    cells: &mut Cells<G::State>,
+    cells: &mut Cells<G>,
     slots: &G::Slots,
     readers: &Readers,
     changes: &Row,
@@ -107,7 +125,7 @@ fn mark_in_turn<G: Grid>(
 /// Marks the cells one cycle later, as the stores of the components that change do one after another, the clock being
 /// `clock` before them. Which cells read one of them is known.
 pub(crate) fn mark_changed<G: Grid>(
-    cells: &mut Cells<G::State>,
+    cells: &mut Cells<G>,
     slots: &G::Slots,
     readers: &Readers,
     changes: &Row,
@@ -148,7 +166,7 @@ pub(crate) fn clock_filled(clock: u64, cycles: u32, count: u32) -> u64
 
 /// As `mark_filled`, where there is such a cycle and one behind it.
 fn mark_behind<G: Grid>(
-    cells: &mut Cells<G::State>,
+    cells: &mut Cells<G>,
     slots: &G::Slots,
     readers: &Readers,
     from: u32,
@@ -176,7 +194,7 @@ fn mark_behind<G: Grid>(
 /// Marks the cells behind filled cycles, as their last stores do: those of cycles `from` to before `to`, in order, the
 /// clock being `clock` before them.
 pub(crate) fn mark_filled<G: Grid>(
-    cells: &mut Cells<G::State>,
+    cells: &mut Cells<G>,
     slots: &G::Slots,
     readers: &Readers,
     from: u32,
@@ -218,7 +236,7 @@ pub(crate) fn clock_after(clock: u64, changed: bool) -> u64
 /// Stores a state; where it changed, marks the cells one cycle later that read it. Where memory is
 /// wanting, nothing is changed, and the state comes back.
 pub(crate) fn store_in<G: Grid>(
-    cells: &mut Cells<G::State>,
+    cells: &mut Cells<G>,
     slots: &G::Slots,
     readers: &Readers,
     cell: Cell,
@@ -252,7 +270,7 @@ pub(crate) fn store_in<G: Grid>(
 /// changed, marks the cells one cycle later that read it. Where memory is wanting, nothing is
 /// changed.
 pub(crate) fn repeat_in<G: Grid>(
-    cells: &mut Cells<G::State>,
+    cells: &mut Cells<G>,
     slots: &G::Slots,
     readers: &Readers,
     cell: Cell,

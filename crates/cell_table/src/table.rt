@@ -1,7 +1,6 @@
 //! The table.
 ghost use Rattle.std.specs.Prelude.{◌≡◌, ℕ, ◌+◌, ◌<◌, ◌≤◌, IfOk, IfErr, List, replicate, Some, ◌↔◌, IsTrue, [], option_map};
 ghost use Rattle.std.specs.Arc.{arc_value};
-ghost use Rattle.std.specs.Option.{option_copied};
 ghost use Rattle.cell_table.specs.Seen.{held_at, due_at, fresh};
 ghost use Rattle.cell_table.specs.Cells.{IsThere};
 ghost use Rattle.cell_table.specs.Consistent.{IsWhole, IsConsistent};
@@ -39,7 +38,7 @@ pub struct Table<G: Grid> {
     slots: G::Slots,
     horizon: u32,
     clock: u64,
-    cells: Cells<G::State>,
+    cells: Cells<G>,
     readers: Readers,
     neighbours: Neighbours,
     /// Before which cycle each cell is known to hold a state; there may be more of them.
@@ -142,14 +141,6 @@ impl<G: Grid> Table<G> {
         ensures { result.now ≡ self.now.slots }
     {
         &self.slots
-    }
-
-    /// The state that the cell holds, up to date or not; a cell that isn't there has none.
-    #[inline(always)]
-    pub fn state(&self, cell: Cell) -> Option<&G::State>
-        ensures { option_copied result ≡ (held_at self.now.rows cell.cycle cell.component).state }
-    {
-        self.cells.state(cell)
     }
 
     /// One more owner of the state that the cell holds, up to date or not; none for a cell that

@@ -49,7 +49,10 @@ fn row(table: &Table<Line>, cycle: u32) -> [Option<u32>; 3] {
 }
 
 fn state(table: &Table<Line>, cycle: u32, component: u32) -> Option<u32> {
-    table.state(Cell { cycle, component }).copied()
+    match table.shared(Cell { cycle, component }) {
+        Ok(Some(state)) => Some(*state),
+        _ => None,
+    }
 }
 
 fn look_at(table: &Table<Line>) -> Looks {

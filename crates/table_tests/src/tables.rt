@@ -253,7 +253,10 @@ fn row(table: &Table<Line>, cycle: u32) -> [Option<u32>; 3] {
 }
 
 fn state(table: &Table<Line>, cycle: u32, component: u32) -> Option<u32> {
-    table.state(Cell { cycle, component }).copied()
+    match table.shared(Cell { cycle, component }) {
+        Ok(Some(state)) => Some(*state),
+        _ => None,
+    }
 }
 
 // All 9 cells at first. Then Seed(2) is 6: place 2 starts with 6; its readers at cycle 1 are places

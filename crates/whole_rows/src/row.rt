@@ -1,31 +1,29 @@
 //! The machine's row beside the cells of a table.
-ghost use Rattle.std.specs.Prelude.{◌≡◌, ◌≢◌, ◌<◌, ℕ, List, true, Some};
+ghost use Rattle.std.specs.Prelude.{◌≡◌, ◌<◌, ◌↔◌, IsTrue, IfOk, Some, option_map, true};
 ghost use Rattle.omega_net.specs.declared.component.Component.TheVariants.{Module as ModuleAt};
 ghost use Rattle.omega_net.specs.Numbers.{components, component_of, number_of, lines, Exists};
-ghost use Rattle.project_book.specs.Project.{Project};
-ghost use Rattle.mem_module.specs.declared.words.Stored.{Stored as Memory};
-ghost use Rattle.machine_cells.specs.Words.{with_memory, words_of};
-ghost use Rattle.flat_row.specs.Row.{IsRowOf, state_of};
-ghost use Rattle.flat_row.specs.Loading.{CanHold, OnlyState};
+ghost use Rattle.machine_cells.specs.Codec.{memory_in};
+ghost use Rattle.flat_row.specs.Row.{state_of};
+ghost use Rattle.flat_row.specs.Loading.{OnlyState};
+ghost use Rattle.machine_cells.specs.Words.{with_memory};
+ghost use Rattle.whole_rows.specs.Rows.{wrote_in};
 
 use crate::memory::is_ascending;
+use crate::words::{are_of_a_state, can_hold};
 use cell_table::WholeRow;
-use flat_row::{Changed, Row, can_hold};
+use flat_row::{Changed, Row};
 use grid_law::NoMemory;
-use machine_cells::{MachineState, Rp3, encode, is_state};
-use mem_module::Stored;
+use machine_cells::{MachineState, Rp3};
+use mem_module::{SharedWords, Stored};
 use omega_net::{Component, Shape};
 use project_book::Project;
-use std::alloc::Global;
+use std::alloc::{AllocError, Global};
 use std::marker::Model;
-use std::sync::Arc;
 
 /// The states of all cells of a machine at a cycle, by levels of queues and sets of labels.
 #[derive(Drop)]
 pub struct MachineRow {
     row: Row,
-    /// The words of the state that is put.
-    words: Vec<u64>,
 }
 
 impl Model for MachineRow {
@@ -38,34 +36,46 @@ impl Model for MachineRow {
 
 impl WholeRow<Rp3> for MachineRow {
     ghost use Rattle.flat_row.specs.Row.{IsRowOf};
-    ghost use Rattle.whole_rows.specs.Rows.{Holds, is_still};
+    ghost use Rattle.whole_rows.specs.Rows.{state_in, is_still, has_written};
 
     type Step = Changed;
 
     ghost stands = { λ row P. IsRowOf P row };
 
-    ghost holds = { Holds };
+    ghost state = { state_in };
 
     ghost is_still = { is_still };
 
+    ghost has_written = { has_written };
+
     fn new(alloc: Global, s: &Project) -> Option<MachineRow> {
         match Row::start(alloc, s) {
-            Ok(row) => Some(MachineRow {
-                row,
-                words: Vec::new(alloc),
-            }),
+            Ok(row) => Some(MachineRow { row }),
             Err(_) => None,
         }
     }
 
-    fn load(&mut self, s: &Project, c: u32, x: &MachineState) -> bool {
+    fn follow(&mut self, s: &Project) {
+        self.row.follow(s);
+    }
+
+    fn load(&mut self, s: &Project, c: u32, words: &[u64]) -> bool {
         let component = component_at(s.shape(), c);
-        self.words.clear();
-        if !can_hold(component, x) || encode(x, &mut self.words).is_err() {
+        if !can_hold(component, words) {
             return false;
         }
-        let alloc = *self.words.allocator();
-        put(&mut self.row, alloc, component, x, self.words.as_slice())
+        are_of_a_state(words);
+        self.row.load(component, words);
+        true
+    }
+
+    fn load_memory(&mut self, alloc: Global, s: &Project, c: u32, memory: &SharedWords) -> bool {
+        match component_at(s.shape(), c) {
+            Component::Module(m) => {
+                put_memory(&mut self.row, alloc, u32::from(m), memory.as_slice())
+            }
+            Component::Proc(_) | Component::Switch { .. } => false,
+        }
     }
 
     fn step(&mut self, s: &Project) -> Option<Changed> {
@@ -80,21 +90,29 @@ impl WholeRow<Rp3> for MachineRow {
         !step.has(shape, component_at(shape, c))
     }
 
-    fn is_held(&self, s: &Project, c: u32, x: &MachineState) -> bool {
-        self.row.is_state(component_at(s.shape(), c), x)
+    fn has_written(step: &Changed, s: &Project, c: u32) -> bool {
+        let shape = s.shape();
+        wrote(step, shape, component_at(shape, c))
     }
 
-    fn read(
-        &self,
-        alloc: Global,
-        s: &Project,
-        c: u32,
-        own: &MachineState,
-    ) -> Result<Arc<MachineState>, NoMemory> {
-        let state = self
-            .row
-            .read_beside(alloc, component_at(s.shape(), c), own)?;
-        Ok(Arc::new(alloc, state)?)
+    fn is_told(&self, s: &Project, c: u32) {
+        self.row.is_told(component_at(s.shape(), c));
+    }
+
+    fn words(&self, s: &Project, c: u32, words: &mut Vec<u64>) -> Result<(), AllocError> {
+        self.row.words(component_at(s.shape(), c), words)
+    }
+
+    fn first_word(&self, s: &Project, c: u32) -> u64 {
+        self.row.first_word(component_at(s.shape(), c))
+    }
+
+    fn has_memory(&self, s: &Project, c: u32, memory: Option<&SharedWords>) -> bool {
+        is_memory(&self.row, component_at(s.shape(), c), memory)
+    }
+
+    fn memory(&self, alloc: Global, s: &Project, c: u32) -> Result<Option<SharedWords>, NoMemory> {
+        memory_at(&self.row, alloc, component_at(s.shape(), c))
     }
 }
 
@@ -108,37 +126,46 @@ fn component_at(shape: Shape, c: u32) -> Component
     shape.component(c).unwrap()
 }
 
-/// Puts a state that the row can hold, of which these are the words. It answers false where a growth was refused.
-fn put(
-    row: &mut Row,
-    alloc: Global,
-    component: Component,
-    state: &MachineState,
-    words: &[u64],
-) -> bool
-    requires there { Exists row.old.k component }
-    requires words { words.now ≡ words_of state.now }
-    requires can { CanHold component state.now }
-    ensures loaded { result ≡ true → state_of row.new (Some component) ≡ state.now }
-    ensures only { OnlyState component row.old row.new }
+/// Whether a component is a module in which a word of memory is another one.
+fn wrote(step: &Changed, shape: Shape, component: Component) -> bool
+    requires { Exists shape component }
+    ensures { result ≡ wrote_in step.now (Some component) }
 {
-    is_state(state);
-    row.load(component, words);
-    remember(row, alloc, component, state)
+    // There are at most 64 modules.
+    let _k = shape.k();
+    match component {
+        Component::Module(m) => step.has_written(u32::from(m)),
+        Component::Proc(_) | Component::Switch { .. } => false,
+    }
 }
 
-/// Puts a module's words of memory.
-fn remember(row: &mut Row, alloc: Global, component: Component, state: &MachineState) -> bool
-    requires there { Exists row.old.k component }
-    requires can { CanHold component state.now }
-    ensures loaded { (memory : List Memory) → state_of row.old (Some component) ≡ with_memory memory state.now → result ≡ true → state_of row.new (Some component) ≡ state.now }
-    ensures only { OnlyState component row.old row.new }
+/// Whether this is a component's memory; where it is no module, it has none.
+fn is_memory(row: &Row, component: Component, memory: Option<&SharedWords>) -> bool
+    requires { Exists row.now.k component }
+    ensures { IsTrue result ↔ (memory_in (state_of row.now (Some component)) ≡ option_map (λ held. held.now) memory.entry) }
 {
-    match (component, state) {
-        (Component::Module(m), MachineState::Module(module)) => {
-            put_memory(row, alloc, u32::from(m), module.words.as_slice())
-        }
-        _ => true,
+    match (component, memory) {
+        (Component::Module(m), Some(memory)) => row.has_memory(u32::from(m), memory.as_slice()),
+        (Component::Module(_), None) => false,
+        (Component::Proc(_) | Component::Switch { .. }, memory) => memory.is_none(),
+    }
+}
+
+/// A component's memory, where it is a module.
+fn memory_at(
+    row: &Row,
+    alloc: Global,
+    component: Component,
+) -> Result<Option<SharedWords>, NoMemory>
+    requires { Exists row.now.k component }
+    ensures { IfOk result (λ memory. memory ≡ memory_in (state_of row.now (Some component))) }
+{
+    match component {
+        Component::Module(_) => match row.read(alloc, component)? {
+            MachineState::Module(state) => Ok(Some(state.words.share()?)),
+            MachineState::Proc(_) | MachineState::Low(_) | MachineState::Comb(_) => Ok(None),
+        },
+        Component::Proc(_) | Component::Switch { .. } => Ok(None),
     }
 }
 

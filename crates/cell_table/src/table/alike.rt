@@ -12,7 +12,7 @@ use super::Table;
 use super::filling::has_room;
 use crate::cells::repeat_cells;
 use crate::ranges::ranges_of;
-use crate::rows::{clock_filled, mark_changed};
+use crate::rows::{clock_filled, mark_changed, reach_in};
 use crate::watcher::Watcher;
 use crate::{Cell, CellRange};
 use cell_marks::Row;
@@ -126,7 +126,7 @@ impl<G: Grid> Table<G> {
             return end;
         }
         let cycle = cycle - 1;
-        let last = self.cells.standing(Cell { cycle, component }, 0).end;
+        let last = self.cells.stands_to(Cell { cycle, component });
         if last < end { last + 1 } else { end }
     }
 
@@ -139,7 +139,7 @@ impl<G: Grid> Table<G> {
         ensures before { result ≤ end }
         ensures stays { StaysAlikeTo G.rules self.now cell.cycle changes.now cell.component result }
     {
-        let mut to = end.min(self.cells.standing(cell, 0).end);
+        let mut to = end.min(self.cells.stands_to(cell));
         for component in self.near(cell.component) {
             to = self.alike_near(*component, cell.cycle, changes, to);
         }
@@ -173,7 +173,7 @@ impl<G: Grid> Table<G> {
         ensures reached { (c : ℕ) → c < G.rules.components self.now.slots
             → is_awake reached.new c ≡ any_changes changes.now (G.rules.near self.now.slots c) (G.rules.components self.now.slots) }
     {
-        self.readers.gather(changes, reached);
+        reach_in::<G>(&self.slots, &self.readers, changes, reached);
     }
 
     /// To before which cycle, `end` at most, the components due, or among those, are those due at a cycle.

@@ -14,9 +14,7 @@ ghost use Rattle.cell_table.specs.Cost.{Settles, SettlesTo, SettlesFirst, Settle
 
 use super::Table;
 use super::alike::{Passed, Spare};
-use super::wide::Wide;
-use crate::fill::no_news;
-use crate::near::{first, five_lent};
+use crate::along::Along;
 use crate::watcher::{Nobody, Watcher};
 use crate::whole_row::NoRow;
 use crate::{Cell, SettleFault, Settled, StoreFault, WholeRow};
@@ -95,28 +93,38 @@ impl<G: Grid> Table<G> {
         !self.due(before) && self.cells.all_stay(before.cycle, near)
     }
 
-    /// The state that the present slots and near states give a cell, or none where it is that of
-    /// the cell before.
-    fn stepped(&self, cell: Cell) -> Result<Option<Arc<G::State>>, NoMemory>
+    /// The state that the present slots and near states give a cell.
+    fn stepped(&self, cell: Cell) -> Result<Arc<G::State>, NoMemory>
         requires there { IsThere G.rules self.now cell.cycle cell.component }
         requires ready { is_some (inputs_of G.rules self.now.slots self.now.rows cell.cycle cell.component) ≡ true }
         requires later { 0 < cell.cycle }
-        ensures { IfOk result (λ o. MatchOption o (IsAsBefore G.rules self.now cell.cycle cell.component)
-            (λ x. arc_value x ≡ current_of G.rules self.now.slots self.now.rows cell.cycle cell.component)) }
+        ensures { IfOk result (λ x. arc_value x ≡ current_of G.rules self.now.slots self.now.rows cell.cycle cell.component) }
     {
         let alloc = self.cells.allocator();
-        let near = self.near(cell.component);
+        let mut near = Vec::new(alloc);
+        let all = self.inputs(cell, &mut near)?;
+        if all {
+            G::step(alloc, &self.slots, near.as_slice(), cell.component)
+        } else {
+            unreachable!()
+        }
+    }
+
+    /// A state that was computed for a cell, or none where the cell before holds it.
+    fn other_than_before(&self, cell: Cell, state: Arc<G::State>) -> Option<Arc<G::State>>
+        requires later { 0 < cell.cycle }
+        requires computed { arc_value state ≡ current_of G.rules self.now.slots self.now.rows cell.cycle cell.component }
+        ensures { MatchOption result (IsAsBefore G.rules self.now cell.cycle cell.component)
+            (λ x. arc_value x ≡ current_of G.rules self.now.slots self.now.rows cell.cycle cell.component) }
+    {
         let before = Cell {
             cycle: cell.cycle - 1,
             component: cell.component,
         };
-        match self.cells.state(before) {
-            Some(own) => {
-                let five = five_lent(&self.cells, before.cycle, near, own);
-                let lent = first(&five, near.len());
-                G::next(alloc, &self.slots, lent, cell.component)
-            }
-            None => unreachable!(),
+        if self.holds(before, &state) {
+            None
+        } else {
+            Some(state)
         }
     }
 
@@ -135,7 +143,8 @@ impl<G: Grid> Table<G> {
         if self.is_as_before(cell) {
             return Ok(None);
         }
-        self.stepped(cell)
+        let state = self.stepped(cell)?;
+        Ok(self.other_than_before(cell, state))
     }
 
     /// Whether a cell holds the state of the cell before it, where it may be known that it does.
@@ -149,14 +158,7 @@ impl<G: Grid> Table<G> {
         if stays {
             return true;
         }
-        let before = Cell {
-            cycle: cell.cycle - 1,
-            component: cell.component,
-        };
-        match self.state(before) {
-            Some(state) => self.holds(cell, state),
-            None => false,
-        }
+        self.cells.is_as_before(cell)
     }
 
     /// Stores what was computed, as `settle_cell` does.
@@ -210,17 +212,6 @@ impl<G: Grid> Table<G> {
         }
     }
 
-    /// Gets the components near a cell ready for a look at them: their states a cycle earlier are found at once then. To move a
-    /// line along costs a step for each stretch that it is moved over, but mostly it is there, from the cycle before or from the
-    /// edit before.
-    fn bring_near(&mut self, cell: Cell)
-        requires { IsThere G.rules self.old cell.cycle cell.component }
-        ensures { self.new ≡ self.old }
-    {
-        self.cells
-            .bring_to(cell.cycle, self.neighbours.of(cell.component));
-    }
-
     /// Computes the cell and stores its state; tells whether the cell held no state or another one.
     pub(super) fn settle_cell(&mut self, cell: Cell) -> Result<bool, StoreFault>
         requires there { IsThere G.rules self.old cell.cycle cell.component }
@@ -232,7 +223,6 @@ impl<G: Grid> Table<G> {
         ensures spent { result ≡ Err StoreFault.ClockSpent → (self.old.clock ≡ 2 ^ 64 - 1)
             × ((held_at self.old.rows cell.cycle cell.component).state ≢ Some (current_of G.rules self.old.slots self.old.rows cell.cycle cell.component)) }
     {
-        self.bring_near(cell);
         match self.computed(cell) {
             Ok(Some(state)) => self.settle_state(cell, state),
             Ok(None) => self.settle_again(cell),
@@ -284,20 +274,18 @@ impl<G: Grid> Table<G> {
         from: Cell,
         end: u32,
         spare: &mut Spare,
-        wide: &mut Wide<G::State, M>,
+        along: &mut Option<Along<M>>,
         watcher: &mut W,
     ) -> Result<Option<Passed>, StoreFault>
         requires within { end ≤ self.old.horizon + 1 }
         requires none { NoneDueBefore G.rules self.old from.cycle from.component }
         requires changes { length spare.old.changes ≡ G.rules.components self.old.slots }
         requires reached { length spare.old.reached ≡ G.rules.components self.old.slots }
-        requires news { length wide.old.news.items ≡ G.rules.components self.old.slots }
-        requires along { IfSome wide.old.along (λ a. HoldsRow G.rules M.stands M.holds self.old.slots a.row a.cycle) }
+        requires along { IfSome along.old (λ a. HoldsRow G.rules M.stands M.state self.old.slots a.row a.cycle) }
         requires watched { W.keeps watcher.old self.old }
         ensures changes { length spare.new.changes ≡ length spare.old.changes }
         ensures reached { length spare.new.reached ≡ length spare.old.reached }
-        ensures news { length wide.new.news.items ≡ length wide.old.news.items }
-        ensures along { IfSome wide.new.along (λ a. HoldsRow G.rules M.stands M.holds self.new.slots a.row a.cycle) }
+        ensures along { IfSome along.new (λ a. HoldsRow G.rules M.stands M.state self.new.slots a.row a.cycle) }
         ensures watched { W.keeps watcher.new self.new }
         ensures none { IfOk result (λ o. IfNone o (NoneDueBefore G.rules self.old end 0 × HoldsRunBefore G.rules self.old end 0 × (self.new ≡ self.old))) }
         ensures on { IfOk result (λ o. IfSome o (λ p. (first : Seen G.State G.Slots) (n : ℕ) → IsAt G.rules first self.old from.cycle from.component n → IsAt G.rules first self.new p.to.cycle p.to.component (n + p.computed))) }
@@ -306,7 +294,7 @@ impl<G: Grid> Table<G> {
         ensures err { OnErr result (self.new ≡ self.old) }
         ensures spent { result ≡ Err StoreFault.ClockSpent → IsSpentBefore G.rules end self.old from.cycle from.component }
     {
-        match self.settle_at_once(from, end, spare, wide, watcher) {
+        match self.settle_at_once(from, end, spare, along, watcher) {
             Some(passed) => return Ok(Some(passed)),
             None => {}
         }
@@ -351,13 +339,9 @@ impl<G: Grid> Table<G> {
             Ok(spare) => spare,
             Err(_) => return Err(SettleFault::Memory { computed }),
         };
-        let news = match no_news(self.cells.allocator(), count as usize) {
-            Ok(news) => news,
-            Err(_) => return Err(SettleFault::Memory { computed }),
-        };
-        let mut wide: Wide<G::State, M> = Wide { along: None, news };
+        let mut along: Option<Along<M>> = None;
         loop {
-            match self.settle_more(from, end, &mut spare, &mut wide, watcher) {
+            match self.settle_more(from, end, &mut spare, &mut along, watcher) {
                 Ok(Some(passed)) => {
                     computed += passed.computed;
                     from = passed.to;

@@ -1,10 +1,10 @@
 //! Following an edit.
 ghost use Rattle.std.specs.Prelude.{◌≡◌, ℕ, is_some, ◌+◌, ◌<◌, ◌≤◌, ◌-◌, ◌^◌, ◌↔◌, IfOk, OnOk, OnErr, unwrap_or, true, false, ◌||◌, ◌&&◌, ◌==◌, nat_le, nat_lt, All, List, ◌∷◌};
-ghost use Rattle.std.specs.Option.{option_copied};
 ghost use Rattle.grid_law.specs.Rules.{Differ, reader_at};
 ghost use Rattle.cell_table.specs.Cells.{IsThere};
 ghost use Rattle.cell_table.specs.Inputs.{inputs_of};
 ghost use Rattle.cell_table.specs.Reads.{reads_by, is_reader};
+ghost use Rattle.cell_table.specs.Seen.{held_at};
 ghost use Rattle.cell_table.specs.Touches.{covers, is_marked, IsWithin, AreReady, cell_reads, cell_reads_one, IsAfterTouch};
 ghost use Rattle.cell_table.specs.Events.{Event, Start, Edits};
 ghost use Rattle.cell_table.specs.Stands.{Stands};
@@ -28,16 +28,13 @@ impl<G: Grid> Table<G> {
         G::reads(&self.slots, near.as_slice(), component, slot)
     }
 
-    /// Whether a component reads the slot after cycle 0, where its own state one cycle earlier was this
-    /// and the other near states are there.
-    fn reads_by(&self, own: Option<&G::State>, component: u32, slot: &G::Slot) -> bool
-        requires { component < G.rules.components self.now.slots }
-        ensures { result ≡ reads_by G.rules self.now.slots component slot.now (option_copied own.entry) }
+    /// Whether a component reads the slot after cycle 0, where its own state one cycle earlier is this cell's and the other near
+    /// states are there.
+    fn reads_by(&self, own: Cell, slot: &G::Slot) -> bool
+        requires { own.component < G.rules.components self.now.slots }
+        ensures { result ≡ reads_by G.rules self.now.slots own.component slot.now (held_at self.now.rows own.cycle own.component).state }
     {
-        match own {
-            Some(state) => G::reads_later(&self.slots, state, component, slot),
-            None => false,
-        }
+        self.cells.reads(&self.slots, own, slot)
     }
 
     /// Before which cycle each cell's near states are known to be there, as far as `end`; no cell is looked at.
@@ -138,12 +135,12 @@ impl<G: Grid> Table<G> {
         // The cycles are at most this many, so the next cycle's number fits.
         let _cycles = self.cells.cycles();
         let mut from = self.add_always(component, slot, last, ready, ranges)?;
-        let mut hint = 0;
         while from <= last {
             let cycle = from - 1;
-            let own = self.standing(Cell { cycle, component }, hint);
-            let to = own.end.min(last) + 1;
-            let reads = self.reads_by(own.state, component, slot);
+            let own = Cell { cycle, component };
+            let end = self.stands_to(own);
+            let to = end.min(last) + 1;
+            let reads = self.reads_by(own, slot);
             let range = CellRange {
                 component,
                 from,
@@ -151,7 +148,6 @@ impl<G: Grid> Table<G> {
             };
             self.add_ready(range, reads, ready, ranges)?;
             from = to;
-            hint = own.stretch.saturating_add(1);
         }
         Ok(())
     }

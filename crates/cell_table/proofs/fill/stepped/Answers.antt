@@ -1,16 +1,16 @@
-use Rattle.std.proofs.Common.{◌≡◌, ◌-◌, ◌∙◌, ap, sym, arith, map, take, length, ◌≤◌, Bor}
-use Rattle.std.specs.Prelude.{option_map}
+use Rattle.std.proofs.Common.{◌≡◌, ℕ, ◌-◌, ◌∙◌, ap, sym, arith, map, take, length, ◌≤◌, Bor}
+use Rattle.std.specs.Prelude.{option_map, slice_index_or, None}
 use Rattle.std.specs.Arc.{arc_value}
 use Rattle.std.proofs.lemmas.List.{length-map}
 use Rattle.grid_law.specs.Run.{run}
 use Rattle.cell_table.proofs.States.{first_five}
-use Rattle.cell_table.proofs.Shortcut.{match_mapped, ok_along}
+use Rattle.cell_table.proofs.Shortcut.{ok_along}
 use Rattle.cell_table.proofs.Trailing.{no_last, next_runs}
 use Rattle.cell_table.proofs.fill.stepped.Goals as goal
 
 pub unreachable-requires : goal.unreachable-requires
 unreachable-requires g c =
-    no_last g.G.Grid.rules c.args.slots.now _ c.args.cycle c.args.component _ (c.requires.trails c.args.component (omega (arith, c.requires.component, c.requires.count))) c.requires.later c.in-None.ensures
+    no_last g.G.Grid.rules c.args.slots.now (λ (k : ℕ). option_map arc_value (slice_index_or c.args.row.now.items k None)) c.args.cycle c.args.component c.requires.row c.requires.later c.requires.component c.in-None.ensures
 
 pub returns : goal.returns
 returns g c =
@@ -27,4 +27,4 @@ returns g c =
     let all : lent ≡ xs = c.first-lent.ensures
     ∙ ap (take n) (c.five_last-five.ensures xs (ap (map (run R s (t - 1))) near))
     ∙ first_five xs n c.in-Some.own.now (length-map (R.near s d) (run R s (t - 1)) ∙ sym count) (omega (arith, count, few)) in
-    ok_along (λ o is. match_mapped _ _ arc_value o (next_runs R s g.G.Grid.laws t d c.requires.later lent all (option_map arc_value o) is)) c.next.result c.next.ensures
+    ok_along (λ o is. next_runs R s g.G.Grid.laws t d c.requires.later lent all (option_map arc_value o) is) c.next.result c.next.ensures

@@ -1,6 +1,6 @@
 use Rattle.std.proofs.Common.{ℕ, ◌≡◌, ◌<◌, ◌≤◌, ◌+◌, ◌-◌, ◌∙◌, ◌&&◌, ◌||◌, sym, ap, arith, eqb, leb, ltb, is_some}
-use Rattle.std.specs.Option.{option_copied}
 use Rattle.std.proofs.lemmas.Bool.{lt-ltb, ltb-true}
+use Rattle.cell_table.specs.Seen.{held_at}
 use Rattle.cell_table.specs.Inputs.{inputs_of}
 use Rattle.cell_table.specs.Touches.{is_marked, cell_reads_one}
 use Rattle.cell_table.proofs.Asking.{later_more, once, up_to_more, later_all, by_own}
@@ -26,15 +26,15 @@ loop-from-preserved g c =
     let inv = c.loop-from.invariant in
     let from = c.loop-from.from in
     let to = c.min-to.result + 1 in
-    let own = c.standing-own.ensures in
+    let own = c.stands_to-end.ensures in
     let reads = c.reads_by-reads.result in
     let after : from ≤ c.min-to.result = omega (arith, own.after, inv.first, c.loop-from-test.true, c.min-to.ensures) in
     let within : to ≤ c.args.last + 1 = omega (arith, c.min-to.ensures) in
-    let up : to ≤ c.standing-own.result.end + 1 = omega (arith, c.min-to.ensures) in
+    let up : to ≤ c.stands_to-end.result + 1 = omega (arith, c.min-to.ensures) in
     let one = λ (t : ℕ). cell_reads_one R s rows c.args.slot.now t component in
     let ready = λ (t : ℕ). is_some (inputs_of R s rows t component) in
     let same : (t : ℕ) → from ≤ t → t < to → one t ≡ (ready t && reads) = λ t k l.
-    by_own R g.G.Grid.laws s rows component t c.args.slot.now (option_copied c.standing-own.result.state) (omega (arith, inv.first, k)) (own.same (t - 1) (omega (arith, k)) (omega (arith, k, l, up, inv.first)) ∙ sym own.state)
+    by_own R g.G.Grid.laws s rows component t c.args.slot.now (held_at rows (from - 1) component).state (omega (arith, inv.first, k)) (own.same (t - 1) (omega (arith, k)) (omega (arith, k, l, up, inv.first)))
     ∙ ap (λ b. ready t && b) (sym c.reads_by-reads.ensures) in
     record {
       first = omega (arith, inv.first, after);

@@ -31,7 +31,6 @@ loop-passed-init g c =
       within = c.requires.within;
       changes = c.in-Ok.ensures.changes ∙ count;
       reached = c.in-Ok.ensures.reached ∙ count;
-      news = c.in-Ok-no_news.ensures.len ∙ count;
       along = tt;
       watched = c.requires.watched;
     }
@@ -60,7 +59,6 @@ loop-passed-preserved g c =
       within = omega (arith, c.requires.within, at.horizon);
       changes = c.settle_more.ensures.changes ∙ inv.changes ∙ same;
       reached = c.settle_more.ensures.reached ∙ inv.reached ∙ same;
-      news = c.settle_more.ensures.news ∙ inv.news ∙ same;
       along = c.settle_more.ensures.along;
       watched = c.settle_more.ensures.watched;
     }
@@ -104,11 +102,3 @@ returns-in-Err-Memory-clause-stops g c = record {
 pub returns-in-Err-ClockSpent-clause-spent : goal.returns-in-Err-ClockSpent-clause-spent
 returns-in-Err-ClockSpent-clause-spent g c =
     λ _. subst (λ v. IsSpentBefore g.G.Grid.rules c.args.end v 0 0) (sym c.in-Err-ClockSpent.ensures.err) (spent_before g.G.Grid.rules c.loop-passed.self c.loop-passed.from.cycle c.loop-passed.from.component c.args.end c.loop-passed.invariant.at.none_before (c.in-Err-ClockSpent.ensures.spent (ap Err c.in-Err-ClockSpent.field-0-is)))
-
-pub returns-in-Err-no_news-clause-stops : goal.returns-in-Err-no_news-clause-stops
-returns-in-Err-no_news-clause-stops g c = record {
-  cycle = 0;
-  component = 0;
-  at = begins g.G.Grid.rules c.args.self.now;
-  before = (omega arith, λ e. omega arith);
-}

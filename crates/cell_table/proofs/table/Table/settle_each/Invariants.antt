@@ -11,8 +11,7 @@ invariant-loop-passed g l = record {
   within : l.fn.end ≤ l.self.horizon + 1;
   changes : length l.spare.changes ≡ g.G.Grid.rules.components l.self.slots;
   reached : length l.spare.reached ≡ g.G.Grid.rules.components l.self.slots;
-  news : length l.wide.news.items ≡ g.G.Grid.rules.components l.self.slots;
-  along : IfSome l.wide.along (λ a. HoldsRow g.G.Grid.rules g.M.WholeRow.stands g.M.WholeRow.holds l.self.slots a.row a.cycle);
+  along : IfSome l.along (λ a. HoldsRow g.G.Grid.rules g.M.WholeRow.stands g.M.WholeRow.state l.self.slots a.row a.cycle);
   watched : g.W.Watcher.keeps l.watcher l.self;
 }
 

@@ -1,0 +1,64 @@
+//! What cells hold as a row of all components takes it, and gives it.
+ghost use Rattle.std.specs.Prelude.{◌≡◌, ℕ, ◌-◌, ◌<◌, OnOk, OnErr, Some, false, length};
+ghost use Rattle.std.specs.Option.{option_copied};
+ghost use Rattle.grid_law.specs.Codec.{IsTold};
+ghost use Rattle.grid_law.specs.Run.{run};
+ghost use Rattle.cell_table.specs.Seen.{held_at, row_at};
+ghost use Rattle.cell_table.specs.WholeRows.{HoldsRow, IsKnown, IsRowPut};
+
+use super::{Cells, clear_rows};
+use crate::{Cell, WholeRow};
+use cell_marks::Row;
+use grid_law::{Grid, NoMemory};
+
+impl<G: Grid> Cells<G> {
+    /// The words of the state that a cell holds.
+    pub(crate) fn words(&self, cell: Cell) -> &[u64]
+        ensures { (x : G.State) → (held_at self.now cell.cycle cell.component).state ≡ Some x → IsTold G.codec x × (G.codec.words x ≡ result.now) }
+    {
+        self.states.words(cell)
+    }
+
+    /// Its memory.
+    pub(crate) fn memory(&self, cell: Cell) -> Option<&G::Memory>
+        ensures { (x : G.State) → (held_at self.now cell.cycle cell.component).state ≡ Some x → G.codec.memory x ≡ option_copied result }
+    {
+        self.states.memory(cell)
+    }
+}
+
+/// Gives the due cells of a cycle the states that a row holds, which are those of the run, and none of that cycle is due then. Of
+/// `changes` those components are marked that held another state, or none. Where memory is wanting, nothing is changed but those marks.
+pub(crate) fn put_due<G: Grid, M: WholeRow<G>>(
+    cells: &mut Cells<G>,
+    slots: &G::Slots,
+    row: &M,
+    step: &M::Step,
+    cycle: u32,
+    changes: &mut Row,
+) -> Result<(), NoMemory>
+    requires later { 0 < cycle }
+    requires within { cycle < length cells.old }
+    requires whole { (t : ℕ) → t < length cells.old → length (row_at cells.old t) ≡ G.rules.components slots.now }
+    requires width { length changes.old ≡ G.rules.components slots.now }
+    requires before { (c : ℕ) → c < G.rules.components slots.now → (held_at cells.old (cycle - 1) c).state ≡ Some (run G.rules slots.now (cycle - 1) c) }
+    requires row { HoldsRow G.rules M.stands M.state slots.now row.now cycle }
+    requires known { IsKnown G.rules G.codec (M.is_still step.now slots.now) (M.has_written step.now slots.now) slots.now cycle }
+    ensures len { length cells.new ≡ length cells.old }
+    ensures lens { (t : ℕ) → t < length cells.old → length (row_at cells.new t) ≡ G.rules.components slots.now }
+    ensures width { length changes.new ≡ length changes.old }
+    ensures put { OnOk result (IsRowPut G.rules slots.now cells.old cells.new cycle changes.new) }
+    ensures versions { (t c : ℕ) → (held_at cells.old t c).is_due ≡ false → (held_at cells.old t c).version ≡ 0 }
+    ensures err { OnErr result (cells.new ≡ cells.old) }
+{
+    let set = cells.due.row(cycle);
+    match cells
+        .states
+        .put_whole::<M>(slots, row, step, set, changes, cycle)
+    {
+        Ok(()) => {}
+        Err(_) => return Err(NoMemory),
+    }
+    clear_rows(&mut cells.due, cycle, cycle + 1);
+    Ok(())
+}

@@ -1,0 +1,318 @@
+//! The states that a row of all components holds, for those of a set.
+ghost use Rattle.std.specs.Prelude.{◌≡◌, ℕ, ◌+◌, ◌-◌, ◌<◌, ◌≤◌, ◌↔◌, ◌||◌, IfOk, OnOk, OnErr, MatchResult, length, true, false, None, slice_index_or, slice_set, []};
+ghost use Rattle.grid_law.specs.Codec.{IsTold};
+ghost use Rattle.change_rows.specs.Rows.{words_at, replaced};
+ghost use Rattle.change_rows.specs.Marks.{is_in};
+ghost use Rattle.change_lists.specs.Changes.{list_at, changes_at, held_at as memory_at, held_before};
+ghost use Rattle.cell_table.specs.Filling.{is_awake};
+ghost use Rattle.cell_table.specs.Ready.{value_in, IsReady};
+
+use super::changed::put_memories;
+use super::memory::{Change, is_same, ready_memory, share_at};
+use crate::{Cell, WholeRow};
+use cell_marks::Row;
+use change_lists::Lists;
+use change_rows::{Rows, Source};
+use grid_law::{Grid, NoMemory};
+use std::alloc::{AllocError, Global};
+
+/// A row after a step, as the source of the words of its cycle.
+#[derive(Drop)]
+struct Stepped<'a, G: Grid, M: WholeRow<G>> {
+    row: &'a M,
+    step: &'a M::Step,
+    slots: &'a G::Slots,
+}
+
+impl<'a, G: Grid, M: WholeRow<G>> Source for Stepped<'a, G, M> {
+    ghost has = { λ source c. M.stands source.row.now source.slots.now × (c < G.rules.components source.slots.now) };
+
+    ghost words = { λ source c. G.codec.words (M.state source.row.now c) };
+
+    ghost still = { λ source c. M.is_still source.step.now source.slots.now c };
+
+    fn is_still(&self, c: u32) -> bool {
+        M::is_still(self.step, self.slots, c)
+    }
+
+    fn first(&self, c: u32) -> u64 {
+        self.row.first_word(self.slots, c)
+    }
+
+    fn write(&self, c: u32, buffer: &mut Vec<u64>) -> Result<(), AllocError> {
+        self.row.words(self.slots, c, buffer)
+    }
+}
+
+/// Whether a cell has another memory than the row has after its step, or one where that has none.
+fn differs<G: Grid, M: WholeRow<G>>(
+    memories: &Lists<G::Memory>,
+    slots: &G::Slots,
+    row: &M,
+    step: &M::Step,
+    cell: Cell,
+) -> bool
+    requires later { 0 < cell.cycle }
+    requires component { cell.component < G.rules.components slots.now }
+    requires stands { M.stands row.now slots.now }
+    requires kept { M.has_written step.now slots.now cell.component ≡ false → memory_at memories.now cell.component (cell.cycle - 1) ≡ G.codec.memory (M.state row.now cell.component) }
+    ensures { (result ≡ false) ↔ (memory_at memories.now cell.component cell.cycle ≡ G.codec.memory (M.state row.now cell.component)) }
+{
+    let (t, c) = (cell.cycle, cell.component);
+    if M::has_written(step, slots, c) {
+        return !row.has_memory(slots, c, memories.at(c, t));
+    }
+    memories.begins(c, t) && !is_same::<G>(memories.at(c, t - 1), memories.at(c, t))
+}
+
+/// The memory that a row has for a component, with one more owner; the one that the cell has, where that is the same.
+fn memory_of<G: Grid, M: WholeRow<G>>(
+    memories: &Lists<G::Memory>,
+    alloc: Global,
+    slots: &G::Slots,
+    row: &M,
+    cell: Cell,
+) -> Result<Option<G::Memory>, NoMemory>
+    requires component { cell.component < G.rules.components slots.now }
+    requires stands { M.stands row.now slots.now }
+    ensures { IfOk result (λ memory. memory ≡ G.codec.memory (M.state row.now cell.component)) }
+{
+    let (t, c) = (cell.cycle, cell.component);
+    if row.has_memory(slots, c, memories.at(c, t)) {
+        return share_at::<G>(memories, cell);
+    }
+    row.memory(alloc, slots, c)
+}
+
+/// Gets all that a cell needs to have the memory that the row has after its step. No memory changes.
+fn ready_one<G: Grid, M: WholeRow<G>>(
+    memories: &mut Lists<G::Memory>,
+    alloc: Global,
+    slots: &G::Slots,
+    row: &M,
+    step: &M::Step,
+    cell: Cell,
+) -> Result<Option<Change<G::Memory>>, NoMemory>
+    requires later { 0 < cell.cycle }
+    requires component { cell.component < length memories.old }
+    requires there { cell.component < G.rules.components slots.now }
+    requires stands { M.stands row.now slots.now }
+    requires kept { M.has_written step.now slots.now cell.component ≡ false → memory_at memories.old cell.component (cell.cycle - 1) ≡ G.codec.memory (M.state row.now cell.component) }
+    ensures width { length memories.new ≡ length memories.old }
+    ensures same { (c : ℕ) → list_at memories.new c ≡ list_at memories.old c }
+    ensures others { (c : ℕ) → (c ≡ cell.component → ⊥) → changes_at memories.new c ≡ changes_at memories.old c }
+    ensures ready { IfOk result (λ change. IsReady memories.new cell.component cell.cycle change) }
+    ensures value { IfOk result (λ change. value_in memories.new cell.component cell.cycle change ≡ G.codec.memory (M.state row.now cell.component)) }
+{
+    if !M::has_written(step, slots, cell.component) {
+        return Ok(None);
+    }
+    let value = memory_of::<G, M>(memories, alloc, slots, row, cell)?;
+    ready_memory::<G>(memories, cell, value)
+}
+
+/// Marks a component, or doesn't.
+fn mark_if(changes: &mut Row, component: u32, marked: bool)
+    requires component { component < length changes.old }
+    requires unmarked { is_awake changes.old component ≡ false }
+    ensures len { length changes.new ≡ length changes.old }
+    ensures here { is_awake changes.new component ≡ marked }
+    ensures others { (c : ℕ) → (c ≡ component → ⊥) → is_awake changes.new c ≡ is_awake changes.old c }
+{
+    if marked {
+        changes.set(component);
+    }
+}
+
+/// The same, kept for its component, which is marked where the cell has another memory.
+fn ready_cell<G: Grid, M: WholeRow<G>>(
+    memories: &mut Lists<G::Memory>,
+    ready: &mut Vec<Option<Change<G::Memory>>>,
+    slots: &G::Slots,
+    row: &M,
+    step: &M::Step,
+    changes: &mut Row,
+    cell: Cell,
+) -> Result<(), NoMemory>
+    requires later { 0 < cell.cycle }
+    requires component { cell.component < length memories.old }
+    requires len { length ready.old.items ≡ length memories.old }
+    requires changes { length changes.old ≡ length memories.old }
+    requires there { cell.component < G.rules.components slots.now }
+    requires stands { M.stands row.now slots.now }
+    requires kept { M.has_written step.now slots.now cell.component ≡ false → memory_at memories.old cell.component (cell.cycle - 1) ≡ G.codec.memory (M.state row.now cell.component) }
+    requires unmarked { is_awake changes.old cell.component ≡ false }
+    ensures width { length memories.new ≡ length memories.old }
+    ensures len { length ready.new.items ≡ length ready.old.items }
+    ensures changes { length changes.new ≡ length changes.old }
+    ensures same { (c : ℕ) → list_at memories.new c ≡ list_at memories.old c }
+    ensures others { (c : ℕ) → (c ≡ cell.component → ⊥) → changes_at memories.new c ≡ changes_at memories.old c }
+    ensures other_ready { (c : ℕ) → (c ≡ cell.component → ⊥) → slice_index_or ready.new.items c None ≡ slice_index_or ready.old.items c None }
+    ensures other_changes { (c : ℕ) → (c ≡ cell.component → ⊥) → is_awake changes.new c ≡ is_awake changes.old c }
+    ensures ready { OnOk result (IsReady memories.new cell.component cell.cycle (slice_index_or ready.new.items cell.component None)) }
+    ensures value { OnOk result (value_in memories.new cell.component cell.cycle (slice_index_or ready.new.items cell.component None) ≡ G.codec.memory (M.state row.now cell.component)) }
+    ensures marked { (is_awake changes.new cell.component ≡ false) ↔ (memory_at memories.old cell.component cell.cycle ≡ G.codec.memory (M.state row.now cell.component)) }
+{
+    let other = differs::<G, M>(memories, slots, row, step, cell);
+    mark_if(changes, cell.component, other);
+    let alloc = *ready.allocator();
+    let change = ready_one::<G, M>(memories, alloc, slots, row, step, cell)?;
+    ready[cell.component as usize] = change;
+    Ok(())
+}
+
+/// The same of all components of a set: those are marked of which the cell has another memory.
+fn ready_all<G: Grid, M: WholeRow<G>>(
+    memories: &mut Lists<G::Memory>,
+    ready: &mut Vec<Option<Change<G::Memory>>>,
+    slots: &G::Slots,
+    row: &M,
+    step: &M::Step,
+    set: &Row,
+    changes: &mut Row,
+    cycle: u32,
+) -> Result<(), NoMemory>
+    requires later { 0 < cycle }
+    requires components { length set.now ≡ G.rules.components slots.now }
+    requires changes { length changes.old ≡ length set.now }
+    requires memories { length memories.old ≡ length set.now }
+    requires len { length ready.old.items ≡ length set.now }
+    requires stands { M.stands row.now slots.now }
+    requires kept { (c : ℕ) → is_awake set.now c ≡ true → M.has_written step.now slots.now c ≡ false → memory_at memories.old c (cycle - 1) ≡ G.codec.memory (M.state row.now c) }
+    ensures changes { length changes.new ≡ length changes.old }
+    ensures width { length memories.new ≡ length memories.old }
+    ensures len { length ready.new.items ≡ length ready.old.items }
+    ensures same { (c : ℕ) → list_at memories.new c ≡ list_at memories.old c }
+    ensures ready { OnOk result ((c : ℕ) → is_awake set.now c ≡ true → IsReady memories.new c cycle (slice_index_or ready.new.items c None)) }
+    ensures value { OnOk result ((c : ℕ) → is_awake set.now c ≡ true → value_in memories.new c cycle (slice_index_or ready.new.items c None) ≡ G.codec.memory (M.state row.now c)) }
+    ensures marked { OnOk result ((c : ℕ) → is_awake set.now c ≡ true → (is_awake changes.new c ≡ false) ↔ (memory_at memories.old c cycle ≡ G.codec.memory (M.state row.now c))) }
+    ensures unmarked { OnOk result ((c : ℕ) → is_awake set.now c ≡ false → is_awake changes.new c ≡ false) }
+{
+    changes.clear_all();
+    // The number of a component is below this one, so that of the next fits.
+    let _count = set.len();
+    let mut next = 0;
+    while let Some(component) = set.first_from(next) {
+        let cell = Cell { cycle, component };
+        ready_cell::<G, M>(memories, ready, slots, row, step, changes, cell)?;
+        next = component + 1;
+    }
+    Ok(())
+}
+
+/// So many words.
+fn make_words(buffer: &mut Vec<u64>, count: usize) -> Result<(), NoMemory>
+    ensures { OnOk result (length buffer.new.items ≡ count) }
+{
+    buffer.clear();
+    buffer.resize(count, 0)?;
+    Ok(())
+}
+
+/// The words that the row has after its step for the components of a set. Those are marked, too, that had others. Where memory is
+/// wanting, no words change.
+fn put_words<G: Grid, M: WholeRow<G>>(
+    rows: &mut Rows,
+    buffer: &mut Vec<u64>,
+    slots: &G::Slots,
+    row: &M,
+    step: &M::Step,
+    set: &Row,
+    changes: &mut Row,
+    cycle: u32,
+) -> Result<(), NoMemory>
+    requires later { 0 < cycle }
+    requires within { cycle < length rows.old.rows }
+    requires width { length set.now ≡ rows.old.width }
+    requires components { length set.now ≡ G.rules.components slots.now }
+    requires changes { length changes.old ≡ length set.now }
+    requires stands { M.stands row.now slots.now }
+    requires still { (c : ℕ) → is_awake set.now c ≡ true → M.is_still step.now slots.now c ≡ true → G.codec.words (M.state row.now c) ≡ words_at rows.old.rows (cycle - 1) c }
+    ensures changes { length changes.new ≡ length changes.old }
+    ensures width { rows.new.width ≡ rows.old.width }
+    ensures cycles { length rows.new.rows ≡ length rows.old.rows }
+    ensures lens { (t : ℕ) → length (slice_index_or rows.new.rows t []) ≡ length (slice_index_or rows.old.rows t []) }
+    ensures put { OnOk result ((c : ℕ) → is_awake set.now c ≡ true → words_at rows.new.rows cycle c ≡ G.codec.words (M.state row.now c)) }
+    ensures others { OnOk result ((t c : ℕ) → is_awake set.now c ≡ false → words_at rows.new.rows t c ≡ words_at rows.old.rows t c) }
+    ensures other_cycles { OnOk result ((t c : ℕ) → (t ≡ cycle → ⊥) → words_at rows.new.rows t c ≡ words_at rows.old.rows t c) }
+    ensures tells { OnOk result ((c : ℕ) → is_awake set.now c ≡ true → (is_awake changes.new c ≡ false) ↔ ((words_at rows.old.rows cycle c ≡ G.codec.words (M.state row.now c)) × (is_awake changes.old c ≡ false))) }
+    ensures unmarked { OnOk result ((c : ℕ) → is_awake set.now c ≡ false → is_awake changes.new c ≡ is_awake changes.old c) }
+    ensures err { OnErr result (rows.new ≡ rows.old) }
+{
+    // Each row has a cell for each component.
+    let _end = rows.len();
+    let words = set.words();
+    make_words(buffer, words.len())?;
+    let source: Stepped<'_, G, M> = Stepped { row, step, slots };
+    match rows.put_from(cycle, words, &source, buffer.as_mut_slice()) {
+        Ok(()) => {
+            changes.add_words(buffer.as_slice());
+            Ok(())
+        }
+        Err(_) => Err(NoMemory),
+    }
+}
+
+/// The words and the memories of these components tell what a row holds for them. Nothing is done when it runs.
+fn are_told<G: Grid, M: WholeRow<G>>(slots: &G::Slots, row: &M, set: &Row)
+    requires components { length set.now ≡ G.rules.components slots.now }
+    requires stands { M.stands row.now slots.now }
+    ensures { (c : ℕ) → is_awake set.now c ≡ true → IsTold G.codec (M.state row.now c) }
+{
+    // The number of a component is below this one, so that of the next fits.
+    let _count = set.len();
+    let mut next = 0;
+    while let Some(component) = set.first_from(next) {
+        row.is_told(slots, component);
+        next = component + 1;
+    }
+}
+
+/// The components of a set have at a cycle what a row holds for them after its step; those are marked that had something else. Where
+/// memory is wanting, no cell has another.
+pub(super) fn put_whole<G: Grid, M: WholeRow<G>>(
+    rows: &mut Rows,
+    memories: &mut Lists<G::Memory>,
+    buffer: &mut Vec<u64>,
+    ready: &mut Vec<Option<Change<G::Memory>>>,
+    slots: &G::Slots,
+    row: &M,
+    step: &M::Step,
+    set: &Row,
+    changes: &mut Row,
+    cycle: u32,
+) -> Result<(), NoMemory>
+    requires later { 0 < cycle }
+    requires within { cycle < length rows.old.rows }
+    requires width { length set.now ≡ rows.old.width }
+    requires components { length set.now ≡ G.rules.components slots.now }
+    requires changes { length changes.old ≡ length set.now }
+    requires memories { length memories.old ≡ length set.now }
+    requires len { length ready.old.items ≡ length set.now }
+    requires stands { M.stands row.now slots.now }
+    requires still { (c : ℕ) → is_awake set.now c ≡ true → M.is_still step.now slots.now c ≡ true → G.codec.words (M.state row.now c) ≡ words_at rows.old.rows (cycle - 1) c }
+    requires kept { (c : ℕ) → is_awake set.now c ≡ true → M.has_written step.now slots.now c ≡ false → memory_at memories.old c (cycle - 1) ≡ G.codec.memory (M.state row.now c) }
+    ensures changes { length changes.new ≡ length changes.old }
+    ensures width { rows.new.width ≡ rows.old.width }
+    ensures cycles { length rows.new.rows ≡ length rows.old.rows }
+    ensures lens { (t : ℕ) → length (slice_index_or rows.new.rows t []) ≡ length (slice_index_or rows.old.rows t []) }
+    ensures many { length memories.new ≡ length memories.old }
+    ensures len { length ready.new.items ≡ length ready.old.items }
+    ensures told { (c : ℕ) → is_awake set.now c ≡ true → IsTold G.codec (M.state row.now c) }
+    ensures put { OnOk result ((c : ℕ) → is_awake set.now c ≡ true → (words_at rows.new.rows cycle c ≡ G.codec.words (M.state row.now c)) × (memory_at memories.new c cycle ≡ G.codec.memory (M.state row.now c))) }
+    ensures others { OnOk result ((t c : ℕ) → is_awake set.now c ≡ false → (words_at rows.new.rows t c ≡ words_at rows.old.rows t c) × (memory_at memories.new c t ≡ memory_at memories.old c t)) }
+    ensures other_cycles { OnOk result ((t c : ℕ) → t < length rows.old.rows → (t ≡ cycle → ⊥) → (words_at rows.new.rows t c ≡ words_at rows.old.rows t c) × (memory_at memories.new c t ≡ memory_at memories.old c t)) }
+    ensures tells { OnOk result ((c : ℕ) → is_awake set.now c ≡ true → (is_awake changes.new c ≡ false) ↔ ((words_at rows.old.rows cycle c ≡ G.codec.words (M.state row.now c)) × (memory_at memories.old c cycle ≡ G.codec.memory (M.state row.now c)))) }
+    ensures unmarked { OnOk result ((c : ℕ) → is_awake set.now c ≡ false → is_awake changes.new c ≡ false) }
+    ensures err { OnErr result ((rows.new ≡ rows.old) × ((c t : ℕ) → memory_at memories.new c t ≡ memory_at memories.old c t)) }
+{
+    are_told::<G, M>(slots, row, set);
+    let end = rows.len();
+    ready_all::<G, M>(memories, ready, slots, row, step, set, changes, cycle)?;
+    match put_words::<G, M>(rows, buffer, slots, row, step, set, changes, cycle) {
+        Ok(()) => {}
+        Err(_) => return Err(NoMemory),
+    }
+    put_memories(memories, ready, set, cycle, end);
+    Ok(())
+}
