@@ -2,7 +2,7 @@
 use Rattle.std.proofs.Common.{◌≡◌, ℕ, zero, suc, ◌-◌, ◌<◌, ◌≤◌, ◌∙◌, ◌⊎◌, inl, inr, sym, ap, subst, refl, arith, Bool, true, false, cond, Option, None, Some, List, [], length, get_or}
 use Rattle.std.specs.Option.{option_or}
 use Rattle.std.proofs.lemmas.Bool.{cases_lt, cases_eq}
-use Rattle.grid_law.specs.Codec.{Codec, CodecLaws}
+use Rattle.grid_law.specs.Codec.{Codec, CodecLaws, IsTold}
 use Rattle.change_rows.specs.Rows.{Table as Words, words_at}
 use Rattle.cell_table.specs.declared.stored.memory.Change.{Change}
 use Rattle.change_lists.specs.declared.begun.Begun.{Begun}
@@ -61,6 +61,34 @@ module _ {State Memory : Type 0} (C : Codec State Memory) (words words1 : Words)
           by_change : (b : Bool) → is_awake changes c ≡ b → state_at (states_in C words1 memories1) t c ≡ state_at (states_in C words memories) (cond b (from - 1) t) c
           by_change true e = state_from t c (from - 1) c (repeated t c e h k)
           by_change false e = state_from t c t c (others t c e)
+
+    -- the components that change have other states at a cycle
+    module _ (laws : CodecLaws C) (at : ℕ) (new : ℕ → State) (told : (c : ℕ) → is_awake changes c ≡ true → IsTold C (new c))
+        (put : (c : ℕ) → is_awake changes c ≡ true → (words_at words1.rows at c ≡ C.words (new c)) × (memory_at memories1 c at ≡ C.memory (new c)))
+        (others : (t c : ℕ) → is_awake changes c ≡ false → HasOf t c t c) (at_others : (t c : ℕ) → t < length words.rows → (t ≡ at → ⊥) → HasOf t c t c) where
+      own_code : (x : State) → IsTold C x → (state_of C (C.words x) (C.memory x) ≡ Some x) × IsCode C (C.words x) (C.memory x)
+      own_code x is_told = put_is C laws (C.words x) (C.memory x) x is_told (record { words_are = refl; memory_is = refl })
+
+      pub coded_row : IsCoded C words1 memories1
+      coded_row = coded_along C words words1 memories memories1 coded width cycles lens many (λ t c h k. by_place t c h (is_awake changes c) refl (cases_eq t at))
+        where
+          by_place : (t c : ℕ) → t < length words.rows → (b : Bool) → is_awake changes c ≡ b → (t ≡ at) ⊎ (t ≡ at → ⊥) → IsCode C (words_at words1.rows t c) (memory_at memories1 c t)
+          by_place t c h false e p = code_of t c t c (others t c e)
+          by_place t c h true e (inr n) = code_of t c t c (at_others t c h n)
+          by_place t c h true e (inl p) =
+              let q = put c e in
+              code_along C _ _ _ _ (ap (λ u. words_at words1.rows u c) p ∙ q.0) (ap (memory_at memories1 c) p ∙ q.1) (own_code (new c) (told c e)).1
+
+      pub state_row : (c : ℕ) → state_at (states_in C words1 memories1) at c ≡ cond (is_awake changes c) (Some (new c)) (state_at (states_in C words memories) at c)
+      state_row c = by_change (is_awake changes c) refl
+        where
+          by_change : (b : Bool) → is_awake changes c ≡ b → state_at (states_in C words1 memories1) at c ≡ cond b (Some (new c)) (state_at (states_in C words memories) at c)
+          by_change false e = state_from at c at c (others at c e)
+          by_change true e =
+              let q = put c e in
+              state_is C words1 memories1 (whole_along C words words1 memories memories1 coded width cycles lens) at c
+              ∙ same_code C _ _ _ _ q.0 q.1
+              ∙ (own_code (new c) (told c e)).0
 
     module _ (laws : CodecLaws C) (at : ℕ) (there : at < length words.rows) (new : ℕ → Option State)
         (told : (c : ℕ) → is_awake changes c ≡ true → IsToldNew C (new c)) (later : (c : ℕ) → is_awake changes c ≡ true → new c ≡ None → 0 < at)

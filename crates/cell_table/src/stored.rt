@@ -330,7 +330,7 @@ impl<G: Grid> States<G> {
         ensures unmarked { OnOk result ((c : ℕ) → is_awake set.now c ≡ false → is_awake changes.new c ≡ false) }
         ensures err { OnErr result (IsSameStates self.old self.new) }
     {
-        put_whole::<G, M>(
+        match put_whole::<G, M>(
             &mut self.words,
             &mut self.memories,
             &mut self.buffer,
@@ -341,7 +341,11 @@ impl<G: Grid> States<G> {
             set,
             changes,
             cycle,
-        )
+        ) {
+            Ok(()) => {}
+            Err(_) => return Err(NoMemory),
+        }
+        Ok(())
     }
 
     /// Removes the cycles from n on.

@@ -17,13 +17,7 @@ use std::alloc::Global;
 use std::sync::Arc;
 
 /// The cells of a component from one cycle on to before another have the memory of the cell before them.
-fn go_on_changed<M: Drop>(
-    memories: &mut Lists<M>,
-    changes: &Row,
-    from: u32,
-    to: u32,
-    end: u32,
-)
+fn go_on_changed<M: Drop>(memories: &mut Lists<M>, changes: &Row, from: u32, to: u32, end: u32)
     requires later { 0 < from }
     requires some { from < to }
     requires width { length changes.now ≡ length memories.old }
@@ -260,9 +254,7 @@ pub(super) fn put_changed<G: Grid>(
     ensures err { OnErr result ((rows.new ≡ rows.old) × ((c t : ℕ) → memory_at memories.new c t ≡ memory_at memories.old c t)) }
 {
     let end = rows.len();
-    match ready_all::<G>(
-        rows, memories, draft, buffer, ready, changes, news, cycle,
-    ) {
+    match ready_all::<G>(rows, memories, draft, buffer, ready, changes, news, cycle) {
         Ok(()) => {}
         Err(_) => return Err(NoMemory),
     }

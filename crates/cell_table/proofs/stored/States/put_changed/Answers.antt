@@ -24,8 +24,7 @@ pub invariant_of-self : goal.invariant_of-self
 invariant_of-self g c =
     let i = c.self.inside in
     let C = g.G.Grid.codec in
-    let e = c.in-Err.ensures.err in
-    (
+    let e = c.in-Err.ensures.err in (
       coded_err C i.words c.put_changed.new.rows i.memories c.put_changed.new.memories c.self.invariant.0 e.0 e.1 c.put_changed.ensures.many,
       c.put_changed.ensures.len ∙ c.self.invariant.1 ∙ sym c.put_changed.ensures.width,
     )
@@ -57,8 +56,7 @@ invariant_of-self-2 g c =
     let e = c.put_changed.ensures in
     let ok = c.in-Ok.ensures in
     let new = λ (k : ℕ). option_map (arc_value {X = g.row.G-State.Denot}) (slice_index_or c.args.news.now k None) in
-    let there : c.args.cycle < length i.words.rows = omega (arith, c.requires.within, seen_cycles C i.words i.memories s c.self.view_is) in
-    (
+    let there : c.args.cycle < length i.words.rows = omega (arith, c.requires.within, seen_cycles C i.words i.memories s c.self.view_is) in (
       coded_changed C i.words c.put_changed.new.rows i.memories c.put_changed.new.memories c.self.invariant.0 e.width e.cycles e.lens c.args.changes.now e.many g.G.Grid.codec_laws c.args.cycle there new ok.told c.requires.later ok.put ok.others ok.other_cycles,
       e.len ∙ c.self.invariant.1 ∙ sym e.width,
     )

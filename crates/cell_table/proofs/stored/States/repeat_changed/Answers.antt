@@ -24,8 +24,7 @@ pub invariant_of-self : goal.invariant_of-self
 invariant_of-self g c =
     let i = c.self.inside in
     let C = g.G.Grid.codec in
-    let e = c.in-Err.ensures.err in
-    (
+    let e = c.in-Err.ensures.err in (
       coded_err C i.words c.repeat_changed.new.rows i.memories c.repeat_changed.new.memories c.self.invariant.0 e.0 (λ d u. ap (λ m. memory_at m d u) e.1) (ap length e.1),
       c.self.invariant.1 ∙ sym (ap (λ (w : Table). w.width) e.0),
     )
@@ -53,8 +52,7 @@ invariant_of-self-2 g c =
     let C = g.G.Grid.codec in
     let s = c.args.self.now in
     let e = c.repeat_changed.ensures in
-    let ok = c.in-Ok.ensures in
-    (
+    let ok = c.in-Ok.ensures in (
       coded_repeated C i.words c.repeat_changed.new.rows i.memories c.repeat_changed.new.memories c.self.invariant.0 e.width e.len e.lens c.args.changes.now e.many c.args.from c.args.to ok.repeated ok.others ok.earlier ok.behind,
       c.self.invariant.1 ∙ sym e.width,
     )

@@ -11,13 +11,15 @@ returns-clause-put g c = λ d a. (c.in-Ok-put_words.ensures.put d a, c.put_memor
 
 pub returns-clause-others : goal.returns-clause-others
 returns-clause-others g c = λ t d a. (
-    c.in-Ok-put_words.ensures.others t d a,
-    c.put_memories.ensures.others d t a ∙ memory_same c.args.memories.now c.ready_all.new.memories d t (c.ready_all.ensures.same d))
+  c.in-Ok-put_words.ensures.others t d a,
+  c.put_memories.ensures.others d t a ∙ memory_same c.args.memories.now c.ready_all.new.memories d t (c.ready_all.ensures.same d),
+)
 
 pub returns-clause-other_cycles : goal.returns-clause-other_cycles
 returns-clause-other_cycles g c = λ t d h n. (
-    c.in-Ok-put_words.ensures.other_cycles t d n,
-    c.put_memories.ensures.cycles d t (omega (arith, h, c.len-end.ensures.count)) n ∙ memory_same c.args.memories.now c.ready_all.new.memories d t (c.ready_all.ensures.same d))
+  c.in-Ok-put_words.ensures.other_cycles t d n,
+  c.put_memories.ensures.cycles d t (omega (arith, h, c.len-end.ensures.count)) n ∙ memory_same c.args.memories.now c.ready_all.new.memories d t (c.ready_all.ensures.same d),
+)
 
 pub returns-clause-tells : goal.returns-clause-tells
 returns-clause-tells g c = λ d a.

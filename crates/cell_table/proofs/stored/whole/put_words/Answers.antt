@@ -50,4 +50,4 @@ pub returns-in-Ok-clause-unmarked : goal.returns-in-Ok-clause-unmarked
 returns-in-Ok-clause-unmarked g c = λ d a.
     joined_same c.args.changes.now c.add_words.new.self c.as_slice.result.now c.add_words.ensures d
     (λ e. (let q = c.in-Ok.ensures.changed d e in
-      true≢false (sym (sym (c.words-words.ensures.bits d (omega (arith, q.0, c.requires.width))) ∙ q.1) ∙ a)))
+    true≢false (sym (sym (c.words-words.ensures.bits d (omega (arith, q.0, c.requires.width))) ∙ q.1) ∙ a)))
