@@ -115,7 +115,3 @@ value_along {X} memories memories1 c t change change1 e f = ap (value_in memorie
     by_change : (o : Option (Change X)) → value_in memories1 c t o ≡ value_in memories c t o
     by_change None = ap (λ (k : Changes X). standing_before k.begun t) e
     by_change (Some x) = refl
-
-pub memory_new_along : {State Memory : Type 0} (C : Codec State Memory) (memories memories1 : List (Changes Memory)) (t c : ℕ) (o : Option State) → list_at memories1 c ≡ list_at memories c → memory_new C memories1 t c o ≡ memory_new C memories t c o
-memory_new_along C memories memories1 t c None e = ap (λ begun. standing_before begun t) e
-memory_new_along C memories memories1 t c (Some x) e = refl
