@@ -1,13 +1,11 @@
-use Rattle.std.proofs.Common.{◌≡◌, ℕ, ◌-◌, ◌<◌, ◌≤◌, ◌∙◌, sym, ap, subst, arith, cond, length, None, option_map, slice_index_or}
-use Rattle.std.specs.Arc.{arc_value}
-use Rattle.std.specs.Option.{option_or}
+use Rattle.std.proofs.Common.{◌≡◌, ℕ, ◌-◌, ◌<◌, ◌≤◌, ◌∙◌, sym, ap, subst, arith, cond, length}
 use Rattle.change_rows.specs.Rows.{Table}
 use Rattle.change_lists.specs.Changes.{held_at as memory_at}
 use Rattle.cell_table.specs.Coded.{states_in}
 use Rattle.cell_table.specs.Layout.{state_at, IsAsMany}
 use Rattle.cell_table.specs.Filling.{is_awake}
 use Rattle.cell_table.proofs.Coded.{seen_width, seen_cycles, coded_err, states_err, many_along, many_same}
-use Rattle.cell_table.proofs.Changed.{coded_repeated, state_repeated, coded_changed, state_changed, state_other, state_kept}
+use Rattle.cell_table.proofs.Changed.{coded_repeated, state_repeated, state_kept}
 use Rattle.cell_table.proofs.stored.States.repeat_changed.Goals as goal
 
 pub repeat_changed-requires-clause-within : goal.repeat_changed-requires-clause-within
