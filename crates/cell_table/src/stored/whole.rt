@@ -247,9 +247,10 @@ fn put_words<G: Grid, M: WholeRow<G>>(
     let words = set.words();
     make_words(buffer, words.len())?;
     let source: Stepped<'_, G, M> = Stepped { row, step, slots };
-    match rows.put_from(cycle, words, &source, buffer.as_mut_slice()) {
+    let changed = buffer.as_mut_slice();
+    match rows.put_from(cycle, words, &source, changed) {
         Ok(()) => {
-            changes.add_words(buffer.as_slice());
+            changes.add_words(changed);
             Ok(())
         }
         Err(_) => Err(NoMemory),
