@@ -1,8 +1,7 @@
-use Rattle.std.proofs.Common.{rules, ◌≡◌, ◌-◌, ◌∙◌, sym, ap, refl, eqb, length}
+use Rattle.std.proofs.Common.{rules, ◌-◌, ◌∙◌, sym, ap, refl, eqb, length}
 use Rattle.std.proofs.lemmas.Bool.{false≢true}
 use Rattle.std.proofs.lemmas.Slice.Eq.{slice_eq-Decides}
 use Rattle.change_rows.specs.Rows.{words_at}
-use Rattle.change_lists.specs.Changes.{held_at as memory_at}
 use Rattle.cell_table.proofs.Codes.{same_code, same_words, same_memory, empty_words, no_state, has_words}
 use Rattle.cell_table.proofs.Coded.{seen_at}
 use Rattle.cell_table.proofs.stored.States.is_as_before.Goals as goal

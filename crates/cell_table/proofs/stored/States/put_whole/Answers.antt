@@ -1,4 +1,4 @@
-use Rattle.std.proofs.Common.{◌≡◌, ℕ, ◌-◌, ◌<◌, ◌≤◌, ◌∙◌, sym, ap, subst, arith, cond, length, Option, Some, is_some, true}
+use Rattle.std.proofs.Common.{◌≡◌, ◌-◌, ◌∙◌, sym, ap, subst, arith, cond, Some, is_some}
 use Rattle.cell_table.specs.Coded.{states_in}
 use Rattle.cell_table.specs.Layout.{state_at, IsAsMany}
 use Rattle.cell_table.specs.Filling.{is_awake}

@@ -1,8 +1,7 @@
-use Rattle.std.proofs.Common.{◌≡◌, ℕ, ◌-◌, ◌<◌, ◌∙◌, sym, ap, refl, arith, length, Some}
+use Rattle.std.proofs.Common.{◌-◌, ◌<◌, ◌∙◌, sym, ap, arith, length}
 use Rattle.change_rows.specs.Rows.{Table, words_at}
 use Rattle.change_lists.specs.Changes.{held_at as memory_at}
 use Rattle.cell_table.specs.Layout.{state_at}
-use Rattle.cell_table.proofs.Codes.{put_is}
 use Rattle.cell_table.proofs.Coded.{seen_at, seen_width, seen_cycles, memory_along, coded_err, states_err, coded_put, other_seen}
 use Rattle.cell_table.proofs.stored.States.repeat.Goals as goal
 

@@ -1,4 +1,4 @@
-use Rattle.std.proofs.Common.{◌≡◌, ℕ, ◌-◌, ◌<◌, ◌≤◌, ◌∙◌, sym, ap, subst, arith, cond, length}
+use Rattle.std.proofs.Common.{◌≡◌, ◌-◌, ◌∙◌, sym, ap, subst, arith, cond, length}
 use Rattle.change_rows.specs.Rows.{Table}
 use Rattle.change_lists.specs.Changes.{held_at as memory_at}
 use Rattle.cell_table.specs.Coded.{states_in}

@@ -1,5 +1,4 @@
-use Rattle.std.proofs.Common.{◌≡◌, ◌↔◌, ℕ, ◌<◌, ◌≤◌, ◌∙◌, sym, ap, refl, arith, length, true, false}
-use Rattle.change_lists.specs.Changes.{held_at as memory_at}
+use Rattle.std.proofs.Common.{◌∙◌, refl, arith}
 use Rattle.cell_table.proofs.Changed.{memory_same}
 use Rattle.cell_table.proofs.stored.whole.put_whole.Goals as goal
 

@@ -1,4 +1,4 @@
-use Rattle.std.proofs.Common.{◌≡◌, ℕ, ◌<◌, ◌≤◌, ◌∙◌, sym, ap, arith, length, true, false}
+use Rattle.std.proofs.Common.{◌≡◌, ◌∙◌, sym, ap, arith}
 use Rattle.std.proofs.lemmas.Bool.{true≢false}
 use Rattle.change_rows.specs.Rows.{Table, words_at}
 use Rattle.cell_table.proofs.Whole.{cycles_put, lens_put, words_put, words_others, words_other_cycles, awake_within, joined_tells, joined_same, long_joined}

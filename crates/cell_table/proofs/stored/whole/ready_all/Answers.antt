@@ -1,4 +1,4 @@
-use Rattle.std.proofs.Common.{◌≡◌, ◌↔◌, ℕ, ◌+◌, ◌-◌, ◌<◌, ◌≤◌, ◌∙◌, sym, ap, arith, true, false, None, slice_index_or}
+use Rattle.std.proofs.Common.{◌≡◌, ◌↔◌, ℕ, ◌+◌, ◌-◌, ◌<◌, ◌∙◌, sym, ap, arith, true, false, None, slice_index_or}
 use Rattle.std.proofs.lemmas.Bool.{true≢false}
 use Rattle.grid_law.specs.Codec.{IsTold}
 use Rattle.change_lists.specs.Changes.{held_at as memory_at}
