@@ -208,14 +208,6 @@ impl Watcher<Rp3> for Counters {
         let _ = cell;
     }
 
-    fn filled(&mut self, table: &Table<Rp3>, from: u32, cycles: u32) {
-        if let Some(mut sums) = self.sums.take() {
-            if count_all_filled(&mut sums, table, from, from + cycles).is_ok() {
-                self.sums = Some(sums);
-            }
-        }
-    }
-
     fn refilled(&mut self, table: &Table<Rp3>, ranges: &[CellRange]) {
         if let Some(mut sums) = self.sums.take() {
             if count_ranges(&mut sums, table, ranges).is_ok() {

@@ -1,13 +1,11 @@
 -- Rows in which the components that change have other words.
-use Rattle.std.proofs.Common.{◌≡◌, ℕ, ◌+◌, ◌-◌, ◌<◌, ◌≤◌, ◌∙◌, ◌⊎◌, inl, inr, sym, ap, refl, arith, Bool, true, false, cond, ◌&&◌, nat_le, nat_lt, Option, None, Some, List, [], length, map, get_or, unwrap_or}
+use Rattle.std.proofs.Common.{◌≡◌, ℕ, ◌+◌, ◌-◌, ◌<◌, ◌≤◌, ◌∙◌, ◌⊎◌, inl, inr, sym, ap, refl, arith, Bool, true, false, cond, ◌&&◌, nat_le, nat_lt, List, [], length, map, get_or}
 use Rattle.std.specs.List.{range_with_len}
-use Rattle.std.proofs.Math.ListN.{set, length-set}
-use Rattle.std.proofs.lemmas.Bool.{cases_lt, cases_eq, true≢false, le-leb, lt-ltb, lt-leb, le-ltb, and_right}
-use Rattle.std.proofs.lemmas.List.{get_or_past, get_or-set_same, get_or-set_other}
+use Rattle.std.proofs.lemmas.Bool.{cases_lt, true≢false, le-leb, lt-ltb, lt-leb, le-ltb, and_right}
+use Rattle.std.proofs.lemmas.List.{get_or_past}
 use Rattle.std.proofs.lemmas.List.FromFn.{length-map-range_with_len, get_or-map-range_with_len}
-use Rattle.change_rows.specs.Cells.{Held, found}
 use Rattle.change_rows.specs.Marks.{is_in}
-use Rattle.change_rows.specs.Rows.{Table as Words, words_at, overlaid, repeated, IsWhole}
+use Rattle.change_rows.specs.Rows.{Table as Words, words_at, repeated, IsWhole}
 use Rattle.cell_table.specs.Filling.{is_awake}
 use Rattle.cell_table.proofs.Coded.{none_beside}
 
@@ -81,41 +79,3 @@ module _ (v v1 : Words) (whole : IsWhole v) (changes : List Bool) (wide : length
         by_place (inl h) (inl k) = at_repeated t c h k ∙ ap (λ b. cond b (words_at v.rows (from - 1) c) (words_at v.rows t c)) none
         by_place (inl h) (inr k) = get_or_past (get_or v1.rows t []) c [] (omega (arith, k, lens_repeated t, whole t h)) ∙ sym (none_beside v whole t c k)
         by_place (inr h) k = ap (λ row. get_or row c []) (get_or_past v1.rows t [] (omega (arith, h, cycles_repeated)) ∙ sym (get_or_past v.rows t [] h))
-
-  -- those that have other words at a cycle
-  module _ (draft : List Held) (at : ℕ) (there : at < length v.rows) (e : v1 ≡ record { width = v.width; rows = set v.rows at (overlaid (get_or v.rows at []) draft) }) (others : (c : ℕ) → is_awake changes c ≡ false → found draft c ≡ None) where
-    put_rows : v1.rows ≡ set v.rows at (overlaid (get_or v.rows at []) draft)
-    put_rows = ap (λ (w : Words). w.rows) e
-
-    row_put : get_or v1.rows at [] ≡ overlaid (get_or v.rows at []) draft
-    row_put = ap (λ rows. get_or rows at []) put_rows ∙ get_or-set_same v.rows at _ [] there
-
-    row_other : (t : ℕ) → (t ≡ at → ⊥) → get_or v1.rows t [] ≡ get_or v.rows t []
-    row_other t n = ap (λ rows. get_or rows t []) put_rows ∙ get_or-set_other v.rows at t _ [] n
-
-    pub cycles_put : length v1.rows ≡ length v.rows
-    cycles_put = ap length put_rows ∙ length-set v.rows at _
-
-    pub lens_put : (t : ℕ) → length (get_or v1.rows t []) ≡ length (get_or v.rows t [])
-    lens_put t = by_cycle (cases_eq t at)
-      where
-        by_cycle : (t ≡ at) ⊎ (t ≡ at → ⊥) → length (get_or v1.rows t []) ≡ length (get_or v.rows t [])
-        by_cycle (inl p) = ap (λ u. length (get_or v1.rows u [])) p ∙ ap length row_put ∙ length-map-range_with_len _ 0 (length (get_or v.rows at [])) ∙ ap (λ u. length (get_or v.rows u [])) (sym p)
-        by_cycle (inr n) = ap length (row_other t n)
-
-    at_put : (c : ℕ) → c < v.width → words_at v1.rows at c ≡ unwrap_or (found draft c) (words_at v.rows at c)
-    at_put c h = ap (λ row. get_or row c []) row_put ∙ get_or-map-range_with_len (λ d. unwrap_or (found draft d) (words_at v.rows at d)) 0 (length (get_or v.rows at [])) c c [] (omega (arith, h, whole at there)) (omega arith)
-
-    pub words_put : (c : ℕ) (ws : List ℕ) → is_awake changes c ≡ true → found draft c ≡ Some ws → words_at v1.rows at c ≡ ws
-    words_put c ws awake is = at_put c (omega (arith, awake_within changes c awake, wide)) ∙ ap (λ o. unwrap_or o (words_at v.rows at c)) is
-
-    pub words_kept : (t c : ℕ) → is_awake changes c ≡ false → words_at v1.rows t c ≡ words_at v.rows t c
-    words_kept t c asleep = by_place (cases_eq t at) (cases_lt c v.width)
-      where
-        by_place : (t ≡ at) ⊎ (t ≡ at → ⊥) → (c < v.width) ⊎ (v.width ≤ c) → words_at v1.rows t c ≡ words_at v.rows t c
-        by_place (inl p) (inl k) = ap (λ u. words_at v1.rows u c) p ∙ at_put c k ∙ ap (λ o. unwrap_or o (words_at v.rows at c)) (others c asleep) ∙ ap (λ u. words_at v.rows u c) (sym p)
-        by_place (inl p) (inr k) = ap (λ u. words_at v1.rows u c) p ∙ get_or_past (get_or v1.rows at []) c [] (omega (arith, k, lens_put at, whole at there)) ∙ sym (none_beside v whole t c k)
-        by_place (inr n) k = ap (λ row. get_or row c []) (row_other t n)
-
-    pub words_other : (t c : ℕ) → (t ≡ at → ⊥) → words_at v1.rows t c ≡ words_at v.rows t c
-    words_other t c n = ap (λ row. get_or row c []) (row_other t n)

@@ -1,9 +1,9 @@
--- States that were filled or go on, with the marks of the cycles filled taken away, as rows of cells.
+-- States that were put or go on, with the marks of their cycles taken away, as rows of cells.
 use Rattle.std.proofs.Common.{◌≡◌, ℕ, ◌-◌, ◌<◌, ◌≤◌, ◌∙◌, ◌⊎◌, inl, inr, sym, ap, arith, Bool, true, false, cond, Option, None, Some, List, length, replicate, get_or, refl}
 use Rattle.std.proofs.lemmas.Bool.{cases_lt}
 use Rattle.std.proofs.lemmas.List.{get_or-replicate, length-replicate}
 use Rattle.cell_marks.specs.Marked.{Marked, row_at as marks_at, has as has_mark}
-use Rattle.cell_table.specs.Seen.{Held, stored, held_at}
+use Rattle.cell_table.specs.Seen.{Held, held_at}
 use Rattle.cell_table.specs.Layout.{version_at, kept, kept_at, rows_of, cleared, IsLayout, IsBounded}
 use Rattle.cell_table.proofs.Keeping.{seen, held_kept, bounded_along}
 
@@ -43,7 +43,3 @@ module _ {State : Type 0} (states states1 : ℕ → ℕ → Option State) (due d
       filled_cell t c
       ∙ ap (λ (o : Option State). kept o (has_mark due1.rows t c) (version_at versions t c)) s
       ∙ ap (λ (b : Bool). kept o b (version_at versions t c)) (ap (λ row. get_or row c false) m ∙ get_or-replicate due.width c false false h)
-
-  -- a cell that was filled
-  pub passed_cell : (t c : ℕ) (x : State) → c < due.width → marks_at due1.rows t ≡ replicate due.width false → states1 t c ≡ Some x → held_at (rows_of states1 due1 versions) t c ≡ stored x
-  passed_cell t c x h m s = cleared_cell t c (Some x) h m s

@@ -17,11 +17,9 @@ pub mod Alike
 pub mod Passes
 pub mod Repeated
 pub mod SettledRow
-pub mod Filled
 pub mod FilledRows
 pub mod WideRows
 pub mod Whole
-pub mod Woken
 pub mod MarkedCycle
 pub mod MarkedRow
 pub mod Held

@@ -20,7 +20,6 @@ mod whole;
 pub(crate) use whole::put_due;
 
 use crate::Cell;
-use crate::fill::fill_states;
 use crate::neighbours::Neighbours;
 use crate::readers::Readers;
 use crate::stored::States;
@@ -101,14 +100,6 @@ impl<G: Grid> Cells<G> {
         ensures { result ≡ true → (0 < cell.cycle) × ((held_at self.now (cell.cycle - 1) cell.component).state ≡ (held_at self.now cell.cycle cell.component).state) }
     {
         self.states.stays(cell)
-    }
-
-    /// Whether no cell holds a state from a cycle on, known by one look at each component; there may
-    /// be such cycles besides.
-    pub(crate) fn is_empty_from(&self, cycle: u32) -> bool
-        ensures { result ≡ true → (t c : ℕ) → cycle ≤ t → (held_at self.now t c).state ≡ None }
-    {
-        self.states.is_empty_from(cycle)
     }
 
     pub(crate) fn is_due(&self, cell: Cell) -> bool
@@ -436,37 +427,6 @@ fn clear_rows(due: &mut Marks, from: u32, to: u32)
     for t in from..to {
         due.clear_row(t);
     }
-}
-
-/// Fills the cells, which hold the run to before a cycle and nothing from there on, with the run, to before `end`: to
-/// before which cycle. What is filled isn't due. Where memory is wanting, it ends earlier.
-pub(crate) fn fill_cells<G: Grid>(
-    cells: &mut Cells<G>,
-    slots: &G::Slots,
-    neighbours: &Neighbours,
-    readers: &Readers,
-    from: u32,
-    end: u32,
-) -> u32
-    requires near { AreNear G.rules slots.now neighbours.now }
-    requires from { from < end }
-    requires within { end ≤ length cells.old }
-    requires whole { (t : ℕ) → t < length cells.old → length (row_at cells.old t) ≡ G.rules.components slots.now }
-    requires index { IsIndex G.rules slots.now readers.now }
-    requires known { (t c : ℕ) → c < G.rules.components slots.now → t < from → (held_at cells.old t c).state ≡ Some (run G.rules slots.now t c) }
-    requires none { (t c : ℕ) → c < G.rules.components slots.now → from ≤ t → t < length cells.old → (held_at cells.old t c).state ≡ None }
-    ensures len { length cells.new ≡ length cells.old }
-    ensures lens { (t : ℕ) → t < length cells.old → length (row_at cells.new t) ≡ G.rules.components slots.now }
-    ensures from { from ≤ result }
-    ensures end { result ≤ end }
-    ensures earlier { (t c : ℕ) → c < G.rules.components slots.now → t < from → held_at cells.new t c ≡ held_at cells.old t c }
-    ensures passed { (t c : ℕ) → c < G.rules.components slots.now → from ≤ t → t < result → held_at cells.new t c ≡ stored (run G.rules slots.now t c) }
-    ensures rest { (t c : ℕ) → c < G.rules.components slots.now → result ≤ t → t < length cells.old → held_at cells.new t c ≡ held_at cells.old t c }
-    ensures versions { (t c : ℕ) → (held_at cells.old t c).is_due ≡ false → (held_at cells.old t c).version ≡ 0 }
-{
-    let to = fill_states::<G>(&mut cells.states, slots, neighbours, readers, from, end);
-    clear_rows(&mut cells.due, from, to);
-    to
 }
 
 /// Lets the components that change keep the state of the cycle before `from` to before `to`, and no cell of these cycles

@@ -50,10 +50,10 @@
 //! due cells are bits that are counted (`cell_marks`). No state is kept itself: `shared` puts one together. Two states are compared
 //! by their words. So an edit asks a reader of a slot once for each stretch of cells at which nothing begins, or not at all where it
 //! is sure to read it; a cell at whose near cells nothing begins gets the state of the cell before it without a step; and where
-//! nothing is due, one number tells it. Cycles that are all new are filled: each is computed before it is stored, and only components
-//! near one that changed are looked at. Cycles in which the same happens as in the one before, since each due cell gets the state of
-//! the cell before it, are settled at once. What a cycle that is settled at once makes due is marked 64 cells in a step, and the next
-//! cycle's versions are not written: which components changed is noted there, and they follow from it.
+//! nothing is due, one number tells it. A cycle of which many cells are due is settled at once by a row of all components, and so are
+//! cycles in which the same happens as in the one before, since each due cell gets the state of the cell before it. What a cycle that
+//! is settled at once makes due is marked 64 cells in a step, and the next cycle's versions are not written: which components changed
+//! is noted there, and they follow from it.
 //!
 //! The crate stands on `grid_law` for grids and their laws, on `change_rows`, `change_lists` and `cell_marks`, on
 //! `arrayvec` for lists of near components, and on `smallvec` for short lists of versions.
@@ -65,7 +65,6 @@ mod cells;
 mod claim;
 mod components;
 mod cone;
-mod fill;
 mod given;
 mod marks;
 mod neighbours;

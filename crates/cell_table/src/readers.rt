@@ -6,7 +6,6 @@ ghost use Rattle.cell_table.specs.Filling.{is_awake};
 ghost use Rattle.cell_table.specs.Repeating.{any_changes};
 
 use crate::components::Components;
-use crate::fill::wake;
 use crate::neighbours::Neighbours;
 use cell_marks::Row;
 use grid_law::{Grid, NoMemory};
@@ -70,6 +69,17 @@ fn lists_of<G: Grid>(alloc: Global, slots: &G::Slots) -> Result<Vec<Components>,
         add_reader(&mut lists, near.as_slice(), k)?;
     }
     Ok(lists)
+}
+
+/// Marks these components.
+fn wake(marks: &mut Row, components: &[u32])
+    requires { All (λ k. k < length marks.old) components.now }
+    ensures len { length marks.new ≡ length marks.old }
+    ensures at { (c : ℕ) → is_awake marks.new c ≡ (is_awake marks.old c || has components.now c) }
+{
+    for component in components {
+        marks.set(*component);
+    }
 }
 
 /// The marks of each list.

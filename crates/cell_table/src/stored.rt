@@ -1,9 +1,8 @@
 //! The states of all cells, as words by cycle and what isn't in them by component.
 ghost use Rattle.std.specs.Prelude.{◌≡◌, ◌≢◌, ℕ, ◌+◌, ◌-◌, ◌<◌, ◌≤◌, ◌++◌, ◌^◌, ◌↔◌, IsTrue, IfOk, OnOk, OnErr, MatchResult, length, replicate, take, option_map, is_some, true, false, None, Some, if◌then◌else◌, slice_index_or, []};
-ghost use Rattle.std.specs.Option.{option_copied, option_or};
+ghost use Rattle.std.specs.Option.{option_copied};
 ghost use Rattle.grid_law.specs.Codec.{IsTold};
 ghost use Rattle.std.specs.Arc.{arc_value};
-ghost use Rattle.change_rows.specs.Rows.{words_at, IsWhole};
 ghost use Rattle.cell_table.specs.Layout.{state_at, IsAsMany, IsSameStates, IsOtherState};
 ghost use Rattle.cell_table.specs.Reads.{reads_by};
 ghost use Rattle.cell_table.specs.Filling.{is_awake};
@@ -17,7 +16,7 @@ use crate::{Cell, WholeRow};
 use cell_marks::Row;
 use change_lists::Lists;
 use change_rows::{Cells as Draft, Rows};
-use changed::{put_changed, repeat_changed};
+use changed::repeat_changed;
 use grid_law::{Grid, NoMemory};
 use memory::{Change, is_same, no_changes};
 use put::{put_state, repeat_state};
@@ -167,13 +166,6 @@ impl<G: Grid> States<G> {
         self.memories.next(cell.component, next, to)
     }
 
-    /// Whether no cell has a state from a cycle on; there may be such cycles besides.
-    pub(crate) fn is_empty_from(&self, cycle: u32) -> bool
-        ensures { result ≡ true → (t c : ℕ) → cycle ≤ t → state_at self.now t c ≡ None }
-    {
-        is_wordless_from(&self.words, cycle)
-    }
-
     /// Puts another state for a cell. Where memory is wanting, no state changes.
     pub(crate) fn put(&mut self, cell: Cell, state: &G::State) -> Result<(), NoMemory>
         requires cycle { cell.cycle < length self.old.rows }
@@ -253,40 +245,6 @@ impl<G: Grid> States<G> {
         Ok(())
     }
 
-    /// Puts what is new for each component that changes at a cycle, or where nothing is new the state of the cycle before. Where memory
-    /// is wanting, no state changes.
-    pub(crate) fn put_changed(
-        &mut self,
-        changes: &Row,
-        news: &[Option<Arc<G::State>>],
-        cycle: u32,
-    ) -> Result<(), NoMemory>
-        requires later { (c : ℕ) → is_awake changes.now c ≡ true → option_map arc_value (slice_index_or news.now c None) ≡ None → 0 < cycle }
-        requires within { cycle < length self.old.rows }
-        requires width { length changes.now ≡ self.old.width }
-        requires news { length news.now ≡ self.old.width }
-        ensures many { IsAsMany self.old self.new }
-        ensures put { OnOk result ((c : ℕ) → c < self.old.width → state_at self.new cycle c
-            ≡ (if is_awake changes.now c then option_or (option_map arc_value (slice_index_or news.now c None)) (state_at self.old (cycle - 1) c) else state_at self.old cycle c)) }
-        ensures others { OnOk result ((t c : ℕ) → (t ≡ cycle → ⊥) → state_at self.new t c ≡ state_at self.old t c) }
-        ensures err { OnErr result (IsSameStates self.old self.new) }
-    {
-        match put_changed::<G>(
-            &mut self.words,
-            &mut self.memories,
-            &mut self.draft,
-            &mut self.buffer,
-            &mut self.ready,
-            changes,
-            news,
-            cycle,
-        ) {
-            Ok(()) => {}
-            Err(_) => return Err(NoMemory),
-        }
-        Ok(())
-    }
-
     /// The words of a cell's state.
     pub(crate) fn words(&self, cell: Cell) -> &[u64]
         ensures { (x : G.State) → state_at self.now cell.cycle cell.component ≡ Some x → IsTold G.codec x × (G.codec.words x ≡ result.now) }
@@ -330,7 +288,7 @@ impl<G: Grid> States<G> {
         ensures unmarked { OnOk result ((c : ℕ) → is_awake set.now c ≡ false → is_awake changes.new c ≡ false) }
         ensures err { OnErr result (IsSameStates self.old self.new) }
     {
-        put_whole::<G, M>(
+        match put_whole::<G, M>(
             &mut self.words,
             &mut self.memories,
             &mut self.buffer,
@@ -341,7 +299,11 @@ impl<G: Grid> States<G> {
             set,
             changes,
             cycle,
-        )
+        ) {
+            Ok(()) => {}
+            Err(_) => return Err(NoMemory),
+        }
+        Ok(())
     }
 
     /// Removes the cycles from n on.
@@ -365,24 +327,4 @@ impl<G: Grid> States<G> {
         }
         Ok(())
     }
-}
-
-/// Whether no cell has words from a cycle on; there may be such cycles besides.
-fn is_wordless_from(rows: &Rows, cycle: u32) -> bool
-    requires { IsWhole rows.now }
-    ensures { result ≡ true → (t c : ℕ) → cycle ≤ t → words_at rows.now.rows t c ≡ [] }
-{
-    let end = rows.len();
-    if cycle >= end {
-        return true;
-    }
-    for c in 0..rows.width() {
-        if !rows.words(cycle, c).is_empty() {
-            return false;
-        }
-        if rows.next_of(cycle + 1, end, c) < end {
-            return false;
-        }
-    }
-    true
 }

@@ -14,7 +14,6 @@ ghost use Rattle.grid_law.specs.Run.{run};
 mod alike;
 mod claiming;
 mod cone;
-mod filling;
 mod giving;
 mod settling;
 mod standing;

@@ -1,29 +1,20 @@
 //! Other states for all components that change.
-ghost use Rattle.std.specs.Prelude.{◌≡◌, ℕ, ◌+◌, ◌-◌, ◌<◌, ◌≤◌, ◌++◌, ◌∷◌, IfOk, OnOk, OnErr, MatchResult, length, option_map, true, false, None, Some, if◌then◌else◌, slice_index_or, slice_set, []};
-ghost use Rattle.std.specs.Arc.{arc_value};
-ghost use Rattle.change_rows.specs.Cells.{found, end_of};
-ghost use Rattle.change_rows.specs.Rows.{overlaid, repeated, words_at};
-ghost use Rattle.change_lists.specs.Changes.{changes_at, list_at, held_at as memory_at};
+ghost use Rattle.std.specs.Prelude.{◌≡◌, ℕ, ◌-◌, ◌<◌, ◌≤◌, OnOk, OnErr, MatchResult, length, true, false, None, slice_index_or, []};
+ghost use Rattle.change_rows.specs.Rows.{repeated, words_at};
+ghost use Rattle.change_lists.specs.Changes.{changes_at, held_at as memory_at};
 ghost use Rattle.cell_table.specs.Filling.{is_awake};
-ghost use Rattle.cell_table.specs.Ready.{value_in, IsReady, words_new, memory_new, IsToldNew};
+ghost use Rattle.cell_table.specs.Ready.{value_in, IsReady};
 
-use super::memory::{Change, put_memory, ready_memory};
+use super::memory::{Change, put_memory};
 use crate::Cell;
 use cell_marks::Row;
 use change_lists::Lists;
-use change_rows::{Cells as Draft, Rows};
-use grid_law::{Grid, NoMemory};
+use change_rows::Rows;
+use grid_law::NoMemory;
 use std::alloc::Global;
-use std::sync::Arc;
 
 /// The cells of a component from one cycle on to before another have the memory of the cell before them.
-fn go_on_changed<M: Drop>(
-    memories: &mut Lists<M>,
-    changes: &Row,
-    from: u32,
-    to: u32,
-    end: u32,
-)
+fn go_on_changed<M: Drop>(memories: &mut Lists<M>, changes: &Row, from: u32, to: u32, end: u32)
     requires later { 0 < from }
     requires some { from < to }
     requires width { length changes.now ≡ length memories.old }
@@ -76,109 +67,6 @@ pub(super) fn repeat_changed<M: Drop>(
     Ok(())
 }
 
-/// Gets all that a cell needs to have what is new, or where nothing is what the cell before has: its words in the draft, and its
-/// memory. No cell has another.
-fn ready_state<G: Grid>(
-    rows: &Rows,
-    memories: &mut Lists<G::Memory>,
-    draft: &mut Draft,
-    buffer: &mut Vec<u64>,
-    cell: Cell,
-    new: &Option<Arc<G::State>>,
-) -> Result<Option<Change<G::Memory>>, NoMemory>
-    requires later { option_map arc_value new.now ≡ None → 0 < cell.cycle }
-    requires component { cell.component < length memories.old }
-    requires ascending { end_of draft.old ≤ cell.component }
-    ensures told { OnOk result (IsToldNew G.codec (option_map arc_value new.now)) }
-    ensures width { length memories.new ≡ length memories.old }
-    ensures same { (c : ℕ) → list_at memories.new c ≡ list_at memories.old c }
-    ensures others { (c : ℕ) → (c ≡ cell.component → ⊥) → changes_at memories.new c ≡ changes_at memories.old c }
-    ensures draft { OnOk result (draft.new ≡ draft.old ++ record { component = cell.component; words = words_new G.codec rows.now.rows cell.cycle cell.component (option_map arc_value new.now) } ∷ []) }
-    ensures ready { IfOk result (λ change. IsReady memories.new cell.component cell.cycle change) }
-    ensures value { IfOk result (λ change. value_in memories.new cell.component cell.cycle change ≡ memory_new G.codec memories.old cell.cycle cell.component (option_map arc_value new.now)) }
-{
-    match new {
-        Some(state) => {
-            buffer.clear();
-            G::encode(state, buffer)?;
-            draft.push(cell.component, buffer.as_slice())?;
-            let value = G::memory(state)?;
-            ready_memory::<G>(memories, cell, value)
-        }
-        None => {
-            draft.push(cell.component, rows.words(cell.cycle - 1, cell.component))?;
-            Ok(None)
-        }
-    }
-}
-
-/// The same, and what is ready is noted.
-fn ready_cell<G: Grid>(
-    rows: &Rows,
-    memories: &mut Lists<G::Memory>,
-    draft: &mut Draft,
-    buffer: &mut Vec<u64>,
-    ready: &mut Vec<Option<Change<G::Memory>>>,
-    cell: Cell,
-    new: &Option<Arc<G::State>>,
-) -> Result<(), NoMemory>
-    requires later { option_map arc_value new.now ≡ None → 0 < cell.cycle }
-    requires component { cell.component < length memories.old }
-    requires ascending { end_of draft.old ≤ cell.component }
-    requires there { cell.component < length ready.old.items }
-    ensures told { OnOk result (IsToldNew G.codec (option_map arc_value new.now)) }
-    ensures width { length memories.new ≡ length memories.old }
-    ensures same { (c : ℕ) → list_at memories.new c ≡ list_at memories.old c }
-    ensures others { (c : ℕ) → (c ≡ cell.component → ⊥) → changes_at memories.new c ≡ changes_at memories.old c }
-    ensures draft { OnOk result (draft.new ≡ draft.old ++ record { component = cell.component; words = words_new G.codec rows.now.rows cell.cycle cell.component (option_map arc_value new.now) } ∷ []) }
-    ensures len { length ready.new.items ≡ length ready.old.items }
-    ensures other_ready { (c : ℕ) → (c ≡ cell.component → ⊥) → slice_index_or ready.new.items c None ≡ slice_index_or ready.old.items c None }
-    ensures ready { OnOk result (IsReady memories.new cell.component cell.cycle (slice_index_or ready.new.items cell.component None)) }
-    ensures value { OnOk result (value_in memories.new cell.component cell.cycle (slice_index_or ready.new.items cell.component None) ≡ memory_new G.codec memories.old cell.cycle cell.component (option_map arc_value new.now)) }
-{
-    let change = ready_state::<G>(rows, memories, draft, buffer, cell, new)?;
-    ready[cell.component as usize] = change;
-    Ok(())
-}
-
-/// Gets all that the components that change need at a cycle. No cell has another.
-fn ready_all<G: Grid>(
-    rows: &Rows,
-    memories: &mut Lists<G::Memory>,
-    draft: &mut Draft,
-    buffer: &mut Vec<u64>,
-    ready: &mut Vec<Option<Change<G::Memory>>>,
-    changes: &Row,
-    news: &[Option<Arc<G::State>>],
-    cycle: u32,
-) -> Result<(), NoMemory>
-    requires later { (c : ℕ) → is_awake changes.now c ≡ true → option_map arc_value (slice_index_or news.now c None) ≡ None → 0 < cycle }
-    requires memories { length memories.old ≡ length changes.now }
-    requires ready { length ready.old.items ≡ length changes.now }
-    requires news { length news.now ≡ length changes.now }
-    ensures width { length memories.new ≡ length memories.old }
-    ensures same { (c : ℕ) → list_at memories.new c ≡ list_at memories.old c }
-    ensures len { length ready.new.items ≡ length ready.old.items }
-    ensures told { OnOk result ((c : ℕ) → is_awake changes.now c ≡ true → IsToldNew G.codec (option_map arc_value (slice_index_or news.now c None))) }
-    ensures end { OnOk result (end_of draft.new ≤ length changes.now) }
-    ensures words { OnOk result ((c : ℕ) → is_awake changes.now c ≡ true → found draft.new c ≡ Some (words_new G.codec rows.now.rows cycle c (option_map arc_value (slice_index_or news.now c None)))) }
-    ensures others { OnOk result ((c : ℕ) → is_awake changes.now c ≡ false → found draft.new c ≡ None) }
-    ensures ready { OnOk result ((c : ℕ) → is_awake changes.now c ≡ true → IsReady memories.new c cycle (slice_index_or ready.new.items c None)) }
-    ensures values { OnOk result ((c : ℕ) → is_awake changes.now c ≡ true → value_in memories.new c cycle (slice_index_or ready.new.items c None) ≡ memory_new G.codec memories.old cycle c (option_map arc_value (slice_index_or news.now c None))) }
-{
-    // The number of a component is below this one, so that of the next fits.
-    let _count = changes.len();
-    draft.clear();
-    let mut next = 0;
-    while let Some(component) = changes.first_from(next) {
-        let cell = Cell { cycle, component };
-        let new = &news[component as usize];
-        ready_cell::<G>(rows, memories, draft, buffer, ready, cell, new)?;
-        next = component + 1;
-    }
-    Ok(())
-}
-
 /// A cell has the memory that is ready for it; all others before cycle `end` have what they had.
 fn put_ready<M: Drop>(
     memories: &mut Lists<M>,
@@ -226,50 +114,4 @@ pub(super) fn put_memories<M: Drop>(
         put_ready(memories, ready, Cell { cycle, component }, end);
         next = component + 1;
     }
-}
-
-/// The components that change have at a cycle what is new for them, or where nothing is what they have at the cycle before. Where
-/// memory is wanting, no cell has another.
-pub(super) fn put_changed<G: Grid>(
-    rows: &mut Rows,
-    memories: &mut Lists<G::Memory>,
-    draft: &mut Draft,
-    buffer: &mut Vec<u64>,
-    ready: &mut Vec<Option<Change<G::Memory>>>,
-    changes: &Row,
-    news: &[Option<Arc<G::State>>],
-    cycle: u32,
-) -> Result<(), NoMemory>
-    requires later { (c : ℕ) → is_awake changes.now c ≡ true → option_map arc_value (slice_index_or news.now c None) ≡ None → 0 < cycle }
-    requires within { cycle < length rows.old.rows }
-    requires width { length changes.now ≡ rows.old.width }
-    requires memories { length memories.old ≡ rows.old.width }
-    requires ready { length ready.old.items ≡ rows.old.width }
-    requires news { length news.now ≡ rows.old.width }
-    ensures width { rows.new.width ≡ rows.old.width }
-    ensures cycles { length rows.new.rows ≡ length rows.old.rows }
-    ensures lens { (t : ℕ) → length (slice_index_or rows.new.rows t []) ≡ length (slice_index_or rows.old.rows t []) }
-    ensures many { length memories.new ≡ length memories.old }
-    ensures len { length ready.new.items ≡ length ready.old.items }
-    ensures told { OnOk result ((c : ℕ) → is_awake changes.now c ≡ true → IsToldNew G.codec (option_map arc_value (slice_index_or news.now c None))) }
-    ensures put { OnOk result ((c : ℕ) → is_awake changes.now c ≡ true
-        → (words_at rows.new.rows cycle c ≡ words_new G.codec rows.old.rows cycle c (option_map arc_value (slice_index_or news.now c None)))
-        × (memory_at memories.new c cycle ≡ memory_new G.codec memories.old cycle c (option_map arc_value (slice_index_or news.now c None)))) }
-    ensures others { OnOk result ((t c : ℕ) → is_awake changes.now c ≡ false → (words_at rows.new.rows t c ≡ words_at rows.old.rows t c) × (memory_at memories.new c t ≡ memory_at memories.old c t)) }
-    ensures other_cycles { OnOk result ((t c : ℕ) → t < length rows.old.rows → (t ≡ cycle → ⊥) → (words_at rows.new.rows t c ≡ words_at rows.old.rows t c) × (memory_at memories.new c t ≡ memory_at memories.old c t)) }
-    ensures err { OnErr result ((rows.new ≡ rows.old) × ((c t : ℕ) → memory_at memories.new c t ≡ memory_at memories.old c t)) }
-{
-    let end = rows.len();
-    match ready_all::<G>(
-        rows, memories, draft, buffer, ready, changes, news, cycle,
-    ) {
-        Ok(()) => {}
-        Err(_) => return Err(NoMemory),
-    }
-    match rows.put_row(*buffer.allocator(), cycle, draft) {
-        Ok(()) => {}
-        Err(_) => return Err(NoMemory),
-    }
-    put_memories(memories, ready, changes, cycle, end);
-    Ok(())
 }

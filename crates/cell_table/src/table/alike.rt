@@ -9,10 +9,9 @@ ghost use Rattle.cell_table.specs.Passing.{HoldsBut};
 ghost use Rattle.cell_table.specs.Repeating.{any_changes, BeginsAlike, StaysBefore, StaysAlike, IsAlike, StaysAlikeTo};
 
 use super::Table;
-use super::filling::has_room;
 use crate::cells::repeat_cells;
 use crate::ranges::ranges_of;
-use crate::rows::{clock_filled, mark_changed, reach_in};
+use crate::rows::{clock_filled, has_room, mark_changed, reach_in};
 use crate::watcher::Watcher;
 use crate::{Cell, CellRange};
 use cell_marks::Row;

@@ -388,28 +388,9 @@ impl<G: Grid> Table<G> {
         ensures stops { IfErr result (λ f. StopsBefore G.rules end self.old self.new (computed_of f)) }
         ensures spent { IfErr result (λ f. IsClockSpent f → IsSpentBefore G.rules end self.new 0 0) }
     {
-        let settled = self.settle_due::<M, W>(end, watcher)?;
+        let settled = self.settle_each::<M, W>(end, watcher)?;
         self.note_held(end);
         Ok(settled)
-    }
-
-    /// As `settle_before`.
-    fn settle_due<M: WholeRow<G>, W: Watcher<G>>(
-        &mut self,
-        end: u32,
-        watcher: &mut W,
-    ) -> Result<Settled, SettleFault>
-        requires within { end ≤ self.old.horizon + 1 }
-        requires watched { W.keeps watcher.old self.old }
-        ensures watched { W.keeps watcher.new self.new }
-        ensures all { IfOk result (λ s. IsAt G.rules self.old self.new end 0 s.computed) }
-        ensures stops { IfErr result (λ f. StopsBefore G.rules end self.old self.new (computed_of f)) }
-        ensures spent { IfErr result (λ f. IsClockSpent f → IsSpentBefore G.rules end self.new 0 0) }
-    {
-        match self.first_new(end) {
-            Some(from) => self.settle_new(from, end, watcher),
-            None => self.settle_each::<M, W>(end, watcher),
-        }
     }
 
     /// `settle_to`, where `watcher` is told of what is stored as soon as it is, and cycles of which many cells are due are settled by a

@@ -8,11 +8,10 @@ ghost use Rattle.cell_table.specs.WholeRows.{HoldsRow};
 
 use super::Table;
 use super::alike::{Passed, Spare};
-use super::filling::has_room;
 use crate::along::{Along, go_along};
 use crate::cells::put_due;
 use crate::ranges::{make_room, ranges_in};
-use crate::rows::{mark_changed, reach_in};
+use crate::rows::{has_room, mark_changed, reach_in};
 use crate::watcher::Watcher;
 use crate::{Cell, WholeRow};
 use grid_law::Grid;

@@ -8,11 +8,10 @@ use Rattle.cell_table.specs.Filling.{is_awake}
 use Rattle.cell_table.specs.Passing.{woken}
 use Rattle.cell_table.specs.Settling.{NoneDueBefore, IsAt}
 use Rattle.cell_table.specs.Repeating.{any_changes, BeginsAlike, StaysAlike, AreDueAlike}
-use Rattle.cell_table.proofs.Filled.{room_changed}
 use Rattle.cell_table.proofs.Held.{kept_alike, kept_behind}
 use Rattle.cell_table.proofs.Passing.{woken_state}
 use Rattle.cell_table.proofs.Passes.{begins_at}
-use Rattle.cell_table.proofs.Repeated.{stays_less, goes_on_to, stays_table, holds_but, ranges_within}
+use Rattle.cell_table.proofs.Repeated.{room_changed, stays_less, goes_on_to, stays_table, holds_but, ranges_within}
 use Rattle.cell_table.proofs.table.Table.settle_alike.Goals as goal
 
 pub mark_changed-requires-clause-room : goal.mark_changed-requires-clause-room

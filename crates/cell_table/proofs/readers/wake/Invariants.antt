@@ -1,7 +1,7 @@
 use Rattle.std.proofs.Common.{◌≡◌, ℕ, ◌||◌, length, take}
 use Rattle.cell_table.specs.Readers.{has}
 use Rattle.cell_table.specs.Filling.{is_awake}
-use Rattle.cell_table.proofs.fill.wake.Given as goal
+use Rattle.cell_table.proofs.readers.wake.Given as goal
 
 abbrev pub invariant-loop-component : goal.invariant-loop-component
 invariant-loop-component l = record {
