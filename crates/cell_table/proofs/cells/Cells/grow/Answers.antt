@@ -16,8 +16,8 @@ grow_due-requires g c =
     let i = c.self.inside in
     omega (arith, c.requires.fits, seen_cycles (state_at i.states) i.due i.versions.items c.args.self.now c.self.view_is)
 
-pub invariant_of-self-2 : goal.invariant_of-self-2
-invariant_of-self-2 g c =
+pub invariant_of-self-in-Ok-grow_due : goal.invariant_of-self-in-Ok-grow_due
+invariant_of-self-in-Ok-grow_due g c =
     let i = c.self.inside in
     let states1 = c.grow.new.self in
     let due1 = c.grow_due.new.due in
