@@ -1,4 +1,4 @@
-use Rattle.std.proofs.Common.{◌≡◌, ℕ, ◌+◌, ◌-◌, ◌<◌, ◌≤◌, ◌∙◌, sym, ap, subst, arith, cond, length, inl, inr, ◌⊎◌, Option, Some, is_some, true, false, refl}
+use Rattle.std.proofs.Common.{◌≡◌, ℕ, ◌+◌, ◌-◌, ◌<◌, ◌≤◌, ◌∙◌, sym, ap, arith, cond, length, inl, inr, ◌⊎◌, Option, Some, is_some, refl}
 use Rattle.std.proofs.lemmas.Bool.{cases_lt}
 use Rattle.grid_law.specs.Run.{run}
 use Rattle.cell_marks.specs.Marked.{row_at as marks_at}
