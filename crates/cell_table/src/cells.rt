@@ -15,8 +15,6 @@ mod looks;
 mod standing;
 mod whole;
 
-pub(crate) use whole::put_due;
-
 use crate::Cell;
 use crate::neighbours::Neighbours;
 use crate::stored::States;
@@ -29,6 +27,7 @@ use grid_law::{Grid, NoMemory};
 use std::alloc::Global;
 use std::marker::Model;
 use std::sync::Arc;
+pub(crate) use whole::put_due;
 
 /// The cells of the first cycles: the states, and by cycle which cells are due, and their versions.
 #[derive(Drop)]
