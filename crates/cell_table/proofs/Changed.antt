@@ -1,15 +1,14 @@
 -- Components that change have other words and other memories.
 use Rattle.std.proofs.Common.{◌≡◌, ℕ, zero, suc, ◌-◌, ◌<◌, ◌≤◌, ◌∙◌, ◌⊎◌, inl, inr, sym, ap, subst, refl, arith, Bool, true, false, cond, Option, None, Some, List, [], length, get_or}
-use Rattle.std.specs.Option.{option_or}
 use Rattle.std.proofs.lemmas.Bool.{cases_lt, cases_eq}
-use Rattle.grid_law.specs.Codec.{Codec, CodecLaws}
+use Rattle.grid_law.specs.Codec.{Codec, CodecLaws, IsTold}
 use Rattle.change_rows.specs.Rows.{Table as Words, words_at}
 use Rattle.cell_table.specs.declared.stored.memory.Change.{Change}
 use Rattle.change_lists.specs.declared.begun.Begun.{Begun}
 use Rattle.change_lists.specs.Changes.{Changes, changes_at, list_at, standing, standing_before, held_at as memory_at, held_before}
 use Rattle.cell_table.specs.Codes.{state_of, IsCode}
-use Rattle.cell_table.specs.Coded.{coded_at, states_in, IsCoded}
-use Rattle.cell_table.specs.Ready.{words_new, memory_new, IsToldNew, value_in, IsReady}
+use Rattle.cell_table.specs.Coded.{states_in, IsCoded}
+use Rattle.cell_table.specs.Ready.{value_in, IsReady}
 use Rattle.cell_table.specs.Layout.{state_at, IsAsMany}
 use Rattle.cell_table.specs.Filling.{is_awake}
 use Rattle.cell_table.proofs.Codes.{same_code, code_along, put_is}
@@ -62,44 +61,33 @@ module _ {State Memory : Type 0} (C : Codec State Memory) (words words1 : Words)
           by_change true e = state_from t c (from - 1) c (repeated t c e h k)
           by_change false e = state_from t c t c (others t c e)
 
-    module _ (laws : CodecLaws C) (at : ℕ) (there : at < length words.rows) (new : ℕ → Option State)
-        (told : (c : ℕ) → is_awake changes c ≡ true → IsToldNew C (new c)) (later : (c : ℕ) → is_awake changes c ≡ true → new c ≡ None → 0 < at)
-        (put : (c : ℕ) → is_awake changes c ≡ true → (words_at words1.rows at c ≡ words_new C words.rows at c (new c)) × (memory_at memories1 c at ≡ memory_new C memories at c (new c)))
+    -- the components that change have other states at a cycle
+    module _ (laws : CodecLaws C) (at : ℕ) (new : ℕ → State) (told : (c : ℕ) → is_awake changes c ≡ true → IsTold C (new c))
+        (put : (c : ℕ) → is_awake changes c ≡ true → (words_at words1.rows at c ≡ C.words (new c)) × (memory_at memories1 c at ≡ C.memory (new c)))
         (others : (t c : ℕ) → is_awake changes c ≡ false → HasOf t c t c) (at_others : (t c : ℕ) → t < length words.rows → (t ≡ at → ⊥) → HasOf t c t c) where
-      -- what is new is a code, and has its state
-      abbrev IsNew : ℕ → Option State → List ℕ → Option Memory → Type 0
-      IsNew c o ws m = IsCode C ws m × (state_of C ws m ≡ option_or o (coded_at C words memories (at - 1) c))
+      own_code : (x : State) → IsTold C x → (state_of C (C.words x) (C.memory x) ≡ Some x) × IsCode C (C.words x) (C.memory x)
+      own_code x is_told = put_is C laws (C.words x) (C.memory x) x is_told (record { words_are = refl; memory_is = refl })
 
-      is_new : (c : ℕ) (o : Option State) → IsToldNew C o → (o ≡ None → 0 < at) → IsNew c o (words_new C words.rows at c o) (memory_new C memories at c o)
-      is_new c None t h =
-          let e = before_is (list_at memories c) at (h refl) in
-          (code_along C _ _ _ _ refl e (coded.codes (at - 1) c), same_code C _ _ _ _ refl e)
-      is_new c (Some x) t h = let p = put_is C laws (C.words x) (C.memory x) x t (record { words_are = refl; memory_is = refl }) in (p.1, p.0)
-
-      pub coded_changed : IsCoded C words1 memories1
-      coded_changed = coded_along C words words1 memories memories1 coded width cycles lens many (λ t c h k. by_place t c h (is_awake changes c) refl (cases_eq t at))
+      pub coded_row : IsCoded C words1 memories1
+      coded_row = coded_along C words words1 memories memories1 coded width cycles lens many (λ t c h k. by_place t c h (is_awake changes c) refl (cases_eq t at))
         where
           by_place : (t c : ℕ) → t < length words.rows → (b : Bool) → is_awake changes c ≡ b → (t ≡ at) ⊎ (t ≡ at → ⊥) → IsCode C (words_at words1.rows t c) (memory_at memories1 c t)
           by_place t c h false e p = code_of t c t c (others t c e)
           by_place t c h true e (inr n) = code_of t c t c (at_others t c h n)
           by_place t c h true e (inl p) =
               let q = put c e in
-              code_along C _ _ _ _ (ap (λ u. words_at words1.rows u c) p ∙ q.0) (ap (memory_at memories1 c) p ∙ q.1) (is_new c (new c) (told c e) (later c e)).0
+              code_along C _ _ _ _ (ap (λ u. words_at words1.rows u c) p ∙ q.0) (ap (memory_at memories1 c) p ∙ q.1) (own_code (new c) (told c e)).1
 
-      pub state_changed : (c : ℕ) → state_at (states_in C words1 memories1) at c ≡ cond (is_awake changes c) (option_or (new c) (state_at (states_in C words memories) (at - 1) c)) (state_at (states_in C words memories) at c)
-      state_changed c = by_change (is_awake changes c) refl
+      pub state_row : (c : ℕ) → state_at (states_in C words1 memories1) at c ≡ cond (is_awake changes c) (Some (new c)) (state_at (states_in C words memories) at c)
+      state_row c = by_change (is_awake changes c) refl
         where
-          by_change : (b : Bool) → is_awake changes c ≡ b → state_at (states_in C words1 memories1) at c ≡ cond b (option_or (new c) (state_at (states_in C words memories) (at - 1) c)) (state_at (states_in C words memories) at c)
+          by_change : (b : Bool) → is_awake changes c ≡ b → state_at (states_in C words1 memories1) at c ≡ cond b (Some (new c)) (state_at (states_in C words memories) at c)
           by_change false e = state_from at c at c (others at c e)
           by_change true e =
               let q = put c e in
               state_is C words1 memories1 (whole_along C words words1 memories memories1 coded width cycles lens) at c
               ∙ same_code C _ _ _ _ q.0 q.1
-              ∙ (is_new c (new c) (told c e) (later c e)).1
-              ∙ ap (option_or (new c)) (sym (state_is C words memories coded.whole (at - 1) c))
-
-      pub state_other : (t c : ℕ) → (t ≡ at → ⊥) → state_at (states_in C words1 memories1) t c ≡ state_at (states_in C words memories) t c
-      state_other t c n = state_kept t c (λ h. at_others t c h n)
+              ∙ (own_code (new c) (told c e)).0
 
 -- what is ready for a component is so where its list is the same
 pub ready_along : {X : Type 0} (memories memories1 : List (Changes X)) (c t : ℕ) (change change1 : Option (Change X)) → changes_at memories1 c ≡ changes_at memories c → change1 ≡ change → IsReady memories c t change → IsReady memories1 c t change1

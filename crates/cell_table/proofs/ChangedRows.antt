@@ -1,13 +1,11 @@
 -- Rows in which the components that change have other words.
-use Rattle.std.proofs.Common.{◌≡◌, ℕ, ◌+◌, ◌-◌, ◌<◌, ◌≤◌, ◌∙◌, ◌⊎◌, inl, inr, sym, ap, refl, arith, Bool, true, false, cond, ◌&&◌, nat_le, nat_lt, Option, None, Some, List, [], length, map, get_or, unwrap_or}
+use Rattle.std.proofs.Common.{◌≡◌, ℕ, ◌+◌, ◌-◌, ◌<◌, ◌≤◌, ◌∙◌, ◌⊎◌, inl, inr, sym, ap, refl, arith, Bool, true, false, cond, ◌&&◌, nat_le, nat_lt, List, [], length, map, get_or}
 use Rattle.std.specs.List.{range_with_len}
-use Rattle.std.proofs.Math.ListN.{set, length-set}
-use Rattle.std.proofs.lemmas.Bool.{cases_lt, cases_eq, true≢false, le-leb, lt-ltb, lt-leb, le-ltb, and_right}
-use Rattle.std.proofs.lemmas.List.{get_or_past, get_or-set_same, get_or-set_other}
+use Rattle.std.proofs.lemmas.Bool.{cases_lt, true≢false, le-leb, lt-ltb, lt-leb, le-ltb, and_right}
+use Rattle.std.proofs.lemmas.List.{get_or_past}
 use Rattle.std.proofs.lemmas.List.FromFn.{length-map-range_with_len, get_or-map-range_with_len}
-use Rattle.change_rows.specs.Cells.{Held, found}
 use Rattle.change_rows.specs.Marks.{is_in}
-use Rattle.change_rows.specs.Rows.{Table as Words, words_at, overlaid, repeated, IsWhole}
+use Rattle.change_rows.specs.Rows.{Table as Words, words_at, repeated, IsWhole}
 use Rattle.cell_table.specs.Filling.{is_awake}
 use Rattle.cell_table.proofs.Coded.{none_beside}
 

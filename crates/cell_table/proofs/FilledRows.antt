@@ -1,5 +1,5 @@
 -- States that were put or go on, with the marks of their cycles taken away, as rows of cells.
-use Rattle.std.proofs.Common.{◌≡◌, ℕ, ◌-◌, ◌<◌, ◌≤◌, ◌∙◌, ◌⊎◌, inl, inr, sym, ap, arith, Bool, true, false, cond, Option, None, Some, List, length, replicate, get_or, refl}
+use Rattle.std.proofs.Common.{◌≡◌, ℕ, ◌-◌, ◌<◌, ◌≤◌, ◌∙◌, ◌⊎◌, inl, inr, sym, ap, arith, Bool, false, Option, List, length, replicate, get_or}
 use Rattle.std.proofs.lemmas.Bool.{cases_lt}
 use Rattle.std.proofs.lemmas.List.{get_or-replicate, length-replicate}
 use Rattle.cell_marks.specs.Marked.{Marked, row_at as marks_at, has as has_mark}

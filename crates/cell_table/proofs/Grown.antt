@@ -84,9 +84,9 @@ module _ {State Memory : Type 0} (C : Codec State Memory) where
           (length-take n s.rows ∙ ap (min n) (seen_cycles C words memories s e) ∙ sym cycles_cut)
           (λ t h. ap length (get_or-take n s.rows t [] (omega (arith, h, cycles_cut))) ∙ row_is t (omega (arith, h, cycles_cut)) ∙ sym width_cut)
           (λ t c h k.
-              let l : t < n = omega (arith, h, cycles_cut) in
-              ap (λ row. get_or row c None) (get_or-take n s.rows t [] l) ∙ seen_at C words memories s e coded.whole t c
-              ∙ same_code C _ _ _ _ (sym (ap (λ row. get_or row c []) (row_cut t l))) (sym ((cuts c).earlier t l)))
+          let l : t < n = omega (arith, h, cycles_cut) in
+          ap (λ row. get_or row c None) (get_or-take n s.rows t [] l) ∙ seen_at C words memories s e coded.whole t c
+          ∙ same_code C _ _ _ _ (sym (ap (λ row. get_or row c []) (row_cut t l))) (sym ((cuts c).earlier t l)))
 
     -- more cycles, of cells without words
     module _ (m : ℕ) (more : words1 ≡ record { width = words.width; rows = words.rows ++ replicate m (replicate words.width []) }) where

@@ -58,6 +58,22 @@ sums_same f g (x ∷ xs) (y ∷ ys) a b l h =
     let here : f x ≡ g y = h 0 (omega arith) in
     sum_by-cons f x xs ∙ ap (λ n. n + sum_by f xs) here ∙ ap (λ n. g y + n) rest ∙ sym (sum_by-cons g y ys)
 
+-- marks and versions of new cells
+pub layout_new : (due : Marked) (versions : List (List ℕ)) (w n v : ℕ) → due ≡ record { width = w; rows = replicate n (replicate w true) } → versions ≡ replicate n (replicate w v) → w < 2 ^ 32 → n < 2 ^ 32 → IsLayout due versions
+layout_new due versions w n v de ve few short = record {
+  marks = λ t h. ap (λ (m : Marked). length (marks_at m.rows t)) de ∙ ap length (get_or-replicate n t (replicate w true) [] (omega (arith, h, cycles))) ∙ length-replicate w true ∙ sym width;
+  rows = ap length ve ∙ length-replicate n (replicate w v) ∙ sym cycles;
+  numbers = λ t h. ap (λ vs. length (get_or vs t [])) ve ∙ ap length (get_or-replicate n t (replicate w v) [] (omega (arith, h, cycles))) ∙ length-replicate w v ∙ sym width;
+  few = omega (arith, few, width);
+  short = omega (arith, short, cycles);
+}
+  where
+    width : due.width ≡ w
+    width = ap (λ (m : Marked). m.width) de
+
+    cycles : length due.rows ≡ n
+    cycles = ap (λ (m : Marked). length m.rows) de ∙ length-replicate n (replicate w true)
+
 module _ {State : Type 0} where
   -- a list of rows, cell by cell
   pub rows_are : (rows : List (List (Held State))) (states : ℕ → ℕ → Option State) (due : Marked) (versions : List (List ℕ)) → length rows ≡ length due.rows → ((t : ℕ) → t < length due.rows → length (row_at rows t) ≡ due.width) → ((t c : ℕ) → t < length due.rows → c < due.width → held_at rows t c ≡ kept_at states due versions t c) → rows ≡ rows_of states due versions

@@ -1,5 +1,5 @@
 -- The states of the cells that marks and versions are of.
-use Rattle.std.proofs.Common.{◌≡◌, ℕ, ◌+◌, ◌-◌, ◌<◌, ◌≤◌, ◌∙◌, ◌⊎◌, inl, inr, sym, ap, refl, arith, Option, None, List, [], length, replicate, take, get_or, ◌++◌, length-append, min}
+use Rattle.std.proofs.Common.{◌≡◌, ℕ, ◌+◌, ◌-◌, ◌<◌, ◌≤◌, ◌∙◌, ◌⊎◌, inl, inr, sym, ap, arith, None, List, [], length, replicate, take, get_or, ◌++◌, length-append, min}
 use Rattle.std.proofs.lemmas.Bool.{cases_lt}
 use Rattle.std.proofs.lemmas.List.{get_or_past, get_or-replicate, length-replicate, get_or-append_right, get_or_append_left, get_or-take, length-take, take_at}
 use Rattle.cell_marks.specs.Marked.{Marked}

@@ -23,7 +23,7 @@ some_of (Some x) e = (x, refl)
 -- other words of one row
 module _ (v v1 : Words) (whole : IsWhole v) (t : ℕ) (there : t < length v.rows) (members : List ℕ) (ws : ℕ → List ℕ) (marks : List Bool) (wide : length marks ≡ v.width) (bits : (c : ℕ) → c < length marks → is_in members c ≡ is_awake marks c)
     (e : v1 ≡ record { width = v.width; rows = set v.rows t (replaced (get_or v.rows t []) members ws) }) where
-  row : List (List ℕ)
+  abbrev row : List (List ℕ)
   row = replaced (get_or v.rows t []) members ws
 
   rows_are : v1.rows ≡ set v.rows t row
@@ -142,13 +142,13 @@ module _ (old new : List Bool) (words : List ℕ) (joined : new ≡ union old (b
 
   -- a mark tells what was marked before, or what its bit tells
   pub joined_tells : (P : Type 0) → d < length old → (is_in words d ≡ true → P → ⊥) → (is_in words d ≡ false → P) → (is_awake new d ≡ false) ↔ (P × (is_awake old d ≡ false))
-  joined_tells P h yes no = (
-    λ e. (let q = either_false (is_awake old d) (is_in words d) (sym (joined_is h) ∙ e) in (no q.1, q.0)),
+  joined_tells P h differs same = (
+    λ e. (let q = either_false (is_awake old d) (is_in words d) (sym (joined_is h) ∙ e) in (same q.1, q.0)),
     λ q. joined_is h ∙ by_bit q (cases_bit (is_in words d)),
   )
     where
       by_bit : P × (is_awake old d ≡ false) → (is_in words d ≡ true) ⊎ (is_in words d ≡ false) → (is_awake old d || is_in words d) ≡ false
-      by_bit q (inl e) = absurd (yes e q.0)
+      by_bit q (inl e) = absurd (differs e q.0)
       by_bit q (inr e) = both_false (is_awake old d) (is_in words d) q.1 e
 
   -- where no bit is set, it is what it was

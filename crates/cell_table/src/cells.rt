@@ -1,11 +1,9 @@
 //! What is held for the cells.
 ghost use Rattle.std.specs.Prelude.{◌≡◌, ℕ, ◌+◌, ◌-◌, ◌<◌, ◌≤◌, ◌++◌, ◌^◌, ◌↔◌, ◌||◌, IsTrue, All, IfOk, OnOk, OnErr, IfErr, MatchResult, length, replicate, map, take, option_map, is_some, true, false, ◌==◌, ◌&&◌, MatchOption, Some, None, if◌then◌else◌, nat_lt, slice_index_or, []};
-ghost use Rattle.std.specs.Option.{option_copied, option_or};
 ghost use Rattle.std.specs.Arc.{arc_value};
 ghost use Rattle.cell_table.specs.Seen.{fresh, stored, marked, held_at, row_at, due_in_row, due_up_to};
 ghost use Rattle.cell_table.specs.Inputs.{states_of};
-ghost use Rattle.cell_table.specs.Readers.{has, near_at, IsIndex, AreNear};
-ghost use Rattle.grid_law.specs.Run.{run};
+ghost use Rattle.cell_table.specs.Readers.{has, near_at};
 ghost use Rattle.cell_table.specs.Settling.{IsNextDueInRow};
 ghost use Rattle.cell_table.specs.Layout.{cleared, version_at, IsOtherCell};
 ghost use Rattle.cell_table.specs.Repeating.{any_changes};
@@ -21,7 +19,6 @@ pub(crate) use whole::put_due;
 
 use crate::Cell;
 use crate::neighbours::Neighbours;
-use crate::readers::Readers;
 use crate::stored::States;
 use crate::versions::{
     Versions, forget_in, grow_rows, is_noted_in, note_in, rows_of, set_version, set_versions,

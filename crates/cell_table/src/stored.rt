@@ -1,9 +1,8 @@
 //! The states of all cells, as words by cycle and what isn't in them by component.
 ghost use Rattle.std.specs.Prelude.{◌≡◌, ◌≢◌, ℕ, ◌+◌, ◌-◌, ◌<◌, ◌≤◌, ◌++◌, ◌^◌, ◌↔◌, IsTrue, IfOk, OnOk, OnErr, MatchResult, length, replicate, take, option_map, is_some, true, false, None, Some, if◌then◌else◌, slice_index_or, []};
-ghost use Rattle.std.specs.Option.{option_copied, option_or};
+ghost use Rattle.std.specs.Option.{option_copied};
 ghost use Rattle.grid_law.specs.Codec.{IsTold};
 ghost use Rattle.std.specs.Arc.{arc_value};
-ghost use Rattle.change_rows.specs.Rows.{words_at, IsWhole};
 ghost use Rattle.cell_table.specs.Layout.{state_at, IsAsMany, IsSameStates, IsOtherState};
 ghost use Rattle.cell_table.specs.Reads.{reads_by};
 ghost use Rattle.cell_table.specs.Filling.{is_awake};
@@ -289,7 +288,7 @@ impl<G: Grid> States<G> {
         ensures unmarked { OnOk result ((c : ℕ) → is_awake set.now c ≡ false → is_awake changes.new c ≡ false) }
         ensures err { OnErr result (IsSameStates self.old self.new) }
     {
-        put_whole::<G, M>(
+        match put_whole::<G, M>(
             &mut self.words,
             &mut self.memories,
             &mut self.buffer,
@@ -300,7 +299,11 @@ impl<G: Grid> States<G> {
             set,
             changes,
             cycle,
-        )
+        ) {
+            Ok(()) => {}
+            Err(_) => return Err(NoMemory),
+        }
+        Ok(())
     }
 
     /// Removes the cycles from n on.

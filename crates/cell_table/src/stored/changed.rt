@@ -1,29 +1,20 @@
 //! Other states for all components that change.
-ghost use Rattle.std.specs.Prelude.{◌≡◌, ℕ, ◌+◌, ◌-◌, ◌<◌, ◌≤◌, ◌++◌, ◌∷◌, IfOk, OnOk, OnErr, MatchResult, length, option_map, true, false, None, Some, if◌then◌else◌, slice_index_or, slice_set, []};
-ghost use Rattle.std.specs.Arc.{arc_value};
-ghost use Rattle.change_rows.specs.Cells.{found, end_of};
-ghost use Rattle.change_rows.specs.Rows.{overlaid, repeated, words_at};
-ghost use Rattle.change_lists.specs.Changes.{changes_at, list_at, held_at as memory_at};
+ghost use Rattle.std.specs.Prelude.{◌≡◌, ℕ, ◌-◌, ◌<◌, ◌≤◌, OnOk, OnErr, MatchResult, length, true, false, None, slice_index_or, []};
+ghost use Rattle.change_rows.specs.Rows.{repeated, words_at};
+ghost use Rattle.change_lists.specs.Changes.{changes_at, held_at as memory_at};
 ghost use Rattle.cell_table.specs.Filling.{is_awake};
-ghost use Rattle.cell_table.specs.Ready.{value_in, IsReady, words_new, memory_new, IsToldNew};
+ghost use Rattle.cell_table.specs.Ready.{value_in, IsReady};
 
-use super::memory::{Change, put_memory, ready_memory};
+use super::memory::{Change, put_memory};
 use crate::Cell;
 use cell_marks::Row;
 use change_lists::Lists;
-use change_rows::{Cells as Draft, Rows};
-use grid_law::{Grid, NoMemory};
+use change_rows::Rows;
+use grid_law::NoMemory;
 use std::alloc::Global;
-use std::sync::Arc;
 
 /// The cells of a component from one cycle on to before another have the memory of the cell before them.
-fn go_on_changed<M: Drop>(
-    memories: &mut Lists<M>,
-    changes: &Row,
-    from: u32,
-    to: u32,
-    end: u32,
-)
+fn go_on_changed<M: Drop>(memories: &mut Lists<M>, changes: &Row, from: u32, to: u32, end: u32)
     requires later { 0 < from }
     requires some { from < to }
     requires width { length changes.now ≡ length memories.old }

@@ -44,11 +44,7 @@ pub(super) fn is_same<G: Grid>(a: Option<&G::Memory>, b: Option<&G::Memory>) -> 
 }
 
 /// Whether what stands before a cell is this memory, or none as this.
-fn stood_before<G: Grid>(
-    memories: &Lists<G::Memory>,
-    cell: Cell,
-    value: Option<&G::Memory>,
-) -> bool
+fn stood_before<G: Grid>(memories: &Lists<G::Memory>, cell: Cell, value: Option<&G::Memory>) -> bool
     ensures { result ≡ true → held_before memories.now cell.component cell.cycle ≡ option_map (λ m. m.now) value.entry }
 {
     if cell.cycle == 0 {
@@ -110,13 +106,7 @@ pub(super) fn put_memory<M: Drop>(
 {
     match change {
         Some(change) => {
-            let _ = memories.put(
-                cell.component,
-                cell.cycle,
-                end,
-                change.value,
-                change.stood,
-            );
+            let _ = memories.put(cell.component, cell.cycle, end, change.value, change.stood);
         }
         None => {
             let _ = memories.go_on(cell.component, cell.cycle, cell.cycle + 1, end);

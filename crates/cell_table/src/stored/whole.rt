@@ -151,8 +151,10 @@ fn ready_cell<G: Grid, M: WholeRow<G>>(
     ensures other_changes { (c : ℕ) → (c ≡ cell.component → ⊥) → is_awake changes.new c ≡ is_awake changes.old c }
     ensures ready { OnOk result (IsReady memories.new cell.component cell.cycle (slice_index_or ready.new.items cell.component None)) }
     ensures value { OnOk result (value_in memories.new cell.component cell.cycle (slice_index_or ready.new.items cell.component None) ≡ G.codec.memory (M.state row.now cell.component)) }
+    ensures told { IsTold G.codec (M.state row.now cell.component) }
     ensures marked { (is_awake changes.new cell.component ≡ false) ↔ (memory_at memories.old cell.component cell.cycle ≡ G.codec.memory (M.state row.now cell.component)) }
 {
+    row.is_told(slots, cell.component);
     let other = differs::<G, M>(memories, slots, row, step, cell);
     mark_if(changes, cell.component, other);
     let alloc = *ready.allocator();
@@ -185,6 +187,7 @@ fn ready_all<G: Grid, M: WholeRow<G>>(
     ensures same { (c : ℕ) → list_at memories.new c ≡ list_at memories.old c }
     ensures ready { OnOk result ((c : ℕ) → is_awake set.now c ≡ true → IsReady memories.new c cycle (slice_index_or ready.new.items c None)) }
     ensures value { OnOk result ((c : ℕ) → is_awake set.now c ≡ true → value_in memories.new c cycle (slice_index_or ready.new.items c None) ≡ G.codec.memory (M.state row.now c)) }
+    ensures told { OnOk result ((c : ℕ) → is_awake set.now c ≡ true → IsTold G.codec (M.state row.now c)) }
     ensures marked { OnOk result ((c : ℕ) → is_awake set.now c ≡ true → (is_awake changes.new c ≡ false) ↔ (memory_at memories.old c cycle ≡ G.codec.memory (M.state row.now c))) }
     ensures unmarked { OnOk result ((c : ℕ) → is_awake set.now c ≡ false → is_awake changes.new c ≡ false) }
 {
@@ -244,27 +247,13 @@ fn put_words<G: Grid, M: WholeRow<G>>(
     let words = set.words();
     make_words(buffer, words.len())?;
     let source: Stepped<'_, G, M> = Stepped { row, step, slots };
-    match rows.put_from(cycle, words, &source, buffer.as_mut_slice()) {
+    let changed = buffer.as_mut_slice();
+    match rows.put_from(cycle, words, &source, changed) {
         Ok(()) => {
-            changes.add_words(buffer.as_slice());
+            changes.add_words(changed);
             Ok(())
         }
         Err(_) => Err(NoMemory),
-    }
-}
-
-/// The words and the memories of these components tell what a row holds for them. Nothing is done when it runs.
-fn are_told<G: Grid, M: WholeRow<G>>(slots: &G::Slots, row: &M, set: &Row)
-    requires components { length set.now ≡ G.rules.components slots.now }
-    requires stands { M.stands row.now slots.now }
-    ensures { (c : ℕ) → is_awake set.now c ≡ true → IsTold G.codec (M.state row.now c) }
-{
-    // The number of a component is below this one, so that of the next fits.
-    let _count = set.len();
-    let mut next = 0;
-    while let Some(component) = set.first_from(next) {
-        row.is_told(slots, component);
-        next = component + 1;
     }
 }
 
@@ -298,7 +287,7 @@ pub(super) fn put_whole<G: Grid, M: WholeRow<G>>(
     ensures lens { (t : ℕ) → length (slice_index_or rows.new.rows t []) ≡ length (slice_index_or rows.old.rows t []) }
     ensures many { length memories.new ≡ length memories.old }
     ensures len { length ready.new.items ≡ length ready.old.items }
-    ensures told { (c : ℕ) → is_awake set.now c ≡ true → IsTold G.codec (M.state row.now c) }
+    ensures told { OnOk result ((c : ℕ) → is_awake set.now c ≡ true → IsTold G.codec (M.state row.now c)) }
     ensures put { OnOk result ((c : ℕ) → is_awake set.now c ≡ true → (words_at rows.new.rows cycle c ≡ G.codec.words (M.state row.now c)) × (memory_at memories.new c cycle ≡ G.codec.memory (M.state row.now c))) }
     ensures others { OnOk result ((t c : ℕ) → is_awake set.now c ≡ false → (words_at rows.new.rows t c ≡ words_at rows.old.rows t c) × (memory_at memories.new c t ≡ memory_at memories.old c t)) }
     ensures other_cycles { OnOk result ((t c : ℕ) → t < length rows.old.rows → (t ≡ cycle → ⊥) → (words_at rows.new.rows t c ≡ words_at rows.old.rows t c) × (memory_at memories.new c t ≡ memory_at memories.old c t)) }
@@ -306,9 +295,11 @@ pub(super) fn put_whole<G: Grid, M: WholeRow<G>>(
     ensures unmarked { OnOk result ((c : ℕ) → is_awake set.now c ≡ false → is_awake changes.new c ≡ false) }
     ensures err { OnErr result ((rows.new ≡ rows.old) × ((c t : ℕ) → memory_at memories.new c t ≡ memory_at memories.old c t)) }
 {
-    are_told::<G, M>(slots, row, set);
     let end = rows.len();
-    ready_all::<G, M>(memories, ready, slots, row, step, set, changes, cycle)?;
+    match ready_all::<G, M>(memories, ready, slots, row, step, set, changes, cycle) {
+        Ok(()) => {}
+        Err(_) => return Err(NoMemory),
+    }
     match put_words::<G, M>(rows, buffer, slots, row, step, set, changes, cycle) {
         Ok(()) => {}
         Err(_) => return Err(NoMemory),

@@ -1,4 +1,4 @@
-use Rattle.std.proofs.Common.{ℕ, ◌-◌, ◌<◌, ◌∙◌, sym, ap, arith, cond, length, refl}
+use Rattle.std.proofs.Common.{◌-◌, ◌<◌, ◌∙◌, sym, ap, arith, cond, length, refl}
 use Rattle.cell_table.specs.Layout.{state_at, cleared}
 use Rattle.cell_table.specs.Filling.{is_awake}
 use Rattle.cell_table.proofs.Keeping.{seen_cycles, seen_state, seen_due, seen_no_version, length_row}

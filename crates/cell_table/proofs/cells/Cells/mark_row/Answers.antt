@@ -40,7 +40,7 @@ invariant_of-self g c =
     let view_is = same_versions (state_at i.states) i.due i.versions.items vs (bounded_by i.states i.due c.self.invariant.0) c.self.invariant.1 f.len f.lens c.args.self.now c.self.view_is f.due in
     let width = ap (λ (m : Marked). m.width) c.set_all.ensures in
     let cycles = ap (λ (m : Marked). length m.rows) c.set_all.ensures ∙ length-set i.due.rows c.args.cycle _ in (
-      stated_along i.states i.states i.due c.set_all.new.self c.self.invariant.0 refl (λ d. refl) width cycles,
+      stated_along i.states i.states i.due c.set_all.new.self c.self.invariant.0 (record { width = refl; cycles = refl; lens = λ u. refl }) width cycles,
       layout_joined (state_at i.states) i.due c.set_all.new.self vs c.set_versions.new.rows.items (bounded_by i.states i.due c.self.invariant.0) layout c.args.self.now view_is c.args.cycle c.args.row.now c.args.version there (c.requires.width ∙ seen_length (state_at i.states) i.due i.versions.items c.args.self.now c.self.view_is c.args.cycle there ∙ sym (c.self.invariant.1.marks c.args.cycle there)) c.set_all.ensures c.set_versions.ensures.len c.set_versions.ensures.lens,
     )
 

@@ -38,7 +38,7 @@ invariant_of-self-2 g c =
     let wide = c.requires.reached_width ∙ seen_length (state_at i.states) i.due i.versions.items c.args.self.now c.self.view_is c.args.cycle there ∙ sym (c.self.invariant.1.marks c.args.cycle there) in
     let width = ap (λ (m : Marked). m.width) c.set_all.ensures in
     let cycles = ap (λ (m : Marked). length m.rows) c.set_all.ensures ∙ length-set i.due.rows c.args.cycle _ in (
-      stated_along i.states i.states i.due c.set_all.new.self c.self.invariant.0 refl (λ d. refl) width cycles,
+      stated_along i.states i.states i.due c.set_all.new.self c.self.invariant.0 (record { width = refl; cycles = refl; lens = λ u. refl }) width cycles,
       layout_joined (state_at i.states) i.due c.set_all.new.self i.versions.items c.note_in.new.rows.items (bounded_by i.states i.due c.self.invariant.0) c.self.invariant.1 c.args.self.now c.self.view_is c.args.cycle c.args.reached.now 0 there wide c.set_all.ensures (c.note_in.ensures.len ∙ c.forget_idle.ensures.len) (λ u. c.note_in.ensures.lens u ∙ c.forget_idle.ensures.lens u),
     )
 

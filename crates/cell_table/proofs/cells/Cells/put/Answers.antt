@@ -1,5 +1,5 @@
-use Rattle.std.proofs.Common.{arith}
-use Rattle.cell_table.specs.Layout.{state_at}
+use Rattle.std.proofs.Common.{arith, subst, Some}
+use Rattle.cell_table.specs.Layout.{state_at, IsOtherState}
 use Rattle.cell_table.proofs.Keeping.{seen_cycle, seen_component, stored_cell}
 use Rattle.cell_table.proofs.Stated.{bounded_by, same_stated}
 use Rattle.cell_table.proofs.cells.Cells.put.Goals as goal
@@ -31,7 +31,7 @@ returns-in-Ok-clause-ok g c =
     let d = c.args.cell.component in
     let there = seen_cycle (state_at i.states) i.due i.versions.items c.args.self.now c.self.view_is t c.requires.cycle in
     let inside = seen_component (state_at i.states) i.due i.versions.items c.args.self.now c.self.view_is t d c.requires.cycle c.requires.component in
-    stored_cell (state_at i.states) i.due i.versions.items (bounded_by i.states i.due c.self.invariant.0) c.self.invariant.1 c.args.self.now c.self.view_is t d there inside (state_at c.put.new.self) c.clear.new.self _ c.clear.ensures c.in-Ok.ensures.ok.at
+    stored_cell (state_at i.states) i.due i.versions.items (bounded_by i.states i.due c.self.invariant.0) c.self.invariant.1 c.args.self.now c.self.view_is t d there inside (state_at c.put.new.self) c.clear.new.self _ c.clear.ensures (subst (λ x. IsOtherState i.states c.put.new.self t d (Some x)) c.deref.ensures c.in-Ok.ensures.ok).at
 
 pub returns-in-Err-clause-err : goal.returns-in-Err-clause-err
 returns-in-Err-clause-err g c =

@@ -1,4 +1,4 @@
-use Rattle.std.proofs.Common.{◌≡◌, ℕ, ◌+◌, ◌-◌, ◌<◌, ◌≤◌, ◌∙◌, sym, ap, subst, arith, cond, length, inl, inr, ◌⊎◌, Option, Some, is_some, true, false, refl}
+use Rattle.std.proofs.Common.{◌≡◌, ℕ, ◌+◌, ◌-◌, ◌<◌, ◌≤◌, ◌∙◌, sym, ap, arith, cond, length, inl, inr, ◌⊎◌, Option, Some, is_some, refl}
 use Rattle.std.proofs.lemmas.Bool.{cases_lt}
 use Rattle.grid_law.specs.Run.{run}
 use Rattle.cell_marks.specs.Marked.{row_at as marks_at}
@@ -6,10 +6,15 @@ use Rattle.cell_table.specs.Seen.{held_at}
 use Rattle.cell_table.specs.Layout.{state_at, cleared}
 use Rattle.cell_table.specs.Filling.{is_awake}
 use Rattle.cell_table.proofs.Keeping.{seen_cycles, seen_state, seen_due, seen_no_version, length_row}
-use Rattle.cell_table.proofs.FilledRows.{marks_filled, same_cell, cleared_cell}
+use Rattle.cell_table.proofs.FilledRows.{marks_filled, layout_filled, same_cell, cleared_cell}
 use Rattle.cell_table.proofs.Stated.{bounded_by, stated_along, width_each}
 use Rattle.cell_table.proofs.Whole.{awake_within, same_value}
 use Rattle.cell_table.proofs.cells.whole.put_due.Goals as goal
+
+pub row-set-requires : goal.row-set-requires
+row-set-requires g c =
+    let i = c.cells.inside in
+    omega (arith, c.requires.within, seen_cycles (state_at i.states) i.due i.versions.items c.args.cells.now c.cells.view_is)
 
 pub put_whole-requires-clause-within : goal.put_whole-requires-clause-within
 put_whole-requires-clause-within g c =
@@ -89,6 +94,20 @@ pub returns-clause-versions : goal.returns-clause-versions
 returns-clause-versions g c = λ t d e.
     let i = c.cells.inside in
     seen_no_version (state_at i.states) i.due i.versions.items c.args.cells.now c.cells.view_is (bounded_by i.states i.due c.cells.invariant.0) c.cells.invariant.1 t d (sym (seen_due (state_at i.states) i.due i.versions.items c.args.cells.now c.cells.view_is (bounded_by i.states i.due c.cells.invariant.0) c.cells.invariant.1 t d) ∙ e)
+
+pub invariant_of-cells-2 : goal.invariant_of-cells-2
+invariant_of-cells-2 g c =
+    let i = c.cells.inside in
+    let t = c.args.cycle in
+    let r = c.clear_rows.ensures in
+    let states1 = c.put_whole.new.self in
+    let many = c.put_whole.ensures.many in
+    let bounded = bounded_by i.states i.due c.cells.invariant.0 in
+    let bounded1 = bounded_by states1 i.due (stated_along i.states states1 i.due i.due c.cells.invariant.0 many refl refl) in
+    let marks = marks_filled i.due c.clear_rows.new.due t (t + 1) c.cells.invariant.1.marks r.cleared r.earlier r.later in (
+      stated_along i.states states1 i.due c.clear_rows.new.due c.cells.invariant.0 many r.width r.len,
+      layout_filled (state_at i.states) (state_at states1) i.due c.clear_rows.new.due i.versions.items c.args.cells.now bounded c.cells.invariant.1 c.cells.view_is bounded1 r.width r.len marks,
+    )
 
 pub returns-clause-lens : goal.returns-clause-lens
 returns-clause-lens g c = λ t h.

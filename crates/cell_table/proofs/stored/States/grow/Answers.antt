@@ -11,8 +11,7 @@ grow-requires g c =
 
 pub invariant_of-self-2 : goal.invariant_of-self-2
 invariant_of-self-2 g c =
-    let i = c.self.inside in
-    (
+    let i = c.self.inside in (
       coded_more g.G.Grid.codec i.words c.grow.new.self i.memories i.memories c.self.invariant.0 c.args.self.now c.self.view_is c.args.m c.in-Ok.ensures,
       c.self.invariant.1 ∙ sym (ap (λ (w : Table). w.width) c.in-Ok.ensures),
     )

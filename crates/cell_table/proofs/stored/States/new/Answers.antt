@@ -5,8 +5,7 @@ use Rattle.cell_table.proofs.stored.States.new.Goals as goal
 
 pub invariant_of-result : goal.invariant_of-result
 invariant_of-result g c =
-    let e = c.in_ok-grow.ensures ∙ ap (λ (w : Table). record { width = w.width; rows = w.rows ++ replicate c.args.cycles (replicate w.width []) }) c.in_ok-words.ensures in
-    (
+    let e = c.in_ok-grow.ensures ∙ ap (λ (w : Table). record { width = w.width; rows = w.rows ++ replicate c.args.cycles (replicate w.width []) }) c.in_ok-words.ensures in (
       coded_new g.G.Grid.codec c.grow.new.self c.in_ok-memories.memories c.args.count c.args.cycles e c.in_ok-memories.ensures.width,
       c.in_ok-ready.ensures ∙ sym (ap (λ (w : Table). w.width) e),
     )

@@ -1,9 +1,7 @@
-use Rattle.std.proofs.Common.{◌≡◌, ℕ, ◌-◌, ◌<◌, ◌∙◌, sym, ap, refl, arith, length, Some}
-use Rattle.change_rows.specs.Rows.{Table, words_at}
-use Rattle.change_lists.specs.Changes.{held_at as memory_at}
-use Rattle.cell_table.specs.Layout.{state_at}
+use Rattle.std.proofs.Common.{◌<◌, ◌∙◌, sym, ap, refl, arith, length, Some}
+use Rattle.change_rows.specs.Rows.{Table}
 use Rattle.cell_table.proofs.Codes.{put_is}
-use Rattle.cell_table.proofs.Coded.{seen_at, seen_width, seen_cycles, memory_along, coded_err, states_err, coded_put, other_seen}
+use Rattle.cell_table.proofs.Coded.{seen_width, seen_cycles, memory_along, coded_err, states_err, coded_put, other_seen}
 use Rattle.cell_table.proofs.stored.States.put.Goals as goal
 
 pub put_state-requires-clause-cycle : goal.put_state-requires-clause-cycle
@@ -15,8 +13,7 @@ pub invariant_of-self : goal.invariant_of-self
 invariant_of-self g c =
     let i = c.self.inside in
     let C = g.G.Grid.codec in
-    let e = c.in-Err.ensures in
-    (
+    let e = c.in-Err.ensures in (
       coded_err C i.words c.put_state.new.rows i.memories c.put_state.new.memories c.self.invariant.0 e.rows (λ d u. memory_along C i.memories c.put_state.new.memories d u (e.err d)) c.put_state.ensures.width,
       c.self.invariant.1 ∙ sym (ap (λ (w : Table). w.width) e.rows),
     )
@@ -41,8 +38,7 @@ invariant_of-self-2 g c =
     let ws = C.words x in
     let m = C.memory x in
     let p = put_is C g.G.Grid.codec_laws ws m x c.put_state.ensures.told (record { words_are = refl; memory_is = refl }) in
-    let code = p.1 in
-    (
+    let code = p.1 in (
       coded_put C i.words c.put_state.new.rows i.memories c.put_state.new.memories c.self.invariant.0 t d there inside ws m code c.in-Ok.ensures.rows c.in-Ok.ensures.here c.put_state.ensures.others c.put_state.ensures.cycles c.put_state.ensures.width,
       c.self.invariant.1 ∙ sym (ap (λ (w : Table). w.width) c.in-Ok.ensures.rows),
     )

@@ -1,10 +1,9 @@
-use Rattle.std.proofs.Common.{◌≡◌, ℕ, ◌-◌, ◌<◌, ◌≤◌, ◌∙◌, sym, ap, subst, arith, cond, length, Option, Some, is_some, true}
-use Rattle.std.specs.Option.{option_or}
+use Rattle.std.proofs.Common.{◌≡◌, ◌-◌, ◌∙◌, sym, ap, subst, arith, cond, Some, is_some}
 use Rattle.cell_table.specs.Coded.{states_in}
 use Rattle.cell_table.specs.Layout.{state_at, IsAsMany}
 use Rattle.cell_table.specs.Filling.{is_awake}
 use Rattle.cell_table.proofs.Coded.{seen_width, seen_cycles, seen_at, coded_err, states_err, many_along}
-use Rattle.cell_table.proofs.Changed.{coded_changed, state_changed, state_other}
+use Rattle.cell_table.proofs.Changed.{coded_row, state_row, state_kept}
 use Rattle.cell_table.proofs.Whole.{words_of_state, memory_of_state, has_exactly}
 use Rattle.cell_table.proofs.stored.States.put_whole.Goals as goal
 
@@ -48,8 +47,7 @@ pub invariant_of-self : goal.invariant_of-self
 invariant_of-self g c =
     let i = c.self.inside in
     let C = g.G.Grid.codec in
-    let e = c.in-Err.ensures.err in
-    (
+    let e = c.in-Err.ensures.err in (
       coded_err C i.words c.put_whole.new.rows i.memories c.put_whole.new.memories c.self.invariant.0 e.0 e.1 c.put_whole.ensures.many,
       c.put_whole.ensures.len ∙ c.self.invariant.1 ∙ sym c.put_whole.ensures.width,
     )
@@ -72,10 +70,8 @@ invariant_of-self-2 g c =
     let C = g.G.Grid.codec in
     let e = c.put_whole.ensures in
     let ok = c.in-Ok.ensures in
-    let new = λ (k : ℕ). Some (g.M.WholeRow.state c.args.row.now k) in
-    let there : c.args.cycle < length i.words.rows = omega (arith, c.requires.within, seen_cycles C i.words i.memories c.args.self.now c.self.view_is) in
-    (
-      coded_changed C i.words c.put_whole.new.rows i.memories c.put_whole.new.memories c.self.invariant.0 e.width e.cycles e.lens c.args.set.now e.many g.G.Grid.codec_laws c.args.cycle there new e.told (λ d a n. c.requires.later) ok.put ok.others ok.other_cycles,
+    let new = g.M.WholeRow.state c.args.row.now in (
+      coded_row C i.words c.put_whole.new.rows i.memories c.put_whole.new.memories c.self.invariant.0 e.width e.cycles e.lens c.args.set.now e.many g.G.Grid.codec_laws c.args.cycle new ok.told ok.put ok.others ok.other_cycles,
       e.len ∙ c.self.invariant.1 ∙ sym e.width,
     )
 
@@ -92,10 +88,9 @@ returns-clause-put g c = λ d.
     let C = g.G.Grid.codec in
     let e = c.put_whole.ensures in
     let ok = c.in-Ok.ensures in
-    let new = λ (k : ℕ). Some (g.M.WholeRow.state c.args.row.now k) in
-    let there : c.args.cycle < length i.words.rows = omega (arith, c.requires.within, seen_cycles C i.words i.memories c.args.self.now c.self.view_is) in
+    let new = g.M.WholeRow.state c.args.row.now in
     subst (λ v. state_at (states_in C c.put_whole.new.rows c.put_whole.new.memories) c.args.cycle d ≡ cond (is_awake c.args.set.now d) (Some (g.M.WholeRow.state c.args.row.now d)) (state_at v c.args.cycle d)) c.self.view_is
-    (state_changed C i.words c.put_whole.new.rows i.memories c.put_whole.new.memories c.self.invariant.0 e.width e.cycles e.lens c.args.set.now e.many g.G.Grid.codec_laws c.args.cycle there new e.told (λ d a n. c.requires.later) ok.put ok.others ok.other_cycles d)
+    (state_row C i.words c.put_whole.new.rows i.memories c.put_whole.new.memories c.self.invariant.0 e.width e.cycles e.lens c.args.set.now e.many g.G.Grid.codec_laws c.args.cycle new ok.told ok.put ok.others ok.other_cycles d)
 
 pub returns-clause-others : goal.returns-clause-others
 returns-clause-others g c = λ t d n.
@@ -103,9 +98,7 @@ returns-clause-others g c = λ t d n.
     let C = g.G.Grid.codec in
     let e = c.put_whole.ensures in
     let ok = c.in-Ok.ensures in
-    let new = λ (k : ℕ). Some (g.M.WholeRow.state c.args.row.now k) in
-    let there : c.args.cycle < length i.words.rows = omega (arith, c.requires.within, seen_cycles C i.words i.memories c.args.self.now c.self.view_is) in
-    subst (λ v. state_at (states_in C c.put_whole.new.rows c.put_whole.new.memories) t d ≡ state_at v t d) c.self.view_is (state_other C i.words c.put_whole.new.rows i.memories c.put_whole.new.memories c.self.invariant.0 e.width e.cycles e.lens c.args.set.now e.many g.G.Grid.codec_laws c.args.cycle there new e.told (λ d a n. c.requires.later) ok.put ok.others ok.other_cycles t d n)
+    subst (λ v. state_at (states_in C c.put_whole.new.rows c.put_whole.new.memories) t d ≡ state_at v t d) c.self.view_is (state_kept C i.words c.put_whole.new.rows i.memories c.put_whole.new.memories c.self.invariant.0 e.width e.cycles e.lens t d (λ h. ok.other_cycles t d h n))
 
 pub returns-clause-tells : goal.returns-clause-tells
 returns-clause-tells g c = λ d a.
@@ -114,5 +107,5 @@ returns-clause-tells g c = λ d a.
     let t = c.args.cycle in
     let seen = seen_at C i.words i.memories c.args.self.now c.self.view_is c.self.invariant.0.whole t d in
     let q = c.in-Ok.ensures.tells d a in
-    let x = has_exactly C g.G.Grid.codec_laws _ _ (c.self.invariant.0.codes t d) (g.M.WholeRow.state c.args.row.now d) (c.put_whole.ensures.told d a) in
+    let x = has_exactly C g.G.Grid.codec_laws _ _ (c.self.invariant.0.codes t d) (g.M.WholeRow.state c.args.row.now d) (c.in-Ok.ensures.told d a) in
     (λ p. seen ∙ x.0 (q.0 p), λ e. q.1 (x.1 (sym seen ∙ e)))

@@ -1,8 +1,7 @@
-use Rattle.std.proofs.Common.{◌≡◌, ℕ, ◌-◌, ◌<◌, ◌∙◌, sym, ap, refl, arith, length, Some}
+use Rattle.std.proofs.Common.{◌-◌, ◌<◌, ◌∙◌, sym, ap, arith, length}
 use Rattle.change_rows.specs.Rows.{Table, words_at}
 use Rattle.change_lists.specs.Changes.{held_at as memory_at}
 use Rattle.cell_table.specs.Layout.{state_at}
-use Rattle.cell_table.proofs.Codes.{put_is}
 use Rattle.cell_table.proofs.Coded.{seen_at, seen_width, seen_cycles, memory_along, coded_err, states_err, coded_put, other_seen}
 use Rattle.cell_table.proofs.stored.States.repeat.Goals as goal
 
@@ -15,8 +14,7 @@ pub invariant_of-self : goal.invariant_of-self
 invariant_of-self g c =
     let i = c.self.inside in
     let C = g.G.Grid.codec in
-    let e = c.in-Err.ensures in
-    (
+    let e = c.in-Err.ensures in (
       coded_err C i.words c.repeat_state.new.rows i.memories c.repeat_state.new.memories c.self.invariant.0 e.rows (λ d u. memory_along C i.memories c.repeat_state.new.memories d u (e.err d)) c.repeat_state.ensures.width,
       c.self.invariant.1 ∙ sym (ap (λ (w : Table). w.width) e.rows),
     )
@@ -39,8 +37,7 @@ invariant_of-self-2 g c =
     let inside : d < i.words.width = omega (arith, c.requires.component, seen_width C i.words i.memories s c.self.view_is) in
     let ws = words_at i.words.rows (t - 1) d in
     let m = memory_at i.memories d (t - 1) in
-    let code = c.self.invariant.0.codes (t - 1) d in
-    (
+    let code = c.self.invariant.0.codes (t - 1) d in (
       coded_put C i.words c.repeat_state.new.rows i.memories c.repeat_state.new.memories c.self.invariant.0 t d there inside ws m code c.in-Ok.ensures.rows c.in-Ok.ensures.here c.repeat_state.ensures.others c.repeat_state.ensures.cycles c.repeat_state.ensures.width,
       c.self.invariant.1 ∙ sym (ap (λ (w : Table). w.width) c.in-Ok.ensures.rows),
     )

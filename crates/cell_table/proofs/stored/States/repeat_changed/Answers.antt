@@ -1,13 +1,11 @@
-use Rattle.std.proofs.Common.{◌≡◌, ℕ, ◌-◌, ◌<◌, ◌≤◌, ◌∙◌, sym, ap, subst, arith, cond, length, None, option_map, slice_index_or}
-use Rattle.std.specs.Arc.{arc_value}
-use Rattle.std.specs.Option.{option_or}
+use Rattle.std.proofs.Common.{◌≡◌, ◌-◌, ◌∙◌, sym, ap, subst, arith, cond, length}
 use Rattle.change_rows.specs.Rows.{Table}
 use Rattle.change_lists.specs.Changes.{held_at as memory_at}
 use Rattle.cell_table.specs.Coded.{states_in}
 use Rattle.cell_table.specs.Layout.{state_at, IsAsMany}
 use Rattle.cell_table.specs.Filling.{is_awake}
 use Rattle.cell_table.proofs.Coded.{seen_width, seen_cycles, coded_err, states_err, many_along, many_same}
-use Rattle.cell_table.proofs.Changed.{coded_repeated, state_repeated, coded_changed, state_changed, state_other, state_kept}
+use Rattle.cell_table.proofs.Changed.{coded_repeated, state_repeated, state_kept}
 use Rattle.cell_table.proofs.stored.States.repeat_changed.Goals as goal
 
 pub repeat_changed-requires-clause-within : goal.repeat_changed-requires-clause-within
@@ -24,8 +22,7 @@ pub invariant_of-self : goal.invariant_of-self
 invariant_of-self g c =
     let i = c.self.inside in
     let C = g.G.Grid.codec in
-    let e = c.in-Err.ensures.err in
-    (
+    let e = c.in-Err.ensures.err in (
       coded_err C i.words c.repeat_changed.new.rows i.memories c.repeat_changed.new.memories c.self.invariant.0 e.0 (λ d u. ap (λ m. memory_at m d u) e.1) (ap length e.1),
       c.self.invariant.1 ∙ sym (ap (λ (w : Table). w.width) e.0),
     )
@@ -53,8 +50,7 @@ invariant_of-self-2 g c =
     let C = g.G.Grid.codec in
     let s = c.args.self.now in
     let e = c.repeat_changed.ensures in
-    let ok = c.in-Ok.ensures in
-    (
+    let ok = c.in-Ok.ensures in (
       coded_repeated C i.words c.repeat_changed.new.rows i.memories c.repeat_changed.new.memories c.self.invariant.0 e.width e.len e.lens c.args.changes.now e.many c.args.from c.args.to ok.repeated ok.others ok.earlier ok.behind,
       c.self.invariant.1 ∙ sym e.width,
     )

@@ -26,7 +26,7 @@ returns-clause-same g c =
     let d = c.args.cell.component in
     let seen = seen_at C i.words i.memories s c.self.view_is c.self.invariant.0.whole in
     let step : (u : ℕ) → t < u → u < c.next.result → state_at s u d ≡ state_at s (u - 1) d = λ u h k. (
-      let w = c.next_of-to.ensures.steady u (omega (arith, h)) (omega (arith, k, c.next.ensures.to)) in
-      let m = c.next.ensures.steady u (omega (arith, h)) k in
-      seen u d ∙ same_code C _ _ _ _ w.1 (m ∙ before_is (list_at i.memories d) u w.0) ∙ sym (seen (u - 1) d)) in
+    let w = c.next_of-to.ensures.steady u (omega (arith, h)) (omega (arith, k, c.next.ensures.to)) in
+    let m = c.next.ensures.steady u (omega (arith, h)) k in
+    seen u d ∙ same_code C _ _ _ _ w.1 (m ∙ before_is (list_at i.memories d) u w.0) ∙ sym (seen (u - 1) d)) in
     stands (λ u. state_at s u d) t c.next.result step

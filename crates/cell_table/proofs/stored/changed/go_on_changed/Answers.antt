@@ -1,6 +1,6 @@
-use Rattle.std.proofs.Common.{◌≡◌, ℕ, ◌+◌, ◌-◌, ◌<◌, ◌≤◌, ◌∙◌, sym, ap, arith, true, false, None}
+use Rattle.std.proofs.Common.{◌≡◌, ℕ, ◌+◌, ◌-◌, ◌<◌, ◌≤◌, ◌∙◌, sym, ap, arith, true, None}
 use Rattle.std.proofs.lemmas.Bool.{true≢false}
-use Rattle.change_lists.specs.Changes.{Changes, changes_at, list_at, standing, held_at as memory_at}
+use Rattle.change_lists.specs.Changes.{Changes, list_at, standing, held_at as memory_at}
 use Rattle.cell_table.specs.Filling.{is_awake}
 use Rattle.cell_table.proofs.Trailing.{at_or_other}
 use Rattle.cell_table.proofs.Changed.{before_is}

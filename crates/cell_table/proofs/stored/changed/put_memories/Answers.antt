@@ -1,8 +1,8 @@
-use Rattle.std.proofs.Common.{◌≡◌, ℕ, ◌+◌, ◌-◌, ◌<◌, ◌≤◌, ◌∙◌, sym, ap, subst, arith, true, false, Option, None, slice_index_or}
+use Rattle.std.proofs.Common.{◌≡◌, ℕ, ◌+◌, ◌<◌, ◌∙◌, sym, ap, arith, true, None, slice_index_or}
 use Rattle.std.proofs.lemmas.Bool.{true≢false}
-use Rattle.change_lists.specs.Changes.{Changes, changes_at, standing, held_at as memory_at}
+use Rattle.change_lists.specs.Changes.{Changes, standing, held_at as memory_at}
 use Rattle.cell_table.specs.Filling.{is_awake}
-use Rattle.cell_table.specs.Ready.{value_in, IsReady}
+use Rattle.cell_table.specs.Ready.{value_in}
 use Rattle.cell_table.proofs.Trailing.{at_or_other}
 use Rattle.cell_table.proofs.Changed.{value_along, ready_along}
 use Rattle.cell_table.proofs.ChangedRows.{below, reached}

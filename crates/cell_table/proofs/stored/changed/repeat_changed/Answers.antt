@@ -1,6 +1,4 @@
-use Rattle.std.proofs.Common.{◌≡◌, ℕ, ◌<◌, ◌≤◌, ◌∙◌, sym, ap, refl, arith, length, false}
-use Rattle.std.proofs.lemmas.Bool.{and_right}
-use Rattle.change_rows.specs.Rows.{Table}
+use Rattle.std.proofs.Common.{refl, arith}
 use Rattle.cell_table.proofs.ChangedRows.{cycles_repeated, lens_repeated, words_repeated, words_others, not_from, not_to}
 use Rattle.cell_table.proofs.stored.changed.repeat_changed.Goals as goal
 

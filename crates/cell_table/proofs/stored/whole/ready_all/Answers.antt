@@ -1,5 +1,6 @@
-use Rattle.std.proofs.Common.{◌≡◌, ◌↔◌, ℕ, ◌+◌, ◌-◌, ◌<◌, ◌≤◌, ◌∙◌, sym, ap, arith, true, false, None, slice_index_or}
+use Rattle.std.proofs.Common.{◌≡◌, ◌↔◌, ℕ, ◌+◌, ◌-◌, ◌<◌, ◌∙◌, sym, ap, arith, true, false, None, slice_index_or}
 use Rattle.std.proofs.lemmas.Bool.{true≢false}
+use Rattle.grid_law.specs.Codec.{IsTold}
 use Rattle.change_lists.specs.Changes.{held_at as memory_at}
 use Rattle.cell_table.specs.Filling.{is_awake}
 use Rattle.cell_table.specs.Ready.{value_in, IsReady}
@@ -40,9 +41,10 @@ loop-component-preserved g c =
       same = λ d. e.same d ∙ inv.same d;
       ready = λ d. at_or_other (λ d. d < cur + 1 → is_awake set d ≡ true → IsReady m1 d t (slice_index_or r1 d None)) cur d (λ h a. ok.ready) (λ n h a. ready_along m m1 d t _ _ (e.others d n) (e.other_ready d n) (inv.ready d (low d n h a) a));
       value = λ d. at_or_other (λ d. d < cur + 1 → is_awake set d ≡ true → value_in m1 d t (slice_index_or r1 d None) ≡ C.memory (W.state row d)) cur d (λ h a. ok.value) (λ n h a. value_along m m1 d t _ _ (e.others d n) (e.other_ready d n) ∙ inv.value d (low d n h a) a);
+      told = λ d. at_or_other (λ d. d < cur + 1 → is_awake set d ≡ true → IsTold C (W.state row d)) cur d (λ h a. e.told) (λ n h a. inv.told d (low d n h a) a);
       marked = λ d. at_or_other (λ d. d < cur + 1 → is_awake set d ≡ true → (is_awake ch1 d ≡ false) ↔ (memory_at m0 d t ≡ C.memory (W.state row d))) cur d
-        (λ h a. (λ p. sym same ∙ e.marked.0 p, λ p. e.marked.1 (same ∙ p)))
-        (λ n h a. (let q = inv.marked d (low d n h a) a in (λ p. q.0 (sym (e.other_changes d n) ∙ p), λ p. e.other_changes d n ∙ q.1 p)));
+          (λ h a. (λ p. sym same ∙ e.marked.0 p, λ p. e.marked.1 (same ∙ p)))
+          (λ n h a. (let q = inv.marked d (low d n h a) a in (λ p. q.0 (sym (e.other_changes d n) ∙ p), λ p. e.other_changes d n ∙ q.1 p)));
       unmarked = λ d a. e.other_changes d (λ p. absurd (true≢false (sym at_cur.0.1 ∙ ap (is_awake set) (sym p) ∙ a))) ∙ inv.unmarked d a;
       later = λ d h. e.other_changes d (λ p. absurd (omega (arith, h, p))) ∙ inv.later d (omega (arith, h, at_cur.0.0));
     }

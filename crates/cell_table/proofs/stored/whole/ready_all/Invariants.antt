@@ -1,5 +1,6 @@
 use Rattle.std.proofs.Common.{◌≡◌, ◌↔◌, ℕ, ◌-◌, ◌<◌, ◌≤◌, length, true, false, None}
 use Rattle.std.specs.Prelude.{slice_index_or}
+use Rattle.grid_law.specs.Codec.{IsTold}
 use Rattle.change_lists.specs.Changes.{list_at, held_at as memory_at}
 use Rattle.cell_table.specs.Filling.{is_awake}
 use Rattle.cell_table.specs.Ready.{value_in, IsReady}
@@ -14,6 +15,7 @@ invariant-loop-component g l = record {
   same : (c : ℕ) → list_at l.memories c ≡ list_at l.initial.memories c;
   ready : (c : ℕ) → c < l.next → is_awake l.set c ≡ true → IsReady l.memories c l.cycle (slice_index_or l.ready.items c None);
   value : (c : ℕ) → c < l.next → is_awake l.set c ≡ true → value_in l.memories c l.cycle (slice_index_or l.ready.items c None) ≡ g.G.Grid.codec.memory (g.M.WholeRow.state l.row c);
+  told : (c : ℕ) → c < l.next → is_awake l.set c ≡ true → IsTold g.G.Grid.codec (g.M.WholeRow.state l.row c);
   marked : (c : ℕ) → c < l.next → is_awake l.set c ≡ true → (is_awake l.changes c ≡ false) ↔ (memory_at l.initial.memories c l.cycle ≡ g.G.Grid.codec.memory (g.M.WholeRow.state l.row c));
   unmarked : (c : ℕ) → is_awake l.set c ≡ false → is_awake l.changes c ≡ false;
   later : (c : ℕ) → l.next ≤ c → is_awake l.changes c ≡ false;
