@@ -48,9 +48,10 @@ fn row(table: &Table<Line>, cycle: u32) -> [Option<u32>; 3] {
     ]
 }
 
+/// What a cell holds, shared over again where that is refused.
 fn state(table: &Table<Line>, cycle: u32, component: u32) -> Option<u32> {
-    match table.shared(Cell { cycle, component }) {
-        Ok(Some(state)) => Some(*state),
+    match again!(table.shared(Cell { cycle, component })) {
+        Some(Some(state)) => Some(*state),
         _ => None,
     }
 }

@@ -125,7 +125,7 @@ impl Stage {
             Step::Claim(component, cycle) => claimed(&self.table, Cell { cycle, component }),
             Step::Compute(component, cycle) => self.compute(Cell { cycle, component }),
             Step::Give => self.give(),
-            Step::Row(cycle) => Ok(Came::States(row(&self.table, cycle))),
+            Step::Row(cycle) => Ok(Came::States(row(&self.table, cycle)?)),
             Step::Shared(component, cycle) => shared(&self.table, Cell { cycle, component }),
             Step::DueTo(cycle) => Ok(Came::Number(self.table.due_to(cycle))),
             Step::DueCone(component, cycle) => {
@@ -244,18 +244,18 @@ fn shared(table: &Table<Line>, cell: Cell) -> Result<Came, Fail> {
     }
 }
 
-fn row(table: &Table<Line>, cycle: u32) -> [Option<u32>; 3] {
-    [
-        state(table, cycle, 0),
-        state(table, cycle, 1),
-        state(table, cycle, 2),
-    ]
+fn row(table: &Table<Line>, cycle: u32) -> Result<[Option<u32>; 3], Fail> {
+    Ok([
+        state(table, cycle, 0)?,
+        state(table, cycle, 1)?,
+        state(table, cycle, 2)?,
+    ])
 }
 
-fn state(table: &Table<Line>, cycle: u32, component: u32) -> Option<u32> {
-    match table.shared(Cell { cycle, component }) {
-        Ok(Some(state)) => Some(*state),
-        _ => None,
+fn state(table: &Table<Line>, cycle: u32, component: u32) -> Result<Option<u32>, Fail> {
+    match table.shared(Cell { cycle, component })? {
+        Some(state) => Ok(Some(*state)),
+        None => Ok(None),
     }
 }
 
