@@ -22,7 +22,7 @@
 //! ```
 //!
 //! Claims may be dropped, given back late, or stand twice for one cell, while others are given back
-//! and the project is edited. `shared` gives one more owner of a state, who keeps it while the table
+//! and the project is edited. `shared` puts a state together for an owner, who keeps it while the table
 //! goes on; no state is lent.
 //!
 //! # What is promised

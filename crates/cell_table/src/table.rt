@@ -142,13 +142,13 @@ impl<G: Grid> Table<G> {
         &self.slots
     }
 
-    /// One more owner of the state that the cell holds, up to date or not; none for a cell that
-    /// isn't there. Nothing is copied: the state lives on with this owner once the table has
-    /// another one. NoMemory where it has as many owners as can be counted.
+    /// The state that the cell holds, up to date or not, put together for this owner; none for a cell
+    /// that isn't there. It lives on once the table has another one.
     ///
     /// # Errors
     ///
-    /// Where the state has as many owners as can be counted. Nothing is changed.
+    /// Where a growth was refused, or what isn't in the state's words has as many owners as can be
+    /// counted. Nothing is changed.
     pub fn shared(&self, cell: Cell) -> Result<Option<Arc<G::State>>, NoMemory>
         ensures { IfOk result (λ o. option_map arc_value o ≡ (held_at self.now.rows cell.cycle cell.component).state) }
     {
