@@ -68,6 +68,12 @@ impl Cells {
         self.heads.is_empty()
     }
 
+    /// Whether no cell has words.
+    #[inline(always)]
+    pub(crate) fn has_no_words(&self) -> bool {
+        self.words.len() == 0
+    }
+
     /// Removes all cells. The buffers stay.
     pub fn clear(&mut self)
         ensures { self.new ≡ [] }

@@ -227,6 +227,16 @@ impl Rows {
         Ok(())
     }
 
+    /// Whether no component holds words in row t, where that is known at once: row t is the one behind the row that was put last.
+    #[inline(always)]
+    pub fn is_blank(&self, t: u32) -> bool {
+        let s = &self.changes;
+        s.at == t as usize
+            && s.rows[t as usize].is_empty()
+            && s.seam.len() == s.width as usize
+            && s.seam.has_no_words()
+    }
+
     /// All components hold in row t the words that a source has for them, where they held none there; all other rows hold what they
     /// held.
     ///

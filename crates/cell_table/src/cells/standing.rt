@@ -15,6 +15,11 @@ impl<G: Grid> Cells<G> {
         ensures within { result ≤ length self.now }
         ensures same { (t : ℕ) → cell.cycle ≤ t → t < result → (held_at self.now t cell.component).state ≡ (held_at self.now cell.cycle cell.component).state }
     {
-        self.states.stands_to(cell)
+        self.states.stands_to(cell, self.cycles())
+    }
+
+    /// The same, before a later cycle.
+    pub(crate) fn stands_before(&self, cell: Cell, to: u32) -> u32 {
+        self.states.stands_to(cell, to)
     }
 }

@@ -107,7 +107,7 @@ fn ready_one<G: Grid, M: WholeRow<G>>(
     if !M::has_written(step, slots, cell.component) {
         return Ok(None);
     }
-    let value = memory_of::<G, M>(memories, alloc, slots, row, cell)?;
+    let value = row.memory(alloc, slots, cell.component)?;
     ready_memory::<G>(memories, cell, value)
 }
 
@@ -155,8 +155,10 @@ fn ready_cell<G: Grid, M: WholeRow<G>>(
     ensures marked { (is_awake changes.new cell.component ≡ false) ↔ (memory_at memories.old cell.component cell.cycle ≡ G.codec.memory (M.state row.now cell.component)) }
 {
     row.is_told(slots, cell.component);
-    let other = differs::<G, M>(memories, slots, row, step, cell);
-    mark_if(changes, cell.component, other);
+    if !differs::<G, M>(memories, slots, row, step, cell) {
+        return Ok(());
+    }
+    changes.set(cell.component);
     let alloc = *ready.allocator();
     let change = ready_one::<G, M>(memories, alloc, slots, row, step, cell)?;
     ready[cell.component as usize] = change;
@@ -248,11 +250,19 @@ fn put_words<G: Grid, M: WholeRow<G>>(
     make_words(buffer, words.len())?;
     let source: Stepped<'_, G, M> = Stepped { row, step, slots };
     let changed = buffer.as_mut_slice();
+    if set.count() == set.len() && rows.is_blank(cycle) {
+        return match rows.fill(cycle, &source) {
+            Ok(()) => {
+                for w in 0..words.len() {
+                    changed[w] = words[w];
+                }
+                Ok(())
+            }
+            Err(_) => Err(NoMemory),
+        };
+    }
     match rows.put_from(cycle, words, &source, changed) {
-        Ok(()) => {
-            changes.add_words(changed);
-            Ok(())
-        }
+        Ok(()) => Ok(()),
         Err(_) => Err(NoMemory),
     }
 }
@@ -304,6 +314,7 @@ pub(super) fn put_whole<G: Grid, M: WholeRow<G>>(
         Ok(()) => {}
         Err(_) => return Err(NoMemory),
     }
-    put_memories(memories, ready, set, cycle, end);
+    put_memories(memories, ready, changes, cycle, end);
+    changes.add_words(buffer.as_slice());
     Ok(())
 }

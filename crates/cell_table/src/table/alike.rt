@@ -125,8 +125,7 @@ impl<G: Grid> Table<G> {
             return end;
         }
         let cycle = cycle - 1;
-        let last = self.cells.stands_to(Cell { cycle, component });
-        if last < end { last + 1 } else { end }
+        self.cells.stands_before(Cell { cycle, component }, end - 1) + 1
     }
 
     /// To before which cycle, `end` at most, a due cell's component holds the state that it holds here, and those near it
@@ -138,8 +137,14 @@ impl<G: Grid> Table<G> {
         ensures before { result ≤ end }
         ensures stays { StaysAlikeTo G.rules self.now cell.cycle changes.now cell.component result }
     {
-        let mut to = end.min(self.cells.stands_to(cell));
+        if end < cell.cycle + 2 {
+            return end;
+        }
+        let mut to = self.cells.stands_before(cell, end);
         for component in self.near(cell.component) {
+            if to < cell.cycle + 2 {
+                return to;
+            }
             to = self.alike_near(*component, cell.cycle, changes, to);
         }
         to
@@ -159,6 +164,9 @@ impl<G: Grid> Table<G> {
         let mut from = 0;
         while let Some(component) = self.cells.next_due(cycle, from) {
             to = self.alike_to(Cell { cycle, component }, changes, to);
+            if to < cycle + 2 {
+                return to;
+            }
             from = component + 1;
         }
         to

@@ -18,10 +18,10 @@ use grid_law::Grid;
 
 /// How many cells of a cycle are due at least where a row is loaded to settle it. It was set by a measurement on machines of 224
 /// components: with 32 to 64 due cells, most of which get the state of the cell before, one by one is as fast.
-const WIDE: u32 = 72;
+const WIDE: u32 = 8;
 
 /// The same where the row holds the cycle before already.
-const STILL_WIDE: u32 = 16;
+const STILL_WIDE: u32 = 2;
 
 /// How many cells of a cycle are due at least where a row settles it.
 fn least_due<M>(along: &Option<Along<M>>, cycle: u32) -> u32 {
