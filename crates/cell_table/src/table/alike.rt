@@ -124,12 +124,17 @@ impl<G: Grid> Table<G> {
         if changes.has(component) {
             return end;
         }
+        if end <= cycle {
+            return end;
+        }
         let cycle = cycle - 1;
         self.cells.stands_before(Cell { cycle, component }, end - 1) + 1
     }
 
     /// To before which cycle, `end` at most, a due cell's component holds the state that it holds here, and those near it
-    /// that don't change what they held a cycle earlier.
+    /// that don't change what they held a cycle earlier. No further cycle is looked at once fewer than two are left, since nothing is
+    /// gained then.
+    #[tactic(auto, using(crate::proofs::Alike::stays_few))]
     fn alike_to(&self, cell: Cell, changes: &Row, end: u32) -> u32
         requires there { IsThere G.rules self.now cell.cycle cell.component }
         requires later { 2 ≤ cell.cycle }
@@ -137,12 +142,12 @@ impl<G: Grid> Table<G> {
         ensures before { result ≤ end }
         ensures stays { StaysAlikeTo G.rules self.now cell.cycle changes.now cell.component result }
     {
-        if end < cell.cycle + 2 {
+        if end.saturating_sub(cell.cycle) < 2 {
             return end;
         }
         let mut to = self.cells.stands_before(cell, end);
         for component in self.near(cell.component) {
-            if to < cell.cycle + 2 {
+            if to.saturating_sub(cell.cycle) < 2 {
                 return to;
             }
             to = self.alike_near(*component, cell.cycle, changes, to);
@@ -151,6 +156,7 @@ impl<G: Grid> Table<G> {
     }
 
     /// The same of all due cells of a cycle.
+    #[tactic(auto, using(crate::proofs::Alike::stays_few))]
     fn alike_end(&self, cycle: u32, changes: &Row, end: u32) -> u32
         requires there { cycle ≤ self.now.horizon }
         requires later { 2 ≤ cycle }
@@ -164,7 +170,7 @@ impl<G: Grid> Table<G> {
         let mut from = 0;
         while let Some(component) = self.cells.next_due(cycle, from) {
             to = self.alike_to(Cell { cycle, component }, changes, to);
-            if to < cycle + 2 {
+            if to.saturating_sub(cycle) < 2 {
                 return to;
             }
             from = component + 1;
