@@ -113,7 +113,7 @@ module _ (v v1 : Words) (whole : IsWhole v) (t : ℕ) (there : t < length v.rows
   is_put =
       e
       ∙ ap (λ (r : List (List ℕ)). some_words v.width (set v.rows t r))
-          (same_lists (filled v.width ws) (replaced (get_or v.rows t []) members ws) (long_filled ∙ sym (whole t there) ∙ sym (length-map-range_with_len put 0 (length (get_or v.rows t [])))) each)
+      (same_lists (filled v.width ws) (replaced (get_or v.rows t []) members ws) (long_filled ∙ sym (whole t there) ∙ sym (length-map-range_with_len put 0 (length (get_or v.rows t [])))) each)
 
   pub cycles_filled : length v1.rows ≡ length v.rows
   cycles_filled = cycles_put v v1 whole t there members ws marks wide bits is_put
