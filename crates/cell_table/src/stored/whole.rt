@@ -8,7 +8,7 @@ ghost use Rattle.cell_table.specs.Filling.{is_awake};
 ghost use Rattle.cell_table.specs.Ready.{value_in, IsReady};
 
 use super::changed::put_memories;
-use super::memory::{Change, is_same, ready_memory, share_at};
+use super::memory::{Change, is_same, ready_memory};
 use crate::{Cell, WholeRow};
 use cell_marks::Row;
 use change_lists::Lists;
