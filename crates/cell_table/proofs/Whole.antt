@@ -1,16 +1,17 @@
 -- The components of a set have what a row holds for them.
-use Rattle.std.proofs.Common.{◌≡◌, ◌↔◌, ℕ, ◌-◌, ◌<◌, ◌≤◌, ◌*◌, ◌∙◌, ◌⊎◌, inl, inr, sym, ap, subst, refl, arith, Bool, true, false, cond, ◌||◌, Option, None, Some, is_some, List, [], ◌∷◌, length, map, get_or}
+use Rattle.std.proofs.Common.{◌≡◌, ◌↔◌, ℕ, ◌+◌, ◌-◌, ◌<◌, ◌≤◌, ◌*◌, ◌∙◌, ◌⊎◌, inl, inr, sym, ap, subst, refl, arith, Bool, true, false, cond, ◌||◌, Option, None, Some, is_some, List, [], ◌∷◌, length, map, get_or}
 use Rattle.std.specs.List.{range_with_len}
 use Rattle.std.proofs.Math.ListN.{set, length-set}
-use Rattle.std.proofs.lemmas.Bool.{true≢false, cases_lt, cases_eq}
-use Rattle.std.proofs.lemmas.List.{get_or_past, get_or-set_same, get_or-set_other}
+use Rattle.std.proofs.lemmas.Bool.{true≢false, cases_lt, cases_eq, cases_Bool}
+use Rattle.std.proofs.lemmas.List.{get_or_past, get_or-set_same, get_or-set_other, same_lists}
+use Rattle.std.proofs.lemmas.List.Sums.{count_by-le-length}
 use Rattle.std.proofs.lemmas.List.FromFn.{length-map-range_with_len, get_or-map-range_with_len}
 use Rattle.grid_law.specs.Codec.{Codec, CodecLaws, IsTold}
 use Rattle.change_rows.specs.Marks.{is_in}
-use Rattle.change_rows.specs.Rows.{Table as Words, words_at, replaced, IsWhole}
+use Rattle.change_rows.specs.Rows.{Table as Words, words_at, replaced, filled, IsWhole}
 use Rattle.cell_marks.specs.Bits.{bits_of}
-use Rattle.cell_marks.specs.Marked.{union, is_set}
-use Rattle.cell_marks.proofs.Bits.{at_bits}
+use Rattle.cell_marks.specs.Marked.{union, is_set, count_in}
+use Rattle.cell_marks.proofs.Bits.{at_bits, count_set}
 use Rattle.cell_table.specs.Codes.{state_of, IsCode}
 use Rattle.cell_table.specs.Filling.{is_awake}
 use Rattle.cell_table.proofs.Codes.{holds_only, put_is}
@@ -76,6 +77,59 @@ module _ (v v1 : Words) (whole : IsWhole v) (t : ℕ) (there : t < length v.rows
   pub words_other_cycles : (u c : ℕ) → (u ≡ t → ⊥) → words_at v1.rows u c ≡ words_at v.rows u c
   words_other_cycles u c n = ap (λ r. get_or r c []) (there_other u n)
 
+-- all are marked where as many are as there are
+pub all_awake : (marks : List Bool) → count_in marks ≡ length marks → (c : ℕ) → c < length marks → is_awake marks c ≡ true
+all_awake marks full c h = is_marked (cases_Bool (is_awake marks c))
+  where
+    is_marked : (is_awake marks c ≡ true) ⊎ (is_awake marks c ≡ false) → is_awake marks c ≡ true
+    is_marked (inl e) = e
+    is_marked (inr e) =
+        let most : count_in (set marks c true) ≤ length (set marks c true) = count_by-le-length (λ b. b) (set marks c true) in
+        let more : count_in (set marks c true) + cond (is_set marks c) 1 0 ≡ count_in marks + 1 = count_set marks c true h in
+        let one : count_in (set marks c true) + 0 ≡ count_in marks + 1 = subst (λ b. count_in (set marks c true) + cond b 1 0 ≡ count_in marks + 1) e more in
+        absurd (omega (arith, most, one, full, length-set marks c true))
+
+abbrev some_words : ℕ → List (List (List ℕ)) → Words
+some_words width rows = record { width = width; rows = rows }
+
+-- a row that is filled is one in which all components have other words
+module _ (v v1 : Words) (whole : IsWhole v) (t : ℕ) (there : t < length v.rows) (members : List ℕ) (ws : ℕ → List ℕ) (marks : List Bool) (wide : length marks ≡ v.width) (bits : (c : ℕ) → c < length marks → is_in members c ≡ is_awake marks c) (full : count_in marks ≡ length marks)
+    (e : v1 ≡ record { width = v.width; rows = set v.rows t (filled v.width ws) }) where
+  put : ℕ → List ℕ
+  put c = cond (is_in members c) (ws c) (get_or (get_or v.rows t []) c [])
+
+  long_filled : length (filled v.width ws) ≡ v.width
+  long_filled = length-map-range_with_len ws 0 v.width
+
+  each : (k : ℕ) (d : List ℕ) → k < length (filled v.width ws) → get_or (filled v.width ws) k d ≡ get_or (replaced (get_or v.rows t []) members ws) k d
+  each k d h =
+      let low : k < v.width = omega (arith, h, long_filled) in
+      let here : k < length marks = omega (arith, low, wide) in
+      get_or-map-range_with_len ws 0 v.width k k d low (omega arith)
+      ∙ sym (ap (λ b. cond b (ws k) (get_or (get_or v.rows t []) k [])) (bits k here ∙ all_awake marks full k here))
+      ∙ sym (get_or-map-range_with_len put 0 (length (get_or v.rows t [])) k k d (omega (arith, low, whole t there)) (omega arith))
+
+  is_put : v1 ≡ some_words v.width (set v.rows t (replaced (get_or v.rows t []) members ws))
+  is_put =
+      e
+      ∙ ap (λ (r : List (List ℕ)). some_words v.width (set v.rows t r))
+      (same_lists (filled v.width ws) (replaced (get_or v.rows t []) members ws) (long_filled ∙ sym (whole t there) ∙ sym (length-map-range_with_len put 0 (length (get_or v.rows t [])))) each)
+
+  pub cycles_filled : length v1.rows ≡ length v.rows
+  cycles_filled = cycles_put v v1 whole t there members ws marks wide bits is_put
+
+  pub lens_filled : (u : ℕ) → length (get_or v1.rows u []) ≡ length (get_or v.rows u [])
+  lens_filled = lens_put v v1 whole t there members ws marks wide bits is_put
+
+  pub words_filled : (c : ℕ) → is_awake marks c ≡ true → words_at v1.rows t c ≡ ws c
+  words_filled = words_put v v1 whole t there members ws marks wide bits is_put
+
+  pub others_filled : (u c : ℕ) → is_awake marks c ≡ false → words_at v1.rows u c ≡ words_at v.rows u c
+  others_filled = words_others v v1 whole t there members ws marks wide bits is_put
+
+  pub other_cycles_filled : (u c : ℕ) → (u ≡ t → ⊥) → words_at v1.rows u c ≡ words_at v.rows u c
+  other_cycles_filled = words_other_cycles v v1 whole t there members ws marks wide bits is_put
+
 -- what a coded cell has where its state is known
 module _ {State Memory : Type 0} (C : Codec State Memory) (laws : CodecLaws C) where
   pub words_of_state : (ws : List ℕ) (m : Option Memory) → IsCode C ws m → is_some (state_of C ws m) ≡ true → (y : State) → ((x : State) → state_of C ws m ≡ Some x → y ≡ x) → C.words y ≡ ws
@@ -105,6 +159,11 @@ module _ {State Memory : Type 0} (C : Codec State Memory) (laws : CodecLaws C) w
     where
       some_value : (a b : State) → Some a ≡ Some b → a ≡ b
       some_value a b p = cc
+
+-- what is so whether there is a mark or not
+pub by_mark : {X : Type 0} (b : Bool) (x y : X) → (b ≡ true → x ≡ y) → (b ≡ false → x ≡ y) → x ≡ y
+by_mark true x y marked unmarked = marked refl
+by_mark false x y marked unmarked = unmarked refl
 
 -- a mark beside another
 pub marks_joined : (a b : List Bool) (c : ℕ) → c < length a → is_awake (union a b) c ≡ (is_awake a c || is_awake b c)
@@ -136,15 +195,11 @@ module _ (old new : List Bool) (words : List ℕ) (joined : new ≡ union old (b
   joined_is : d < length old → is_awake new d ≡ (is_awake old d || is_in words d)
   joined_is h = ap (λ m. is_awake m d) joined ∙ marks_joined old (bits_of words (length old)) d h ∙ ap (λ b. is_awake old d || b) (at_bits words (length old) d h)
 
-  cases_bit : (b : Bool) → (b ≡ true) ⊎ (b ≡ false)
-  cases_bit true = inl refl
-  cases_bit false = inr refl
-
   -- a mark tells what was marked before, or what its bit tells
   pub joined_tells : (P : Type 0) → d < length old → (is_in words d ≡ true → P → ⊥) → (is_in words d ≡ false → P) → (is_awake new d ≡ false) ↔ (P × (is_awake old d ≡ false))
   joined_tells P h differs same = (
     λ e. (let q = either_false (is_awake old d) (is_in words d) (sym (joined_is h) ∙ e) in (same q.1, q.0)),
-    λ q. joined_is h ∙ by_bit q (cases_bit (is_in words d)),
+    λ q. joined_is h ∙ by_bit q (cases_Bool (is_in words d)),
   )
     where
       by_bit : P × (is_awake old d ≡ false) → (is_in words d ≡ true) ⊎ (is_in words d ≡ false) → (is_awake old d || is_in words d) ≡ false
@@ -152,17 +207,17 @@ module _ (old new : List Bool) (words : List ℕ) (joined : new ≡ union old (b
       by_bit q (inr e) = both_false (is_awake old d) (is_in words d) q.1 e
 
   -- where no bit is set, it is what it was
-  pub joined_same : (is_in words d ≡ true → ⊥) → is_awake new d ≡ is_awake old d
-  joined_same none = by_place (cases_lt d (length old)) (cases_bit (is_in words d))
+  pub joined_same : (d < length old → is_in words d ≡ true → ⊥) → is_awake new d ≡ is_awake old d
+  joined_same none = by_place (cases_lt d (length old)) (cases_Bool (is_in words d))
     where
       not_more : (b c : Bool) → c ≡ false → (b || c) ≡ b
       not_more true c e = refl
       not_more false c e = e
 
       by_place : (d < length old) ⊎ (length old ≤ d) → (is_in words d ≡ true) ⊎ (is_in words d ≡ false) → is_awake new d ≡ is_awake old d
-      by_place h (inl e) = absurd (none e)
+      by_place (inl h) (inl e) = absurd (none h e)
       by_place (inl h) (inr e) = joined_is h ∙ not_more (is_awake old d) (is_in words d) e
-      by_place (inr h) (inr e) = ap (λ m. is_awake m d) joined ∙ marks_past old (bits_of words (length old)) d h ∙ sym (get_or_past old d false h)
+      by_place (inr h) b = ap (λ m. is_awake m d) joined ∙ marks_past old (bits_of words (length old)) d h ∙ sym (get_or_past old d false h)
 
 pub long_joined : (old new : List Bool) (words : List ℕ) → new ≡ union old (bits_of words (length old)) → length new ≡ length old
 long_joined old new words joined = ap length joined ∙ length-map-range_with_len (λ c. is_set old c || is_set (bits_of words (length old)) c) 0 (length old)

@@ -153,14 +153,14 @@ impl<G: Grid> States<G> {
         G::words_read(slots, words, cell.component, slot)
     }
 
-    /// To before which cycle the cells of a component have the state of one of them; they may have it longer.
-    pub(crate) fn stands_to(&self, cell: Cell) -> u32
-        requires cycle { cell.cycle < length self.now.rows }
+    /// To before which cycle, `end` at most, the cells of a component have the state of one of them; they may have it longer.
+    pub(crate) fn stands_to(&self, cell: Cell, end: u32) -> u32
+        requires before { cell.cycle < end }
+        requires within { end ≤ length self.now.rows }
         ensures after { cell.cycle < result }
-        ensures within { result ≤ length self.now.rows }
+        ensures before { result ≤ end }
         ensures same { (t : ℕ) → cell.cycle ≤ t → t < result → state_at self.now t cell.component ≡ state_at self.now cell.cycle cell.component }
     {
-        let end = self.words.len();
         let next = cell.cycle + 1;
         let to = self.words.next_of(next, end, cell.component);
         self.memories.next(cell.component, next, to)

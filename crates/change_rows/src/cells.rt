@@ -68,6 +68,14 @@ impl Cells {
         self.heads.is_empty()
     }
 
+    /// Whether no cell has words, as far as the buffer of them all tells.
+    #[inline(always)]
+    pub(crate) fn has_no_words(&self) -> bool
+        ensures { result ≡ true → (i : ℕ) → (slice_index_or self.now i no_cell).words ≡ [] }
+    {
+        self.words.is_empty()
+    }
+
     /// Removes all cells. The buffers stay.
     pub fn clear(&mut self)
         ensures { self.new ≡ [] }

@@ -227,6 +227,20 @@ impl Rows {
         Ok(())
     }
 
+    /// Whether it is known at once that no component holds words in row t: that it is the row behind the one that was put last, and that
+    /// what stands beside the rows for it has no words. Where it says no, row t may be without words too.
+    #[inline(always)]
+    pub fn is_blank(&self, t: u32) -> bool
+        requires { t < length self.now.rows }
+        ensures { result ≡ true → (c : ℕ) → c < self.now.width → words_at self.now.rows t c ≡ [] }
+    {
+        let s = &self.changes;
+        if s.at == t as usize && s.rows[t as usize].is_empty() && s.seam.len() == s.width as usize {
+            return s.seam.has_no_words();
+        }
+        false
+    }
+
     /// All components hold in row t the words that a source has for them, where they held none there; all other rows hold what they
     /// held.
     ///

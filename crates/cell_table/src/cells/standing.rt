@@ -15,6 +15,18 @@ impl<G: Grid> Cells<G> {
         ensures within { result ≤ length self.now }
         ensures same { (t : ℕ) → cell.cycle ≤ t → t < result → (held_at self.now t cell.component).state ≡ (held_at self.now cell.cycle cell.component).state }
     {
-        self.states.stands_to(cell)
+        self.stands_before(cell, self.cycles())
+    }
+
+    /// The same, but it looks no further than to before a cycle.
+    pub(crate) fn stands_before(&self, cell: Cell, to: u32) -> u32
+        requires cycle { cell.cycle < length self.now }
+        requires before { cell.cycle < to }
+        ensures after { cell.cycle < result }
+        ensures before { result ≤ to }
+        ensures same { (t : ℕ) → cell.cycle ≤ t → t < result → (held_at self.now t cell.component).state ≡ (held_at self.now cell.cycle cell.component).state }
+    {
+        let end = to.min(self.cycles());
+        self.states.stands_to(cell, end)
     }
 }

@@ -8,7 +8,7 @@ ghost use Rattle.cell_table.specs.Filling.{is_awake};
 ghost use Rattle.cell_table.specs.Ready.{value_in, IsReady};
 
 use super::changed::put_memories;
-use super::memory::{Change, is_same, ready_memory, share_at};
+use super::memory::{Change, is_same, ready_memory};
 use crate::{Cell, WholeRow};
 use cell_marks::Row;
 use change_lists::Lists;
@@ -65,25 +65,6 @@ fn differs<G: Grid, M: WholeRow<G>>(
     memories.begins(c, t) && !is_same::<G>(memories.at(c, t - 1), memories.at(c, t))
 }
 
-/// The memory that a row has for a component, with one more owner; the one that the cell has, where that is the same.
-fn memory_of<G: Grid, M: WholeRow<G>>(
-    memories: &Lists<G::Memory>,
-    alloc: Global,
-    slots: &G::Slots,
-    row: &M,
-    cell: Cell,
-) -> Result<Option<G::Memory>, NoMemory>
-    requires component { cell.component < G.rules.components slots.now }
-    requires stands { M.stands row.now slots.now }
-    ensures { IfOk result (λ memory. memory ≡ G.codec.memory (M.state row.now cell.component)) }
-{
-    let (t, c) = (cell.cycle, cell.component);
-    if row.has_memory(slots, c, memories.at(c, t)) {
-        return share_at::<G>(memories, cell);
-    }
-    row.memory(alloc, slots, c)
-}
-
 /// Gets all that a cell needs to have the memory that the row has after its step. No memory changes.
 fn ready_one<G: Grid, M: WholeRow<G>>(
     memories: &mut Lists<G::Memory>,
@@ -107,24 +88,11 @@ fn ready_one<G: Grid, M: WholeRow<G>>(
     if !M::has_written(step, slots, cell.component) {
         return Ok(None);
     }
-    let value = memory_of::<G, M>(memories, alloc, slots, row, cell)?;
+    let value = row.memory(alloc, slots, cell.component)?;
     ready_memory::<G>(memories, cell, value)
 }
 
-/// Marks a component, or doesn't.
-fn mark_if(changes: &mut Row, component: u32, marked: bool)
-    requires component { component < length changes.old }
-    requires unmarked { is_awake changes.old component ≡ false }
-    ensures len { length changes.new ≡ length changes.old }
-    ensures here { is_awake changes.new component ≡ marked }
-    ensures others { (c : ℕ) → (c ≡ component → ⊥) → is_awake changes.new c ≡ is_awake changes.old c }
-{
-    if marked {
-        changes.set(component);
-    }
-}
-
-/// The same, kept for its component, which is marked where the cell has another memory.
+/// Where a cell has another memory than the row has after its step, marks its component, and keeps what is ready for it.
 fn ready_cell<G: Grid, M: WholeRow<G>>(
     memories: &mut Lists<G::Memory>,
     ready: &mut Vec<Option<Change<G::Memory>>>,
@@ -149,21 +117,23 @@ fn ready_cell<G: Grid, M: WholeRow<G>>(
     ensures others { (c : ℕ) → (c ≡ cell.component → ⊥) → changes_at memories.new c ≡ changes_at memories.old c }
     ensures other_ready { (c : ℕ) → (c ≡ cell.component → ⊥) → slice_index_or ready.new.items c None ≡ slice_index_or ready.old.items c None }
     ensures other_changes { (c : ℕ) → (c ≡ cell.component → ⊥) → is_awake changes.new c ≡ is_awake changes.old c }
-    ensures ready { OnOk result (IsReady memories.new cell.component cell.cycle (slice_index_or ready.new.items cell.component None)) }
-    ensures value { OnOk result (value_in memories.new cell.component cell.cycle (slice_index_or ready.new.items cell.component None) ≡ G.codec.memory (M.state row.now cell.component)) }
+    ensures ready { OnOk result (is_awake changes.new cell.component ≡ true → IsReady memories.new cell.component cell.cycle (slice_index_or ready.new.items cell.component None)) }
+    ensures value { OnOk result (is_awake changes.new cell.component ≡ true → value_in memories.new cell.component cell.cycle (slice_index_or ready.new.items cell.component None) ≡ G.codec.memory (M.state row.now cell.component)) }
     ensures told { IsTold G.codec (M.state row.now cell.component) }
     ensures marked { (is_awake changes.new cell.component ≡ false) ↔ (memory_at memories.old cell.component cell.cycle ≡ G.codec.memory (M.state row.now cell.component)) }
 {
     row.is_told(slots, cell.component);
-    let other = differs::<G, M>(memories, slots, row, step, cell);
-    mark_if(changes, cell.component, other);
+    if !differs::<G, M>(memories, slots, row, step, cell) {
+        return Ok(());
+    }
+    changes.set(cell.component);
     let alloc = *ready.allocator();
     let change = ready_one::<G, M>(memories, alloc, slots, row, step, cell)?;
     ready[cell.component as usize] = change;
     Ok(())
 }
 
-/// The same of all components of a set: those are marked of which the cell has another memory.
+/// The same of all components of a set; no other one is marked.
 fn ready_all<G: Grid, M: WholeRow<G>>(
     memories: &mut Lists<G::Memory>,
     ready: &mut Vec<Option<Change<G::Memory>>>,
@@ -185,8 +155,8 @@ fn ready_all<G: Grid, M: WholeRow<G>>(
     ensures width { length memories.new ≡ length memories.old }
     ensures len { length ready.new.items ≡ length ready.old.items }
     ensures same { (c : ℕ) → list_at memories.new c ≡ list_at memories.old c }
-    ensures ready { OnOk result ((c : ℕ) → is_awake set.now c ≡ true → IsReady memories.new c cycle (slice_index_or ready.new.items c None)) }
-    ensures value { OnOk result ((c : ℕ) → is_awake set.now c ≡ true → value_in memories.new c cycle (slice_index_or ready.new.items c None) ≡ G.codec.memory (M.state row.now c)) }
+    ensures ready { OnOk result ((c : ℕ) → is_awake changes.new c ≡ true → IsReady memories.new c cycle (slice_index_or ready.new.items c None)) }
+    ensures value { OnOk result ((c : ℕ) → is_awake changes.new c ≡ true → value_in memories.new c cycle (slice_index_or ready.new.items c None) ≡ G.codec.memory (M.state row.now c)) }
     ensures told { OnOk result ((c : ℕ) → is_awake set.now c ≡ true → IsTold G.codec (M.state row.now c)) }
     ensures marked { OnOk result ((c : ℕ) → is_awake set.now c ≡ true → (is_awake changes.new c ≡ false) ↔ (memory_at memories.old c cycle ≡ G.codec.memory (M.state row.now c))) }
     ensures unmarked { OnOk result ((c : ℕ) → is_awake set.now c ≡ false → is_awake changes.new c ≡ false) }
@@ -203,17 +173,17 @@ fn ready_all<G: Grid, M: WholeRow<G>>(
     Ok(())
 }
 
-/// So many words.
-fn make_words(buffer: &mut Vec<u64>, count: usize) -> Result<(), NoMemory>
-    ensures { OnOk result (length buffer.new.items ≡ count) }
+/// The same words once more, and nothing else.
+fn copy_words(buffer: &mut Vec<u64>, words: &[u64]) -> Result<(), NoMemory>
+    ensures { OnOk result (buffer.new.items ≡ words.now) }
 {
     buffer.clear();
-    buffer.resize(count, 0)?;
+    buffer.extend_from_slice(words)?;
     Ok(())
 }
 
-/// The words that the row has after its step for the components of a set. Those are marked, too, that had others. Where memory is
-/// wanting, no words change.
+/// The words that the row has after its step for the components of a set. Of the buffer those components are then the members that had
+/// others; a bit behind the last one means nothing. Where memory is wanting, no words change.
 fn put_words<G: Grid, M: WholeRow<G>>(
     rows: &mut Rows,
     buffer: &mut Vec<u64>,
@@ -221,38 +191,39 @@ fn put_words<G: Grid, M: WholeRow<G>>(
     row: &M,
     step: &M::Step,
     set: &Row,
-    changes: &mut Row,
     cycle: u32,
 ) -> Result<(), NoMemory>
     requires later { 0 < cycle }
     requires within { cycle < length rows.old.rows }
     requires width { length set.now ≡ rows.old.width }
     requires components { length set.now ≡ G.rules.components slots.now }
-    requires changes { length changes.old ≡ length set.now }
     requires stands { M.stands row.now slots.now }
     requires still { (c : ℕ) → is_awake set.now c ≡ true → M.is_still step.now slots.now c ≡ true → G.codec.words (M.state row.now c) ≡ words_at rows.old.rows (cycle - 1) c }
-    ensures changes { length changes.new ≡ length changes.old }
     ensures width { rows.new.width ≡ rows.old.width }
     ensures cycles { length rows.new.rows ≡ length rows.old.rows }
     ensures lens { (t : ℕ) → length (slice_index_or rows.new.rows t []) ≡ length (slice_index_or rows.old.rows t []) }
     ensures put { OnOk result ((c : ℕ) → is_awake set.now c ≡ true → words_at rows.new.rows cycle c ≡ G.codec.words (M.state row.now c)) }
     ensures others { OnOk result ((t c : ℕ) → is_awake set.now c ≡ false → words_at rows.new.rows t c ≡ words_at rows.old.rows t c) }
     ensures other_cycles { OnOk result ((t c : ℕ) → (t ≡ cycle → ⊥) → words_at rows.new.rows t c ≡ words_at rows.old.rows t c) }
-    ensures tells { OnOk result ((c : ℕ) → is_awake set.now c ≡ true → (is_awake changes.new c ≡ false) ↔ ((words_at rows.old.rows cycle c ≡ G.codec.words (M.state row.now c)) × (is_awake changes.old c ≡ false))) }
-    ensures unmarked { OnOk result ((c : ℕ) → is_awake set.now c ≡ false → is_awake changes.new c ≡ is_awake changes.old c) }
+    ensures room { OnOk result (length set.now ≤ 64 * length buffer.new.items) }
+    ensures changed { OnOk result ((c : ℕ) → c < length set.now → is_in buffer.new.items c ≡ true → (is_awake set.now c ≡ true) × (words_at rows.old.rows cycle c ≡ G.codec.words (M.state row.now c) → ⊥)) }
+    ensures same { OnOk result ((c : ℕ) → is_awake set.now c ≡ true → is_in buffer.new.items c ≡ false → words_at rows.old.rows cycle c ≡ G.codec.words (M.state row.now c)) }
     ensures err { OnErr result (rows.new ≡ rows.old) }
 {
     // Each row has a cell for each component.
     let _end = rows.len();
     let words = set.words();
-    make_words(buffer, words.len())?;
+    copy_words(buffer, words)?;
     let source: Stepped<'_, G, M> = Stepped { row, step, slots };
-    let changed = buffer.as_mut_slice();
-    match rows.put_from(cycle, words, &source, changed) {
-        Ok(()) => {
-            changes.add_words(changed);
-            Ok(())
-        }
+    if set.count() == set.len() && rows.is_blank(cycle) {
+        // All cells had no words, and each gets some.
+        return match rows.fill(cycle, &source) {
+            Ok(()) => Ok(()),
+            Err(_) => Err(NoMemory),
+        };
+    }
+    match rows.put_from(cycle, words, &source, buffer.as_mut_slice()) {
+        Ok(()) => Ok(()),
         Err(_) => Err(NoMemory),
     }
 }
@@ -300,10 +271,13 @@ pub(super) fn put_whole<G: Grid, M: WholeRow<G>>(
         Ok(()) => {}
         Err(_) => return Err(NoMemory),
     }
-    match put_words::<G, M>(rows, buffer, slots, row, step, set, changes, cycle) {
+    match put_words::<G, M>(rows, buffer, slots, row, step, set, cycle) {
         Ok(()) => {}
         Err(_) => return Err(NoMemory),
     }
-    put_memories(memories, ready, set, cycle, end);
+    // Marked so far are the components with other memories. One that its cell has already isn't put again: its list would have a change
+    // that is none, and there cycles that are settled at once as alike would end.
+    put_memories(memories, ready, changes, cycle, end);
+    changes.add_words(buffer.as_slice());
     Ok(())
 }

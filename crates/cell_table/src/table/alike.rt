@@ -124,13 +124,17 @@ impl<G: Grid> Table<G> {
         if changes.has(component) {
             return end;
         }
+        if end <= cycle {
+            return end;
+        }
         let cycle = cycle - 1;
-        let last = self.cells.stands_to(Cell { cycle, component });
-        if last < end { last + 1 } else { end }
+        self.cells.stands_before(Cell { cycle, component }, end - 1) + 1
     }
 
     /// To before which cycle, `end` at most, a due cell's component holds the state that it holds here, and those near it
-    /// that don't change what they held a cycle earlier.
+    /// that don't change what they held a cycle earlier. No further cycle is looked at once fewer than two are left, since nothing is
+    /// gained then.
+    #[tactic(auto, using(crate::proofs::Alike::stays_few))]
     fn alike_to(&self, cell: Cell, changes: &Row, end: u32) -> u32
         requires there { IsThere G.rules self.now cell.cycle cell.component }
         requires later { 2 ≤ cell.cycle }
@@ -138,14 +142,21 @@ impl<G: Grid> Table<G> {
         ensures before { result ≤ end }
         ensures stays { StaysAlikeTo G.rules self.now cell.cycle changes.now cell.component result }
     {
-        let mut to = end.min(self.cells.stands_to(cell));
+        if end.saturating_sub(cell.cycle) < 2 {
+            return end;
+        }
+        let mut to = self.cells.stands_before(cell, end);
         for component in self.near(cell.component) {
+            if to.saturating_sub(cell.cycle) < 2 {
+                return to;
+            }
             to = self.alike_near(*component, cell.cycle, changes, to);
         }
         to
     }
 
     /// The same of all due cells of a cycle.
+    #[tactic(auto, using(crate::proofs::Alike::stays_few))]
     fn alike_end(&self, cycle: u32, changes: &Row, end: u32) -> u32
         requires there { cycle ≤ self.now.horizon }
         requires later { 2 ≤ cycle }
@@ -159,6 +170,9 @@ impl<G: Grid> Table<G> {
         let mut from = 0;
         while let Some(component) = self.cells.next_due(cycle, from) {
             to = self.alike_to(Cell { cycle, component }, changes, to);
+            if to.saturating_sub(cycle) < 2 {
+                return to;
+            }
             from = component + 1;
         }
         to

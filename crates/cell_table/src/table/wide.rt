@@ -17,11 +17,11 @@ use crate::{Cell, WholeRow};
 use grid_law::Grid;
 
 /// How many cells of a cycle are due at least where a row is loaded to settle it. It was set by a measurement on machines of 224
-/// components: with 32 to 64 due cells, most of which get the state of the cell before, one by one is as fast.
-const WIDE: u32 = 72;
+/// components: to settle a cell alone, the states near it are decoded, which takes some 2 us, and a row costs 3 to 8 us.
+const WIDE: u32 = 8;
 
-/// The same where the row holds the cycle before already.
-const STILL_WIDE: u32 = 16;
+/// The same where the row holds the cycle before already, so that nothing is loaded.
+const STILL_WIDE: u32 = 2;
 
 /// How many cells of a cycle are due at least where a row settles it.
 fn least_due<M>(along: &Option<Along<M>>, cycle: u32) -> u32 {

@@ -2,20 +2,12 @@ use Rattle.std.proofs.Common.{◌≡◌, ℕ, ◌-◌, ◌<◌, ◌∙◌, sym, 
 use Rattle.change_lists.specs.Changes.{list_at}
 use Rattle.cell_table.specs.Layout.{state_at}
 use Rattle.cell_table.proofs.Codes.{same_code}
-use Rattle.cell_table.proofs.Coded.{seen_at, seen_cycles, stands}
+use Rattle.cell_table.proofs.Coded.{seen_at, stands}
 use Rattle.cell_table.proofs.Changed.{before_is}
 use Rattle.cell_table.proofs.stored.States.stands_to.Goals as goal
 
-pub overflow_add-next : goal.overflow_add-next
-overflow_add-next g c =
-    let i = c.self.inside in
-    omega (arith, c.requires.cycle, seen_cycles g.G.Grid.codec i.words i.memories c.args.self.now c.self.view_is, c.len-end.ensures.count)
-
-pub returns-clause-within : goal.returns-clause-within
-returns-clause-within g c =
-    let i = c.self.inside in
-    let cycles = seen_cycles g.G.Grid.codec i.words i.memories c.args.self.now c.self.view_is in
-    omega (arith, cycles, c.len-end.ensures.count, c.next.ensures.to, c.next_of-to.ensures.to (omega (arith, c.requires.cycle, cycles, c.len-end.ensures.count)))
+pub returns-clause-before : goal.returns-clause-before
+returns-clause-before g c = omega (arith, c.next.ensures.to, c.next_of-to.ensures.to (omega (arith, c.requires.before)))
 
 pub returns-clause-same : goal.returns-clause-same
 returns-clause-same g c =

@@ -39,8 +39,8 @@ loop-component-preserved g c =
       width = e.width ∙ inv.width;
       len = e.len ∙ inv.len;
       same = λ d. e.same d ∙ inv.same d;
-      ready = λ d. at_or_other (λ d. d < cur + 1 → is_awake set d ≡ true → IsReady m1 d t (slice_index_or r1 d None)) cur d (λ h a. ok.ready) (λ n h a. ready_along m m1 d t _ _ (e.others d n) (e.other_ready d n) (inv.ready d (low d n h a) a));
-      value = λ d. at_or_other (λ d. d < cur + 1 → is_awake set d ≡ true → value_in m1 d t (slice_index_or r1 d None) ≡ C.memory (W.state row d)) cur d (λ h a. ok.value) (λ n h a. value_along m m1 d t _ _ (e.others d n) (e.other_ready d n) ∙ inv.value d (low d n h a) a);
+      ready = λ d. at_or_other (λ d. is_awake ch1 d ≡ true → IsReady m1 d t (slice_index_or r1 d None)) cur d ok.ready (λ n a. ready_along m m1 d t _ _ (e.others d n) (e.other_ready d n) (inv.ready d (sym (e.other_changes d n) ∙ a)));
+      value = λ d. at_or_other (λ d. is_awake ch1 d ≡ true → value_in m1 d t (slice_index_or r1 d None) ≡ C.memory (W.state row d)) cur d ok.value (λ n a. value_along m m1 d t _ _ (e.others d n) (e.other_ready d n) ∙ inv.value d (sym (e.other_changes d n) ∙ a));
       told = λ d. at_or_other (λ d. d < cur + 1 → is_awake set d ≡ true → IsTold C (W.state row d)) cur d (λ h a. e.told) (λ n h a. inv.told d (low d n h a) a);
       marked = λ d. at_or_other (λ d. d < cur + 1 → is_awake set d ≡ true → (is_awake ch1 d ≡ false) ↔ (memory_at m0 d t ≡ C.memory (W.state row d))) cur d
           (λ h a. (λ p. sym same ∙ e.marked.0 p, λ p. e.marked.1 (same ∙ p)))

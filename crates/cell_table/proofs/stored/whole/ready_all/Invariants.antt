@@ -13,8 +13,8 @@ invariant-loop-component g l = record {
   width : length l.memories ≡ length l.initial.memories;
   len : length l.ready.items ≡ length l.initial.ready.items;
   same : (c : ℕ) → list_at l.memories c ≡ list_at l.initial.memories c;
-  ready : (c : ℕ) → c < l.next → is_awake l.set c ≡ true → IsReady l.memories c l.cycle (slice_index_or l.ready.items c None);
-  value : (c : ℕ) → c < l.next → is_awake l.set c ≡ true → value_in l.memories c l.cycle (slice_index_or l.ready.items c None) ≡ g.G.Grid.codec.memory (g.M.WholeRow.state l.row c);
+  ready : (c : ℕ) → is_awake l.changes c ≡ true → IsReady l.memories c l.cycle (slice_index_or l.ready.items c None);
+  value : (c : ℕ) → is_awake l.changes c ≡ true → value_in l.memories c l.cycle (slice_index_or l.ready.items c None) ≡ g.G.Grid.codec.memory (g.M.WholeRow.state l.row c);
   told : (c : ℕ) → c < l.next → is_awake l.set c ≡ true → IsTold g.G.Grid.codec (g.M.WholeRow.state l.row c);
   marked : (c : ℕ) → c < l.next → is_awake l.set c ≡ true → (is_awake l.changes c ≡ false) ↔ (memory_at l.initial.memories c l.cycle ≡ g.G.Grid.codec.memory (g.M.WholeRow.state l.row c));
   unmarked : (c : ℕ) → is_awake l.set c ≡ false → is_awake l.changes c ≡ false;

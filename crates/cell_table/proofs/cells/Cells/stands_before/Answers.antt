@@ -1,19 +1,13 @@
 use Rattle.std.proofs.Common.{◌∙◌, sym, arith}
 use Rattle.cell_table.specs.Layout.{state_at}
-use Rattle.cell_table.proofs.Keeping.{seen_state, seen_cycle, seen_cycles}
+use Rattle.cell_table.proofs.Keeping.{seen_state, seen_cycles}
 use Rattle.cell_table.proofs.Stated.{bounded_by}
-use Rattle.cell_table.proofs.cells.Cells.stands_to.Goals as goal
+use Rattle.cell_table.proofs.cells.Cells.stands_before.Goals as goal
 
-pub stands_to-requires : goal.stands_to-requires
-stands_to-requires g c =
+pub stands_to-requires-clause-within : goal.stands_to-requires-clause-within
+stands_to-requires-clause-within g c =
     let i = c.self.inside in
-    let cycle = seen_cycle (state_at i.states) i.due i.versions.items c.args.self.now c.self.view_is c.args.cell.cycle c.requires.cycle in
-    omega (arith, cycle, c.self.invariant.0.cycles)
-
-pub returns-clause-within : goal.returns-clause-within
-returns-clause-within g c =
-    let i = c.self.inside in
-    omega (arith, c.stands_to.ensures.within, c.self.invariant.0.cycles, seen_cycles (state_at i.states) i.due i.versions.items c.args.self.now c.self.view_is)
+    omega (arith, c.min-end.ensures, c.cycles.ensures, c.self.invariant.0.cycles, seen_cycles (state_at i.states) i.due i.versions.items c.args.self.now c.self.view_is)
 
 pub returns-clause-same : goal.returns-clause-same
 returns-clause-same g c = λ t l k.
