@@ -17,7 +17,7 @@ mod looks;
 mod standing;
 mod whole;
 
-pub(crate) use whole::put_due;
+pub(crate) use whole::{put_due, put_each};
 
 use crate::Cell;
 use crate::neighbours::Neighbours;
