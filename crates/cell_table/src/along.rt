@@ -82,9 +82,9 @@ pub(crate) fn start_along<G: Grid, M: WholeRow<G>>(
 )
     requires held { (c : ℕ) → c < G.rules.components slots.now → (held_at cells.now cycle c).state ≡ Some (run G.rules slots.now cycle c) }
     requires along { IfSome along.old (λ a. HoldsRow G.rules M.stands M.state slots.now a.row a.cycle) }
-    requires beside { AreBeside M.stands slots.now beside.old }
+    requires beside { AreBeside G.rules G.codec M.stands M.state slots.now beside.old }
     ensures along { IfSome along.new (λ a. HoldsRow G.rules M.stands M.state slots.now a.row a.cycle) }
-    ensures beside { AreBeside M.stands slots.now beside.new }
+    ensures beside { AreBeside G.rules G.codec M.stands M.state slots.now beside.new }
 {
     if along.is_some() {
         return;

@@ -49,7 +49,7 @@ fn put_stepped<G: Grid, M: WholeRow<G>>(
     requires width { length changes.old ≡ G.rules.components slots.now }
     requires before { (c : ℕ) → c < G.rules.components slots.now → (held_at cells.old (cycle - 1) c).state ≡ Some (run G.rules slots.now (cycle - 1) c) }
     requires along { IfSome along.old (λ a. HoldsRow G.rules M.stands M.state slots.now a.row a.cycle) }
-    requires beside { AreBeside M.stands slots.now beside.old }
+    requires beside { AreBeside G.rules G.codec M.stands M.state slots.now beside.old }
     ensures len { length cells.new ≡ length cells.old }
     ensures lens { (t : ℕ) → t < length cells.old → length (row_at cells.new t) ≡ G.rules.components slots.now }
     ensures width { length changes.new ≡ length changes.old }
@@ -57,7 +57,7 @@ fn put_stepped<G: Grid, M: WholeRow<G>>(
     ensures versions { (t c : ℕ) → (held_at cells.old t c).is_due ≡ false → (held_at cells.old t c).version ≡ 0 }
     ensures err { result ≡ false → cells.new ≡ cells.old }
     ensures along { IfSome along.new (λ a. HoldsRow G.rules M.stands M.state slots.now a.row a.cycle) }
-    ensures beside { AreBeside M.stands slots.now beside.new }
+    ensures beside { AreBeside G.rules G.codec M.stands M.state slots.now beside.new }
 {
     start_along::<G, M>(cells, slots, along, beside, cycle - 1);
     let step = match go_along::<G, M>(cells, slots, along, cycle) {
@@ -90,20 +90,20 @@ fn put_few<G: Grid, M: WholeRow<G>>(
     requires before { (c : ℕ) → c < G.rules.components slots.now → (held_at cells.old (cycle - 1) c).state ≡ Some (run G.rules slots.now (cycle - 1) c) }
     requires near { AreNear G.rules slots.now near.now }
     requires earlier { 1 < cycle → (c : ℕ) → c < G.rules.components slots.now → (held_at cells.old (cycle - 2) c).state ≡ Some (run G.rules slots.now (cycle - 2) c) }
-    requires beside { AreBeside M.stands slots.now beside.old }
+    requires beside { AreBeside G.rules G.codec M.stands M.state slots.now beside.old }
     ensures len { length cells.new ≡ length cells.old }
     ensures lens { (t : ℕ) → t < length cells.old → length (row_at cells.new t) ≡ G.rules.components slots.now }
     ensures width { length changes.new ≡ length changes.old }
     ensures put { result ≡ true → IsRowPut G.rules slots.now cells.old cells.new cycle changes.new }
     ensures versions { (t c : ℕ) → (held_at cells.old t c).is_due ≡ false → (held_at cells.old t c).version ≡ 0 }
     ensures err { result ≡ false → cells.new ≡ cells.old }
-    ensures beside { AreBeside M.stands slots.now beside.new }
+    ensures beside { AreBeside G.rules G.codec M.stands M.state slots.now beside.new }
 {
     if !make_near::<G, M>(cells.allocator(), slots, beside) {
         return false;
     }
     match &mut beside.near {
-        Some(row) => match put_each(cells, slots, near, row, cycle, changes) {
+        Some(held) => match put_each(cells, slots, near, held, cycle, changes) {
             Ok(()) => true,
             Err(_) => false,
         },
@@ -130,7 +130,7 @@ pub(crate) fn put_row<G: Grid, M: WholeRow<G>>(
     requires near { AreNear G.rules slots.now near.now }
     requires earlier { 1 < cycle → (c : ℕ) → c < G.rules.components slots.now → (held_at cells.old (cycle - 2) c).state ≡ Some (run G.rules slots.now (cycle - 2) c) }
     requires along { IfSome along.old (λ a. HoldsRow G.rules M.stands M.state slots.now a.row a.cycle) }
-    requires beside { AreBeside M.stands slots.now beside.old }
+    requires beside { AreBeside G.rules G.codec M.stands M.state slots.now beside.old }
     ensures len { length cells.new ≡ length cells.old }
     ensures lens { (t : ℕ) → t < length cells.old → length (row_at cells.new t) ≡ G.rules.components slots.now }
     ensures width { length changes.new ≡ length changes.old }
@@ -138,7 +138,7 @@ pub(crate) fn put_row<G: Grid, M: WholeRow<G>>(
     ensures versions { (t c : ℕ) → (held_at cells.old t c).is_due ≡ false → (held_at cells.old t c).version ≡ 0 }
     ensures err { result ≡ false → cells.new ≡ cells.old }
     ensures along { IfSome along.new (λ a. HoldsRow G.rules M.stands M.state slots.now a.row a.cycle) }
-    ensures beside { AreBeside M.stands slots.now beside.new }
+    ensures beside { AreBeside G.rules G.codec M.stands M.state slots.now beside.new }
 {
     if cells.due_count(cycle) >= least_due(along, cycle) {
         put_stepped::<G, M>(cells, slots, along, beside, cycle, changes)

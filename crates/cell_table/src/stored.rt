@@ -7,6 +7,7 @@ ghost use Rattle.cell_table.specs.Layout.{state_at, IsAsMany, IsSameStates, IsOt
 ghost use Rattle.cell_table.specs.Reads.{reads_by};
 ghost use Rattle.cell_table.specs.Filling.{is_awake};
 ghost use Rattle.cell_table.specs.Readers.{AreNear};
+ghost use Rattle.cell_table.specs.NextWords.{HoldsWords};
 ghost use Rattle.grid_law.specs.Run.{run};
 
 mod changed;
@@ -15,6 +16,7 @@ mod memory;
 mod put;
 mod whole;
 
+use crate::beside::Near;
 use crate::neighbours::Neighbours;
 use crate::{Cell, WholeRow};
 use cell_marks::Row;
@@ -315,7 +317,7 @@ impl<G: Grid> States<G> {
     pub(crate) fn put_each<M: WholeRow<G>>(
         &mut self,
         slots: &G::Slots,
-        row: &mut M,
+        held: &mut Near<M>,
         near: &Neighbours,
         set: &Row,
         changes: &mut Row,
@@ -326,13 +328,13 @@ impl<G: Grid> States<G> {
         requires width { length set.now ≡ self.old.width }
         requires components { length set.now ≡ G.rules.components slots.now }
         requires changes { length changes.old ≡ length set.now }
-        requires stands { M.stands row.old slots.now }
+        requires held { HoldsWords G.rules G.codec M.stands M.state slots.now held.old }
         requires near { AreNear G.rules slots.now near.now }
         requires before { (c : ℕ) → c < length set.now → state_at self.old (cycle - 1) c ≡ Some (run G.rules slots.now (cycle - 1) c) }
         requires earlier { 1 < cycle → (c : ℕ) → c < length set.now → state_at self.old (cycle - 2) c ≡ Some (run G.rules slots.now (cycle - 2) c) }
         ensures many { IsAsMany self.old self.new }
         ensures changes { length changes.new ≡ length changes.old }
-        ensures stands { M.stands row.new slots.now }
+        ensures held { HoldsWords G.rules G.codec M.stands M.state slots.now held.new }
         ensures put { OnOk result ((c : ℕ) → state_at self.new cycle c ≡ (if is_awake set.now c then Some (run G.rules slots.now cycle c) else state_at self.old cycle c)) }
         ensures others { OnOk result ((t c : ℕ) → (t ≡ cycle → ⊥) → state_at self.new t c ≡ state_at self.old t c) }
         ensures tells { OnOk result ((c : ℕ) → is_awake set.now c ≡ true → (is_awake changes.new c ≡ false) ↔ (state_at self.old cycle c ≡ Some (run G.rules slots.now cycle c))) }
@@ -346,7 +348,7 @@ impl<G: Grid> States<G> {
             &mut self.buffer,
             &mut self.ready,
             slots,
-            row,
+            held,
             near,
             set,
             changes,

@@ -5,9 +5,11 @@ ghost use Rattle.grid_law.specs.Codec.{IsTold};
 ghost use Rattle.grid_law.specs.Run.{run};
 ghost use Rattle.cell_table.specs.Seen.{held_at, row_at};
 ghost use Rattle.cell_table.specs.Readers.{AreNear};
+ghost use Rattle.cell_table.specs.NextWords.{HoldsWords};
 ghost use Rattle.cell_table.specs.WholeRows.{HoldsRow, IsKnown, IsRowPut};
 
 use super::{Cells, clear_rows};
+use crate::beside::Near;
 use crate::neighbours::Neighbours;
 use crate::{Cell, WholeRow};
 use cell_marks::Row;
@@ -65,12 +67,12 @@ pub(crate) fn put_due<G: Grid, M: WholeRow<G>>(
     Ok(())
 }
 
-/// The same by a step of each due cell, out of a row into which what is near it is put; nothing is known of the row beforehand.
+/// The same by a step of each due cell, out of a row into which what is near it is put.
 pub(crate) fn put_each<G: Grid, M: WholeRow<G>>(
     cells: &mut Cells<G>,
     slots: &G::Slots,
     near: &Neighbours,
-    row: &mut M,
+    held: &mut Near<M>,
     cycle: u32,
     changes: &mut Row,
 ) -> Result<(), NoMemory>
@@ -81,8 +83,8 @@ pub(crate) fn put_each<G: Grid, M: WholeRow<G>>(
     requires near { AreNear G.rules slots.now near.now }
     requires before { (c : ℕ) → c < G.rules.components slots.now → (held_at cells.old (cycle - 1) c).state ≡ Some (run G.rules slots.now (cycle - 1) c) }
     requires earlier { 1 < cycle → (c : ℕ) → c < G.rules.components slots.now → (held_at cells.old (cycle - 2) c).state ≡ Some (run G.rules slots.now (cycle - 2) c) }
-    requires stands { M.stands row.old slots.now }
-    ensures stands { M.stands row.new slots.now }
+    requires held { HoldsWords G.rules G.codec M.stands M.state slots.now held.old }
+    ensures held { HoldsWords G.rules G.codec M.stands M.state slots.now held.new }
     ensures len { length cells.new ≡ length cells.old }
     ensures lens { (t : ℕ) → t < length cells.old → length (row_at cells.new t) ≡ G.rules.components slots.now }
     ensures width { length changes.new ≡ length changes.old }
@@ -93,7 +95,7 @@ pub(crate) fn put_each<G: Grid, M: WholeRow<G>>(
     let set = cells.due.row(cycle);
     match cells
         .states
-        .put_each::<M>(slots, row, near, set, changes, cycle)
+        .put_each::<M>(slots, held, near, set, changes, cycle)
     {
         Ok(()) => {}
         Err(_) => return Err(NoMemory),

@@ -1,5 +1,5 @@
 //! The states that a step gives the components of a set, one after another, each out of the words near it.
-ghost use Rattle.std.specs.Prelude.{◌≡◌, ◌≢◌, ℕ, ◌+◌, ◌-◌, ◌<◌, ◌≤◌, ◌↔◌, ◌||◌, All, IfOk, OnOk, OnErr, length, true, false, None, Some, is_some, slice_index_or, []};
+ghost use Rattle.std.specs.Prelude.{◌≡◌, ◌≢◌, ℕ, ◌+◌, ◌-◌, ◌<◌, ◌≤◌, ◌↔◌, ◌||◌, ◌⊎◌, All, IfOk, OnOk, OnErr, length, true, false, None, Some, is_some, slice_index_or, []};
 ghost use Rattle.std.specs.Option.{option_copied, option_or};
 ghost use Rattle.grid_law.specs.Codec.{IsTold};
 ghost use Rattle.grid_law.specs.Run.{run};
@@ -7,12 +7,13 @@ ghost use Rattle.change_rows.specs.Rows.{words_at};
 ghost use Rattle.change_rows.specs.Cells.{end_of, found};
 ghost use Rattle.change_lists.specs.Changes.{list_at, changes_at, held_at as memory_at};
 ghost use Rattle.cell_table.specs.Filling.{is_awake};
-ghost use Rattle.cell_table.specs.NextWords.{HoldsRunAt, IsDrafted, IsOfWords};
+ghost use Rattle.cell_table.specs.NextWords.{HoldsRunAt, HoldsWords, IsDrafted, IsOfWords};
 ghost use Rattle.cell_table.specs.Readers.{AreNear};
 ghost use Rattle.cell_table.specs.Ready.{value_in, IsReady};
 
 use super::changed::put_memories;
 use super::memory::{Change, is_same, ready_memory};
+use crate::beside::Near;
 use crate::neighbours::Neighbours;
 use crate::{Cell, WholeRow};
 use cell_marks::Row;
@@ -34,27 +35,66 @@ fn all_stay<M: Drop>(rows: &Rows, memories: &Lists<M>, cycle: u32, near: &[u32])
     true
 }
 
-/// Puts the words that these components hold at a cycle into a row: whether it has them all then.
+/// Whether a row that holds a component's words of the cycle before `at`, if that isn't 0, holds those of a cycle.
+#[inline(always)]
+fn has_words(rows: &Rows, at: u32, cell: Cell) -> bool
+    ensures { result ≡ true → (at ≡ cell.cycle + 1) ⊎ ((0 < cell.cycle) × (at ≡ cell.cycle) × (words_at rows.now.rows cell.cycle cell.component ≡ words_at rows.now.rows (cell.cycle - 1) cell.component)) }
+{
+    if at > cell.cycle {
+        return at == cell.cycle + 1;
+    }
+    at > 0 && at == cell.cycle && !rows.begins(cell.cycle, cell.component)
+}
+
+/// Puts the words that a component holds at a cycle into a row: whether it has them then.
+fn load_words<G: Grid, M: WholeRow<G>>(
+    rows: &Rows,
+    slots: &G::Slots,
+    held: &mut Near<M>,
+    cell: Cell,
+) -> bool
+    requires held { HoldsWords G.rules G.codec M.stands M.state slots.now held.old }
+    requires there { cell.component < G.rules.components slots.now }
+    requires told { IsTold G.codec (run G.rules slots.now cell.cycle cell.component) }
+    requires words { words_at rows.now.rows cell.cycle cell.component ≡ G.codec.words (run G.rules slots.now cell.cycle cell.component) }
+    ensures held { HoldsWords G.rules G.codec M.stands M.state slots.now held.new }
+    ensures loaded { result ≡ true → slice_index_or held.new.at.items cell.component 0 ≡ cell.cycle + 1 }
+    ensures others { (d : ℕ) → (d ≡ cell.component → ⊥) → slice_index_or held.new.at.items d 0 ≡ slice_index_or held.old.at.items d 0 }
+{
+    let d = cell.component;
+    held.at[d as usize] = 0;
+    if !held.row.load(slots, d, rows.words(cell.cycle, d)) {
+        return false;
+    }
+    held.row.is_told(slots, d);
+    held.at[d as usize] = cell.cycle + 1;
+    true
+}
+
+/// Puts the words that these components hold at a cycle into a row, those that it hasn't: whether it has them all then.
 fn load_near<G: Grid, M: WholeRow<G>>(
     rows: &Rows,
     slots: &G::Slots,
-    row: &mut M,
+    held: &mut Near<M>,
     near: &[u32],
     cycle: u32,
 ) -> bool
-    requires stands { M.stands row.old slots.now }
+    requires held { HoldsWords G.rules G.codec M.stands M.state slots.now held.old }
     requires within { All (λ d. d < G.rules.components slots.now) near.now }
     requires told { (d : ℕ) → d < G.rules.components slots.now → IsTold G.codec (run G.rules slots.now cycle d) }
     requires words { (d : ℕ) → d < G.rules.components slots.now → words_at rows.now.rows cycle d ≡ G.codec.words (run G.rules slots.now cycle d) }
-    ensures stands { M.stands row.new slots.now }
-    ensures loaded { result ≡ true → All (IsOfWords G.codec (M.state row.new) (run G.rules slots.now cycle)) near.now }
+    requires earlier { 0 < cycle → (d : ℕ) → d < G.rules.components slots.now → words_at rows.now.rows (cycle - 1) d ≡ G.codec.words (run G.rules slots.now (cycle - 1) d) }
+    ensures held { HoldsWords G.rules G.codec M.stands M.state slots.now held.new }
+    ensures loaded { result ≡ true → All (IsOfWords G.codec (M.state held.new.row) (run G.rules slots.now cycle)) near.now }
 {
     for component in near {
-        let d = *component;
-        if !row.load(slots, d, rows.words(cycle, d)) {
+        let component = *component;
+        let cell = Cell { cycle, component };
+        if has_words(rows, held.at[component as usize], cell) {
+            held.at[component as usize] = cycle + 1;
+        } else if !load_words::<G, M>(rows, slots, held, cell) {
             return false;
         }
-        row.is_told(slots, d);
     }
     true
 }
@@ -144,7 +184,7 @@ fn find_step<G: Grid, M: WholeRow<G>>(
     buffer: &mut Vec<u64>,
     ready: &mut Vec<Option<Change<G::Memory>>>,
     slots: &G::Slots,
-    row: &mut M,
+    held: &mut Near<M>,
     near: &[u32],
     changes: &mut Row,
     cell: Cell,
@@ -156,10 +196,11 @@ fn find_step<G: Grid, M: WholeRow<G>>(
     requires changes { length changes.old ≡ G.rules.components slots.now }
     requires unmarked { is_awake changes.old cell.component ≡ false }
     requires after { end_of draft.old ≤ cell.component }
-    requires stands { M.stands row.old slots.now }
+    requires held { HoldsWords G.rules G.codec M.stands M.state slots.now held.old }
     requires near { near.now ≡ G.rules.near slots.now cell.component }
     requires before { HoldsRunAt G.rules G.codec slots.now rows.now.rows memories.old (cell.cycle - 1) }
-    ensures stands { M.stands row.new slots.now }
+    requires earlier { 1 < cell.cycle → HoldsRunAt G.rules G.codec slots.now rows.now.rows memories.old (cell.cycle - 2) }
+    ensures held { HoldsWords G.rules G.codec M.stands M.state slots.now held.new }
     ensures after { end_of draft.new ≤ cell.component + 1 }
     ensures other_words { (c : ℕ) → (c ≡ cell.component → ⊥) → found draft.new c ≡ found draft.old c }
     ensures width { length memories.new ≡ length memories.old }
@@ -176,11 +217,12 @@ fn find_step<G: Grid, M: WholeRow<G>>(
     ensures marked { OnOk result ((is_awake changes.new cell.component ≡ false) ↔ (memory_at memories.old cell.component cell.cycle ≡ G.codec.memory (run G.rules slots.now cell.cycle cell.component))) }
 {
     let (t, c) = (cell.cycle, cell.component);
-    if !load_near::<G, M>(rows, slots, row, near, t - 1) {
+    if !load_near::<G, M>(rows, slots, held, near, t - 1) {
         return Err(NoMemory);
     }
     let alloc = *ready.allocator();
     buffer.clear();
+    let row = &mut held.row;
     let left = row.next_words(alloc, slots, c, memories.at(c, t - 1), buffer)?;
     draft_words(rows, draft, cell, buffer.as_slice())?;
     ready_left::<G>(memories, ready, changes, cell, left)
@@ -194,7 +236,7 @@ fn find_one<G: Grid, M: WholeRow<G>>(
     buffer: &mut Vec<u64>,
     ready: &mut Vec<Option<Change<G::Memory>>>,
     slots: &G::Slots,
-    row: &mut M,
+    held: &mut Near<M>,
     near: &[u32],
     changes: &mut Row,
     cell: Cell,
@@ -206,11 +248,11 @@ fn find_one<G: Grid, M: WholeRow<G>>(
     requires changes { length changes.old ≡ G.rules.components slots.now }
     requires unmarked { is_awake changes.old cell.component ≡ false }
     requires after { end_of draft.old ≤ cell.component }
-    requires stands { M.stands row.old slots.now }
+    requires held { HoldsWords G.rules G.codec M.stands M.state slots.now held.old }
     requires near { near.now ≡ G.rules.near slots.now cell.component }
     requires before { HoldsRunAt G.rules G.codec slots.now rows.now.rows memories.old (cell.cycle - 1) }
     requires earlier { 1 < cell.cycle → HoldsRunAt G.rules G.codec slots.now rows.now.rows memories.old (cell.cycle - 2) }
-    ensures stands { M.stands row.new slots.now }
+    ensures held { HoldsWords G.rules G.codec M.stands M.state slots.now held.new }
     ensures after { end_of draft.new ≤ cell.component + 1 }
     ensures other_words { (c : ℕ) → (c ≡ cell.component → ⊥) → found draft.new c ≡ found draft.old c }
     ensures width { length memories.new ≡ length memories.old }
@@ -231,7 +273,7 @@ fn find_one<G: Grid, M: WholeRow<G>>(
         return ready_left::<G>(memories, ready, changes, cell, None);
     }
     find_step::<G, M>(
-        rows, memories, draft, buffer, ready, slots, row, near, changes, cell,
+        rows, memories, draft, buffer, ready, slots, held, near, changes, cell,
     )
 }
 
@@ -243,7 +285,7 @@ fn find_all<G: Grid, M: WholeRow<G>>(
     buffer: &mut Vec<u64>,
     ready: &mut Vec<Option<Change<G::Memory>>>,
     slots: &G::Slots,
-    row: &mut M,
+    held: &mut Near<M>,
     near: &Neighbours,
     set: &Row,
     changes: &mut Row,
@@ -254,11 +296,11 @@ fn find_all<G: Grid, M: WholeRow<G>>(
     requires memories { length memories.old ≡ length set.now }
     requires len { length ready.old.items ≡ length set.now }
     requires changes { length changes.old ≡ length set.now }
-    requires stands { M.stands row.old slots.now }
+    requires held { HoldsWords G.rules G.codec M.stands M.state slots.now held.old }
     requires near { AreNear G.rules slots.now near.now }
     requires before { HoldsRunAt G.rules G.codec slots.now rows.now.rows memories.old (cycle - 1) }
     requires earlier { 1 < cycle → HoldsRunAt G.rules G.codec slots.now rows.now.rows memories.old (cycle - 2) }
-    ensures stands { M.stands row.new slots.now }
+    ensures held { HoldsWords G.rules G.codec M.stands M.state slots.now held.new }
     ensures changes { length changes.new ≡ length changes.old }
     ensures width { length memories.new ≡ length memories.old }
     ensures len { length ready.new.items ≡ length ready.old.items }
@@ -281,7 +323,7 @@ fn find_all<G: Grid, M: WholeRow<G>>(
         let cell = Cell { cycle, component };
         let near = near.of(component);
         find_one::<G, M>(
-            rows, memories, draft, buffer, ready, slots, row, near, changes, cell,
+            rows, memories, draft, buffer, ready, slots, held, near, changes, cell,
         )?;
         next = component + 1;
     }
@@ -308,7 +350,7 @@ pub(super) fn put_each<G: Grid, M: WholeRow<G>>(
     buffer: &mut Vec<u64>,
     ready: &mut Vec<Option<Change<G::Memory>>>,
     slots: &G::Slots,
-    row: &mut M,
+    held: &mut Near<M>,
     near: &Neighbours,
     set: &Row,
     changes: &mut Row,
@@ -321,11 +363,11 @@ pub(super) fn put_each<G: Grid, M: WholeRow<G>>(
     requires changes { length changes.old ≡ length set.now }
     requires memories { length memories.old ≡ length set.now }
     requires len { length ready.old.items ≡ length set.now }
-    requires stands { M.stands row.old slots.now }
+    requires held { HoldsWords G.rules G.codec M.stands M.state slots.now held.old }
     requires near { AreNear G.rules slots.now near.now }
     requires before { HoldsRunAt G.rules G.codec slots.now rows.old.rows memories.old (cycle - 1) }
     requires earlier { 1 < cycle → HoldsRunAt G.rules G.codec slots.now rows.old.rows memories.old (cycle - 2) }
-    ensures stands { M.stands row.new slots.now }
+    ensures held { HoldsWords G.rules G.codec M.stands M.state slots.now held.new }
     ensures changes { length changes.new ≡ length changes.old }
     ensures width { rows.new.width ≡ rows.old.width }
     ensures cycles { length rows.new.rows ≡ length rows.old.rows }
@@ -343,7 +385,7 @@ pub(super) fn put_each<G: Grid, M: WholeRow<G>>(
     let alloc = *buffer.allocator();
     let end = rows.len();
     find_all::<G, M>(
-        rows, memories, draft, buffer, ready, slots, row, near, set, changes, cycle,
+        rows, memories, draft, buffer, ready, slots, held, near, set, changes, cycle,
     )?;
     if !draft.is_empty() {
         match rows.put_row(alloc, cycle, draft) {

@@ -286,10 +286,10 @@ impl<G: Grid> Table<G> {
         requires reached { length spare.old.reached ≡ G.rules.components self.old.slots }
         requires along { IfSome along.old (λ a. HoldsRow G.rules M.stands M.state self.old.slots a.row a.cycle) }
         requires watched { W.keeps watcher.old self.old }
-        requires beside { AreBeside M.stands self.old.slots beside.old }
+        requires beside { AreBeside G.rules G.codec M.stands M.state self.old.slots beside.old }
         ensures changes { length spare.new.changes ≡ length spare.old.changes }
         ensures reached { length spare.new.reached ≡ length spare.old.reached }
-        ensures beside { AreBeside M.stands self.new.slots beside.new }
+        ensures beside { AreBeside G.rules G.codec M.stands M.state self.new.slots beside.new }
         ensures along { IfSome along.new (λ a. HoldsRow G.rules M.stands M.state self.new.slots a.row a.cycle) }
         ensures watched { W.keeps watcher.new self.new }
         ensures none { IfOk result (λ o. IfNone o (NoneDueBefore G.rules self.old end 0 × HoldsRunBefore G.rules self.old end 0 × (self.new ≡ self.old))) }
@@ -330,7 +330,7 @@ impl<G: Grid> Table<G> {
         requires changes { length spare.old.changes ≡ G.rules.components self.old.slots }
         requires reached { length spare.old.reached ≡ G.rules.components self.old.slots }
         requires along { IfSome along.old (λ a. HoldsRow G.rules M.stands M.state self.old.slots a.row a.cycle) }
-        requires beside { AreBeside M.stands self.old.slots beside.old }
+        requires beside { AreBeside G.rules G.codec M.stands M.state self.old.slots beside.old }
         requires watched { W.keeps watcher.old self.old }
         ensures watched { W.keeps watcher.new self.new }
         ensures all { IfOk result (λ s. IsAt G.rules self.old self.new end 0 s.computed) }

@@ -33,10 +33,10 @@ impl<G: Grid> Table<G> {
         requires changes { length spare.old.changes ≡ G.rules.components self.old.slots }
         requires reached { length spare.old.reached ≡ G.rules.components self.old.slots }
         requires along { IfSome along.old (λ a. HoldsRow G.rules M.stands M.state self.old.slots a.row a.cycle) }
-        requires beside { AreBeside M.stands self.old.slots beside.old }
+        requires beside { AreBeside G.rules G.codec M.stands M.state self.old.slots beside.old }
         ensures changes { length spare.new.changes ≡ length spare.old.changes }
         ensures reached { length spare.new.reached ≡ length spare.old.reached }
-        ensures beside { AreBeside M.stands self.new.slots beside.new }
+        ensures beside { AreBeside G.rules G.codec M.stands M.state self.new.slots beside.new }
         ensures along { IfSome along.new (λ a. HoldsRow G.rules M.stands M.state self.new.slots a.row a.cycle) }
         ensures none { IfNone result (self.new ≡ self.old) }
         ensures on { IfSome result (λ n. (first : Seen G.State G.Slots) (k : ℕ) → IsAt G.rules first self.old cycle 0 k → IsAt G.rules first self.new (cycle + 1) 0 (k + n)) }
@@ -104,10 +104,10 @@ impl<G: Grid> Table<G> {
         requires reached { length spare.old.reached ≡ G.rules.components self.old.slots }
         requires along { IfSome along.old (λ a. HoldsRow G.rules M.stands M.state self.old.slots a.row a.cycle) }
         requires watched { W.keeps watcher.old self.old }
-        requires beside { AreBeside M.stands self.old.slots beside.old }
+        requires beside { AreBeside G.rules G.codec M.stands M.state self.old.slots beside.old }
         ensures changes { length spare.new.changes ≡ length spare.old.changes }
         ensures reached { length spare.new.reached ≡ length spare.old.reached }
-        ensures beside { AreBeside M.stands self.new.slots beside.new }
+        ensures beside { AreBeside G.rules G.codec M.stands M.state self.new.slots beside.new }
         ensures along { IfSome along.new (λ a. HoldsRow G.rules M.stands M.state self.new.slots a.row a.cycle) }
         ensures watched { W.keeps watcher.new self.new }
         ensures none { IfNone result (self.new ≡ self.old) }
@@ -141,10 +141,10 @@ impl<G: Grid> Table<G> {
         requires reached { length spare.old.reached ≡ G.rules.components self.old.slots }
         requires along { IfSome along.old (λ a. HoldsRow G.rules M.stands M.state self.old.slots a.row a.cycle) }
         requires watched { W.keeps watcher.old self.old }
-        requires beside { AreBeside M.stands self.old.slots beside.old }
+        requires beside { AreBeside G.rules G.codec M.stands M.state self.old.slots beside.old }
         ensures changes { length spare.new.changes ≡ length spare.old.changes }
         ensures reached { length spare.new.reached ≡ length spare.old.reached }
-        ensures beside { AreBeside M.stands self.new.slots beside.new }
+        ensures beside { AreBeside G.rules G.codec M.stands M.state self.new.slots beside.new }
         ensures along { IfSome along.new (λ a. HoldsRow G.rules M.stands M.state self.new.slots a.row a.cycle) }
         ensures watched { W.keeps watcher.new self.new }
         ensures none { IfNone result (self.new ≡ self.old) }
