@@ -5,11 +5,15 @@ pub mod Figures
 pub mod Filling
 pub mod FullQueues
 pub mod FullTexts
+pub mod GaugeTexts
+pub mod Gauges
 pub mod Latencies
 pub mod Logs
 pub mod Marking
 pub mod References
 pub mod Runners
+pub mod Series
+pub mod Summing
 pub mod Texts
 pub mod TraceTexts
 pub mod Traces

@@ -96,7 +96,7 @@ fn add_queues(all: &mut Vec<PartQueue>, shape: Shape, place: u32) -> Result<(), 
 }
 
 /// The queues of all components.
-fn queues(alloc: Global, shape: Shape) -> Result<Vec<PartQueue>, AllocError>
+pub(crate) fn queues(alloc: Global, shape: Shape) -> Result<Vec<PartQueue>, AllocError>
     ensures { IfOk result (λ v. v.items ≡ queues shape) }
 {
     let mut all = Vec::new(alloc);
@@ -107,7 +107,7 @@ fn queues(alloc: Global, shape: Shape) -> Result<Vec<PartQueue>, AllocError>
 }
 
 /// The port of a network in a module.
-fn port_of(net: Net) -> u8
+pub(crate) fn port_of(net: Net) -> u8
     ensures { result ≡ net_number net }
 {
     match net {
@@ -168,7 +168,7 @@ fn is_full(project: &Project, part: Part, state: &MachineState) -> bool
 }
 
 /// The states of all components at the present cycle, by number.
-fn states_now(alloc: Global, runner: &Runner) -> Result<Vec<MachineState>, NoMemory>
+pub(crate) fn states_now(alloc: Global, runner: &Runner) -> Result<Vec<MachineState>, NoMemory>
     ensures { IfOk result (λ v. v.items ≡ states_of runner.now.row) }
 {
     let shape = runner.row.shape();

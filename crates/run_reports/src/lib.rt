@@ -14,10 +14,12 @@
 //!   [`trace_text`]: these as a line.
 //! - [`first_fulls`]: which queues and wait buffers were full, and at which cycle they first were ([`FirstFull`]); [`full_text`]:
 //!   these as a table, by that cycle.
+//! - [`Gauge`]: a number that each cycle shows, as how many references were answered or how long a queue is, and
+//!   [`gauge_named`] by its text; [`series_text`]: a table of such numbers, cycle by cycle or by bins of cycles ([`Bins`]).
 //!
 //! The crate stands on `flat_row` for a run that is stepped cycle by cycle and not kept, and on `machine_cells` and `project_book`
 //! for what a run is. It promises that each report is that of the run of the project from cycle 0 (`specs/References.antt`,
-//! `specs/Latencies.antt`, `specs/Completions.antt`, `specs/Traces.antt`, `specs/FullQueues.antt`), and that each figure is the one of its histogram (`specs/Figures.antt`) or of its
+//! `specs/Latencies.antt`, `specs/Completions.antt`, `specs/Traces.antt`, `specs/FullQueues.antt`, `specs/Series.antt`), and that each figure is the one of its histogram (`specs/Figures.antt`) or of its
 //! cycles.
 #![tactic(auto)]
 
@@ -27,10 +29,13 @@ mod condition;
 mod figures;
 mod full_queues;
 mod full_report;
+mod gauge;
+mod gauge_text;
 mod latency;
 mod reference;
 mod report;
 mod runner;
+mod series;
 mod spans;
 mod spread;
 mod trace_report;
@@ -40,10 +45,13 @@ pub use completion_report::completion_text;
 pub use condition::{Condition, HOT_ADDRESS, Window, meets};
 pub use full_queues::{FirstFull, Part, PartQueue, first_fulls};
 pub use full_report::full_text;
+pub use gauge::Gauge;
+pub use gauge_text::gauge_named;
 pub use latency::{Latencies, latencies_of};
 pub use reference::{Reference, references};
 pub use report::{Summary, latency_text};
 pub use runner::Runner;
+pub use series::{Bins, series_text};
 pub use spans::{Span, Spot, trace};
 pub use spread::{Spread, cycles_of, spread_of};
 pub use trace_report::trace_text;

@@ -6,13 +6,13 @@ use std::test::Fail;
 
 /// Two processors add to the same word over the low network: both requests stand in one queue of the switch at cycle 2, and their
 /// replies each in one at cycles 5 and 6.
-const TWO_PLAIN: Setup = Setup {
+pub(crate) const TWO_PLAIN: Setup = Setup {
     scripts: &[&["plain add 0 1"], &["plain add 0 2"]],
     ..BASE
 };
 
 /// The same over the combining network: one of the requests is combined into the other at cycle 2.
-const TWO_COMBINED: Setup = Setup {
+pub(crate) const TWO_COMBINED: Setup = Setup {
     combine: true,
     scripts: &[&["sync add 0 1"], &["sync add 0 2"]],
     ..BASE
@@ -30,7 +30,7 @@ const BOTH_NETWORKS: Setup = Setup {
 
 /// Eight processors each send a request to module 0. Two come to each switch of the first stage at cycle 2, four to each of two
 /// switches of the second stage at cycles 3 and 4, and two more in a cycle to one of the last stage, from which one leaves.
-const EIGHT_PLAIN: Setup = Setup {
+pub(crate) const EIGHT_PLAIN: Setup = Setup {
     k: 3,
     horizon: 20,
     modules: &[0],
