@@ -1,6 +1,7 @@
 pub mod Below
 pub mod Figuring
 pub mod Filling
+pub mod Gauging
 pub mod Logging
 pub mod Marking
 pub mod Numbers

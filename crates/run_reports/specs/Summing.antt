@@ -11,7 +11,7 @@ abbrev pub unsummed : Gauge → GaugeSum
 unsummed g = record { gauge = g; sum = 0 }
 
 -- with what these states show more
-abbrev pub with_states : ℕ → (ℕ → Option MachineState) → GaugeSum → GaugeSum
+unfoldable pub with_states : ℕ → (ℕ → Option MachineState) → GaugeSum → GaugeSum
 with_states k S s = record s { sum = capped (s.sum + gauge_at k s.gauge S) }
 
 -- its sum over n cycles from one on

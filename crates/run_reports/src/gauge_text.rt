@@ -1,8 +1,9 @@
 //! Gauges as text, and by it.
 ghost use Rattle.std.specs.Prelude.{◌≡◌, ◌++◌, IfOk, OnOk, bytes_eq, map};
-ghost use Rattle.std.specs.List.{flat_map};
+ghost use Rattle.std.specs.List.{find, flat_map};
+ghost use Rattle.omega_net.specs.Numbers.{components};
 ghost use Rattle.omega_net.specs.Wires.{below};
-ghost use Rattle.run_reports.specs.declared.gauge.Gauge.TheVariants.{Length};
+ghost use Rattle.run_reports.specs.declared.gauge.Gauge.TheVariants.{CountedAt, Length};
 ghost use Rattle.run_reports.specs.GaugeTexts.{gauge_named, gauge_text, gauges, gauges_of, stage_gauges};
 
 use crate::full_queues::{PartQueue, queues};
@@ -58,15 +59,22 @@ impl fmt::Display for GaugeName {
     }
 }
 
+/// Adds what a counter counts of each component.
+fn add_places(all: &mut Vec<Gauge>, shape: Shape, counter: Counter) -> Result<(), AllocError>
+    ensures { OnOk result (all.new.items ≡ all.old.items ++ map (CountedAt counter) (below (components shape))) }
+{
+    for place in 0..shape.components() {
+        all.push(Gauge::CountedAt { counter, place })?;
+    }
+    Ok(())
+}
+
 /// Adds what a counter counts, of all components and of each one.
 fn add_counter(all: &mut Vec<Gauge>, shape: Shape, counter: Counter) -> Result<(), AllocError>
     ensures { OnOk result (all.new.items ≡ all.old.items ++ gauges_of shape counter) }
 {
     all.push(Gauge::Counted(counter))?;
-    for place in 0..shape.components() {
-        all.push(Gauge::CountedAt { counter, place })?;
-    }
-    Ok(())
+    add_places(all, shape, counter)
 }
 
 /// Adds what some counters count.
@@ -130,6 +138,23 @@ fn is_named(alloc: Global, shape: Shape, gauge: Gauge, word: &[u8]) -> Result<bo
     Ok(text.as_bytes() == word)
 }
 
+/// The first of some gauges whose text a word is.
+fn find_named(
+    alloc: Global,
+    shape: Shape,
+    all: &[Gauge],
+    word: &[u8],
+) -> Result<Option<Gauge>, AllocError>
+    ensures { IfOk result (λ gauge. gauge ≡ find (λ g. bytes_eq (gauge_text shape g) word.now) all.now) }
+{
+    for gauge in all {
+        if is_named(alloc, shape, *gauge, word)? {
+            return Ok(Some(*gauge));
+        }
+    }
+    Ok(None)
+}
+
 /// The gauge of a machine whose text a word is, as `served m0` or `queue c0.1 f0`; None where there is none. It compares the word
 /// with the texts of all gauges.
 ///
@@ -140,10 +165,5 @@ pub fn gauge_named(alloc: Global, shape: Shape, word: &[u8]) -> Result<Option<Ga
     ensures { IfOk result (λ gauge. gauge ≡ gauge_named shape word.now) }
 {
     let all = gauges(alloc, shape)?;
-    for gauge in &all {
-        if is_named(alloc, shape, *gauge, word)? {
-            return Ok(Some(*gauge));
-        }
-    }
-    Ok(None)
+    find_named(alloc, shape, all.as_slice(), word)
 }

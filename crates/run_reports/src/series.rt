@@ -80,6 +80,7 @@ fn unsummed(alloc: Global, gauges: &[Gauge]) -> Result<Vec<GaugeSum>, AllocError
 }
 
 /// The sum of a gauge, with what these states of a cycle show.
+#[tactic(auto, unfolding(crate::specs::Summing::with_states))]
 fn with_states(before: GaugeSum, shape: Shape, states: &[MachineState]) -> GaugeSum
     ensures { result ≡ with_states shape (slice_get states.now) before }
 {

@@ -1,0 +1,10 @@
+use Rattle.std.proofs.Common.{◌≡◌, ◌++◌, ◌∷◌, [], ◌∙◌, List, map, sym, ap}
+use Rattle.omega_net.specs.Wires.{below}
+use Rattle.run_reports.specs.declared.gauge.Gauge.{Gauge}
+use Rattle.run_reports.specs.declared.gauge.Gauge.TheVariants.{CountedAt}
+use Rattle.run_reports.proofs.Gauging.{one_placed}
+use Rattle.run_reports.proofs.gauge_text.add_places.Goals as goal
+
+pub loop-place-preserved : goal.loop-place-preserved
+loop-place-preserved c =
+    one_placed (CountedAt c.args.counter) c.loop-place.place c.args.all.now.items c.loop-place.all.items _ c.loop-place.invariant c.in_ok-push.ensures.items

@@ -1,0 +1,15 @@
+use Rattle.std.proofs.Common.{◌≡◌, ◌≤◌, ◌++◌, map, string_bytes}
+use Rattle.std.specs.List.{flat_map}
+use Rattle.omega_net.specs.Wires.{below}
+use Rattle.machine_cells.specs.Run.{run}
+use Rattle.machine_cells.specs.Runs.{state_in}
+use Rattle.run_reports.specs.Runners.{IsAt}
+use Rattle.run_reports.specs.Series.{bin_of, bin_row, start_of}
+use Rattle.run_reports.proofs.series.add_bins.Given as goal
+
+abbrev pub invariant-loop-number : goal.invariant-loop-number
+invariant-loop-number l = record {
+  at : IsAt l.project l.runner;
+  behind : l.runner.cycle ≤ start_of l.bins l.number;
+  text : string_bytes l.text ≡ string_bytes l.initial.text ++ flat_map bin_row (map (bin_of l.project.k (state_in (run l.project)) l.gauges l.bins) (below l.number));
+}
