@@ -98,7 +98,7 @@ no_help word l e answers clear =
 
 -- the labels of the tasks, and `help`
 abbrev labels : Names
-labels = (codes "map", []) ∷ (codes "order", []) ∷ (codes "latency", []) ∷ (codes "done", []) ∷ (codes "trace", []) ∷ (codes "full", []) ∷ (codes "rates", []) ∷ (codes "delays", []) ∷ (codes "sweep", []) ∷ (codes "check", []) ∷ (codes "convert", []) ∷ (codes "help", []) ∷ []
+labels = (codes "map", []) ∷ (codes "order", []) ∷ (codes "latency", []) ∷ (codes "done", []) ∷ (codes "trace", []) ∷ (codes "full", []) ∷ (codes "series", []) ∷ (codes "rates", []) ∷ (codes "delays", []) ∷ (codes "sweep", []) ∷ (codes "check", []) ∷ (codes "convert", []) ∷ (codes "help", []) ∷ []
 
 labels_are : names_of (built lab) ≡ labels
 unfolding lab clap_on_literals
@@ -116,13 +116,14 @@ not_other word l name (inr (inr (inl e))) is answers clear none = differ (codes 
 not_other word l name (inr (inr (inr (inl e)))) is answers clear none = differ (codes "done") l name e is (none 3 map_task (omega arith))
 not_other word l name (inr (inr (inr (inr (inl e))))) is answers clear none = differ (codes "trace") l name e is (none 4 map_task (omega arith))
 not_other word l name (inr (inr (inr (inr (inr (inl e)))))) is answers clear none = differ (codes "full") l name e is (none 5 map_task (omega arith))
-not_other word l name (inr (inr (inr (inr (inr (inr (inl e))))))) is answers clear none = differ (codes "rates") l name e is (none 6 map_task (omega arith))
-not_other word l name (inr (inr (inr (inr (inr (inr (inr (inl e)))))))) is answers clear none = differ (codes "delays") l name e is (none 7 map_task (omega arith))
-not_other word l name (inr (inr (inr (inr (inr (inr (inr (inr (inl e))))))))) is answers clear none = differ (codes "sweep") l name e is (none 8 map_task (omega arith))
-not_other word l name (inr (inr (inr (inr (inr (inr (inr (inr (inr (inl e)))))))))) is answers clear none = differ (codes "check") l name e is (none 9 map_task (omega arith))
-not_other word l name (inr (inr (inr (inr (inr (inr (inr (inr (inr (inr (inl e))))))))))) is answers clear none = differ (codes "convert") l name e is (none 10 map_task (omega arith))
-not_other word l name (inr (inr (inr (inr (inr (inr (inr (inr (inr (inr (inr (inl e)))))))))))) is answers clear none = no_help word l e answers clear
-not_other word l name (inr (inr (inr (inr (inr (inr (inr (inr (inr (inr (inr (inr never)))))))))))) is answers clear none = absurd never
+not_other word l name (inr (inr (inr (inr (inr (inr (inl e))))))) is answers clear none = differ (codes "series") l name e is (none 6 map_task (omega arith))
+not_other word l name (inr (inr (inr (inr (inr (inr (inr (inl e)))))))) is answers clear none = differ (codes "rates") l name e is (none 7 map_task (omega arith))
+not_other word l name (inr (inr (inr (inr (inr (inr (inr (inr (inl e))))))))) is answers clear none = differ (codes "delays") l name e is (none 8 map_task (omega arith))
+not_other word l name (inr (inr (inr (inr (inr (inr (inr (inr (inr (inl e)))))))))) is answers clear none = differ (codes "sweep") l name e is (none 9 map_task (omega arith))
+not_other word l name (inr (inr (inr (inr (inr (inr (inr (inr (inr (inr (inl e))))))))))) is answers clear none = differ (codes "check") l name e is (none 10 map_task (omega arith))
+not_other word l name (inr (inr (inr (inr (inr (inr (inr (inr (inr (inr (inr (inl e)))))))))))) is answers clear none = differ (codes "convert") l name e is (none 11 map_task (omega arith))
+not_other word l name (inr (inr (inr (inr (inr (inr (inr (inr (inr (inr (inr (inr (inl e))))))))))))) is answers clear none = no_help word l e answers clear
+not_other word l name (inr (inr (inr (inr (inr (inr (inr (inr (inr (inr (inr (inr (inr never))))))))))))) is answers clear none = absurd never
 
 first_is : (p q : Text × List Row) → Some p ≡ Some q → p.0 ≡ q.0
 first_is p q e =

@@ -48,6 +48,10 @@ trace_task = task (codes "trace") (file_rule ∷ position_rule (codes "P") ∷ p
 abbrev pub full_task : Shape
 full_task = task (codes "full") (file_rule ∷ [])
 
+abbrev pub series_task : Shape
+series_task =
+    task (codes "series") (file_rule ∷ several_rule (codes "of") ∷ map option_rule (codes "from" ∷ codes "to" ∷ codes "bin" ∷ codes "csv" ∷ []))
+
 abbrev pub measured_rules : List Rule
 measured_rules = map option_rule (codes "k" ∷ codes "hot" ∷ codes "cycles" ∷ codes "seed" ∷ [])
 
@@ -77,7 +81,7 @@ convert_task = task (codes "convert") (file_rule ∷ option_rule (codes "out") �
 
 -- the tasks
 abbrev pub tasks : List Shape
-tasks = map_task ∷ order_task ∷ latency_task ∷ done_task ∷ trace_task ∷ full_task ∷ rates_task ∷ delays_task ∷ sweep_task ∷ check_task ∷ convert_task ∷ []
+tasks = map_task ∷ order_task ∷ latency_task ∷ done_task ∷ trace_task ∷ full_task ∷ series_task ∷ rates_task ∷ delays_task ∷ sweep_task ∷ check_task ∷ convert_task ∷ []
 
 -- no task has this name
 abbrev pub IsNoTask : Text → Type 0

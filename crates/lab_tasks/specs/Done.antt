@@ -13,7 +13,7 @@ use Rattle.lab_tasks.specs.declared.plan.CurvePlan.{CurvePlan}
 use Rattle.lab_tasks.specs.declared.tables.RatePoint.{RatePoint}
 use Rattle.lab_tasks.specs.declared.tables.DelayPoint.{DelayPoint}
 use Rattle.lab_tasks.specs.declared.words.Asked.{Asked}
-use Rattle.lab_tasks.specs.declared.words.Asked.TheVariants.{Map, Order, Latency, Done as Completed, Trace, Full, Rates, Delays, Sweep, Check, Convert}
+use Rattle.lab_tasks.specs.declared.words.Asked.TheVariants.{Map, Order, Latency, Done as Completed, Trace, Full, Series, Rates, Delays, Sweep, Check, Convert}
 use Rattle.lab_tasks.specs.declared.words.MapWords.{MapWords}
 use Rattle.lab_tasks.specs.declared.words.CurveWords.{CurveWords}
 use Rattle.lab_tasks.specs.declared.words.SweepWords.{SweepWords}
@@ -21,6 +21,7 @@ use Rattle.lab_tasks.specs.declared.convert.ConvertWords.{ConvertWords}
 use Rattle.lab_tasks.specs.Words.{text_of, texts_of}
 use Rattle.lab_tasks.specs.Completions.{IsCompletionText}
 use Rattle.lab_tasks.specs.Fullness.{IsFullText}
+use Rattle.lab_tasks.specs.Gauged.{IsSeriesText, IsNoSeries}
 use Rattle.lab_tasks.specs.Latencies.{IsLatencyText, IsNoCondition}
 use Rattle.lab_tasks.specs.Orders.{IsOrderText, IsNoOrder}
 use Rattle.lab_tasks.specs.MapPictures.{IsMapDrawn}
@@ -124,6 +125,7 @@ IsDone (Latency words) bytes outcome = IsMadeOf bytes None (IsLatencyText words)
 IsDone (Completed file) bytes outcome = IsMadeOf bytes None IsCompletionText outcome
 IsDone (Trace words) bytes outcome = IsMadeOf bytes None (IsTraceText words) outcome
 IsDone (Full file) bytes outcome = IsMadeOf bytes None IsFullText outcome
+IsDone (Series words) bytes outcome = IsMadeOf bytes (text_of words.csv) (IsSeriesText words) outcome
 IsDone (Rates words) bytes outcome = AreRates words outcome
 IsDone (Delays words) bytes outcome = AreDelays words outcome
 IsDone (Sweep words) bytes outcome = IsMadeOf bytes (text_of words.csv) (IsSweepText words) outcome
@@ -146,6 +148,7 @@ IsNotDone (Latency words) bytes e = IsNotMade bytes (λ P. IsNoCondition P words
 IsNotDone (Completed file) bytes e = IsNotMade bytes (λ P. ⊥) e
 IsNotDone (Trace words) bytes e = IsNotMade bytes (λ P. IsNoTag P words e) e
 IsNotDone (Full file) bytes e = IsNotMade bytes (λ P. ⊥) e
+IsNotDone (Series words) bytes e = IsNotMade bytes (IsNoSeries words e) e
 IsNotDone (Rates words) bytes e = (e ≡ end.Memory) ⊎ IsNoCurve words e
 IsNotDone (Delays words) bytes e = (e ≡ end.Memory) ⊎ IsNoCurve words e
 IsNotDone (Sweep words) bytes e = IsNotMade bytes (IsNoSweep words e) e

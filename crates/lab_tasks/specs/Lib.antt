@@ -10,6 +10,7 @@ pub mod EditSweeps
 pub mod Elsewhere
 pub mod Ends
 pub mod Fullness
+pub mod Gauged
 pub mod Heats
 pub mod Kept
 pub mod Latencies

@@ -4,11 +4,12 @@ use Rattle.std.specs.Option.{option_map_or}
 use Rattle.std.specs.Borrow.{Bor}
 use Rattle.clap.specs.Words.{Row, Text, all_of, first_of}
 use Rattle.lab_tasks.specs.declared.words.Asked.{Asked}
-use Rattle.lab_tasks.specs.declared.words.Asked.TheVariants.{Map, Order, Latency, Done, Trace, Full, Rates, Delays, Sweep, Check, Convert}
+use Rattle.lab_tasks.specs.declared.words.Asked.TheVariants.{Map, Order, Latency, Done, Trace, Full, Series, Rates, Delays, Sweep, Check, Convert}
 use Rattle.lab_tasks.specs.declared.words.MapWords.{MapWords}
 use Rattle.lab_tasks.specs.declared.convert.ConvertWords.{ConvertWords}
 use Rattle.lab_tasks.specs.declared.latency.LatencyWords.{LatencyWords}
 use Rattle.lab_tasks.specs.declared.order.OrderWords.{OrderWords}
+use Rattle.lab_tasks.specs.declared.series.SeriesWords.{SeriesWords}
 use Rattle.lab_tasks.specs.declared.trace.TraceWords.{TraceWords}
 use Rattle.lab_tasks.specs.declared.words.CurveWords.{CurveWords}
 use Rattle.lab_tasks.specs.declared.words.SweepWords.{SweepWords}
@@ -57,6 +58,14 @@ pub record AreTraceWords (rows : List Row) (words : TraceWords) : Type 0 where
   pub processor : text_of words.processor ≡ first_of (codes "P") rows
   pub number : text_of words.number ≡ first_of (codes "I") rows
 
+pub record AreSeriesWords (rows : List Row) (words : SeriesWords) : Type 0 where
+  pub file : words.file.now ≡ file_at rows
+  pub gauges : texts_of words.gauges.items ≡ texts_at rows (codes "of")
+  pub from : text_of words.from ≡ first_of (codes "from") rows
+  pub to : text_of words.to ≡ first_of (codes "to") rows
+  pub bin : text_of words.bin ≡ first_of (codes "bin") rows
+  pub csv : text_of words.csv ≡ first_of (codes "csv") rows
+
 pub record AreCurveWords (rows : List Row) (words : CurveWords) : Type 0 where
   pub k : text_of words.k ≡ first_of (codes "k") rows
   pub hot : text_of words.hot ≡ first_of (codes "hot") rows
@@ -94,6 +103,7 @@ AsksFor said (Latency words) = IsNamed said (codes "latency") (λ rows. AreLaten
 AsksFor said (Done file) = IsNamed said (codes "done") (λ rows. file.now ≡ file_at rows)
 AsksFor said (Trace words) = IsNamed said (codes "trace") (λ rows. AreTraceWords rows words)
 AsksFor said (Full file) = IsNamed said (codes "full") (λ rows. file.now ≡ file_at rows)
+AsksFor said (Series words) = IsNamed said (codes "series") (λ rows. AreSeriesWords rows words)
 AsksFor said (Rates words) = IsNamed said (codes "rates") (λ rows. AreCurveWords rows words)
 AsksFor said (Delays words) = IsNamed said (codes "delays") (λ rows. AreCurveWords rows words)
 AsksFor said (Sweep words) = IsNamed said (codes "sweep") (λ rows. AreSweepWords rows words)
@@ -107,6 +117,7 @@ file_of (Latency words) = Some words.file.now
 file_of (Done file) = Some file.now
 file_of (Trace words) = Some words.file.now
 file_of (Full file) = Some file.now
+file_of (Series words) = Some words.file.now
 file_of (Rates words) = None
 file_of (Delays words) = None
 file_of (Sweep words) = Some words.file.now

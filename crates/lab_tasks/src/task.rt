@@ -7,6 +7,7 @@ ghost use Rattle.lab_tasks.specs.Completions.{IsCompletionText};
 ghost use Rattle.lab_tasks.specs.DelayPictures.{IsDelayPicture};
 ghost use Rattle.lab_tasks.specs.Done.{delay_header, rate_header, is_over, AreDelays, AreRates, IsConverted, IsDone, IsMadeOf, IsMapMade, IsNoSweep, IsNotDone, IsNotMade, IsOver, IsSweepText, IsTableGiven};
 ghost use Rattle.lab_tasks.specs.Fullness.{IsFullText};
+ghost use Rattle.lab_tasks.specs.Gauged.{IsNoSeries, IsSeriesText};
 ghost use Rattle.lab_tasks.specs.Kept.{kept_of, load_name, name_text, net_text, IsKept, IsWithKept};
 ghost use Rattle.lab_tasks.specs.Latencies.{IsLatencyText, IsNoCondition};
 ghost use Rattle.lab_tasks.specs.Orders.{IsNoOrder, IsOrderText};
@@ -36,6 +37,7 @@ use crate::points::{delay_loads, rate_loads};
 use crate::progress::Progress;
 use crate::rate_picture::rate_picture;
 use crate::rates::{rate_points, rate_table};
+use crate::series::{SeriesWords, series_table};
 use crate::setup::set_up;
 use crate::sweep::sweep_table;
 use crate::tables::{DelayPoint, RatePoint};
@@ -167,6 +169,19 @@ fn full<'a>(alloc: Global, bytes: &[u8]) -> Result<Outcome, End<'a>>
     let project = project_in(alloc, bytes)?;
     let text = full_report(alloc, &project)?;
     Ok(to_file_or_output(alloc, None, text.into_bytes())?)
+}
+
+#[tactic(auto, using(crate::proofs::Stops::not_made))]
+fn series<'a>(alloc: Global, words: &SeriesWords<'a>, bytes: &[u8]) -> Result<Outcome, End<'a>>
+    ensures done { IfOk result (IsMadeOf bytes.now (text_of words.now.csv) (IsSeriesText words.now)) }
+    ensures refused { IfErr result (λ end. IsNotMade bytes.now (IsNoSeries words.now end) end) }
+{
+    let project = project_in(alloc, bytes)?;
+    let table = match series_table(alloc, words, &project) {
+        Ok(table) => table,
+        Err(end) => return Err(end),
+    };
+    Ok(to_file_or_output(alloc, words.csv, table.into_bytes())?)
 }
 
 /// The network of a load, in the name of its project file.
@@ -436,6 +451,7 @@ pub fn perform<'a, T: Threads + Sync, P: Progress>(
             let outcome = full(alloc, bytes)?;
             Ok(outcome)
         }
+        Asked::Series(words) => series(alloc, words, bytes),
         Asked::Rates(words) => rates(rt, alloc, words, progress),
         Asked::Delays(words) => delays(rt, alloc, words, progress),
         Asked::Sweep(words) => sweep(rt, alloc, words, bytes),

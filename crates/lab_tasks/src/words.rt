@@ -4,12 +4,13 @@ ghost use Rattle.std.specs.Option.{option_map_or};
 ghost use Rattle.clap.specs.Matches.{matched_of, raw_values};
 ghost use Rattle.clap.specs.Walk.{texts};
 ghost use Rattle.clap.specs.Words.{FailsBy, fault_of, first_of, found_of, new_app, rows_of, rule_of, subcommand_of};
-ghost use Rattle.lab_tasks.specs.CommandLine.{any_number_rule, bare, check_task, convert_task, delays_task, done_task, file_rule, flag_rule, full_task, kept_rules, lab, map_task, latency_task, measured_task, option_rule, order_task, position_rule, rates_task, several_rule, sweep_task, trace_task, HasAll, HasMore, HasTask, IsApp, IsLab, IsNoTask, IsTask};
-ghost use Rattle.lab_tasks.specs.Words.{file_at, is_given, text_of, texts_at, AreConvertWords, AreCurveWords, AreLatencyWords, AreMapWords, AreOrderWords, AreSweepWords, AreTraceWords, AsksFor};
+ghost use Rattle.lab_tasks.specs.CommandLine.{any_number_rule, bare, check_task, convert_task, delays_task, done_task, file_rule, flag_rule, full_task, kept_rules, lab, map_task, latency_task, measured_task, option_rule, order_task, position_rule, rates_task, series_task, several_rule, sweep_task, trace_task, HasAll, HasMore, HasTask, IsApp, IsLab, IsNoTask, IsTask};
+ghost use Rattle.lab_tasks.specs.Words.{file_at, is_given, text_of, texts_at, AreConvertWords, AreCurveWords, AreLatencyWords, AreMapWords, AreOrderWords, AreSeriesWords, AreSweepWords, AreTraceWords, AsksFor};
 
 use crate::convert::ConvertWords;
 use crate::latency::LatencyWords;
 use crate::order::OrderWords;
+use crate::series::SeriesWords;
 use crate::trace::TraceWords;
 use clap::{Arg, ArgAction, ArgMatches, Command, Error};
 use std::alloc::{AllocError, Global};
@@ -61,6 +62,7 @@ pub enum Asked<'a> {
     Done { file: &'a str },
     Trace(TraceWords<'a>),
     Full { file: &'a str },
+    Series(SeriesWords<'a>),
     Rates(CurveWords<'a>),
     Delays(CurveWords<'a>),
     Sweep(SweepWords<'a>),
@@ -82,6 +84,7 @@ impl<'a> Asked<'a> {
             Asked::Done { file } => Some(*file),
             Asked::Trace(words) => Some(words.file),
             Asked::Full { file } => Some(*file),
+            Asked::Series(words) => Some(words.file),
             Asked::Rates(_) | Asked::Delays(_) => None,
             Asked::Sweep(words) => Some(words.file),
             Asked::Check { file } => Some(*file),
@@ -109,6 +112,9 @@ const TRACE_ABOUT: &str =
 const FULL_ABOUT: &str =
     "Says which queues and wait buffers were full, in the order in which they first were";
 
+const SERIES_ABOUT: &str =
+    "Tabulates what a run shows, cycle by cycle or by bins of cycles: counters, lengths of queues, stages";
+
 const RATES_ABOUT: &str =
     "Measures references answered per cycle against the number of processors, for some shares of hot references";
 
@@ -132,6 +138,16 @@ const DELAYS_MEASURED: &str = "\
 Each processor issues 256 references, at most 8 of them unanswered: of a hundred as many as --hot says add 1 to word 0, the
 others load a word of page 1, which is spread over all modules. They are drawn from --seed. The second half of the cycles is
 measured. Without --csv and --out the table goes to standard output.";
+
+const GAUGED: &str = "\
+A GAUGE is a counter, which is issued, answered, served, combined or waiting, of the whole machine, or of one component, as
+'served m0'; 'queue PLACE PART', the length of a queue that the table of full names, as 'queue c0.1 f0'; 'stage NET S', how many
+messages the output queues of stage S of NET hold, low or comb; or 'busy NET S', how many of these queues hold any. A row has the
+first cycle of its bin, and of each gauge the sum over the cycles of the bin.
+
+Status: 0 done; 2 the command line; 3 a file can't be read or written; 4 the project is refused; 5 no memory, or standard
+output can't be written; 7 a number outside of what there is. A file is written beside its name and then renamed, so none
+stays half written.";
 
 const SWEPT: &str = "\
 A TEMPLATE is an edit of the workbench with braces in it: a range of numbers {A..B}, where k is the project's k, or words
@@ -401,6 +417,42 @@ fn full_command<'a>(alloc: Global) -> Result<Command<'a>, AllocError>
     Ok(task)
 }
 
+fn series_command<'a>(alloc: Global) -> Result<Command<'a>, AllocError>
+    ensures { IfOk result (IsTask series_task) }
+{
+    let task = with_file(alloc, named(alloc, "series", SERIES_ABOUT, GAUGED))?;
+    let task = with_several(
+        alloc,
+        task,
+        "of",
+        "GAUGE",
+        "What is tabulated, as 'served m0'; where given several times, a column for each",
+    )?;
+    let task = with_option(alloc, task, "from", "T", "The first cycle; without it 0")?;
+    let task = with_option(
+        alloc,
+        task,
+        "to",
+        "T",
+        "The last cycle; without it the horizon",
+    )?;
+    let task = with_option(
+        alloc,
+        task,
+        "bin",
+        "N",
+        "How many cycles a row stands for; without it 1",
+    )?;
+    let task = with_option(
+        alloc,
+        task,
+        "csv",
+        "TABLE.csv",
+        "Where the table goes; without it to standard output",
+    )?;
+    Ok(task)
+}
+
 /// A task of curves, with the arguments that say what is measured.
 fn measured_command<'a>(
     alloc: Global,
@@ -598,6 +650,7 @@ fn lab_command<'a>(alloc: Global) -> Result<Command<'a>, AllocError>
     let command = with_task(command, done_command(alloc)?)?;
     let command = with_task(command, trace_command(alloc)?)?;
     let command = with_task(command, full_command(alloc)?)?;
+    let command = with_task(command, series_command(alloc)?)?;
     let command = with_task(command, rates_command(alloc)?)?;
     let command = with_task(command, delays_command(alloc)?)?;
     let command = with_task(command, sweep_command(alloc)?)?;
@@ -726,6 +779,20 @@ fn sweep_words<'a>(alloc: Global, matches: &ArgMatches<'a>) -> Result<SweepWords
     })
 }
 
+fn series_words<'a>(alloc: Global, matches: &ArgMatches<'a>) -> Result<SeriesWords<'a>, AllocError>
+    ensures { IfOk result (AreSeriesWords (rows_of (found_of matches.now))) }
+{
+    let gauges = all_of(alloc, matches, "of")?;
+    Ok(SeriesWords {
+        file: file_in(matches),
+        gauges,
+        from: text_in(matches, "from"),
+        to: text_in(matches, "to"),
+        bin: text_in(matches, "bin"),
+        csv: text_in(matches, "csv"),
+    })
+}
+
 fn convert_words<'a>(matches: &ArgMatches<'a>) -> ConvertWords<'a>
     ensures { AreConvertWords (rows_of (found_of matches.now)) result }
 {
@@ -756,6 +823,7 @@ fn asked_of<'a>(
         "full" => Some(Asked::Full {
             file: file_in(matches),
         }),
+        "series" => Some(Asked::Series(series_words(alloc, matches)?)),
         "rates" => Some(Asked::Rates(curve_words(matches))),
         "delays" => Some(Asked::Delays(curve_words(matches))),
         "sweep" => Some(Asked::Sweep(sweep_words(alloc, matches)?)),

@@ -117,6 +117,32 @@ fn words_of_a_sweep_are_taken(rt: HostRuntime) -> Result<(), Fail> {
 }
 
 #[test]
+fn words_of_a_series_are_taken(rt: HostRuntime) -> Result<(), Fail> {
+    let words = [
+        "series",
+        "--of",
+        "served m0",
+        "a.toml",
+        "--bin=10",
+        "--of=busy low 1",
+        "--to",
+        "40",
+    ];
+    let asked = read_words(rt.alloc(), &words)?;
+    let Asked::Series(series) = &asked else {
+        return Err(Fail::from("a series"));
+    };
+    compare(
+        &rt,
+        &[asked.file(), series.from, series.to, series.bin, series.csv],
+        &["a.toml", "-", "40", "10", "-"],
+    );
+    let gauges = ["served m0", "busy low 1"];
+    assert!(rt; series.gauges.as_slice() == gauges.as_slice());
+    Ok(())
+}
+
+#[test]
 fn words_of_a_file_are_taken(rt: HostRuntime) -> Result<(), Fail> {
     let asked = read_words(rt.alloc(), &["check", "a.toml"])?;
     compare(&rt, &[asked.file()], &["a.toml"]);
