@@ -1,5 +1,5 @@
 -- What gauges show in the cycles of a window, by bins.
-use Rattle.std.specs.Prelude.{ℕ, ◌+◌, ◌-◌, ◌*◌, ◌/◌, ◌^◌, min, List, [], ◌∷◌, ◌++◌, map, Option, codes, decimal}
+use Rattle.std.specs.Prelude.{ℕ, ◌+◌, ◌-◌, ◌*◌, ◌/◌, ◌^◌, min, List, ◌++◌, map, Option, codes, decimal}
 use Rattle.std.specs.List.{flat_map}
 use Rattle.omega_net.specs.Wires.{below}
 use Rattle.machine_cells.specs.declared.state.MachineState.{MachineState}

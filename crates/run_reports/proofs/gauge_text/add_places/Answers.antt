@@ -1,6 +1,3 @@
-use Rattle.std.proofs.Common.{◌≡◌, ◌++◌, ◌∷◌, [], ◌∙◌, List, map, sym, ap}
-use Rattle.omega_net.specs.Wires.{below}
-use Rattle.run_reports.specs.declared.gauge.Gauge.{Gauge}
 use Rattle.run_reports.specs.declared.gauge.Gauge.TheVariants.{CountedAt}
 use Rattle.run_reports.proofs.Gauging.{one_placed}
 use Rattle.run_reports.proofs.gauge_text.add_places.Goals as goal
