@@ -13,7 +13,7 @@ zip-push R [] (b ∷ ys) x y h r = absurd h
 zip-push R (a ∷ xs) [] x y h r = absurd h
 zip-push R (a ∷ xs) (b ∷ ys) x y h r = (h.0, zip-push R xs ys x y h.1 r)
 
-abbrev blank : Bor (List ℕ)
+abbrev pub blank : Bor (List ℕ)
 blank = record { ref_ptr = (0, 0); now = [] }
 
 abbrev pub texts : List (Bor (List ℕ)) → List (List ℕ)
