@@ -1,7 +1,8 @@
 -- A command line names a task, or `clap` finds a fault in it.
 use Rattle.std.proofs.Common.{◌≡◌, ◌⊎◌, ◌∙◌, ◌||◌, ℕ, Bool, true, false, List, [], ◌∷◌, inl, inr, refl, sym, ap, subst, arith}
-use Rattle.std.specs.Prelude.{Option, Some, None, Result, codes, find, map, option_map}
+use Rattle.std.specs.Prelude.{IfNone, Option, Some, None, Result, codes, find, map, option_map}
 use Rattle.std.specs.Str.{bytes_eq}
+use Rattle.std.proofs.lemmas.List.Elements.{All-from_recursion, recursion_from_All}
 use Rattle.std.proofs.lemmas.Slice.Eq.{bytes_eq-Decides}
 use Rattle.clap.specs.Walk.{Names, answers_to, nothing_held, walk_from}
 use Rattle.clap.specs.Words.{App, FailsBy, HasMatchesOf, IsParsedFrom, Row, Shape, Text, app_of, fault_of, has_subcommand, is_simple, is_simple_and_free, subcommand_name_of, subcommand_of, subcommand_rows_of}
@@ -12,7 +13,7 @@ use Rattle.clap.specs.declared.builder.command.Command.TheViews.{out-Command}
 use Rattle.clap.specs.declared.error.Error.{Error}
 use Rattle.clap.specs.declared.parser.matches.ArgMatches.{ArgMatches}
 use Rattle.clap.proofs.OnLiterals.{clap_on_literals}
-use Rattle.lab_tasks.specs.CommandLine.{lab, map_task, IsLab, IsNoTask}
+use Rattle.lab_tasks.specs.CommandLine.{lab, map_task, other_tasks, reports, tasks, IsLab, IsNoneOf, IsNoTask}
 use Rattle.lab_tasks.proofs.Helps.{IsClear, first_none, walk_clear}
 
 lab_simple : is_simple lab ≡ true
@@ -152,3 +153,17 @@ is_task words name rows fault said none =
     let walk : walk_fault top names (walk_from nothing_held) given ≡ [] = first_none _ _ fault in
     let clear = walk_clear top names (walk_from nothing_held) given helps tt walk in
     stopped_none _ name rows clear none said
+
+-- a name that neither a report has nor another task is that of no task
+pub no_task : (name : Text) → IsNoneOf reports name → IsNoneOf other_tasks name → IsNoTask name
+no_task name r o =
+    let has_not : Shape → Type 0 = λ t. bytes_eq t.name name ≡ false in
+    let rs = recursion_from_All has_not reports r in
+    let os = recursion_from_All has_not other_tasks o in
+    All-from_recursion has_not tasks
+    (os.0, (os.1.0, (rs.0, (rs.1.0, (rs.1.1.0, (rs.1.1.1.0, (rs.1.1.1.1.0, (os.1.1.0, (os.1.1.1.0, (os.1.1.1.1.0, (os.1.1.1.1.1.0, (os.1.1.1.1.1.1.0, os.1.1.1.1.1.1.1))))))))))))
+
+-- nothing, so what follows from it too
+pub none_more : {T : Type 0} (o : Option T) (X Y : Type 0) → (X → Y) → IfNone o X → IfNone o Y
+none_more None X Y f h = f h
+none_more (Some x) X Y f h = tt

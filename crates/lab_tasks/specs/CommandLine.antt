@@ -83,9 +83,19 @@ convert_task = task (codes "convert") (file_rule ∷ option_rule (codes "out") �
 abbrev pub tasks : List Shape
 tasks = map_task ∷ order_task ∷ latency_task ∷ done_task ∷ trace_task ∷ full_task ∷ series_task ∷ rates_task ∷ delays_task ∷ sweep_task ∷ check_task ∷ convert_task ∷ []
 
--- no task has this name
+-- none of these tasks has this name; and no task at all
+abbrev pub IsNoneOf : List Shape → Text → Type 0
+IsNoneOf ts name = All (λ t. bytes_eq t.name name ≡ false) ts
+
 abbrev pub IsNoTask : Text → Type 0
-IsNoTask name = All (λ t. bytes_eq t.name name ≡ false) tasks
+IsNoTask = IsNoneOf tasks
+
+-- those that print a report of a file's run, and the others
+abbrev pub reports : List Shape
+reports = latency_task ∷ done_task ∷ trace_task ∷ full_task ∷ series_task ∷ []
+
+abbrev pub other_tasks : List Shape
+other_tasks = map_task ∷ order_task ∷ rates_task ∷ delays_task ∷ sweep_task ∷ check_task ∷ convert_task ∷ []
 
 -- `lab TASK ..`, with a version; the words are those behind the program's name
 abbrev pub bare : App

@@ -4,7 +4,7 @@ ghost use Rattle.std.specs.Option.{option_map_or};
 ghost use Rattle.clap.specs.Matches.{matched_of, raw_values};
 ghost use Rattle.clap.specs.Walk.{texts};
 ghost use Rattle.clap.specs.Words.{FailsBy, fault_of, first_of, found_of, new_app, rows_of, rule_of, subcommand_of};
-ghost use Rattle.lab_tasks.specs.CommandLine.{any_number_rule, bare, check_task, convert_task, delays_task, done_task, file_rule, flag_rule, full_task, kept_rules, lab, map_task, latency_task, measured_task, option_rule, order_task, position_rule, rates_task, series_task, several_rule, sweep_task, trace_task, HasAll, HasMore, HasTask, IsApp, IsLab, IsNoTask, IsTask};
+ghost use Rattle.lab_tasks.specs.CommandLine.{any_number_rule, bare, check_task, convert_task, delays_task, done_task, file_rule, flag_rule, full_task, kept_rules, lab, map_task, latency_task, measured_task, option_rule, order_task, other_tasks, position_rule, rates_task, reports, series_task, several_rule, sweep_task, trace_task, HasAll, HasMore, HasTask, IsApp, IsLab, IsNoneOf, IsNoTask, IsTask};
 ghost use Rattle.lab_tasks.specs.Words.{file_at, is_given, text_of, texts_at, AreConvertWords, AreCurveWords, AreLatencyWords, AreMapWords, AreOrderWords, AreSeriesWords, AreSweepWords, AreTraceWords, AsksFor};
 
 use crate::convert::ConvertWords;
@@ -803,18 +803,16 @@ fn convert_words<'a>(matches: &ArgMatches<'a>) -> ConvertWords<'a>
     }
 }
 
-/// What the task of a name is asked for by its matches; None where no task has the name.
-fn asked_of<'a>(
+/// What the report of a name is asked for by its matches; None where no report has the name.
+fn report_asked<'a>(
     alloc: Global,
     name: &str,
     matches: &ArgMatches<'a>,
 ) -> Result<Option<Asked<'a>>, AllocError>
     ensures asked { IfOk result (λ o. IfSome o (AsksFor (Some (name.now, rows_of (found_of matches.now))))) }
-    ensures none { IfOk result (λ o. IfNone o (IsNoTask name.now)) }
+    ensures none { IfOk result (λ o. IfNone o (IsNoneOf reports name.now)) }
 {
     Ok(match name {
-        "map" => Some(Asked::Map(map_words(matches))),
-        "order" => Some(Asked::Order(order_words(matches))),
         "latency" => Some(Asked::Latency(latency_words(matches))),
         "done" => Some(Asked::Done {
             file: file_in(matches),
@@ -824,6 +822,22 @@ fn asked_of<'a>(
             file: file_in(matches),
         }),
         "series" => Some(Asked::Series(series_words(alloc, matches)?)),
+        _ => None,
+    })
+}
+
+/// What the other task of a name is asked for by its matches; None where none has the name.
+fn other_asked<'a>(
+    alloc: Global,
+    name: &str,
+    matches: &ArgMatches<'a>,
+) -> Result<Option<Asked<'a>>, AllocError>
+    ensures asked { IfOk result (λ o. IfSome o (AsksFor (Some (name.now, rows_of (found_of matches.now))))) }
+    ensures none { IfOk result (λ o. IfNone o (IsNoneOf other_tasks name.now)) }
+{
+    Ok(match name {
+        "map" => Some(Asked::Map(map_words(matches))),
+        "order" => Some(Asked::Order(order_words(matches))),
         "rates" => Some(Asked::Rates(curve_words(matches))),
         "delays" => Some(Asked::Delays(curve_words(matches))),
         "sweep" => Some(Asked::Sweep(sweep_words(alloc, matches)?)),
@@ -833,6 +847,22 @@ fn asked_of<'a>(
         "convert" => Some(Asked::Convert(convert_words(matches))),
         _ => None,
     })
+}
+
+/// What the task of a name is asked for by its matches; None where no task has the name.
+fn asked_of<'a>(
+    alloc: Global,
+    name: &str,
+    matches: &ArgMatches<'a>,
+) -> Result<Option<Asked<'a>>, AllocError>
+    ensures asked { IfOk result (λ o. IfSome o (AsksFor (Some (name.now, rows_of (found_of matches.now))))) }
+    ensures none { IfOk result (λ o. IfNone o (IsNoTask name.now)) }
+{
+    let report = report_asked(alloc, name, matches)?;
+    match report {
+        Some(asked) => Ok(Some(asked)),
+        None => other_asked(alloc, name, matches),
+    }
 }
 
 /// Reads the words behind the program's name.
