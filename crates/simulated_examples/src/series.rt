@@ -128,6 +128,7 @@ fn series_of_examples(rt: HostRuntime) -> Result<(), Fail> {
         let project = asked.setup.project(rt.alloc())?;
         let gauges = named(rt.alloc(), project.shape(), asked.gauges)?;
         let [from, to, size] = asked.cycles;
+        assert!(rt; size > 0 && from <= to && to <= project.horizon());
         let window = Window { from, to };
         let bins = Bins { window, size };
         let text = series_text(rt.alloc(), &project, gauges.as_slice(), bins)?;
