@@ -28,4 +28,5 @@ pub mod Filling
 pub mod Passing
 pub mod Repeating
 pub mod WholeRows
+pub mod NextWords
 pub mod Noted

@@ -2,8 +2,10 @@
 ghost use Rattle.std.specs.Prelude.{◌≡◌, ℕ, ◌-◌, ◌<◌, IfSome, MatchOption, Some, true};
 ghost use Rattle.grid_law.specs.Run.{run};
 ghost use Rattle.cell_table.specs.Seen.{held_at};
+ghost use Rattle.cell_table.specs.NextWords.{AreBeside};
 ghost use Rattle.cell_table.specs.WholeRows.{HoldsRow, IsKnown};
 
+use crate::beside::Beside;
 use crate::cells::Cells;
 use crate::{Cell, WholeRow};
 use grid_law::Grid;
@@ -68,6 +70,40 @@ fn loaded<G: Grid, M: WholeRow<G>>(
         }
     }
     Some(row)
+}
+
+/// Brings an idle row to a cycle, where none goes along and there is one.
+pub(crate) fn start_along<G: Grid, M: WholeRow<G>>(
+    cells: &Cells<G>,
+    slots: &G::Slots,
+    along: &mut Option<Along<M>>,
+    beside: &mut Beside<M>,
+    cycle: u32,
+)
+    requires held { (c : ℕ) → c < G.rules.components slots.now → (held_at cells.now cycle c).state ≡ Some (run G.rules slots.now cycle c) }
+    requires along { IfSome along.old (λ a. HoldsRow G.rules M.stands M.state slots.now a.row a.cycle) }
+    requires beside { AreBeside G.rules G.codec M.stands M.state slots.now beside.old }
+    ensures along { IfSome along.new (λ a. HoldsRow G.rules M.stands M.state slots.now a.row a.cycle) }
+    ensures beside { AreBeside G.rules G.codec M.stands M.state slots.now beside.new }
+{
+    if along.is_some() {
+        return;
+    }
+    match beside.idle.take() {
+        Some(row) => match loaded::<G, M>(cells, slots, row, cycle) {
+            Some(row) => *along = Some(Along { row, cycle }),
+            None => {}
+        },
+        None => {}
+    }
+}
+
+/// The row that went along is kept. What it holds means nothing any more.
+pub(crate) fn keep_idle<M: Drop>(along: Option<Along<M>>, beside: &mut Beside<M>) {
+    match along {
+        Some(a) => beside.idle = Some(a.row),
+        None => {}
+    }
 }
 
 /// Brings a row to a cycle: whether there is one there then.

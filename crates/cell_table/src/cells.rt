@@ -27,7 +27,7 @@ use grid_law::{Grid, NoMemory};
 use std::alloc::Global;
 use std::marker::Model;
 use std::sync::Arc;
-pub(crate) use whole::put_due;
+pub(crate) use whole::{put_due, put_each};
 
 /// The cells of the first cycles: the states, and by cycle which cells are due, and their versions.
 #[derive(Drop)]

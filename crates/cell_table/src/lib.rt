@@ -60,11 +60,13 @@
 #![tactic(auto)]
 
 mod along;
+mod beside;
 mod cell;
 mod cells;
 mod claim;
 mod components;
 mod cone;
+mod few;
 mod given;
 mod marks;
 mod neighbours;
@@ -78,6 +80,7 @@ mod watcher;
 mod whole_row;
 mod work;
 
+pub use beside::Beside;
 pub use cell::{Cell, CellRange};
 pub use claim::{Claim, Done};
 pub use given::{Given, SettleFault, Settled, StoreFault, TouchFault};

@@ -6,17 +6,24 @@ ghost use Rattle.std.specs.Arc.{arc_value};
 ghost use Rattle.cell_table.specs.Layout.{state_at, IsAsMany, IsSameStates, IsOtherState};
 ghost use Rattle.cell_table.specs.Reads.{reads_by};
 ghost use Rattle.cell_table.specs.Filling.{is_awake};
+ghost use Rattle.cell_table.specs.Readers.{AreNear};
+ghost use Rattle.cell_table.specs.NextWords.{HoldsWords};
+ghost use Rattle.grid_law.specs.Run.{run};
 
 mod changed;
+mod each;
 mod memory;
 mod put;
 mod whole;
 
+use crate::beside::Near;
+use crate::neighbours::Neighbours;
 use crate::{Cell, WholeRow};
 use cell_marks::Row;
 use change_lists::Lists;
 use change_rows::{Cells as Draft, Rows};
 use changed::repeat_changed;
+use each::put_each;
 use grid_law::{Grid, NoMemory};
 use memory::{Change, is_same, no_changes};
 use put::{put_state, repeat_state};
@@ -296,6 +303,54 @@ impl<G: Grid> States<G> {
             slots,
             row,
             step,
+            set,
+            changes,
+            cycle,
+        ) {
+            Ok(()) => {}
+            Err(_) => return Err(NoMemory),
+        }
+        Ok(())
+    }
+
+    /// Gives the components of a set at a cycle the states that a step of each one gives them, out of a row into which what is near them is
+    /// put; those are marked that had another, or none. Where memory is wanting, no state changes.
+    pub(crate) fn put_each<M: WholeRow<G>>(
+        &mut self,
+        slots: &G::Slots,
+        held: &mut Near<M>,
+        near: &Neighbours,
+        set: &Row,
+        changes: &mut Row,
+        cycle: u32,
+    ) -> Result<(), NoMemory>
+        requires later { 0 < cycle }
+        requires within { cycle < length self.old.rows }
+        requires width { length set.now ≡ self.old.width }
+        requires components { length set.now ≡ G.rules.components slots.now }
+        requires changes { length changes.old ≡ length set.now }
+        requires held { HoldsWords G.rules G.codec M.stands M.state slots.now held.old }
+        requires near { AreNear G.rules slots.now near.now }
+        requires before { (c : ℕ) → c < length set.now → state_at self.old (cycle - 1) c ≡ Some (run G.rules slots.now (cycle - 1) c) }
+        requires earlier { 1 < cycle → (c : ℕ) → c < length set.now → state_at self.old (cycle - 2) c ≡ Some (run G.rules slots.now (cycle - 2) c) }
+        ensures many { IsAsMany self.old self.new }
+        ensures changes { length changes.new ≡ length changes.old }
+        ensures held { HoldsWords G.rules G.codec M.stands M.state slots.now held.new }
+        ensures put { OnOk result ((c : ℕ) → state_at self.new cycle c ≡ (if is_awake set.now c then Some (run G.rules slots.now cycle c) else state_at self.old cycle c)) }
+        ensures others { OnOk result ((t c : ℕ) → (t ≡ cycle → ⊥) → state_at self.new t c ≡ state_at self.old t c) }
+        ensures tells { OnOk result ((c : ℕ) → is_awake set.now c ≡ true → (is_awake changes.new c ≡ false) ↔ (state_at self.old cycle c ≡ Some (run G.rules slots.now cycle c))) }
+        ensures unmarked { OnOk result ((c : ℕ) → is_awake set.now c ≡ false → is_awake changes.new c ≡ false) }
+        ensures err { OnErr result (IsSameStates self.old self.new) }
+    {
+        match put_each::<G, M>(
+            &mut self.words,
+            &mut self.memories,
+            &mut self.draft,
+            &mut self.buffer,
+            &mut self.ready,
+            slots,
+            held,
+            near,
             set,
             changes,
             cycle,

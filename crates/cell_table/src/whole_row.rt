@@ -1,7 +1,9 @@
 //! All components of a grid at one cycle, stepped together.
 ghost use Rattle.std.specs.Prelude.{◌≡◌, ℕ, ◌<◌, ◌++◌, ◌↔◌, IsTrue, IfSome, IfOk, OnOk, OnErr, map, option_map, slice_index_or, true, false, Some};
 ghost use Rattle.grid_law.specs.Codec.{IsTold};
+ghost use Rattle.std.specs.Option.{option_copied, option_or};
 ghost use Rattle.cell_table.specs.Codes.{IsCodeOf};
+ghost use Rattle.cell_table.specs.NextWords.{IsNear};
 
 use grid_law::{Grid, NoMemory};
 use std::alloc::{AllocError, Global};
@@ -31,6 +33,11 @@ pub trait WholeRow<G: Grid>: Drop {
     fn new(alloc: Global, s: &G::Slots) -> Option<Self>
         ensures stands { IfSome result (λ row. stands row s.now) }
         ensures states { IfSome result (λ row. (c : ℕ) → c < G.rules.components s.now → state row c ≡ G.rules.start s.now c) };
+
+    /// The row stands for these slots, whatever it stood for before, where it can: whether it does. It then holds any states. It takes no
+    /// memory.
+    fn resume(&mut self, s: &G::Slots) -> bool
+        ensures { result ≡ true → stands self.new s.now };
 
     /// The row stands for other slots of the same shape, and holds what it held. It takes no memory.
     fn follow(&mut self, s: &G::Slots)
@@ -66,6 +73,35 @@ pub trait WholeRow<G: Grid>: Drop {
         ensures still { IfSome result (λ step. (c : ℕ) → c < G.rules.components s.now → is_still step s.now c ≡ true → state self.new c ≡ state self.old c) }
         ensures kept { IfSome result (λ step. (c : ℕ) → c < G.rules.components s.now → has_written step s.now c ≡ false
             → G.codec.memory (state self.new c) ≡ G.codec.memory (state self.old c)) };
+
+    /// Appends the words of a component one cycle later than the states near it, of which the row holds the words; the memory of its own
+    /// one, or none, is handed over, and no other is asked. Told is the memory that it has one cycle later, or none where that is the
+    /// same. The row stays as it is.
+    ///
+    /// # Errors
+    ///
+    /// Where a growth was refused. Then something may have been appended.
+    fn next_words(
+        &mut self,
+        alloc: Global,
+        s: &G::Slots,
+        c: u32,
+        memory: Option<&G::Memory>,
+        words: &mut Vec<u64>,
+    ) -> Result<Option<G::Memory>, NoMemory>
+        requires stands { stands self.old s.now }
+        requires component { c < G.rules.components s.now }
+        ensures stands { stands self.new s.now }
+        ensures states { (d : ℕ) → state self.new d ≡ state self.old d }
+        ensures words { OnOk result ((xs : ℕ → G.State) → IsNear G.rules G.codec (state self.old) xs s.now c
+            → G.codec.memory (xs c) ≡ option_copied memory.entry
+            → words.new.items ≡ words.old.items ++ G.codec.words (G.rules.step s.now (map xs (G.rules.near s.now c)) c)) }
+        ensures told { OnOk result ((xs : ℕ → G.State) → IsNear G.rules G.codec (state self.old) xs s.now c
+            → G.codec.memory (xs c) ≡ option_copied memory.entry
+            → IsTold G.codec (G.rules.step s.now (map xs (G.rules.near s.now c)) c)) }
+        ensures memory { IfOk result (λ left. (xs : ℕ → G.State) → IsNear G.rules G.codec (state self.old) xs s.now c
+            → G.codec.memory (xs c) ≡ option_copied memory.entry
+            → G.codec.memory (G.rules.step s.now (map xs (G.rules.near s.now c)) c) ≡ option_or left (G.codec.memory (xs c))) };
 
     /// Whether a component is known to be as it was before the step.
     fn is_still(step: &Self::Step, s: &G::Slots, c: u32) -> bool
@@ -140,6 +176,11 @@ impl<G: Grid> WholeRow<G> for NoRow {
         None
     }
 
+    fn resume(&mut self, s: &G::Slots) -> bool {
+        let _ = s;
+        false
+    }
+
     fn follow(&mut self, s: &G::Slots) {
         let _ = s;
     }
@@ -162,6 +203,22 @@ impl<G: Grid> WholeRow<G> for NoRow {
     fn step(&mut self, s: &G::Slots) -> Option<()> {
         let _ = s;
         None
+    }
+
+    fn next_words(
+        &mut self,
+        alloc: Global,
+        s: &G::Slots,
+        c: u32,
+        memory: Option<&G::Memory>,
+        words: &mut Vec<u64>,
+    ) -> Result<Option<G::Memory>, NoMemory> {
+        let _ = alloc;
+        let _ = s;
+        let _ = c;
+        let _ = memory;
+        let _ = words;
+        Err(NoMemory)
     }
 
     fn is_still(step: &(), s: &G::Slots, c: u32) -> bool {

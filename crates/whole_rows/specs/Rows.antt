@@ -1,9 +1,11 @@
 -- The row of a machine as the whole row of its cells, by number.
-use Rattle.std.specs.Prelude.{ℕ, ◌/◌, ◌%◌, ◌^◌, ◌<◌, Bool, false, not, Option, None, Some}
+use Rattle.std.specs.Prelude.{ℕ, ◌/◌, ◌%◌, ◌^◌, ◌<◌, Bool, false, not, List, Option, None, Some}
 use Rattle.omega_net.specs.declared.component.Component.{Component}
 use Rattle.omega_net.specs.declared.component.Component.TheVariants.{Proc as ProcAt, Module as ModuleAt, Switch}
 use Rattle.omega_net.specs.Numbers.{component_of}
 use Rattle.machine_cells.specs.declared.state.MachineState.{MachineState}
+use Rattle.mem_module.specs.declared.words.Stored.{Stored}
+use Rattle.mem_module.specs.Memory.{with_word}
 use Rattle.project_book.specs.Project.{Project}
 use Rattle.flat_row.specs.declared.changed.Changed.{Changed}
 use Rattle.flat_row.specs.Row.{Arrays, state_of}
@@ -40,3 +42,9 @@ pub record HasTurns (h n : ℕ) : Type 0 where
   pub second : h / 2 ^ 35 % 2 ^ 8 < 2
   pub third : h / 2 ^ 43 % 2 ^ 8 < 2
   pub last : h / 2 ^ 51 % 2 ^ 8 < n
+
+-- the memory in which a module left a word, or none where it left none
+abbrev pub memory_after : Option (List Stored) → Option Stored → Option (List Stored)
+memory_after None left = None
+memory_after (Some ws) None = None
+memory_after (Some ws) (Some w) = Some (with_word ws w.row w.word)

@@ -8,10 +8,10 @@ ghost use Rattle.flat_row.specs.Loading.{OnlyState};
 ghost use Rattle.machine_cells.specs.Words.{with_memory};
 ghost use Rattle.whole_rows.specs.Rows.{wrote_in};
 
-use crate::memory::is_ascending;
+use crate::memory::{is_ascending, left_in};
 use crate::words::{are_of_a_state, can_hold};
 use cell_table::WholeRow;
-use flat_row::{Changed, Row};
+use flat_row::{Beside, Changed, Row};
 use grid_law::NoMemory;
 use machine_cells::{MachineState, Rp3};
 use mem_module::{SharedWords, Stored};
@@ -24,6 +24,9 @@ use std::marker::Model;
 #[derive(Drop)]
 pub struct MachineRow {
     row: Row,
+    shape: Shape,
+    /// What a step of one component takes beside the row. Between two calls it means nothing.
+    beside: Beside,
 }
 
 impl Model for MachineRow {
@@ -32,6 +35,8 @@ impl Model for MachineRow {
     ghost Value = { Arrays };
 
     ghost view = { λ r. r.row };
+
+    ghost invariant = { λ r. r.row.k ≡ r.shape };
 }
 
 impl WholeRow<Rp3> for MachineRow {
@@ -49,10 +54,25 @@ impl WholeRow<Rp3> for MachineRow {
     ghost has_written = { has_written };
 
     fn new(alloc: Global, s: &Project) -> Option<MachineRow> {
+        let Ok(beside) = Beside::new(alloc) else {
+            return None;
+        };
         match Row::start(alloc, s) {
-            Ok(row) => Some(MachineRow { row }),
+            Ok(row) => Some(MachineRow {
+                row,
+                shape: s.shape(),
+                beside,
+            }),
             Err(_) => None,
         }
+    }
+
+    fn resume(&mut self, s: &Project) -> bool {
+        if self.shape.k() != s.shape().k() {
+            return false;
+        }
+        self.row.follow(s);
+        true
     }
 
     fn follow(&mut self, s: &Project) {
@@ -83,6 +103,22 @@ impl WholeRow<Rp3> for MachineRow {
             return None;
         };
         Some(changed)
+    }
+
+    fn next_words(
+        &mut self,
+        alloc: Global,
+        s: &Project,
+        c: u32,
+        memory: Option<&SharedWords>,
+        words: &mut Vec<u64>,
+    ) -> Result<Option<SharedWords>, NoMemory> {
+        let component = component_at(s.shape(), c);
+        let beside = &mut self.beside;
+        match self.row.next_words(s, component, memory, beside, words) {
+            Ok(left) => left_in(alloc, memory, left),
+            Err(_) => Err(NoMemory),
+        }
     }
 
     fn is_still(step: &Changed, s: &Project, c: u32) -> bool {

@@ -4,9 +4,13 @@ ghost use Rattle.std.specs.Option.{option_copied};
 ghost use Rattle.grid_law.specs.Codec.{IsTold};
 ghost use Rattle.grid_law.specs.Run.{run};
 ghost use Rattle.cell_table.specs.Seen.{held_at, row_at};
+ghost use Rattle.cell_table.specs.Readers.{AreNear};
+ghost use Rattle.cell_table.specs.NextWords.{HoldsWords};
 ghost use Rattle.cell_table.specs.WholeRows.{HoldsRow, IsKnown, IsRowPut};
 
 use super::{Cells, clear_rows};
+use crate::beside::Near;
+use crate::neighbours::Neighbours;
 use crate::{Cell, WholeRow};
 use cell_marks::Row;
 use grid_law::{Grid, NoMemory};
@@ -55,6 +59,43 @@ pub(crate) fn put_due<G: Grid, M: WholeRow<G>>(
     match cells
         .states
         .put_whole::<M>(slots, row, step, set, changes, cycle)
+    {
+        Ok(()) => {}
+        Err(_) => return Err(NoMemory),
+    }
+    clear_rows(&mut cells.due, cycle, cycle + 1);
+    Ok(())
+}
+
+/// The same by a step of each due cell, out of a row into which what is near it is put.
+pub(crate) fn put_each<G: Grid, M: WholeRow<G>>(
+    cells: &mut Cells<G>,
+    slots: &G::Slots,
+    near: &Neighbours,
+    held: &mut Near<M>,
+    cycle: u32,
+    changes: &mut Row,
+) -> Result<(), NoMemory>
+    requires later { 0 < cycle }
+    requires within { cycle < length cells.old }
+    requires whole { (t : ℕ) → t < length cells.old → length (row_at cells.old t) ≡ G.rules.components slots.now }
+    requires width { length changes.old ≡ G.rules.components slots.now }
+    requires near { AreNear G.rules slots.now near.now }
+    requires before { (c : ℕ) → c < G.rules.components slots.now → (held_at cells.old (cycle - 1) c).state ≡ Some (run G.rules slots.now (cycle - 1) c) }
+    requires earlier { 1 < cycle → (c : ℕ) → c < G.rules.components slots.now → (held_at cells.old (cycle - 2) c).state ≡ Some (run G.rules slots.now (cycle - 2) c) }
+    requires held { HoldsWords G.rules G.codec M.stands M.state slots.now held.old }
+    ensures held { HoldsWords G.rules G.codec M.stands M.state slots.now held.new }
+    ensures len { length cells.new ≡ length cells.old }
+    ensures lens { (t : ℕ) → t < length cells.old → length (row_at cells.new t) ≡ G.rules.components slots.now }
+    ensures width { length changes.new ≡ length changes.old }
+    ensures put { OnOk result (IsRowPut G.rules slots.now cells.old cells.new cycle changes.new) }
+    ensures versions { (t c : ℕ) → (held_at cells.old t c).is_due ≡ false → (held_at cells.old t c).version ≡ 0 }
+    ensures err { OnErr result (cells.new ≡ cells.old) }
+{
+    let set = cells.due.row(cycle);
+    match cells
+        .states
+        .put_each::<M>(slots, held, near, set, changes, cycle)
     {
         Ok(()) => {}
         Err(_) => return Err(NoMemory),

@@ -10,11 +10,13 @@ ghost use Rattle.cell_table.specs.Events.{Event, Start};
 ghost use Rattle.cell_table.specs.Stands.{Stands};
 ghost use Rattle.cell_table.specs.Settling.{IsAsBefore, IsNextDueInRow, NoneDueBefore, NoneDueFrom, HoldsRunBefore, IsNextDue, IsSettled, IsSettledTo, SettlesNext, IsSpent, IsSpentBefore, IsAt, StopsBefore, IsFurther, computed_of, IsClockSpent};
 ghost use Rattle.cell_table.specs.WholeRows.{HoldsRow};
+ghost use Rattle.cell_table.specs.NextWords.{AreBeside};
 ghost use Rattle.cell_table.specs.Cost.{Settles, SettlesTo, SettlesFirst, SettlesFirstTo};
 
 use super::Table;
 use super::alike::{Passed, Spare};
-use crate::along::Along;
+use crate::along::{Along, keep_idle};
+use crate::beside::{Beside, resume_all};
 use crate::watcher::{Nobody, Watcher};
 use crate::whole_row::NoRow;
 use crate::{Cell, SettleFault, Settled, StoreFault, WholeRow};
@@ -275,6 +277,7 @@ impl<G: Grid> Table<G> {
         end: u32,
         spare: &mut Spare,
         along: &mut Option<Along<M>>,
+        beside: &mut Beside<M>,
         watcher: &mut W,
     ) -> Result<Option<Passed>, StoreFault>
         requires within { end ≤ self.old.horizon + 1 }
@@ -283,8 +286,10 @@ impl<G: Grid> Table<G> {
         requires reached { length spare.old.reached ≡ G.rules.components self.old.slots }
         requires along { IfSome along.old (λ a. HoldsRow G.rules M.stands M.state self.old.slots a.row a.cycle) }
         requires watched { W.keeps watcher.old self.old }
+        requires beside { AreBeside G.rules G.codec M.stands M.state self.old.slots beside.old }
         ensures changes { length spare.new.changes ≡ length spare.old.changes }
         ensures reached { length spare.new.reached ≡ length spare.old.reached }
+        ensures beside { AreBeside G.rules G.codec M.stands M.state self.new.slots beside.new }
         ensures along { IfSome along.new (λ a. HoldsRow G.rules M.stands M.state self.new.slots a.row a.cycle) }
         ensures watched { W.keeps watcher.new self.new }
         ensures none { IfOk result (λ o. IfNone o (NoneDueBefore G.rules self.old end 0 × HoldsRunBefore G.rules self.old end 0 × (self.new ≡ self.old))) }
@@ -294,7 +299,7 @@ impl<G: Grid> Table<G> {
         ensures err { OnErr result (self.new ≡ self.old) }
         ensures spent { result ≡ Err StoreFault.ClockSpent → IsSpentBefore G.rules end self.old from.cycle from.component }
     {
-        match self.settle_at_once(from, end, spare, along, watcher) {
+        match self.settle_at_once(from, end, spare, along, beside, watcher) {
             Some(passed) => return Ok(Some(passed)),
             None => {}
         }
@@ -312,10 +317,49 @@ impl<G: Grid> Table<G> {
         }
     }
 
+    /// As `settle_each`, where there is what settling takes beside the table.
+    fn settle_all<M: WholeRow<G>, W: Watcher<G>>(
+        &mut self,
+        end: u32,
+        spare: &mut Spare,
+        along: &mut Option<Along<M>>,
+        beside: &mut Beside<M>,
+        watcher: &mut W,
+    ) -> Result<Settled, SettleFault>
+        requires within { end ≤ self.old.horizon + 1 }
+        requires changes { length spare.old.changes ≡ G.rules.components self.old.slots }
+        requires reached { length spare.old.reached ≡ G.rules.components self.old.slots }
+        requires along { IfSome along.old (λ a. HoldsRow G.rules M.stands M.state self.old.slots a.row a.cycle) }
+        requires beside { AreBeside G.rules G.codec M.stands M.state self.old.slots beside.old }
+        requires watched { W.keeps watcher.old self.old }
+        ensures watched { W.keeps watcher.new self.new }
+        ensures all { IfOk result (λ s. IsAt G.rules self.old self.new end 0 s.computed) }
+        ensures stops { IfErr result (λ f. StopsBefore G.rules end self.old self.new (computed_of f)) }
+        ensures spent { IfErr result (λ f. IsClockSpent f → IsSpentBefore G.rules end self.new 0 0) }
+    {
+        let mut computed: u64 = 0;
+        let mut from = Cell {
+            cycle: 0,
+            component: 0,
+        };
+        loop {
+            match self.settle_more(from, end, spare, along, beside, watcher) {
+                Ok(Some(passed)) => {
+                    computed += passed.computed;
+                    from = passed.to;
+                }
+                Ok(None) => return Ok(Settled { computed }),
+                Err(StoreFault::ClockSpent) => return Err(SettleFault::ClockSpent { computed }),
+                Err(StoreFault::Memory) => return Err(SettleFault::Memory { computed }),
+            }
+        }
+    }
+
     /// As `settle_before`, one cell after another, and cycles at once where the same happens as in the one before.
     fn settle_each<M: WholeRow<G>, W: Watcher<G>>(
         &mut self,
         end: u32,
+        beside: &mut Beside<M>,
         watcher: &mut W,
     ) -> Result<Settled, SettleFault>
         requires within { end ≤ self.old.horizon + 1 }
@@ -325,8 +369,8 @@ impl<G: Grid> Table<G> {
         ensures stops { IfErr result (λ f. StopsBefore G.rules end self.old self.new (computed_of f)) }
         ensures spent { IfErr result (λ f. IsClockSpent f → IsSpentBefore G.rules end self.new 0 0) }
     {
-        let mut computed: u64 = 0;
-        let mut from = Cell {
+        let computed: u64 = 0;
+        let from = Cell {
             cycle: 0,
             component: 0,
         };
@@ -339,18 +383,11 @@ impl<G: Grid> Table<G> {
             Ok(spare) => spare,
             Err(_) => return Err(SettleFault::Memory { computed }),
         };
+        resume_all::<G, M>(beside, &self.slots);
         let mut along: Option<Along<M>> = None;
-        loop {
-            match self.settle_more(from, end, &mut spare, &mut along, watcher) {
-                Ok(Some(passed)) => {
-                    computed += passed.computed;
-                    from = passed.to;
-                }
-                Ok(None) => return Ok(Settled { computed }),
-                Err(StoreFault::ClockSpent) => return Err(SettleFault::ClockSpent { computed }),
-                Err(StoreFault::Memory) => return Err(SettleFault::Memory { computed }),
-            }
-        }
+        let settled = self.settle_all(end, &mut spare, &mut along, beside, watcher);
+        keep_idle(along, beside);
+        settled
     }
 
     /// The cycle behind one, at most that behind the horizon.
@@ -379,6 +416,7 @@ impl<G: Grid> Table<G> {
     fn settle_before<M: WholeRow<G>, W: Watcher<G>>(
         &mut self,
         end: u32,
+        beside: &mut Beside<M>,
         watcher: &mut W,
     ) -> Result<Settled, SettleFault>
         requires within { end ≤ self.old.horizon + 1 }
@@ -388,13 +426,13 @@ impl<G: Grid> Table<G> {
         ensures stops { IfErr result (λ f. StopsBefore G.rules end self.old self.new (computed_of f)) }
         ensures spent { IfErr result (λ f. IsClockSpent f → IsSpentBefore G.rules end self.new 0 0) }
     {
-        let settled = self.settle_each::<M, W>(end, watcher)?;
+        let settled = self.settle_each::<M, W>(end, beside, watcher)?;
         self.note_held(end);
         Ok(settled)
     }
 
-    /// `settle_to`, where `watcher` is told of what is stored as soon as it is, and cycles of which many cells are due are settled by a
-    /// row of all components.
+    /// `settle_to`, where `watcher` is told of what is stored as soon as it is, and cycles are settled by rows of all components, which
+    /// are kept.
     ///
     /// # Errors
     ///
@@ -402,6 +440,7 @@ impl<G: Grid> Table<G> {
     pub fn settle_rows_to<M: WholeRow<G>, W: Watcher<G>>(
         &mut self,
         last: u32,
+        beside: &mut Beside<M>,
         watcher: &mut W,
     ) -> Result<Settled, SettleFault>
         requires { W.keeps watcher.old self.old }
@@ -419,7 +458,7 @@ impl<G: Grid> Table<G> {
         ensures differs { IfErr result (λ f. IsClockSpent f → (spent : IsSpent G.rules self.new 0 0) × (spent.cell.cycle ≤ last)) }
     {
         let end = self.end_of(last);
-        self.settle_before::<M, W>(end, watcher)
+        self.settle_before::<M, W>(end, beside, watcher)
     }
 
     /// `settle_to`, where `watcher` is told of what is stored as soon as it is.
@@ -446,7 +485,7 @@ impl<G: Grid> Table<G> {
         ensures spent { IfErr result (λ f. IsClockSpent f → self.new.clock ≡ 2 ^ 64 - 1) }
         ensures differs { IfErr result (λ f. IsClockSpent f → (spent : IsSpent G.rules self.new 0 0) × (spent.cell.cycle ≤ last)) }
     {
-        self.settle_rows_to::<NoRow, W>(last, watcher)
+        self.settle_rows_to::<NoRow, W>(last, &mut Beside::none(), watcher)
     }
 
     /// `settle`, where `watcher` is told of what is stored as soon as it is, and cycles of which many cells are due are settled by a row of
@@ -457,6 +496,7 @@ impl<G: Grid> Table<G> {
     /// As `settle`. The watcher was told of just those cells that stay stored.
     pub fn settle_rows<M: WholeRow<G>, W: Watcher<G>>(
         &mut self,
+        beside: &mut Beside<M>,
         watcher: &mut W,
     ) -> Result<Settled, SettleFault>
         requires { W.keeps watcher.old self.old }
@@ -474,7 +514,7 @@ impl<G: Grid> Table<G> {
         ensures differs { IfErr result (λ f. IsClockSpent f → IsSpent G.rules self.new 0 0) }
     {
         let last = self.horizon();
-        self.settle_rows_to::<M, W>(last, watcher)
+        self.settle_rows_to::<M, W>(last, beside, watcher)
     }
 
     /// `settle`, where `watcher` is told of what is stored as soon as it is.
@@ -497,7 +537,7 @@ impl<G: Grid> Table<G> {
         ensures spent { IfErr result (λ f. IsClockSpent f → self.new.clock ≡ 2 ^ 64 - 1) }
         ensures differs { IfErr result (λ f. IsClockSpent f → IsSpent G.rules self.new 0 0) }
     {
-        self.settle_rows::<NoRow, W>(watcher)
+        self.settle_rows::<NoRow, W>(&mut Beside::none(), watcher)
     }
 
     /// Settles the cells up to a cycle as `settle` settles all. The cells stored are exactly those of that cycle or an

@@ -1,58 +1,42 @@
-//! Settling a cycle at once where many of its cells are due, by a row of all components.
+//! Settling a cycle at once, by a row of all components.
 ghost use Rattle.std.specs.Prelude.{◌≡◌, ℕ, ◌+◌, ◌≤◌, IfNone, IfSome, length};
 ghost use Rattle.cell_table.specs.Seen.{Seen};
 ghost use Rattle.cell_table.specs.Cells.{AtOrAfter};
 ghost use Rattle.cell_table.specs.Settling.{NoneDueBefore, IsAt, IsFurther};
 ghost use Rattle.cell_table.specs.Passing.{HoldsBut};
 ghost use Rattle.cell_table.specs.WholeRows.{HoldsRow};
+ghost use Rattle.cell_table.specs.NextWords.{AreBeside};
 
 use super::Table;
 use super::alike::{Passed, Spare};
-use crate::along::{Along, go_along};
-use crate::cells::put_due;
+use crate::along::Along;
+use crate::beside::Beside;
+use crate::few::put_row;
 use crate::ranges::{make_room, ranges_in};
 use crate::rows::{has_room, mark_changed, reach_in};
 use crate::watcher::Watcher;
 use crate::{Cell, WholeRow};
 use grid_law::Grid;
 
-/// How many cells of a cycle are due at least where a row is loaded to settle it. It was set by a measurement on machines of 224
-/// components: to settle a cell alone, the states near it are decoded, which takes some 2 us, and a row costs 3 to 8 us.
-const WIDE: u32 = 8;
-
-/// The same where the row holds the cycle before already, so that nothing is loaded.
-const STILL_WIDE: u32 = 2;
-
-/// How many cells of a cycle are due at least where a row settles it.
-fn least_due<M>(along: &Option<Along<M>>, cycle: u32) -> u32 {
-    match along {
-        Some(a) => {
-            if cycle > 0 && a.cycle == cycle - 1 {
-                STILL_WIDE
-            } else {
-                WIDE
-            }
-        }
-        None => WIDE,
-    }
-}
-
 impl<G: Grid> Table<G> {
-    /// Settles the cells of a cycle before which no cell is due, at once, where many of them are: how many were computed. Only cells of
+    /// Settles the cells of a cycle before which no cell is due, at once: how many were computed. Only cells of
     /// the ranges may hold other states then.
     fn settle_row<M: WholeRow<G>>(
         &mut self,
         cycle: u32,
         spare: &mut Spare,
         along: &mut Option<Along<M>>,
+        beside: &mut Beside<M>,
     ) -> Option<u32>
         requires there { cycle ≤ self.old.horizon }
         requires none { NoneDueBefore G.rules self.old cycle 0 }
         requires changes { length spare.old.changes ≡ G.rules.components self.old.slots }
         requires reached { length spare.old.reached ≡ G.rules.components self.old.slots }
         requires along { IfSome along.old (λ a. HoldsRow G.rules M.stands M.state self.old.slots a.row a.cycle) }
+        requires beside { AreBeside G.rules G.codec M.stands M.state self.old.slots beside.old }
         ensures changes { length spare.new.changes ≡ length spare.old.changes }
         ensures reached { length spare.new.reached ≡ length spare.old.reached }
+        ensures beside { AreBeside G.rules G.codec M.stands M.state self.new.slots beside.new }
         ensures along { IfSome along.new (λ a. HoldsRow G.rules M.stands M.state self.new.slots a.row a.cycle) }
         ensures none { IfNone result (self.new ≡ self.old) }
         ensures on { IfSome result (λ n. (first : Seen G.State G.Slots) (k : ℕ) → IsAt G.rules first self.old cycle 0 k → IsAt G.rules first self.new (cycle + 1) 0 (k + n)) }
@@ -62,31 +46,23 @@ impl<G: Grid> Table<G> {
         let _cycles = self.cells.cycles();
         let count = G::components(&self.slots);
         let due = self.cells.due_count(cycle);
-        if cycle == 0 || due < least_due(along, cycle) || !has_room(self.clock, 1, count) {
+        if cycle == 0 || !has_room(self.clock, 1, count) {
             return None;
         }
         match make_room(&mut spare.ranges, count) {
             Ok(()) => {}
             Err(_) => return None,
         }
-        let step = match go_along::<G, M>(&self.cells, &self.slots, along, cycle) {
-            Some(step) => step,
-            None => return None,
-        };
-        let row = match along {
-            Some(a) => &a.row,
-            None => return None,
-        };
-        match put_due(
+        if !put_row::<G, M>(
             &mut self.cells,
             &self.slots,
-            row,
-            &step,
+            &self.neighbours,
+            along,
+            beside,
             cycle,
             &mut spare.changes,
         ) {
-            Ok(()) => {}
-            Err(_) => return None,
+            return None;
         }
         ranges_in(&spare.changes, cycle, cycle + 1, &mut spare.ranges);
         reach_in::<G>(
@@ -111,7 +87,7 @@ impl<G: Grid> Table<G> {
     }
 
     /// Settles at once the cycles that come next, where the cycle of `from` begins there or has no due cell any more: those in which the
-    /// same happens as in the one before, or one of which many cells are due. Tells a watcher: where to go on, and how many cells were
+    /// same happens as in the one before, or one. Tells a watcher: where to go on, and how many cells were
     /// computed.
     pub(super) fn settle_at_once<M: WholeRow<G>, W: Watcher<G>>(
         &mut self,
@@ -119,6 +95,7 @@ impl<G: Grid> Table<G> {
         end: u32,
         spare: &mut Spare,
         along: &mut Option<Along<M>>,
+        beside: &mut Beside<M>,
         watcher: &mut W,
     ) -> Option<Passed>
         requires within { end ≤ self.old.horizon + 1 }
@@ -127,8 +104,10 @@ impl<G: Grid> Table<G> {
         requires reached { length spare.old.reached ≡ G.rules.components self.old.slots }
         requires along { IfSome along.old (λ a. HoldsRow G.rules M.stands M.state self.old.slots a.row a.cycle) }
         requires watched { W.keeps watcher.old self.old }
+        requires beside { AreBeside G.rules G.codec M.stands M.state self.old.slots beside.old }
         ensures changes { length spare.new.changes ≡ length spare.old.changes }
         ensures reached { length spare.new.reached ≡ length spare.old.reached }
+        ensures beside { AreBeside G.rules G.codec M.stands M.state self.new.slots beside.new }
         ensures along { IfSome along.new (λ a. HoldsRow G.rules M.stands M.state self.new.slots a.row a.cycle) }
         ensures watched { W.keeps watcher.new self.new }
         ensures none { IfNone result (self.new ≡ self.old) }
@@ -141,11 +120,11 @@ impl<G: Grid> Table<G> {
         }
         match self.settle_on(from, end, spare, watcher) {
             Some(passed) => Some(passed),
-            None => self.settle_wide(from, end, spare, along, watcher),
+            None => self.settle_wide(from, end, spare, along, beside, watcher),
         }
     }
 
-    /// Where nothing is due any more at a cycle, or it begins there, and many cells of the next due one are, settles those at once as
+    /// Where nothing is due any more at a cycle, or it begins there, settles the next due one at once as
     /// `settle_row` does, and tells a watcher: where to go on, and how many cells were computed.
     fn settle_wide<M: WholeRow<G>, W: Watcher<G>>(
         &mut self,
@@ -153,6 +132,7 @@ impl<G: Grid> Table<G> {
         end: u32,
         spare: &mut Spare,
         along: &mut Option<Along<M>>,
+        beside: &mut Beside<M>,
         watcher: &mut W,
     ) -> Option<Passed>
         requires within { end ≤ self.old.horizon + 1 }
@@ -161,8 +141,10 @@ impl<G: Grid> Table<G> {
         requires reached { length spare.old.reached ≡ G.rules.components self.old.slots }
         requires along { IfSome along.old (λ a. HoldsRow G.rules M.stands M.state self.old.slots a.row a.cycle) }
         requires watched { W.keeps watcher.old self.old }
+        requires beside { AreBeside G.rules G.codec M.stands M.state self.old.slots beside.old }
         ensures changes { length spare.new.changes ≡ length spare.old.changes }
         ensures reached { length spare.new.reached ≡ length spare.old.reached }
+        ensures beside { AreBeside G.rules G.codec M.stands M.state self.new.slots beside.new }
         ensures along { IfSome along.new (λ a. HoldsRow G.rules M.stands M.state self.new.slots a.row a.cycle) }
         ensures watched { W.keeps watcher.new self.new }
         ensures none { IfNone result (self.new ≡ self.old) }
@@ -173,20 +155,11 @@ impl<G: Grid> Table<G> {
         if from.cycle >= end {
             return None;
         }
-        // Mostly few cells are due at the cycle that comes next, and one number tells it.
-        let next = if from.component == 0 {
-            from.cycle
-        } else {
-            from.cycle + 1
-        };
-        if self.cells.due_count(next) < STILL_WIDE {
-            return None;
-        }
         let cycle = match self.row_ahead(from, end) {
             Some(cycle) => cycle,
             None => return None,
         };
-        let computed = match self.settle_row(cycle, spare, along) {
+        let computed = match self.settle_row(cycle, spare, along, beside) {
             Some(computed) => computed,
             None => return None,
         };

@@ -6,11 +6,11 @@ use Rattle.cell_table.specs.Consistent.{IsWhole}
 use Rattle.cell_table.specs.Filling.{is_awake}
 use Rattle.cell_table.specs.Passing.{woken}
 use Rattle.cell_table.specs.Settling.{NoneDueBefore, IsAt}
-use Rattle.cell_table.specs.WholeRows.{HoldsRow, IsRowPut}
+use Rattle.cell_table.specs.WholeRows.{IsRowPut}
 use Rattle.cell_table.proofs.Passes.{begins_at}
 use Rattle.cell_table.proofs.Repeated.{ranges_within}
 use Rattle.cell_table.proofs.SettledRow.{goes_behind, still_table, held_still, row_but}
-use Rattle.cell_table.proofs.WideRows.{holds_before, row_there}
+use Rattle.cell_table.proofs.WideRows.{holds_before, holds_earlier}
 use Rattle.cell_table.proofs.table.Table.settle_row.Goals as goal
 
 pub overflow_add-cycle : goal.overflow_add-cycle
@@ -18,36 +18,27 @@ overflow_add-cycle g c =
     let there : c.args.cycle ≤ c.self.inside.horizon = rw (← c.self.view_is) at c.requires.there in
     omega (arith, there, c.self.invariant.table.whole.cycles, c.cycles-cycles.ensures)
 
-pub go_along-requires-clause-before : goal.go_along-requires-clause-before
-go_along-requires-clause-before g c =
+pub put_row-requires-clause-before : goal.put_row-requires-clause-before
+put_row-requires-clause-before g c =
     let R = g.G.Grid.rules in
     let i = c.self.inside in
     let v : Seen g.row.G-State.Denot g.row.G-Slots.Denot = record { slots = i.slots; horizon = i.horizon; clock = i.clock; rows = i.cells } in
     let table = c.self.invariant.table in
     let s = c.args.cycle in
-    let n = R.components i.slots in
     let there : s ≤ i.horizon = rw (← c.self.view_is) at c.requires.there in
     let none : NoneDueBefore R v s 0 = rw (← c.self.view_is) at c.requires.none in
     holds_before R g.G.Grid.laws v table s none there (omega (arith, c.if-cycle-eq0.false))
 
-pub put_due-requires-clause-before : goal.put_due-requires-clause-before
-put_due-requires-clause-before g c =
+pub put_row-requires-clause-earlier : goal.put_row-requires-clause-earlier
+put_row-requires-clause-earlier g c = λ later d h.
     let R = g.G.Grid.rules in
     let i = c.self.inside in
     let v : Seen g.row.G-State.Denot g.row.G-Slots.Denot = record { slots = i.slots; horizon = i.horizon; clock = i.clock; rows = i.cells } in
     let table = c.self.invariant.table in
     let s = c.args.cycle in
-    let n = R.components i.slots in
     let there : s ≤ i.horizon = rw (← c.self.view_is) at c.requires.there in
     let none : NoneDueBefore R v s 0 = rw (← c.self.view_is) at c.requires.none in
-    holds_before R g.G.Grid.laws v table s none there (omega (arith, c.if-cycle-eq0.false))
-
-pub put_due-requires-clause-row : goal.put_due-requires-clause-row
-put_due-requires-clause-row g c =
-    let R = g.G.Grid.rules in
-    let W = g.M.WholeRow in
-    row_there (λ a. HoldsRow R W.stands W.state c.self.inside.slots a.row a.cycle) (λ a. a.cycle ≡ c.args.cycle) (λ t. HoldsRow R W.stands W.state c.self.inside.slots c.in-Some-along.a.row t)
-    c.go_along.new.along c.in-Some-along.a c.in-Some-along.a.cycle c.args.cycle c.in-Some-along.is c.go_along.ensures.along c.in-Some.ensures.there (λ h. h) (λ h. h)
+    holds_earlier R g.G.Grid.laws v table s none (s - 2) d (record { cycle = omega (arith, there); component = h }) (omega (arith, later))
 
 pub invariant_of-self-2 : goal.invariant_of-self-2
 invariant_of-self-2 g c =
@@ -57,21 +48,21 @@ invariant_of-self-2 g c =
     let table = c.self.invariant.table in
     let s = c.args.cycle in
     let n = R.components i.slots in
-    let changes = c.put_due.new.changes in
-    let rows1 = c.put_due.new.cells in
+    let changes = c.put_row.new.changes in
+    let rows1 = c.put_row.new.cells in
     let rows2 = c.mark_changed.new.cells in
     let clock = i.clock + c.from.result in
     let there : s ≤ i.horizon = rw (← c.self.view_is) at c.requires.there in
     let none : NoneDueBefore R v s 0 = rw (← c.self.view_is) at c.requires.none in
     let wide : length c.args.spare.now.changes ≡ n = rw (← c.self.view_is) at c.requires.changes in
-    let width : length changes ≡ n = c.put_due.ensures.width ∙ wide in
+    let width : length changes ≡ n = c.put_row.ensures.width ∙ wide in
     let few : n < 4294967296 = omega (arith, c.components-count.ensures) in
     let is_clock : clock ≡ i.clock + count_in changes = ap (λ k. i.clock + k) (c.from.ensures ∙ c.count-changed.ensures) in
     let room : i.clock + 1 * n < 2 ^ 64 = subst (λ k. i.clock + 1 * k < 2 ^ 64) c.components-count.ensures (c.has_room.ensures c.if-not-has_room.false) in
     let cycles = table.whole.cycles in
-    let p = c.put_due.ensures in
+    let p = c.put_row.ensures in
     let m = c.mark_changed.ensures in
-    let row_put : IsRowPut R i.slots i.cells rows1 s changes = c.in-Ok-put_due.ensures.put in
+    let row_put : IsRowPut R i.slots i.cells rows1 s changes = c.put_row.ensures.put c.if-not-put_row.false in
     let whole : IsWhole R i.slots i.horizon rows2 = record {
       cycles = m.len ∙ p.len ∙ cycles;
       components = λ t h. m.lens t ∙ p.lens t (omega (arith, h, cycles));
@@ -94,21 +85,21 @@ returns-clause-on g c =
     let table = c.self.invariant.table in
     let s = c.args.cycle in
     let n = R.components i.slots in
-    let changes = c.put_due.new.changes in
-    let rows1 = c.put_due.new.cells in
+    let changes = c.put_row.new.changes in
+    let rows1 = c.put_row.new.cells in
     let rows2 = c.mark_changed.new.cells in
     let clock = i.clock + c.from.result in
     let there : s ≤ i.horizon = rw (← c.self.view_is) at c.requires.there in
     let none : NoneDueBefore R v s 0 = rw (← c.self.view_is) at c.requires.none in
     let wide : length c.args.spare.now.changes ≡ n = rw (← c.self.view_is) at c.requires.changes in
-    let width : length changes ≡ n = c.put_due.ensures.width ∙ wide in
+    let width : length changes ≡ n = c.put_row.ensures.width ∙ wide in
     let few : n < 4294967296 = omega (arith, c.components-count.ensures) in
     let is_clock : clock ≡ i.clock + count_in changes = ap (λ k. i.clock + k) (c.from.ensures ∙ c.count-changed.ensures) in
     let room : i.clock + 1 * n < 2 ^ 64 = subst (λ k. i.clock + 1 * k < 2 ^ 64) c.components-count.ensures (c.has_room.ensures c.if-not-has_room.false) in
     let cycles = table.whole.cycles in
-    let p = c.put_due.ensures in
+    let p = c.put_row.ensures in
     let m = c.mark_changed.ensures in
-    let row_put : IsRowPut R i.slots i.cells rows1 s changes = c.in-Ok-put_due.ensures.put in
+    let row_put : IsRowPut R i.slots i.cells rows1 s changes = c.put_row.ensures.put c.if-not-put_row.false in
     let whole : IsWhole R i.slots i.horizon rows2 = record {
       cycles = m.len ∙ p.len ∙ cycles;
       components = λ t h. m.lens t ∙ p.lens t (omega (arith, h, cycles));
@@ -126,21 +117,21 @@ returns-clause-but g c =
     let table = c.self.invariant.table in
     let s = c.args.cycle in
     let n = R.components i.slots in
-    let changes = c.put_due.new.changes in
-    let rows1 = c.put_due.new.cells in
+    let changes = c.put_row.new.changes in
+    let rows1 = c.put_row.new.cells in
     let rows2 = c.mark_changed.new.cells in
     let clock = i.clock + c.from.result in
     let there : s ≤ i.horizon = rw (← c.self.view_is) at c.requires.there in
     let none : NoneDueBefore R v s 0 = rw (← c.self.view_is) at c.requires.none in
     let wide : length c.args.spare.now.changes ≡ n = rw (← c.self.view_is) at c.requires.changes in
-    let width : length changes ≡ n = c.put_due.ensures.width ∙ wide in
+    let width : length changes ≡ n = c.put_row.ensures.width ∙ wide in
     let few : n < 4294967296 = omega (arith, c.components-count.ensures) in
     let is_clock : clock ≡ i.clock + count_in changes = ap (λ k. i.clock + k) (c.from.ensures ∙ c.count-changed.ensures) in
     let room : i.clock + 1 * n < 2 ^ 64 = subst (λ k. i.clock + 1 * k < 2 ^ 64) c.components-count.ensures (c.has_room.ensures c.if-not-has_room.false) in
     let cycles = table.whole.cycles in
-    let p = c.put_due.ensures in
+    let p = c.put_row.ensures in
     let m = c.mark_changed.ensures in
-    let row_put : IsRowPut R i.slots i.cells rows1 s changes = c.in-Ok-put_due.ensures.put in
+    let row_put : IsRowPut R i.slots i.cells rows1 s changes = c.put_row.ensures.put c.if-not-put_row.false in
     let whole : IsWhole R i.slots i.horizon rows2 = record {
       cycles = m.len ∙ p.len ∙ cycles;
       components = λ t h. m.lens t ∙ p.lens t (omega (arith, h, cycles));

@@ -1,0 +1,148 @@
+//! The due cells of a cycle get what the run has there: many of them by a step of all components, few by a step of each.
+ghost use Rattle.std.specs.Prelude.{◌≡◌, ℕ, ◌-◌, ◌<◌, IfSome, Some, true, false, length};
+ghost use Rattle.grid_law.specs.Run.{run};
+ghost use Rattle.cell_table.specs.Seen.{held_at, row_at};
+ghost use Rattle.cell_table.specs.Readers.{AreNear};
+ghost use Rattle.cell_table.specs.NextWords.{AreBeside};
+ghost use Rattle.cell_table.specs.WholeRows.{HoldsRow, IsRowPut};
+
+use crate::WholeRow;
+use crate::along::{Along, go_along, start_along};
+use crate::beside::{Beside, make_near};
+use crate::cells::{Cells, put_due, put_each};
+use crate::neighbours::Neighbours;
+use cell_marks::Row;
+use grid_law::Grid;
+
+/// How many cells of a cycle are due at least where a row of all components is loaded to settle it.
+const WIDE: u32 = 24;
+
+/// The same where the row holds the cycle before already.
+const STILL_WIDE: u32 = 16;
+
+/// How many cells of a cycle are due at least where a row settles it.
+fn least_due<M>(along: &Option<Along<M>>, cycle: u32) -> u32 {
+    match along {
+        Some(a) => {
+            if cycle > 0 && a.cycle == cycle - 1 {
+                STILL_WIDE
+            } else {
+                WIDE
+            }
+        }
+        None => WIDE,
+    }
+}
+
+/// By the row that goes along: whether they got it.
+fn put_stepped<G: Grid, M: WholeRow<G>>(
+    cells: &mut Cells<G>,
+    slots: &G::Slots,
+    along: &mut Option<Along<M>>,
+    beside: &mut Beside<M>,
+    cycle: u32,
+    changes: &mut Row,
+) -> bool
+    requires later { 0 < cycle }
+    requires within { cycle < length cells.old }
+    requires whole { (t : ℕ) → t < length cells.old → length (row_at cells.old t) ≡ G.rules.components slots.now }
+    requires width { length changes.old ≡ G.rules.components slots.now }
+    requires before { (c : ℕ) → c < G.rules.components slots.now → (held_at cells.old (cycle - 1) c).state ≡ Some (run G.rules slots.now (cycle - 1) c) }
+    requires along { IfSome along.old (λ a. HoldsRow G.rules M.stands M.state slots.now a.row a.cycle) }
+    requires beside { AreBeside G.rules G.codec M.stands M.state slots.now beside.old }
+    ensures len { length cells.new ≡ length cells.old }
+    ensures lens { (t : ℕ) → t < length cells.old → length (row_at cells.new t) ≡ G.rules.components slots.now }
+    ensures width { length changes.new ≡ length changes.old }
+    ensures put { result ≡ true → IsRowPut G.rules slots.now cells.old cells.new cycle changes.new }
+    ensures versions { (t c : ℕ) → (held_at cells.old t c).is_due ≡ false → (held_at cells.old t c).version ≡ 0 }
+    ensures err { result ≡ false → cells.new ≡ cells.old }
+    ensures along { IfSome along.new (λ a. HoldsRow G.rules M.stands M.state slots.now a.row a.cycle) }
+    ensures beside { AreBeside G.rules G.codec M.stands M.state slots.now beside.new }
+{
+    start_along::<G, M>(cells, slots, along, beside, cycle - 1);
+    let step = match go_along::<G, M>(cells, slots, along, cycle) {
+        Some(step) => step,
+        None => return false,
+    };
+    let row = match along {
+        Some(a) => &a.row,
+        None => return false,
+    };
+    match put_due(cells, slots, row, &step, cycle, changes) {
+        Ok(()) => true,
+        Err(_) => false,
+    }
+}
+
+/// One after another: whether they got it.
+fn put_few<G: Grid, M: WholeRow<G>>(
+    cells: &mut Cells<G>,
+    slots: &G::Slots,
+    near: &Neighbours,
+    beside: &mut Beside<M>,
+    cycle: u32,
+    changes: &mut Row,
+) -> bool
+    requires later { 0 < cycle }
+    requires within { cycle < length cells.old }
+    requires whole { (t : ℕ) → t < length cells.old → length (row_at cells.old t) ≡ G.rules.components slots.now }
+    requires width { length changes.old ≡ G.rules.components slots.now }
+    requires before { (c : ℕ) → c < G.rules.components slots.now → (held_at cells.old (cycle - 1) c).state ≡ Some (run G.rules slots.now (cycle - 1) c) }
+    requires near { AreNear G.rules slots.now near.now }
+    requires earlier { 1 < cycle → (c : ℕ) → c < G.rules.components slots.now → (held_at cells.old (cycle - 2) c).state ≡ Some (run G.rules slots.now (cycle - 2) c) }
+    requires beside { AreBeside G.rules G.codec M.stands M.state slots.now beside.old }
+    ensures len { length cells.new ≡ length cells.old }
+    ensures lens { (t : ℕ) → t < length cells.old → length (row_at cells.new t) ≡ G.rules.components slots.now }
+    ensures width { length changes.new ≡ length changes.old }
+    ensures put { result ≡ true → IsRowPut G.rules slots.now cells.old cells.new cycle changes.new }
+    ensures versions { (t c : ℕ) → (held_at cells.old t c).is_due ≡ false → (held_at cells.old t c).version ≡ 0 }
+    ensures err { result ≡ false → cells.new ≡ cells.old }
+    ensures beside { AreBeside G.rules G.codec M.stands M.state slots.now beside.new }
+{
+    if !make_near::<G, M>(cells.allocator(), slots, beside) {
+        return false;
+    }
+    match &mut beside.near {
+        Some(held) => match put_each(cells, slots, near, held, cycle, changes) {
+            Ok(()) => true,
+            Err(_) => false,
+        },
+        None => false,
+    }
+}
+
+/// Gives the due cells of a cycle the states of the run, and none of that cycle is due then: whether it did. Of `changes` those components
+/// are marked that held another state, or none. Where it didn't, nothing is changed but those marks and the rows.
+pub(crate) fn put_row<G: Grid, M: WholeRow<G>>(
+    cells: &mut Cells<G>,
+    slots: &G::Slots,
+    near: &Neighbours,
+    along: &mut Option<Along<M>>,
+    beside: &mut Beside<M>,
+    cycle: u32,
+    changes: &mut Row,
+) -> bool
+    requires later { 0 < cycle }
+    requires within { cycle < length cells.old }
+    requires whole { (t : ℕ) → t < length cells.old → length (row_at cells.old t) ≡ G.rules.components slots.now }
+    requires width { length changes.old ≡ G.rules.components slots.now }
+    requires before { (c : ℕ) → c < G.rules.components slots.now → (held_at cells.old (cycle - 1) c).state ≡ Some (run G.rules slots.now (cycle - 1) c) }
+    requires near { AreNear G.rules slots.now near.now }
+    requires earlier { 1 < cycle → (c : ℕ) → c < G.rules.components slots.now → (held_at cells.old (cycle - 2) c).state ≡ Some (run G.rules slots.now (cycle - 2) c) }
+    requires along { IfSome along.old (λ a. HoldsRow G.rules M.stands M.state slots.now a.row a.cycle) }
+    requires beside { AreBeside G.rules G.codec M.stands M.state slots.now beside.old }
+    ensures len { length cells.new ≡ length cells.old }
+    ensures lens { (t : ℕ) → t < length cells.old → length (row_at cells.new t) ≡ G.rules.components slots.now }
+    ensures width { length changes.new ≡ length changes.old }
+    ensures put { result ≡ true → IsRowPut G.rules slots.now cells.old cells.new cycle changes.new }
+    ensures versions { (t c : ℕ) → (held_at cells.old t c).is_due ≡ false → (held_at cells.old t c).version ≡ 0 }
+    ensures err { result ≡ false → cells.new ≡ cells.old }
+    ensures along { IfSome along.new (λ a. HoldsRow G.rules M.stands M.state slots.now a.row a.cycle) }
+    ensures beside { AreBeside G.rules G.codec M.stands M.state slots.now beside.new }
+{
+    if cells.due_count(cycle) >= least_due(along, cycle) {
+        put_stepped::<G, M>(cells, slots, along, beside, cycle, changes)
+    } else {
+        put_few::<G, M>(cells, slots, near, beside, cycle, changes)
+    }
+}
