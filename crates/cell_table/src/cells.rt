@@ -19,8 +19,7 @@ use crate::Cell;
 use crate::neighbours::Neighbours;
 use crate::stored::States;
 use crate::versions::{
-    Versions, forget_in, grow_rows, is_noted_in, note_in, rows_of, set_version, set_versions,
-    version_in,
+    Versions, begin_in, grow_rows, note_in, rows_of, set_version, set_versions, version_in,
 };
 use cell_marks::{Marks, Row};
 use grid_law::{Grid, NoMemory};
@@ -208,7 +207,7 @@ impl<G: Grid> Cells<G> {
         requires component { cell.component < length (row_at self.old cell.cycle) }
         ensures { IsOtherCell self.old self.new cell.cycle cell.component (marked (held_at self.old cell.cycle cell.component) version) }
     {
-        forget_idle(&mut self.versions, &self.due, cell.cycle);
+        begin_idle(&mut self.versions, &self.due, cell.cycle, version);
         self.due.set(cell.cycle, cell.component);
         set_version(&mut self.versions, cell.cycle, cell.component, version);
     }
@@ -224,7 +223,7 @@ impl<G: Grid> Cells<G> {
         ensures at { (t c : ℕ) → held_at self.new t c
             ≡ (if (t == cycle) && has list.now c then marked (held_at self.old t c) version else held_at self.old t c) }
     {
-        forget_idle(&mut self.versions, &self.due, cycle);
+        begin_idle(&mut self.versions, &self.due, cycle, version);
         self.due.set_all(cycle, row);
         set_versions(&mut self.versions, cycle, list, version);
     }
@@ -252,7 +251,7 @@ impl<G: Grid> Cells<G> {
         ensures noted { result ≡ true → (c : ℕ) → c < length changes.now
             → held_at self.new cycle c ≡ noted (held_at self.old cycle c) changes.now (near_at (arc_value near.now) c) clock (length changes.now) }
     {
-        forget_idle(&mut self.versions, &self.due, cycle);
+        begin_idle(&mut self.versions, &self.due, cycle, clock);
         if !note_in(&mut self.versions, cycle, near, changes, clock) {
             return false;
         }
@@ -395,19 +394,18 @@ fn grow_due(
     Ok(())
 }
 
-/// Lets go of the changes that are noted at a cycle of which no cell is due: no version counts there.
-fn forget_idle(versions: &mut Vec<Versions>, due: &Marks, t: u32)
+/// Gives all cells of a cycle one version, where none of them is due: no version counts there, and the cells that become due have that
+/// one, without a version for each.
+#[inline(always)]
+fn begin_idle(versions: &mut Vec<Versions>, due: &Marks, t: u32, version: u64)
     ensures len { length versions.new.items ≡ length versions.old.items }
     ensures lens { (u : ℕ) → length (slice_index_or versions.new.items u []) ≡ length (slice_index_or versions.old.items u []) }
     ensures due { (u c : ℕ) → has_mark due.now.rows u c ≡ true → version_at versions.new.items u c ≡ version_at versions.old.items u c }
 {
-    if !is_noted_in(versions, t) {
-        return;
-    }
     if due.row_count(t) > 0 {
         return;
     }
-    forget_in(versions, t);
+    begin_in(versions, t, version);
 }
 
 /// Takes the marks of these rows away.
