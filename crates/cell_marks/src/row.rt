@@ -1,11 +1,13 @@
 //! One row of marks.
-ghost use Rattle.std.specs.Prelude.{◌≡◌, ℕ, ◌<◌, ◌≤◌, ◌+◌, ◌*◌, ◌^◌, ◌↔◌, ◌||◌, true, false, IsTrue, MatchOption, IfOk, length, replicate, slice_set, take, if◌then◌else◌};
+ghost use Rattle.std.specs.Prelude.{◌≡◌, ℕ, ◌<◌, ◌≤◌, ◌+◌, ◌*◌, ◌^◌, ◌↔◌, ◌||◌, ◌&&◌, ◌/◌, ◌%◌, true, false, nat_eq, IsTrue, MatchOption, IfOk, length, replicate, slice_set, take, if◌then◌else◌};
 ghost use Rattle.cell_marks.specs.Bits.{bit_in, bits_of};
+ghost use Rattle.std.specs.Int.{bit_at};
 ghost use Rattle.cell_marks.specs.Marked.{is_set, count_in, union, row_at, any_marks, IsFirstFrom};
 
 use crate::word::word_of;
 use crate::words::{
-    add_in, clear_all_in, clear_in, counted_in, first_in, has_in, is_union_in, join_in, set_in,
+    add_in, add_one, clear_all_in, clear_in, counted_in, first_in, has_in, is_union_in, join_in,
+    keep_in, set_in,
 };
 use smallvec::{SmallVec, smallvec};
 use std::alloc::{AllocError, Global};
@@ -148,6 +150,27 @@ impl Row {
     {
         let more = add_in(&mut self.words, words, self.len);
         self.count += more;
+    }
+
+    /// Marks those of the 64 components of a word whose bits are set in another one, too.
+    #[inline(always)]
+    pub fn add_word(&mut self, w: usize, word: u64)
+        requires { 64 * w < length self.old }
+        ensures len { length self.new ≡ length self.old }
+        ensures marks { (c : ℕ) → c < length self.old → is_set self.new c ≡ (is_set self.old c || (nat_eq (c / 64) w && nat_eq (bit_at word (c % 64)) 1)) }
+    {
+        let added = add_one(&mut self.words, self.len, w, word);
+        self.count += added;
+    }
+
+    /// Takes away the marks of the components that another row doesn't mark; 64 of them in one step.
+    pub fn keep(&mut self, other: &Row)
+        requires { length other.now ≡ length self.old }
+        ensures len { length self.new ≡ length self.old }
+        ensures marks { (c : ℕ) → c < length self.old → is_set self.new c ≡ (is_set self.old c && is_set other.now c) }
+    {
+        let _len = other.len;
+        self.count = keep_in(&mut self.words, &other.words, self.len);
     }
 
     /// Marks just the components that some row of the list marks, of those rows whose own component is marked in `set`: 64 of

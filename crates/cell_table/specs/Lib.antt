@@ -30,3 +30,4 @@ pub mod Repeating
 pub mod WholeRows
 pub mod NextWords
 pub mod Noted
+pub mod Sets

@@ -1,5 +1,6 @@
 //! A row of all components that goes along from cycle to cycle.
-ghost use Rattle.std.specs.Prelude.{◌≡◌, ℕ, ◌-◌, ◌<◌, IfSome, MatchOption, Some, true};
+ghost use Rattle.std.specs.Prelude.{◌≡◌, ℕ, ◌-◌, ◌<◌, IfSome, MatchOption, Some, None, true, false, length, ◌≤◌};
+ghost use Rattle.cell_table.specs.Filling.{is_awake};
 ghost use Rattle.grid_law.specs.Run.{run};
 ghost use Rattle.cell_table.specs.Seen.{held_at};
 ghost use Rattle.cell_table.specs.NextWords.{AreBeside};
@@ -8,6 +9,7 @@ ghost use Rattle.cell_table.specs.WholeRows.{HoldsRow, IsKnown};
 use crate::beside::Beside;
 use crate::cells::Cells;
 use crate::{Cell, WholeRow};
+use cell_marks::Row;
 use grid_law::Grid;
 
 /// A row, and the cycle whose states it holds.
@@ -15,6 +17,8 @@ use grid_law::Grid;
 pub(crate) struct Along<M> {
     pub row: M,
     pub cycle: u32,
+    /// Between two calls it means nothing.
+    changed: Row,
 }
 
 /// Puts the state of a cell into a row, by its words and its memory: whether the row holds it then.
@@ -72,33 +76,54 @@ fn loaded<G: Grid, M: WholeRow<G>>(
     Some(row)
 }
 
-/// Brings an idle row to a cycle, where none goes along and there is one.
-pub(crate) fn start_along<G: Grid, M: WholeRow<G>>(
+/// Lets an idle row go along, where there is one, or a new one, from a cycle to which it is brought: whether it does.
+#[inline(never)]
+fn start_along<G: Grid, M: WholeRow<G>>(
     cells: &Cells<G>,
     slots: &G::Slots,
     along: &mut Option<Along<M>>,
     beside: &mut Beside<M>,
     cycle: u32,
-)
+) -> bool
     requires held { (c : ℕ) → c < G.rules.components slots.now → (held_at cells.now cycle c).state ≡ Some (run G.rules slots.now cycle c) }
-    requires along { IfSome along.old (λ a. HoldsRow G.rules M.stands M.state slots.now a.row a.cycle) }
     requires beside { AreBeside G.rules G.codec M.stands M.state slots.now beside.old }
     ensures along { IfSome along.new (λ a. HoldsRow G.rules M.stands M.state slots.now a.row a.cycle) }
+    ensures there { result ≡ true → MatchOption along.new ⊥ (λ a. a.cycle ≡ cycle) }
     ensures beside { AreBeside G.rules G.codec M.stands M.state slots.now beside.new }
 {
-    if along.is_some() {
-        return;
-    }
-    match beside.idle.take() {
+    let alloc = cells.allocator();
+    let Ok(changed) = Row::new(alloc, G::components(slots), false) else {
+        *along = None;
+        return false;
+    };
+    let row = match beside.idle.take() {
+        Some(row) => Some(row),
+        None => M::new(alloc, slots),
+    };
+    match row {
         Some(row) => match loaded::<G, M>(cells, slots, row, cycle) {
-            Some(row) => *along = Some(Along { row, cycle }),
-            None => {}
+            Some(row) => {
+                *along = Some(Along {
+                    row,
+                    cycle,
+                    changed,
+                });
+                true
+            }
+            None => {
+                *along = None;
+                false
+            }
         },
-        None => {}
+        None => {
+            *along = None;
+            false
+        }
     }
 }
 
 /// The row that went along is kept. What it holds means nothing any more.
+#[inline(never)]
 pub(crate) fn keep_idle<M: Drop>(along: Option<Along<M>>, beside: &mut Beside<M>) {
     match along {
         Some(a) => beside.idle = Some(a.row),
@@ -106,40 +131,69 @@ pub(crate) fn keep_idle<M: Drop>(along: Option<Along<M>>, beside: &mut Beside<M>
     }
 }
 
-/// Brings a row to a cycle: whether there is one there then.
+/// Puts the states of a cycle of those components into a row that may be other ones than at the cycle that it holds: whether the row holds
+/// the cycle then.
+fn load_changed<G: Grid, M: WholeRow<G>>(
+    cells: &Cells<G>,
+    slots: &G::Slots,
+    row: &mut M,
+    changed: &Row,
+    cycle: u32,
+) -> bool
+    requires width { length changed.now ≡ G.rules.components slots.now }
+    requires held { (c : ℕ) → c < G.rules.components slots.now → (held_at cells.now cycle c).state ≡ Some (run G.rules slots.now cycle c) }
+    requires stands { M.stands row.old slots.now }
+    requires same { (c : ℕ) → c < G.rules.components slots.now → is_awake changed.now c ≡ false → M.state row.old c ≡ run G.rules slots.now cycle c }
+    ensures { result ≡ true → HoldsRow G.rules M.stands M.state slots.now row.new cycle }
+{
+    // The number of a component is below this one, so that of the next fits.
+    let _count = changed.len();
+    let mut next = 0;
+    while let Some(component) = changed.first_from(next) {
+        if !load_one::<G, M>(cells, slots, row, Cell { cycle, component }) {
+            return false;
+        }
+        next = component + 1;
+    }
+    true
+}
+
+/// Brings a row that goes along to a later cycle: whether it is there then.
+#[inline(never)]
 fn bring<G: Grid, M: WholeRow<G>>(
     cells: &Cells<G>,
     slots: &G::Slots,
-    along: &mut Option<Along<M>>,
+    along: &mut Along<M>,
     cycle: u32,
 ) -> bool
-    requires held { (c : ℕ) → c < G.rules.components slots.now → (held_at cells.now cycle c).state ≡ Some (run G.rules slots.now cycle c) }
-    requires along { IfSome along.old (λ a. HoldsRow G.rules M.stands M.state slots.now a.row a.cycle) }
-    ensures along { IfSome along.new (λ a. HoldsRow G.rules M.stands M.state slots.now a.row a.cycle) }
-    ensures there { result ≡ true → MatchOption along.new ⊥ (λ a. a.cycle ≡ cycle) }
+    requires later { along.old.cycle ≤ cycle }
+    requires held { (t c : ℕ) → t ≤ cycle → c < G.rules.components slots.now → (held_at cells.now t c).state ≡ Some (run G.rules slots.now t c) }
+    requires along { HoldsRow G.rules M.stands M.state slots.now along.old.row along.old.cycle }
+    requires width { length along.old.changed ≡ G.rules.components slots.now }
+    ensures width { length along.new.changed ≡ G.rules.components slots.now }
+    ensures { result ≡ true → HoldsRow G.rules M.stands M.state slots.now along.new.row cycle }
+    ensures { result ≡ true → along.new.cycle ≡ cycle }
 {
-    match along {
-        Some(a) => {
-            if a.cycle == cycle {
-                return true;
-            }
-        }
-        None => {}
+    cells.find_changed(along.cycle, cycle, &mut along.changed);
+    if !load_changed::<G, M>(cells, slots, &mut along.row, &along.changed, cycle) {
+        return false;
     }
-    let row = match along.take() {
-        Some(a) => a.row,
-        None => match M::new(cells.allocator(), slots) {
-            Some(row) => row,
-            None => return false,
-        },
-    };
-    match loaded::<G, M>(cells, slots, row, cycle) {
-        Some(row) => {
-            *along = Some(Along { row, cycle });
-            true
-        }
-        None => false,
+    along.cycle = cycle;
+    true
+}
+
+/// Whether a row that goes along holds a cycle, to which it is brought where it holds an earlier one.
+#[inline(always)]
+fn is_brought<G: Grid, M: WholeRow<G>>(
+    cells: &Cells<G>,
+    slots: &G::Slots,
+    along: &mut Along<M>,
+    cycle: u32,
+) -> bool {
+    if along.cycle == cycle {
+        return true;
     }
+    along.cycle < cycle && bring::<G, M>(cells, slots, along, cycle)
 }
 
 /// The row goes on to a cycle from the one before, to which it is brought; none where it can't, and then it is let go.
@@ -147,26 +201,43 @@ pub(crate) fn go_along<G: Grid, M: WholeRow<G>>(
     cells: &Cells<G>,
     slots: &G::Slots,
     along: &mut Option<Along<M>>,
+    beside: &mut Beside<M>,
     cycle: u32,
 ) -> Option<M::Step>
     requires later { 0 < cycle }
-    requires before { (c : ℕ) → c < G.rules.components slots.now → (held_at cells.now (cycle - 1) c).state ≡ Some (run G.rules slots.now (cycle - 1) c) }
+    requires before { (t c : ℕ) → t < cycle → c < G.rules.components slots.now → (held_at cells.now t c).state ≡ Some (run G.rules slots.now t c) }
     requires along { IfSome along.old (λ a. HoldsRow G.rules M.stands M.state slots.now a.row a.cycle) }
+    requires beside { AreBeside G.rules G.codec M.stands M.state slots.now beside.old }
     ensures along { IfSome along.new (λ a. HoldsRow G.rules M.stands M.state slots.now a.row a.cycle) }
     ensures there { IfSome result (λ step. MatchOption along.new ⊥ (λ a. a.cycle ≡ cycle)) }
     ensures known { IfSome result (λ step. IsKnown G.rules G.codec (M.is_still step slots.now) (M.has_written step slots.now) slots.now cycle) }
+    ensures beside { AreBeside G.rules G.codec M.stands M.state slots.now beside.new }
 {
-    if !bring::<G, M>(cells, slots, along, cycle - 1) {
+    if along.is_none() && !start_along::<G, M>(cells, slots, along, beside, cycle - 1) {
         return None;
     }
     let step = match along {
-        Some(a) => step_on::<G, M>(slots, &mut a.row, &mut a.cycle, cycle),
+        Some(a) => {
+            if is_brought::<G, M>(cells, slots, a, cycle - 1) {
+                step_on::<G, M>(slots, &mut a.row, &mut a.cycle, cycle)
+            } else {
+                None
+            }
+        }
         None => None,
     };
     if step.is_none() {
-        *along = None;
+        let_go(along);
     }
     step
+}
+
+/// No row goes along any more.
+#[inline(never)]
+fn let_go<M: Drop>(along: &mut Option<Along<M>>)
+    ensures { along.new ≡ None }
+{
+    *along = None;
 }
 
 /// The row goes on to a cycle from the one before.

@@ -73,8 +73,13 @@ pub(crate) fn resume_all<G: Grid, M: WholeRow<G>>(beside: &mut Beside<M>, slots:
     }
 }
 
-/// A row for the words near a cell, of which nothing is known.
-fn new_near<G: Grid, M: WholeRow<G>>(alloc: Global, slots: &G::Slots) -> Option<Near<M>>
+/// A row for the words near a cell, of which nothing is known: this one, or a new one.
+fn new_near<G: Grid, M: WholeRow<G>>(
+    alloc: Global,
+    slots: &G::Slots,
+    idle: Option<M>,
+) -> Option<Near<M>>
+    requires { IfSome idle (λ row. M.stands row slots.now) }
     ensures { IfSome result (HoldsWords G.rules G.codec M.stands M.state slots.now) }
 {
     let mut at = Vec::new(alloc);
@@ -82,19 +87,23 @@ fn new_near<G: Grid, M: WholeRow<G>>(alloc: Global, slots: &G::Slots) -> Option<
         Ok(()) => {}
         Err(_) => return None,
     }
-    match M::new(alloc, slots) {
+    match idle {
         Some(row) => Some(Near { row, at }),
-        None => None,
+        None => match M::new(alloc, slots) {
+            Some(row) => Some(Near { row, at }),
+            None => None,
+        },
     }
 }
 
-/// Puts such a row where there is none.
+/// Puts such a row where there is none. An idle one is taken.
 #[inline(never)]
 fn add_near<G: Grid, M: WholeRow<G>>(alloc: Global, slots: &G::Slots, beside: &mut Beside<M>)
     requires { AreBeside G.rules G.codec M.stands M.state slots.now beside.old }
     ensures { AreBeside G.rules G.codec M.stands M.state slots.now beside.new }
 {
-    beside.near = new_near::<G, M>(alloc, slots);
+    let idle = beside.idle.take();
+    beside.near = new_near::<G, M>(alloc, slots, idle);
 }
 
 /// Gets a row ready for the words near a cell: whether there is one.

@@ -7,7 +7,7 @@ ghost use Rattle.cell_table.specs.NextWords.{AreBeside};
 ghost use Rattle.cell_table.specs.WholeRows.{HoldsRow, IsRowPut};
 
 use crate::WholeRow;
-use crate::along::{Along, go_along, start_along};
+use crate::along::{Along, go_along};
 use crate::beside::{Beside, make_near};
 use crate::cells::{Cells, put_due, put_each};
 use crate::neighbours::Neighbours;
@@ -59,8 +59,7 @@ fn put_stepped<G: Grid, M: WholeRow<G>>(
     ensures along { IfSome along.new (λ a. HoldsRow G.rules M.stands M.state slots.now a.row a.cycle) }
     ensures beside { AreBeside G.rules G.codec M.stands M.state slots.now beside.new }
 {
-    start_along::<G, M>(cells, slots, along, beside, cycle - 1);
-    let step = match go_along::<G, M>(cells, slots, along, cycle) {
+    let step = match go_along::<G, M>(cells, slots, along, beside, cycle) {
         Some(step) => step,
         None => return false,
     };

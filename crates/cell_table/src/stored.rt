@@ -14,6 +14,7 @@ mod changed;
 mod each;
 mod memory;
 mod put;
+mod sets;
 mod whole;
 
 use crate::beside::Near;
@@ -27,6 +28,7 @@ use each::put_each;
 use grid_law::{Grid, NoMemory};
 use memory::{Change, is_same, no_changes};
 use put::{put_state, repeat_state};
+use sets::{Sets, find_changed};
 use std::alloc::Global;
 use std::marker::Model;
 use std::sync::Arc;
@@ -44,18 +46,20 @@ pub(crate) struct States<G: Grid> {
     draft: Draft,
     buffer: Vec<u64>,
     ready: Vec<Option<Change<G::Memory>>>,
+    sets: Sets,
 }
 
 impl<G: Grid> Model for States<G> {
     ghost use Rattle.std.specs.Prelude.{◌≡◌, length};
     ghost use Rattle.cell_table.specs.Layout.{Stated};
     ghost use Rattle.cell_table.specs.Coded.{states_in, IsCoded};
+    ghost use Rattle.cell_table.specs.Sets.{IsWide};
 
     ghost Value = { Stated G.State };
 
     ghost view = { λ s. states_in G.codec s.words s.memories };
 
-    ghost invariant = { λ s. IsCoded G.codec s.words s.memories × (length s.ready.items ≡ s.words.width) };
+    ghost invariant = { λ s. IsCoded G.codec s.words s.memories × (length s.ready.items ≡ s.words.width) × IsWide s.words.width s.sets };
 }
 
 impl<G: Grid> States<G> {
@@ -67,12 +71,14 @@ impl<G: Grid> States<G> {
         words.grow(alloc, cycles)?;
         let memories = Lists::new(alloc, count)?;
         let ready = no_changes(alloc, count)?;
+        let sets = Sets::new(alloc, count)?;
         Ok(States {
             words,
             memories,
             draft: Draft::new(alloc),
             buffer: Vec::new(alloc),
             ready,
+            sets,
         })
     }
 
@@ -267,6 +273,17 @@ impl<G: Grid> States<G> {
         self.memories.at(cell.component, cell.cycle)
     }
 
+    /// Marks just components, those at least that have at a cycle another state than at an earlier one.
+    pub(crate) fn find_changed(&self, from: u32, to: u32, marks: &mut Row)
+        requires order { from ≤ to }
+        requires within { to < length self.now.rows }
+        requires width { length marks.old ≡ self.now.width }
+        ensures len { length marks.new ≡ length marks.old }
+        ensures same { (c : ℕ) → c < self.now.width → is_awake marks.new c ≡ false → state_at self.now to c ≡ state_at self.now from c }
+    {
+        find_changed(&self.words, &self.memories, from, to, marks);
+    }
+
     /// Gives the components of a set at a cycle the states that a row holds for them after its step; those are marked that had another,
     /// or none. Where memory is wanting, no state changes.
     pub(crate) fn put_whole<M: WholeRow<G>>(
@@ -300,6 +317,7 @@ impl<G: Grid> States<G> {
             &mut self.memories,
             &mut self.buffer,
             &mut self.ready,
+            &mut self.sets,
             slots,
             row,
             step,

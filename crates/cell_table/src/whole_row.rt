@@ -1,10 +1,12 @@
 //! All components of a grid at one cycle, stepped together.
-ghost use Rattle.std.specs.Prelude.{◌≡◌, ℕ, ◌<◌, ◌++◌, ◌↔◌, IsTrue, IfSome, IfOk, OnOk, OnErr, map, option_map, slice_index_or, true, false, Some};
+ghost use Rattle.std.specs.Prelude.{◌≡◌, ◌==◌, length, ℕ, ◌<◌, ◌++◌, ◌↔◌, IsTrue, IfSome, IfOk, OnOk, OnErr, map, option_map, slice_index_or, true, false, Some};
 ghost use Rattle.grid_law.specs.Codec.{IsTold};
 ghost use Rattle.std.specs.Option.{option_copied, option_or};
 ghost use Rattle.cell_table.specs.Codes.{IsCodeOf};
 ghost use Rattle.cell_table.specs.NextWords.{IsNear};
+ghost use Rattle.cell_table.specs.Filling.{is_awake};
 
+use cell_marks::Row;
 use grid_law::{Grid, NoMemory};
 use std::alloc::{AllocError, Global};
 
@@ -103,15 +105,17 @@ pub trait WholeRow<G: Grid>: Drop {
             → G.codec.memory (xs c) ≡ option_copied memory.entry
             → G.codec.memory (G.rules.step s.now (map xs (G.rules.near s.now c)) c) ≡ option_or left (G.codec.memory (xs c))) };
 
-    /// Whether a component is known to be as it was before the step.
-    fn is_still(step: &Self::Step, s: &G::Slots, c: u32) -> bool
-        requires { c < G.rules.components s.now }
-        ensures { result ≡ is_still step.now s.now c };
+    /// Marks just the components that aren't known to be as they were before the step.
+    fn moved(step: &Self::Step, s: &G::Slots, moved: &mut Row)
+        requires { length moved.old ≡ G.rules.components s.now }
+        ensures len { length moved.new ≡ length moved.old }
+        ensures marks { (c : ℕ) → c < G.rules.components s.now → is_awake moved.new c ≡ (is_still step.now s.now c == false) };
 
-    /// Whether a component may have another memory than before the step.
-    fn has_written(step: &Self::Step, s: &G::Slots, c: u32) -> bool
-        requires { c < G.rules.components s.now }
-        ensures { result ≡ has_written step.now s.now c };
+    /// Marks just the components that may have another memory than before the step.
+    fn written(step: &Self::Step, s: &G::Slots, written: &mut Row)
+        requires { length written.old ≡ G.rules.components s.now }
+        ensures len { length written.new ≡ length written.old }
+        ensures marks { (c : ℕ) → c < G.rules.components s.now → is_awake written.new c ≡ has_written step.now s.now c };
 
     /// A component's words and its memory tell its state. Nothing is done when it runs.
     fn is_told(&self, s: &G::Slots, c: u32)
@@ -221,18 +225,20 @@ impl<G: Grid> WholeRow<G> for NoRow {
         Err(NoMemory)
     }
 
-    fn is_still(step: &(), s: &G::Slots, c: u32) -> bool {
+    fn moved(step: &(), s: &G::Slots, moved: &mut Row) {
         let _ = step;
         let _ = s;
-        let _ = c;
-        false
+        for c in 0..moved.len() {
+            moved.set(c);
+        }
     }
 
-    fn has_written(step: &(), s: &G::Slots, c: u32) -> bool {
+    fn written(step: &(), s: &G::Slots, written: &mut Row) {
         let _ = step;
         let _ = s;
-        let _ = c;
-        true
+        for c in 0..written.len() {
+            written.set(c);
+        }
     }
 
     fn is_told(&self, s: &G::Slots, c: u32) {

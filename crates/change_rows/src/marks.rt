@@ -76,6 +76,18 @@ impl Marks {
         last_in(self.words.as_slice(), self.blocks.as_slice(), t, k)
     }
 
+    /// The first cycle from t on, and before `end`, at which a component is marked, or else that.
+    pub fn next(&self, t: usize, end: usize, k: u32) -> usize
+        requires cycles { end ≤ length self.now }
+        requires component { k < 64 }
+        ensures from { t ≤ result }
+        ensures to { t ≤ end → result ≤ end }
+        ensures past { end < t → result ≡ t }
+        ensures none { (u : ℕ) → t ≤ u → u < result → is_set self.now u k ≡ false }
+    {
+        next_in(self.words.as_slice(), self.blocks.as_slice(), t, end, k)
+    }
+
     /// No component is marked at a cycle any more.
     pub fn clear(&mut self, t: usize)
         requires { t < length self.old }
@@ -191,18 +203,22 @@ pub(crate) fn with_bit(word: u64, k: u32) -> u64
     word | (1 << k)
 }
 
-/// Where the last block before one ends that may have a mark; 0 where there is none.
-fn block_end(blocks: &[u64], at: usize, k: u32) -> usize
-    requires blocks { at ≤ length blocks.now }
+/// The last cycle before one, from another one on, at which a component is marked.
+fn last_of(words: &[u64], from: usize, to: usize, k: u32) -> Option<usize>
+    requires cycles { to ≤ length words.now }
     requires component { k < 64 }
-    ensures low { result ≤ at }
-    ensures none { (b : ℕ) → result ≤ b → b < at → is_set blocks.now b k ≡ false }
+    ensures { MatchOption result
+        ((u : ℕ) → from ≤ u → u < to → is_set words.now u k ≡ false)
+        (λ b. (from ≤ b) × (b < to) × (is_set words.now b k ≡ true) × ((u : ℕ) → b < u → u < to → is_set words.now u k ≡ false)) }
 {
-    let mut b = at;
-    while b > 0 && !has_bit(blocks[b - 1], k) {
-        b -= 1;
+    let mut at = to;
+    while at > from {
+        at -= 1;
+        if has_bit(words[at], k) {
+            return Some(at);
+        }
     }
-    b
+    None
 }
 
 /// The last cycle up to t at which a component is marked. Blocks without the mark are passed over at once.
@@ -216,15 +232,57 @@ fn last_in(words: &[u64], blocks: &[u64], t: usize, k: u32) -> Option<usize>
 {
     let mut at = t + 1;
     while at > 0 {
-        at -= 1;
-        if has_bit(words[at], k) {
-            return Some(at);
+        let block = (at - 1) / 64;
+        if has_bit(blocks[block], k) {
+            let last = last_of(words, block * 64, at, k);
+            if last.is_some() {
+                return last;
+            }
         }
-        if at % 64 == 0 {
-            at = block_end(blocks, at / 64, k) * 64;
-        }
+        at = block * 64;
     }
     None
+}
+
+/// The first cycle from one on, and before another one, at which a component is marked, or else that.
+fn first_of(words: &[u64], from: usize, to: usize, k: u32) -> usize
+    requires cycles { to ≤ length words.now }
+    requires order { from ≤ to }
+    requires component { k < 64 }
+    ensures from { from ≤ result }
+    ensures to { result ≤ to }
+    ensures none { (u : ℕ) → from ≤ u → u < result → is_set words.now u k ≡ false }
+    ensures there { result < to → is_set words.now result k ≡ true }
+{
+    let mut at = from;
+    while at < to && !has_bit(words[at], k) {
+        at += 1;
+    }
+    at
+}
+
+/// The same. Blocks without the mark are passed over at once.
+fn next_in(words: &[u64], blocks: &[u64], t: usize, end: usize, k: u32) -> usize
+    requires cycles { end ≤ length words.now }
+    requires component { k < 64 }
+    requires covered { IsCovered words.now blocks.now }
+    ensures from { t ≤ result }
+    ensures to { t ≤ end → result ≤ end }
+    ensures past { end < t → result ≡ t }
+    ensures none { (u : ℕ) → t ≤ u → u < result → is_set words.now u k ≡ false }
+{
+    let mut at = t;
+    while at < end {
+        let to = end.min((at / 64 + 1) * 64);
+        if has_bit(blocks[at / 64], k) {
+            let next = first_of(words, at, to, k);
+            if next < to {
+                return next;
+            }
+        }
+        at = to;
+    }
+    at
 }
 
 fn has_both(word: u64, other: u64) -> bool
@@ -257,15 +315,6 @@ pub(crate) fn block_has_any(lines: &Vec<Marks>, t: usize, set: &[u64]) -> bool
         }
     }
     false
-}
-
-/// Whether a component may be marked at one of the 64 cycles that a cycle is among.
-pub(crate) fn block_has(lines: &Vec<Marks>, t: usize, c: u32) -> bool
-    requires component { c < 64 * length lines.now.items }
-    requires row { t < length (slice_index_or lines.now.items (c / 64) []) }
-    ensures { result ≡ false → (u : ℕ) → u / 64 ≡ t / 64 → is_marked lines.now.items u c ≡ false }
-{
-    has_bit(lines[c as usize / 64].block(t), c % 64)
 }
 
 /// How many components below c are marked at a cycle: the place of its cell, where a row has one.

@@ -5,7 +5,7 @@ ghost use Rattle.change_rows.specs.Marks.{is_one, is_in};
 ghost use Rattle.change_rows.specs.Rows.{Table, words_at, overlaid, replaced, filled, repeated, IsWhole};
 
 use crate::cells::Cells;
-use crate::changes::{Changes, begin_word, begins_in, next_begin, next_of, words_in};
+use crate::changes::{Changes, add_begun, begin_word, begins_in, next_begin, next_of, words_in};
 use crate::edit::{Buffers, put};
 use crate::fill::fill;
 use crate::grow::{cut, grow};
@@ -134,6 +134,19 @@ impl Rows {
             return u64::MAX;
         }
         begin_word(&self.changes, t as usize, w)
+    }
+
+    /// Adds to a set the components at which other words may begin in row t than they hold a cycle before. Those that aren't in it then
+    /// hold the same. The set has a bit for each component, 64 in a word.
+    pub fn add_begun(&self, t: u32, set: &mut [u64])
+        requires later { 0 < t }
+        requires row { t < length self.now.rows }
+        requires room { self.now.width ≤ 64 * length set.old }
+        ensures len { length set.new ≡ length set.old }
+        ensures more { (c : ℕ) → is_in set.old c ≡ true → is_in set.new c ≡ true }
+        ensures same { (c : ℕ) → c < self.now.width → is_in set.new c ≡ false → words_at self.now.rows t c ≡ words_at self.now.rows (t - 1) c }
+    {
+        add_begun(&self.changes, t as usize, set);
     }
 
     /// Rows more, whose cells have no words.

@@ -11,7 +11,7 @@ use omega_net::{Component, Net, ScriptEntry};
 use page_map::{ADDRESSES, PAGE_WORDS, PAGES};
 use project_book::{Depths, Project, SCRIPT_ENTRIES, Slot};
 use ref_proc::{Outgoing, ProcState};
-use state_words::{read_proc, split_first};
+use state_words::{index_in, read_proc, split_first};
 
 /// Whether a component reads a slot at cycle 0, beside the shape: a module all first words and pages.
 pub(crate) fn start_reads(component: Component, slot: Slot) -> bool
@@ -55,10 +55,17 @@ fn proc_words_read(project: &Project, proc: u8, words: &[u64], slot: Slot) -> bo
     ensures { (memory : List Stored) → result ≡ is_listed (later_reads project.now (Some (Component.Proc proc)) (state_from words.now memory)) slot }
 {
     let (head, body) = split_first(words);
-    if head % 4 == 0 {
-        proc_reads(project, proc, &read_proc(head, body), slot)
-    } else {
-        false
+    if head % 4 != 0 {
+        return false;
+    }
+    let index = index_in(head);
+    match slot {
+        // By the index alone, so the rest of the state isn't read out of the words.
+        Slot::Entry(..) => index_reads(proc, index, slot),
+        Slot::Page(_) | Slot::Window => {
+            entry_reads(project.entry(u32::from(proc), u32::from(index)), slot)
+        }
+        _ => proc_reads(project, proc, &read_proc(head, body), slot),
     }
 }
 

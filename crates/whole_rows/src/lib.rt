@@ -7,6 +7,7 @@
 #![tactic(auto)]
 
 mod memory;
+mod moved;
 mod row;
 mod words;
 

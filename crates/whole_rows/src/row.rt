@@ -1,5 +1,5 @@
 //! The machine's row beside the cells of a table.
-ghost use Rattle.std.specs.Prelude.{◌≡◌, ◌<◌, ◌↔◌, IsTrue, IfOk, Some, option_map, true};
+ghost use Rattle.std.specs.Prelude.{◌≡◌, ◌<◌, ◌↔◌, ℕ, IsTrue, IfOk, IfSome, Some, option_map, slice_get, true};
 ghost use Rattle.omega_net.specs.declared.component.Component.TheVariants.{Module as ModuleAt};
 ghost use Rattle.omega_net.specs.Numbers.{components, component_of, number_of, lines, Exists};
 ghost use Rattle.machine_cells.specs.Codec.{memory_in};
@@ -9,11 +9,13 @@ ghost use Rattle.machine_cells.specs.Words.{with_memory};
 ghost use Rattle.whole_rows.specs.Rows.{wrote_in};
 
 use crate::memory::{is_ascending, left_in};
+use crate::moved::{mark_moved, mark_written};
 use crate::words::{are_of_a_state, can_hold};
+use cell_marks::Row as Marks;
 use cell_table::WholeRow;
 use flat_row::{Beside, Changed, Row};
 use grid_law::NoMemory;
-use machine_cells::{MachineState, Rp3};
+use machine_cells::Rp3;
 use mem_module::{SharedWords, Stored};
 use omega_net::{Component, Shape};
 use project_book::Project;
@@ -25,18 +27,47 @@ use std::marker::Model;
 pub struct MachineRow {
     row: Row,
     shape: Shape,
+    /// By number.
+    components: Vec<Component>,
     /// What a step of one component takes beside the row. Between two calls it means nothing.
     beside: Beside,
 }
 
 impl Model for MachineRow {
+    ghost use Rattle.std.specs.Prelude.{ℕ, ◌≡◌, ◌<◌, Some, None, length, slice_get};
+    ghost use Rattle.omega_net.specs.Numbers.{components, component_of};
     ghost use Rattle.flat_row.specs.Row.{Arrays};
 
     ghost Value = { Arrays };
 
     ghost view = { λ r. r.row };
 
-    ghost invariant = { λ r. r.row.k ≡ r.shape };
+    ghost invariant = { λ r. (r.row.k ≡ r.shape) × ((c : ℕ) → c < components r.shape → slice_get r.components.items c ≡ component_of r.shape c) };
+}
+
+impl MachineRow {
+    /// The component of a number that is below their number.
+    #[inline(always)]
+    fn component(&self, c: u32) -> Component
+        requires { c < components self.now.k }
+        ensures { Some result ≡ component_of self.now.k c }
+    {
+        self.components[c as usize]
+    }
+}
+
+/// All components, by number.
+fn all_components(alloc: Global, shape: Shape) -> Option<Vec<Component>>
+    ensures { IfSome result (λ all. (c : ℕ) → c < components shape → slice_get all.items c ≡ component_of shape c) }
+{
+    let mut all = Vec::new(alloc);
+    for c in 0..shape.components() {
+        match all.push(component_at(shape, c)) {
+            Ok(()) => {}
+            Err(_) => return None,
+        }
+    }
+    Some(all)
 }
 
 impl WholeRow<Rp3> for MachineRow {
@@ -57,10 +88,14 @@ impl WholeRow<Rp3> for MachineRow {
         let Ok(beside) = Beside::new(alloc) else {
             return None;
         };
+        let Some(components) = all_components(alloc, s.shape()) else {
+            return None;
+        };
         match Row::start(alloc, s) {
             Ok(row) => Some(MachineRow {
                 row,
                 shape: s.shape(),
+                components,
                 beside,
             }),
             Err(_) => None,
@@ -80,7 +115,8 @@ impl WholeRow<Rp3> for MachineRow {
     }
 
     fn load(&mut self, s: &Project, c: u32, words: &[u64]) -> bool {
-        let component = component_at(s.shape(), c);
+        let _ = s;
+        let component = self.component(c);
         if !can_hold(component, words) {
             return false;
         }
@@ -90,7 +126,8 @@ impl WholeRow<Rp3> for MachineRow {
     }
 
     fn load_memory(&mut self, alloc: Global, s: &Project, c: u32, memory: &SharedWords) -> bool {
-        match component_at(s.shape(), c) {
+        let _ = s;
+        match self.component(c) {
             Component::Module(m) => {
                 put_memory(&mut self.row, alloc, u32::from(m), memory.as_slice())
             }
@@ -113,7 +150,7 @@ impl WholeRow<Rp3> for MachineRow {
         memory: Option<&SharedWords>,
         words: &mut Vec<u64>,
     ) -> Result<Option<SharedWords>, NoMemory> {
-        let component = component_at(s.shape(), c);
+        let component = self.component(c);
         let beside = &mut self.beside;
         match self.row.next_words(s, component, memory, beside, words) {
             Ok(left) => left_in(alloc, memory, left),
@@ -121,34 +158,37 @@ impl WholeRow<Rp3> for MachineRow {
         }
     }
 
-    fn is_still(step: &Changed, s: &Project, c: u32) -> bool {
-        let shape = s.shape();
-        !step.has(shape, component_at(shape, c))
+    fn moved(step: &Changed, s: &Project, moved: &mut Marks) {
+        mark_moved(step, s.shape(), moved);
     }
 
-    fn has_written(step: &Changed, s: &Project, c: u32) -> bool {
-        let shape = s.shape();
-        wrote(step, shape, component_at(shape, c))
+    fn written(step: &Changed, s: &Project, written: &mut Marks) {
+        mark_written(step, s.shape(), written);
     }
 
     fn is_told(&self, s: &Project, c: u32) {
-        self.row.is_told(component_at(s.shape(), c));
+        let _ = s;
+        self.row.is_told(self.component(c));
     }
 
     fn words(&self, s: &Project, c: u32, words: &mut Vec<u64>) -> Result<(), AllocError> {
-        self.row.words(component_at(s.shape(), c), words)
+        let _ = s;
+        self.row.words(self.component(c), words)
     }
 
     fn first_word(&self, s: &Project, c: u32) -> u64 {
-        self.row.first_word(component_at(s.shape(), c))
+        let _ = s;
+        self.row.first_word(self.component(c))
     }
 
     fn has_memory(&self, s: &Project, c: u32, memory: Option<&SharedWords>) -> bool {
-        is_memory(&self.row, component_at(s.shape(), c), memory)
+        let _ = s;
+        is_memory(&self.row, self.component(c), memory)
     }
 
     fn memory(&self, alloc: Global, s: &Project, c: u32) -> Result<Option<SharedWords>, NoMemory> {
-        memory_at(&self.row, alloc, component_at(s.shape(), c))
+        let _ = s;
+        memory_at(&self.row, alloc, self.component(c))
     }
 }
 
@@ -160,19 +200,6 @@ fn component_at(shape: Shape, c: u32) -> Component
     ensures number { number_of shape result ≡ c }
 {
     shape.component(c).unwrap()
-}
-
-/// Whether a component is a module in which a word of memory is another one.
-fn wrote(step: &Changed, shape: Shape, component: Component) -> bool
-    requires { Exists shape component }
-    ensures { result ≡ wrote_in step.now (Some component) }
-{
-    // There are at most 64 modules.
-    let _k = shape.k();
-    match component {
-        Component::Module(m) => step.has_written(u32::from(m)),
-        Component::Proc(_) | Component::Switch { .. } => false,
-    }
 }
 
 /// Whether this is a component's memory; where it is no module, it has none.
@@ -197,10 +224,7 @@ fn memory_at(
     ensures { IfOk result (λ memory. memory ≡ memory_in (state_of row.now (Some component))) }
 {
     match component {
-        Component::Module(_) => match row.read(alloc, component)? {
-            MachineState::Module(state) => Ok(Some(state.words.share()?)),
-            MachineState::Proc(_) | MachineState::Low(_) | MachineState::Comb(_) => Ok(None),
-        },
+        Component::Module(m) => Ok(Some(row.memory_words(alloc, u32::from(m))?)),
         Component::Proc(_) | Component::Switch { .. } => Ok(None),
     }
 }

@@ -1,5 +1,6 @@
 //! What cells hold as a row of all components takes it, and gives it.
-ghost use Rattle.std.specs.Prelude.{◌≡◌, ℕ, ◌-◌, ◌<◌, OnOk, OnErr, Some, false, length};
+ghost use Rattle.std.specs.Prelude.{◌≡◌, ℕ, ◌-◌, ◌<◌, ◌≤◌, OnOk, OnErr, Some, false, length};
+ghost use Rattle.cell_table.specs.Filling.{is_awake};
 ghost use Rattle.std.specs.Option.{option_copied};
 ghost use Rattle.grid_law.specs.Codec.{IsTold};
 ghost use Rattle.grid_law.specs.Run.{run};
@@ -28,6 +29,19 @@ impl<G: Grid> Cells<G> {
         ensures { (x : G.State) → (held_at self.now cell.cycle cell.component).state ≡ Some x → G.codec.memory x ≡ option_copied result }
     {
         self.states.memory(cell)
+    }
+}
+
+impl<G: Grid> Cells<G> {
+    /// Marks just components, those at least whose cells hold at a cycle another state than at an earlier one.
+    pub(crate) fn find_changed(&self, from: u32, to: u32, marks: &mut Row)
+        requires order { from ≤ to }
+        requires within { to < length self.now }
+        requires width { length marks.old ≡ length (row_at self.now 0) }
+        ensures len { length marks.new ≡ length marks.old }
+        ensures same { (c : ℕ) → c < length marks.old → is_awake marks.new c ≡ false → (held_at self.now to c).state ≡ (held_at self.now from c).state }
+    {
+        self.states.find_changed(from, to, marks);
     }
 }
 

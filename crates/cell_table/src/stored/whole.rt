@@ -6,9 +6,11 @@ ghost use Rattle.change_rows.specs.Marks.{is_in};
 ghost use Rattle.change_lists.specs.Changes.{list_at, changes_at, held_at as memory_at, held_before};
 ghost use Rattle.cell_table.specs.Filling.{is_awake};
 ghost use Rattle.cell_table.specs.Ready.{value_in, IsReady};
+ghost use Rattle.cell_table.specs.Sets.{IsWide};
 
 use super::changed::put_memories;
 use super::memory::{Change, is_same, ready_memory};
+use super::sets::{Sets, find_sets};
 use crate::{Cell, WholeRow};
 use cell_marks::Row;
 use change_lists::Lists;
@@ -20,8 +22,8 @@ use std::alloc::{AllocError, Global};
 #[derive(Drop)]
 struct Stepped<'a, G: Grid, M: WholeRow<G>> {
     row: &'a M,
-    step: &'a M::Step,
     slots: &'a G::Slots,
+    moved: &'a Row,
 }
 
 impl<'a, G: Grid, M: WholeRow<G>> Source for Stepped<'a, G, M> {
@@ -29,10 +31,10 @@ impl<'a, G: Grid, M: WholeRow<G>> Source for Stepped<'a, G, M> {
 
     ghost words = { λ source c. G.codec.words (M.state source.row.now c) };
 
-    ghost still = { λ source c. M.is_still source.step.now source.slots.now c };
+    ghost still = { λ source c. is_awake source.moved.now c == false };
 
     fn is_still(&self, c: u32) -> bool {
-        M::is_still(self.step, self.slots, c)
+        !self.moved.has(c)
     }
 
     fn first(&self, c: u32) -> u64 {
@@ -49,17 +51,17 @@ fn differs<G: Grid, M: WholeRow<G>>(
     memories: &Lists<G::Memory>,
     slots: &G::Slots,
     row: &M,
-    step: &M::Step,
+    wrote: bool,
     cell: Cell,
 ) -> bool
     requires later { 0 < cell.cycle }
     requires component { cell.component < G.rules.components slots.now }
     requires stands { M.stands row.now slots.now }
-    requires kept { M.has_written step.now slots.now cell.component ≡ false → memory_at memories.now cell.component (cell.cycle - 1) ≡ G.codec.memory (M.state row.now cell.component) }
+    requires kept { wrote ≡ false → memory_at memories.now cell.component (cell.cycle - 1) ≡ G.codec.memory (M.state row.now cell.component) }
     ensures { (result ≡ false) ↔ (memory_at memories.now cell.component cell.cycle ≡ G.codec.memory (M.state row.now cell.component)) }
 {
     let (t, c) = (cell.cycle, cell.component);
-    if M::has_written(step, slots, c) {
+    if wrote {
         return !row.has_memory(slots, c, memories.at(c, t));
     }
     memories.begins(c, t) && !is_same::<G>(memories.at(c, t - 1), memories.at(c, t))
@@ -71,21 +73,21 @@ fn ready_one<G: Grid, M: WholeRow<G>>(
     alloc: Global,
     slots: &G::Slots,
     row: &M,
-    step: &M::Step,
+    wrote: bool,
     cell: Cell,
 ) -> Result<Option<Change<G::Memory>>, NoMemory>
     requires later { 0 < cell.cycle }
     requires component { cell.component < length memories.old }
     requires there { cell.component < G.rules.components slots.now }
     requires stands { M.stands row.now slots.now }
-    requires kept { M.has_written step.now slots.now cell.component ≡ false → memory_at memories.old cell.component (cell.cycle - 1) ≡ G.codec.memory (M.state row.now cell.component) }
+    requires kept { wrote ≡ false → memory_at memories.old cell.component (cell.cycle - 1) ≡ G.codec.memory (M.state row.now cell.component) }
     ensures width { length memories.new ≡ length memories.old }
     ensures same { (c : ℕ) → list_at memories.new c ≡ list_at memories.old c }
     ensures others { (c : ℕ) → (c ≡ cell.component → ⊥) → changes_at memories.new c ≡ changes_at memories.old c }
     ensures ready { IfOk result (λ change. IsReady memories.new cell.component cell.cycle change) }
     ensures value { IfOk result (λ change. value_in memories.new cell.component cell.cycle change ≡ G.codec.memory (M.state row.now cell.component)) }
 {
-    if !M::has_written(step, slots, cell.component) {
+    if !wrote {
         return Ok(None);
     }
     let value = row.memory(alloc, slots, cell.component)?;
@@ -98,7 +100,7 @@ fn ready_cell<G: Grid, M: WholeRow<G>>(
     ready: &mut Vec<Option<Change<G::Memory>>>,
     slots: &G::Slots,
     row: &M,
-    step: &M::Step,
+    wrote: bool,
     changes: &mut Row,
     cell: Cell,
 ) -> Result<(), NoMemory>
@@ -108,7 +110,7 @@ fn ready_cell<G: Grid, M: WholeRow<G>>(
     requires changes { length changes.old ≡ length memories.old }
     requires there { cell.component < G.rules.components slots.now }
     requires stands { M.stands row.now slots.now }
-    requires kept { M.has_written step.now slots.now cell.component ≡ false → memory_at memories.old cell.component (cell.cycle - 1) ≡ G.codec.memory (M.state row.now cell.component) }
+    requires kept { wrote ≡ false → memory_at memories.old cell.component (cell.cycle - 1) ≡ G.codec.memory (M.state row.now cell.component) }
     requires unmarked { is_awake changes.old cell.component ≡ false }
     ensures width { length memories.new ≡ length memories.old }
     ensures len { length ready.new.items ≡ length ready.old.items }
@@ -119,16 +121,14 @@ fn ready_cell<G: Grid, M: WholeRow<G>>(
     ensures other_changes { (c : ℕ) → (c ≡ cell.component → ⊥) → is_awake changes.new c ≡ is_awake changes.old c }
     ensures ready { OnOk result (is_awake changes.new cell.component ≡ true → IsReady memories.new cell.component cell.cycle (slice_index_or ready.new.items cell.component None)) }
     ensures value { OnOk result (is_awake changes.new cell.component ≡ true → value_in memories.new cell.component cell.cycle (slice_index_or ready.new.items cell.component None) ≡ G.codec.memory (M.state row.now cell.component)) }
-    ensures told { IsTold G.codec (M.state row.now cell.component) }
     ensures marked { (is_awake changes.new cell.component ≡ false) ↔ (memory_at memories.old cell.component cell.cycle ≡ G.codec.memory (M.state row.now cell.component)) }
 {
-    row.is_told(slots, cell.component);
-    if !differs::<G, M>(memories, slots, row, step, cell) {
+    if !differs::<G, M>(memories, slots, row, wrote, cell) {
         return Ok(());
     }
     changes.set(cell.component);
     let alloc = *ready.allocator();
-    let change = ready_one::<G, M>(memories, alloc, slots, row, step, cell)?;
+    let change = ready_one::<G, M>(memories, alloc, slots, row, wrote, cell)?;
     ready[cell.component as usize] = change;
     Ok(())
 }
@@ -139,7 +139,7 @@ fn ready_all<G: Grid, M: WholeRow<G>>(
     ready: &mut Vec<Option<Change<G::Memory>>>,
     slots: &G::Slots,
     row: &M,
-    step: &M::Step,
+    wrote: &Row,
     set: &Row,
     changes: &mut Row,
     cycle: u32,
@@ -150,14 +150,13 @@ fn ready_all<G: Grid, M: WholeRow<G>>(
     requires memories { length memories.old ≡ length set.now }
     requires len { length ready.old.items ≡ length set.now }
     requires stands { M.stands row.now slots.now }
-    requires kept { (c : ℕ) → is_awake set.now c ≡ true → M.has_written step.now slots.now c ≡ false → memory_at memories.old c (cycle - 1) ≡ G.codec.memory (M.state row.now c) }
+    requires kept { (c : ℕ) → is_awake set.now c ≡ true → is_awake wrote.now c ≡ false → memory_at memories.old c (cycle - 1) ≡ G.codec.memory (M.state row.now c) }
     ensures changes { length changes.new ≡ length changes.old }
     ensures width { length memories.new ≡ length memories.old }
     ensures len { length ready.new.items ≡ length ready.old.items }
     ensures same { (c : ℕ) → list_at memories.new c ≡ list_at memories.old c }
     ensures ready { OnOk result ((c : ℕ) → is_awake changes.new c ≡ true → IsReady memories.new c cycle (slice_index_or ready.new.items c None)) }
     ensures value { OnOk result ((c : ℕ) → is_awake changes.new c ≡ true → value_in memories.new c cycle (slice_index_or ready.new.items c None) ≡ G.codec.memory (M.state row.now c)) }
-    ensures told { OnOk result ((c : ℕ) → is_awake set.now c ≡ true → IsTold G.codec (M.state row.now c)) }
     ensures marked { OnOk result ((c : ℕ) → is_awake set.now c ≡ true → (is_awake changes.new c ≡ false) ↔ (memory_at memories.old c cycle ≡ G.codec.memory (M.state row.now c))) }
     ensures unmarked { OnOk result ((c : ℕ) → is_awake set.now c ≡ false → is_awake changes.new c ≡ false) }
 {
@@ -167,10 +166,22 @@ fn ready_all<G: Grid, M: WholeRow<G>>(
     let mut next = 0;
     while let Some(component) = set.first_from(next) {
         let cell = Cell { cycle, component };
-        ready_cell::<G, M>(memories, ready, slots, row, step, changes, cell)?;
+        let wrote = wrote.has(component);
+        ready_cell::<G, M>(memories, ready, slots, row, wrote, changes, cell)?;
         next = component + 1;
     }
     Ok(())
+}
+
+/// The states of all components are told. Nothing is done when it runs.
+fn are_told<G: Grid, M: WholeRow<G>>(slots: &G::Slots, row: &M, count: u32)
+    requires stands { M.stands row.now slots.now }
+    requires components { count ≤ G.rules.components slots.now }
+    ensures { (c : ℕ) → c < count → IsTold G.codec (M.state row.now c) }
+{
+    for c in 0..count {
+        row.is_told(slots, c);
+    }
 }
 
 /// The same words once more, and nothing else.
@@ -189,8 +200,8 @@ fn put_words<G: Grid, M: WholeRow<G>>(
     buffer: &mut Vec<u64>,
     slots: &G::Slots,
     row: &M,
-    step: &M::Step,
     set: &Row,
+    sets: &Sets,
     cycle: u32,
 ) -> Result<(), NoMemory>
     requires later { 0 < cycle }
@@ -198,7 +209,10 @@ fn put_words<G: Grid, M: WholeRow<G>>(
     requires width { length set.now ≡ rows.old.width }
     requires components { length set.now ≡ G.rules.components slots.now }
     requires stands { M.stands row.now slots.now }
-    requires still { (c : ℕ) → is_awake set.now c ≡ true → M.is_still step.now slots.now c ≡ true → G.codec.words (M.state row.now c) ≡ words_at rows.old.rows (cycle - 1) c }
+    requires wide { IsWide (length set.now) sets.now }
+    requires looked { (c : ℕ) → is_awake sets.now.looked c ≡ true → is_awake set.now c ≡ true }
+    requires left { (c : ℕ) → is_awake set.now c ≡ true → is_awake sets.now.looked c ≡ false → words_at rows.old.rows cycle c ≡ G.codec.words (M.state row.now c) }
+    requires still { (c : ℕ) → is_awake set.now c ≡ true → is_awake sets.now.moved c ≡ false → G.codec.words (M.state row.now c) ≡ words_at rows.old.rows (cycle - 1) c }
     ensures width { rows.new.width ≡ rows.old.width }
     ensures cycles { length rows.new.rows ≡ length rows.old.rows }
     ensures lens { (t : ℕ) → length (slice_index_or rows.new.rows t []) ≡ length (slice_index_or rows.old.rows t []) }
@@ -212,15 +226,23 @@ fn put_words<G: Grid, M: WholeRow<G>>(
 {
     // Each row has a cell for each component.
     let _end = rows.len();
-    let words = set.words();
-    copy_words(buffer, words)?;
-    let source: Stepped<'_, G, M> = Stepped { row, step, slots };
+    let source: Stepped<'_, G, M> = Stepped {
+        row,
+        slots,
+        moved: &sets.moved,
+    };
     if set.count() == set.len() && rows.is_blank(cycle) {
         // All cells had no words, and each gets some.
+        copy_words(buffer, set.words())?;
         return match rows.fill(cycle, &source) {
             Ok(()) => Ok(()),
             Err(_) => Err(NoMemory),
         };
+    }
+    let words = sets.looked.words();
+    copy_words(buffer, words)?;
+    if sets.looked.count() == 0 {
+        return Ok(());
     }
     match rows.put_from(cycle, words, &source, buffer.as_mut_slice()) {
         Ok(()) => Ok(()),
@@ -235,6 +257,7 @@ pub(super) fn put_whole<G: Grid, M: WholeRow<G>>(
     memories: &mut Lists<G::Memory>,
     buffer: &mut Vec<u64>,
     ready: &mut Vec<Option<Change<G::Memory>>>,
+    sets: &mut Sets,
     slots: &G::Slots,
     row: &M,
     step: &M::Step,
@@ -250,9 +273,11 @@ pub(super) fn put_whole<G: Grid, M: WholeRow<G>>(
     requires memories { length memories.old ≡ length set.now }
     requires len { length ready.old.items ≡ length set.now }
     requires stands { M.stands row.now slots.now }
+    requires wide { IsWide (length set.now) sets.old }
     requires still { (c : ℕ) → is_awake set.now c ≡ true → M.is_still step.now slots.now c ≡ true → G.codec.words (M.state row.now c) ≡ words_at rows.old.rows (cycle - 1) c }
     requires kept { (c : ℕ) → is_awake set.now c ≡ true → M.has_written step.now slots.now c ≡ false → memory_at memories.old c (cycle - 1) ≡ G.codec.memory (M.state row.now c) }
     ensures changes { length changes.new ≡ length changes.old }
+    ensures wide { IsWide (length set.now) sets.new }
     ensures width { rows.new.width ≡ rows.old.width }
     ensures cycles { length rows.new.rows ≡ length rows.old.rows }
     ensures lens { (t : ℕ) → length (slice_index_or rows.new.rows t []) ≡ length (slice_index_or rows.old.rows t []) }
@@ -267,11 +292,14 @@ pub(super) fn put_whole<G: Grid, M: WholeRow<G>>(
     ensures err { OnErr result ((rows.new ≡ rows.old) × ((c t : ℕ) → memory_at memories.new c t ≡ memory_at memories.old c t)) }
 {
     let end = rows.len();
-    match ready_all::<G, M>(memories, ready, slots, row, step, set, changes, cycle) {
+    find_sets::<G, M>(rows, memories, slots, step, set, sets, cycle);
+    are_told::<G, M>(slots, row, set.len());
+    let (wrote, asked) = (&sets.wrote, &sets.asked);
+    match ready_all::<G, M>(memories, ready, slots, row, wrote, asked, changes, cycle) {
         Ok(()) => {}
         Err(_) => return Err(NoMemory),
     }
-    match put_words::<G, M>(rows, buffer, slots, row, step, set, cycle) {
+    match put_words::<G, M>(rows, buffer, slots, row, set, sets, cycle) {
         Ok(()) => {}
         Err(_) => return Err(NoMemory),
     }

@@ -103,7 +103,7 @@ returns-clause-put g c =
       put = λ d h.
           cleared_cell (state_at i.states) (state_at states1) i.due c.clear_rows.new.due i.versions.items c.args.cells.now bounded c.cells.invariant.1 c.cells.view_is bounded1 r.width r.len marks t d _ (omega (arith, h, width, c.cells.invariant.0.width)) (r.cleared t (omega arith) (omega arith)) (ok.put d)
           ∙ ap cleared (ap (λ b. cond b (Some (run R s t d)) (state_at i.states t d)) (due d)
-            ∙ ap (λ (o : Option g.row.G-State.Denot). cond (held_at c.args.cells.now t d).is_due (Some (run R s t d)) o) (sym (seen d)));
+          ∙ ap (λ (o : Option g.row.G-State.Denot). cond (held_at c.args.cells.now t d).is_due (Some (run R s t d)) o) (sym (seen d)));
       others = λ u d p. same_cell (state_at i.states) (state_at states1) i.due c.clear_rows.new.due i.versions.items c.args.cells.now bounded c.cells.invariant.1 c.cells.view_is bounded1 r.width r.len marks u d (ok.others u d p) (by_cycle t u (marks_at c.clear_rows.new.due.rows) (marks_at i.due.rows) p r.earlier r.later (cases_lt u t));
     }
   where

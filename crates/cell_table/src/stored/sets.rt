@@ -1,0 +1,183 @@
+//! Sets of components on the way to a row.
+ghost use Rattle.std.specs.Prelude.{◌≡◌, ℕ, ◌+◌, ◌-◌, ◌<◌, ◌≤◌, ◌||◌, ◌&&◌, ◌==◌, IfOk, length, true, false};
+ghost use Rattle.change_rows.specs.Rows.{words_at};
+ghost use Rattle.change_rows.specs.Marks.{is_in};
+ghost use Rattle.change_lists.specs.Changes.{held_at as memory_at};
+ghost use Rattle.cell_table.specs.Filling.{is_awake};
+ghost use Rattle.cell_table.specs.Sets.{IsWide};
+
+use crate::WholeRow;
+use cell_marks::Row;
+use change_lists::Lists;
+use change_rows::Rows;
+use grid_law::{Grid, NoMemory};
+use std::alloc::Global;
+
+/// Of the components that are due at a cycle: those that a step may have moved, those of them and of the others at which something began,
+/// so that all others have what they had, those in which a step may have written, and those that may have another memory. Between two
+/// calls they mean nothing.
+#[derive(Drop)]
+pub(super) struct Sets {
+    pub moved: Row,
+    pub looked: Row,
+    pub wrote: Row,
+    pub asked: Row,
+    begun: Vec<u64>,
+}
+
+impl Sets {
+    pub fn new(alloc: Global, count: u32) -> Result<Sets, NoMemory>
+        ensures { IfOk result (IsWide count) }
+    {
+        Ok(Sets {
+            moved: Row::new(alloc, count, false)?,
+            looked: Row::new(alloc, count, false)?,
+            wrote: Row::new(alloc, count, false)?,
+            asked: Row::new(alloc, count, false)?,
+            begun: vec![in alloc; 0; count as usize / 64 + 1]?,
+        })
+    }
+}
+
+/// No component is left.
+fn wipe(set: &mut Vec<u64>)
+    ensures len { length set.new.items ≡ length set.old.items }
+    ensures none { (c : ℕ) → is_in set.new.items c ≡ false }
+{
+    for w in 0..set.len() {
+        set[w] = 0;
+    }
+}
+
+/// Marks those of the components that are due at a cycle that a step may have moved, and those at which something begins.
+fn find_looked<M: Drop>(rows: &Rows, memories: &Lists<M>, set: &Row, sets: &mut Sets, cycle: u32)
+    requires later { 0 < cycle }
+    requires within { cycle < length rows.now.rows }
+    requires lists { length memories.now ≡ length set.now }
+    requires wide { IsWide (length set.now) sets.old }
+    ensures wide { IsWide (length set.now) sets.new }
+    ensures moved { sets.new.moved ≡ sets.old.moved }
+    ensures looked { (c : ℕ) → is_awake sets.new.looked c ≡ true → is_awake set.now c ≡ true }
+    ensures left { (c : ℕ) → is_awake set.now c ≡ true → is_awake sets.new.looked c ≡ false → (is_awake sets.old.moved c ≡ false)
+        × (words_at rows.now.rows cycle c ≡ words_at rows.now.rows (cycle - 1) c) × (memory_at memories.now c cycle ≡ memory_at memories.now c (cycle - 1)) }
+{
+    sets.looked.clear_all();
+    if rows.is_blank(cycle) {
+        // All that is there begins there.
+        sets.looked.add(set);
+        return;
+    }
+    wipe(&mut sets.begun);
+    rows.add_begun(cycle, &mut sets.begun);
+    sets.looked.add_words(&sets.begun);
+    sets.looked.add(&sets.moved);
+    sets.looked.keep(set);
+    add_recalled(memories, set, cycle, &mut sets.looked);
+}
+
+/// Marks the components whose words may begin at a cycle, too.
+fn add_begun(rows: &Rows, cycle: u32, marks: &mut Row)
+    ensures len { length marks.new ≡ length marks.old }
+    ensures more { (c : ℕ) → is_awake marks.old c ≡ true → is_awake marks.new c ≡ true }
+    ensures same { (c : ℕ) → c < length marks.old → is_awake marks.new c ≡ false → words_at rows.now.rows cycle c ≡ words_at rows.now.rows (cycle - 1) c }
+{
+    for w in 0..marks.len().div_ceil(64) {
+        let w = w as usize;
+        marks.add_word(w, rows.begin_word(cycle, w));
+    }
+}
+
+/// Marks the components of a set whose memory may begin at a cycle, too.
+fn add_recalled<M: Drop>(memories: &Lists<M>, set: &Row, cycle: u32, marks: &mut Row)
+    requires width { length set.now ≡ length marks.old }
+    requires lists { length memories.now ≡ length marks.old }
+    ensures len { length marks.new ≡ length marks.old }
+    ensures more { (c : ℕ) → is_awake marks.old c ≡ true → is_awake marks.new c ≡ true }
+    ensures within { (c : ℕ) → is_awake marks.new c ≡ true → (is_awake marks.old c || is_awake set.now c) ≡ true }
+    ensures same { (c : ℕ) → is_awake set.now c ≡ true → is_awake marks.new c ≡ false → memory_at memories.now c cycle ≡ memory_at memories.now c (cycle - 1) }
+{
+    let (low, high) = memories.range();
+    for c in low..high {
+        if set.has(c) && !marks.has(c) && memories.begins(c, cycle) {
+            marks.set(c);
+        }
+    }
+}
+
+/// Marks those of a set, too, that have a memory.
+fn add_listed<M: Drop>(memories: &Lists<M>, set: &Row, marks: &mut Row)
+    requires width { length set.now ≡ length marks.old }
+    requires lists { length memories.now ≡ length marks.old }
+    ensures len { length marks.new ≡ length marks.old }
+    ensures more { (c : ℕ) → is_awake marks.old c ≡ true → is_awake marks.new c ≡ true }
+    ensures none { (c t : ℕ) → is_awake set.now c ≡ true → is_awake marks.new c ≡ false → memory_at memories.now c t ≡ memory_at memories.now c 0 }
+{
+    let (low, high) = memories.range();
+    for c in low..high {
+        if set.has(c) {
+            marks.set(c);
+        }
+    }
+}
+
+/// Finds the sets of the components that are due at a cycle, after a step.
+pub(super) fn find_sets<G: Grid, M: WholeRow<G>>(
+    rows: &Rows,
+    memories: &Lists<G::Memory>,
+    slots: &G::Slots,
+    step: &M::Step,
+    set: &Row,
+    sets: &mut Sets,
+    cycle: u32,
+)
+    requires later { 0 < cycle }
+    requires width { length set.now ≡ G.rules.components slots.now }
+    requires lists { length memories.now ≡ length set.now }
+    requires wide { IsWide (length set.now) sets.old }
+    ensures wide { IsWide (length set.now) sets.new }
+    ensures moved { (c : ℕ) → c < length set.now → is_awake sets.new.moved c ≡ (M.is_still step.now slots.now c == false) }
+    ensures wrote { (c : ℕ) → c < length set.now → is_awake sets.new.wrote c ≡ M.has_written step.now slots.now c }
+    ensures looked { (c : ℕ) → is_awake sets.new.looked c ≡ true → is_awake set.now c ≡ true }
+    ensures left { (c : ℕ) → is_awake set.now c ≡ true → is_awake sets.new.looked c ≡ false → (M.is_still step.now slots.now c ≡ true)
+        × (words_at rows.now.rows cycle c ≡ words_at rows.now.rows (cycle - 1) c) × (memory_at memories.now c cycle ≡ memory_at memories.now c (cycle - 1)) }
+    ensures asked { (c : ℕ) → is_awake sets.new.asked c ≡ true → is_awake sets.new.looked c ≡ true }
+    ensures unasked { (c : ℕ) → is_awake sets.new.looked c ≡ true → is_awake sets.new.asked c ≡ false → (M.has_written step.now slots.now c ≡ false)
+        × (memory_at memories.now c cycle ≡ memory_at memories.now c (cycle - 1)) }
+{
+    M::moved(step, slots, &mut sets.moved);
+    find_looked(rows, memories, set, sets, cycle);
+    M::written(step, slots, &mut sets.wrote);
+    sets.asked.clear_all();
+    sets.asked.add(&sets.wrote);
+    add_listed(memories, &sets.looked, &mut sets.asked);
+    sets.asked.keep(&sets.looked);
+}
+
+/// Marks just components, those at least that have at a cycle other words or another memory than at an earlier one.
+pub(super) fn find_changed<M: Drop>(
+    rows: &Rows,
+    memories: &Lists<M>,
+    from: u32,
+    to: u32,
+    marks: &mut Row,
+)
+    requires order { from ≤ to }
+    requires within { to < length rows.now.rows }
+    requires lists { length memories.now ≡ length marks.old }
+    ensures len { length marks.new ≡ length marks.old }
+    ensures words { (c : ℕ) → c < length marks.old → is_awake marks.new c ≡ false → words_at rows.now.rows to c ≡ words_at rows.now.rows from c }
+    ensures memory { (c : ℕ) → c < length marks.old → is_awake marks.new c ≡ false → memory_at memories.now c to ≡ memory_at memories.now c from }
+{
+    // Each row has a cell for each component, and there are fewer than 2^32.
+    let _len = rows.len();
+    marks.clear_all();
+    for cycle in from + 1..to + 1 {
+        add_begun(rows, cycle, marks);
+    }
+    let (low, high) = memories.range();
+    for c in low..high {
+        if memories.next(c, from + 1, to + 1) <= to {
+            marks.set(c);
+        }
+    }
+}
