@@ -1,5 +1,5 @@
 //! One row of marks.
-ghost use Rattle.std.specs.Prelude.{◌≡◌, ℕ, ◌<◌, ◌≤◌, ◌+◌, ◌*◌, ◌^◌, ◌↔◌, ◌||◌, ◌&&◌, ◌/◌, ◌%◌, true, false, nat_eq, IsTrue, MatchOption, IfOk, length, replicate, slice_set, take, if◌then◌else◌};
+ghost use Rattle.std.specs.Prelude.{◌≡◌, ℕ, ◌<◌, ◌≤◌, ◌+◌, ◌*◌, ◌^◌, ◌↔◌, ◌||◌, ◌&&◌, ◌/◌, ◌%◌, ◌==◌, true, false, nat_eq, IsTrue, MatchOption, IfOk, length, replicate, slice_set, take, if◌then◌else◌};
 ghost use Rattle.cell_marks.specs.Bits.{bit_in, bits_of};
 ghost use Rattle.std.specs.Int.{bit_at};
 ghost use Rattle.cell_marks.specs.Marked.{is_set, count_in, union, row_at, any_marks, IsFirstFrom};
@@ -7,7 +7,7 @@ ghost use Rattle.cell_marks.specs.Marked.{is_set, count_in, union, row_at, any_m
 use crate::word::word_of;
 use crate::words::{
     add_in, add_one, clear_all_in, clear_in, counted_in, first_in, has_in, is_union_in, join_in,
-    keep_in, set_in,
+    keep_in, remove_in, set_in,
 };
 use smallvec::{SmallVec, smallvec};
 use std::alloc::{AllocError, Global};
@@ -173,6 +173,16 @@ impl Row {
         self.count = keep_in(&mut self.words, &other.words, self.len);
     }
 
+    /// Takes away the marks of the components that another row marks; 64 of them in one step.
+    pub fn remove(&mut self, other: &Row)
+        requires { length other.now ≡ length self.old }
+        ensures len { length self.new ≡ length self.old }
+        ensures marks { (c : ℕ) → c < length self.old → is_set self.new c ≡ (is_set self.old c && (is_set other.now c == false)) }
+    {
+        let _len = other.len;
+        self.count = remove_in(&mut self.words, &other.words, self.len);
+    }
+
     /// Marks just the components that some row of the list marks, of those rows whose own component is marked in `set`: 64 of
     /// them in one step, and they are counted once.
     pub fn gather(&mut self, rows: &[Row], set: &Row)
@@ -193,6 +203,16 @@ impl Row {
         let was_set = self.has(c);
         self.count = fewer(self.count, was_set);
         clear_in(&mut self.words, self.len, c);
+    }
+
+    /// Marks all components.
+    pub fn mark_all(&mut self)
+        ensures { self.new ≡ replicate (length self.old) true }
+    {
+        for at in 0..self.words.len() {
+            self.words[at] = word_of(true);
+        }
+        self.count = self.len;
     }
 
     /// Takes all marks away.

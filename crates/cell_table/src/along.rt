@@ -171,8 +171,8 @@ fn bring<G: Grid, M: WholeRow<G>>(
     requires along { HoldsRow G.rules M.stands M.state slots.now along.old.row along.old.cycle }
     requires width { length along.old.changed ≡ G.rules.components slots.now }
     ensures width { length along.new.changed ≡ G.rules.components slots.now }
-    ensures { result ≡ true → HoldsRow G.rules M.stands M.state slots.now along.new.row cycle }
-    ensures { result ≡ true → along.new.cycle ≡ cycle }
+    ensures row { result ≡ true → HoldsRow G.rules M.stands M.state slots.now along.new.row cycle }
+    ensures there { result ≡ true → along.new.cycle ≡ cycle }
 {
     cells.find_changed(along.cycle, cycle, &mut along.changed);
     if !load_changed::<G, M>(cells, slots, &mut along.row, &along.changed, cycle) {

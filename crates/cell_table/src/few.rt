@@ -5,6 +5,7 @@ ghost use Rattle.cell_table.specs.Seen.{held_at, row_at};
 ghost use Rattle.cell_table.specs.Readers.{AreNear};
 ghost use Rattle.cell_table.specs.NextWords.{AreBeside};
 ghost use Rattle.cell_table.specs.WholeRows.{HoldsRow, IsRowPut};
+ghost use Rattle.cell_table.specs.Filling.{is_awake};
 
 use crate::WholeRow;
 use crate::along::{Along, go_along};
@@ -41,18 +42,26 @@ fn put_stepped<G: Grid, M: WholeRow<G>>(
     along: &mut Option<Along<M>>,
     beside: &mut Beside<M>,
     cycle: u32,
+    set: &Row,
     changes: &mut Row,
+    worded: &mut Row,
 ) -> bool
     requires later { 0 < cycle }
     requires within { cycle < length cells.old }
     requires whole { (t : ℕ) → t < length cells.old → length (row_at cells.old t) ≡ G.rules.components slots.now }
+    requires set { length set.now ≡ G.rules.components slots.now }
+    requires due { (c : ℕ) → is_awake set.now c ≡ true → (held_at cells.old cycle c).is_due ≡ true }
+    requires known { (c : ℕ) → (held_at cells.old cycle c).is_due ≡ true → is_awake set.now c ≡ false → (held_at cells.old cycle c).state ≡ Some (run G.rules slots.now cycle c) }
     requires width { length changes.old ≡ G.rules.components slots.now }
+    requires worded { length worded.old ≡ G.rules.components slots.now }
     requires before { (c : ℕ) → c < G.rules.components slots.now → (held_at cells.old (cycle - 1) c).state ≡ Some (run G.rules slots.now (cycle - 1) c) }
     requires along { IfSome along.old (λ a. HoldsRow G.rules M.stands M.state slots.now a.row a.cycle) }
     requires beside { AreBeside G.rules G.codec M.stands M.state slots.now beside.old }
     ensures len { length cells.new ≡ length cells.old }
     ensures lens { (t : ℕ) → t < length cells.old → length (row_at cells.new t) ≡ G.rules.components slots.now }
     ensures width { length changes.new ≡ length changes.old }
+    ensures worded { length worded.new ≡ length worded.old }
+    ensures words { result ≡ true → (c : ℕ) (x y : G.State) → is_awake worded.new c ≡ false → (held_at cells.old cycle c).state ≡ Some x → (held_at cells.new cycle c).state ≡ Some y → G.codec.words y ≡ G.codec.words x }
     ensures put { result ≡ true → IsRowPut G.rules slots.now cells.old cells.new cycle changes.new }
     ensures versions { (t c : ℕ) → (held_at cells.old t c).is_due ≡ false → (held_at cells.old t c).version ≡ 0 }
     ensures err { result ≡ false → cells.new ≡ cells.old }
@@ -67,7 +76,7 @@ fn put_stepped<G: Grid, M: WholeRow<G>>(
         Some(a) => &a.row,
         None => return false,
     };
-    match put_due(cells, slots, row, &step, cycle, changes) {
+    match put_due(cells, slots, row, &step, cycle, set, changes, worded) {
         Ok(()) => true,
         Err(_) => false,
     }
@@ -80,12 +89,18 @@ fn put_few<G: Grid, M: WholeRow<G>>(
     near: &Neighbours,
     beside: &mut Beside<M>,
     cycle: u32,
+    set: &Row,
     changes: &mut Row,
+    worded: &mut Row,
 ) -> bool
     requires later { 0 < cycle }
     requires within { cycle < length cells.old }
     requires whole { (t : ℕ) → t < length cells.old → length (row_at cells.old t) ≡ G.rules.components slots.now }
+    requires set { length set.now ≡ G.rules.components slots.now }
+    requires due { (c : ℕ) → is_awake set.now c ≡ true → (held_at cells.old cycle c).is_due ≡ true }
+    requires known { (c : ℕ) → (held_at cells.old cycle c).is_due ≡ true → is_awake set.now c ≡ false → (held_at cells.old cycle c).state ≡ Some (run G.rules slots.now cycle c) }
     requires width { length changes.old ≡ G.rules.components slots.now }
+    requires worded { length worded.old ≡ G.rules.components slots.now }
     requires before { (c : ℕ) → c < G.rules.components slots.now → (held_at cells.old (cycle - 1) c).state ≡ Some (run G.rules slots.now (cycle - 1) c) }
     requires near { AreNear G.rules slots.now near.now }
     requires earlier { 1 < cycle → (c : ℕ) → c < G.rules.components slots.now → (held_at cells.old (cycle - 2) c).state ≡ Some (run G.rules slots.now (cycle - 2) c) }
@@ -93,6 +108,8 @@ fn put_few<G: Grid, M: WholeRow<G>>(
     ensures len { length cells.new ≡ length cells.old }
     ensures lens { (t : ℕ) → t < length cells.old → length (row_at cells.new t) ≡ G.rules.components slots.now }
     ensures width { length changes.new ≡ length changes.old }
+    ensures worded { length worded.new ≡ length worded.old }
+    ensures words { result ≡ true → (c : ℕ) (x y : G.State) → is_awake worded.new c ≡ false → (held_at cells.old cycle c).state ≡ Some x → (held_at cells.new cycle c).state ≡ Some y → G.codec.words y ≡ G.codec.words x }
     ensures put { result ≡ true → IsRowPut G.rules slots.now cells.old cells.new cycle changes.new }
     ensures versions { (t c : ℕ) → (held_at cells.old t c).is_due ≡ false → (held_at cells.old t c).version ≡ 0 }
     ensures err { result ≡ false → cells.new ≡ cells.old }
@@ -102,7 +119,7 @@ fn put_few<G: Grid, M: WholeRow<G>>(
         return false;
     }
     match &mut beside.near {
-        Some(held) => match put_each(cells, slots, near, held, cycle, changes) {
+        Some(held) => match put_each(cells, slots, near, held, cycle, set, changes, worded) {
             Ok(()) => true,
             Err(_) => false,
         },
@@ -119,12 +136,18 @@ pub(crate) fn put_row<G: Grid, M: WholeRow<G>>(
     along: &mut Option<Along<M>>,
     beside: &mut Beside<M>,
     cycle: u32,
+    set: &Row,
     changes: &mut Row,
+    worded: &mut Row,
 ) -> bool
     requires later { 0 < cycle }
     requires within { cycle < length cells.old }
     requires whole { (t : ℕ) → t < length cells.old → length (row_at cells.old t) ≡ G.rules.components slots.now }
+    requires set { length set.now ≡ G.rules.components slots.now }
+    requires due { (c : ℕ) → is_awake set.now c ≡ true → (held_at cells.old cycle c).is_due ≡ true }
+    requires known { (c : ℕ) → (held_at cells.old cycle c).is_due ≡ true → is_awake set.now c ≡ false → (held_at cells.old cycle c).state ≡ Some (run G.rules slots.now cycle c) }
     requires width { length changes.old ≡ G.rules.components slots.now }
+    requires worded { length worded.old ≡ G.rules.components slots.now }
     requires before { (c : ℕ) → c < G.rules.components slots.now → (held_at cells.old (cycle - 1) c).state ≡ Some (run G.rules slots.now (cycle - 1) c) }
     requires near { AreNear G.rules slots.now near.now }
     requires earlier { 1 < cycle → (c : ℕ) → c < G.rules.components slots.now → (held_at cells.old (cycle - 2) c).state ≡ Some (run G.rules slots.now (cycle - 2) c) }
@@ -133,15 +156,17 @@ pub(crate) fn put_row<G: Grid, M: WholeRow<G>>(
     ensures len { length cells.new ≡ length cells.old }
     ensures lens { (t : ℕ) → t < length cells.old → length (row_at cells.new t) ≡ G.rules.components slots.now }
     ensures width { length changes.new ≡ length changes.old }
+    ensures worded { length worded.new ≡ length worded.old }
+    ensures words { result ≡ true → (c : ℕ) (x y : G.State) → is_awake worded.new c ≡ false → (held_at cells.old cycle c).state ≡ Some x → (held_at cells.new cycle c).state ≡ Some y → G.codec.words y ≡ G.codec.words x }
     ensures put { result ≡ true → IsRowPut G.rules slots.now cells.old cells.new cycle changes.new }
     ensures versions { (t c : ℕ) → (held_at cells.old t c).is_due ≡ false → (held_at cells.old t c).version ≡ 0 }
     ensures err { result ≡ false → cells.new ≡ cells.old }
     ensures along { IfSome along.new (λ a. HoldsRow G.rules M.stands M.state slots.now a.row a.cycle) }
     ensures beside { AreBeside G.rules G.codec M.stands M.state slots.now beside.new }
 {
-    if cells.due_count(cycle) >= least_due(along, cycle) {
-        put_stepped::<G, M>(cells, slots, along, beside, cycle, changes)
+    if set.count() >= least_due(along, cycle) {
+        put_stepped::<G, M>(cells, slots, along, beside, cycle, set, changes, worded)
     } else {
-        put_few::<G, M>(cells, slots, near, beside, cycle, changes)
+        put_few::<G, M>(cells, slots, near, beside, cycle, set, changes, worded)
     }
 }

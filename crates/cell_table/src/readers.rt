@@ -142,6 +142,11 @@ impl Readers {
             → ((c : ℕ) → c < length self.now → has (readers_at self.now c) k ≡ has near c)
             → is_awake reached.new k ≡ any_changes changes.now near (length self.now) }
     {
+        if changes.count() == changes.len() {
+            // Each component reads itself.
+            reached.mark_all();
+            return;
+        }
         reached.gather(self.masks.as_slice(), changes);
     }
 

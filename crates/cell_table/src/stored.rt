@@ -293,6 +293,7 @@ impl<G: Grid> States<G> {
         step: &M::Step,
         set: &Row,
         changes: &mut Row,
+        worded: &mut Row,
         cycle: u32,
     ) -> Result<(), NoMemory>
         requires later { 0 < cycle }
@@ -300,12 +301,15 @@ impl<G: Grid> States<G> {
         requires width { length set.now ≡ self.old.width }
         requires components { length set.now ≡ G.rules.components slots.now }
         requires changes { length changes.old ≡ length set.now }
+        requires worded { length worded.old ≡ length set.now }
         requires stands { M.stands row.now slots.now }
         requires before { (c : ℕ) → is_awake set.now c ≡ true → is_some (state_at self.old (cycle - 1) c) ≡ true }
         requires still { (c : ℕ) (x : G.State) → is_awake set.now c ≡ true → state_at self.old (cycle - 1) c ≡ Some x → M.is_still step.now slots.now c ≡ true → M.state row.now c ≡ x }
         requires kept { (c : ℕ) (x : G.State) → is_awake set.now c ≡ true → state_at self.old (cycle - 1) c ≡ Some x → M.has_written step.now slots.now c ≡ false → G.codec.memory (M.state row.now c) ≡ G.codec.memory x }
         ensures many { IsAsMany self.old self.new }
         ensures changes { length changes.new ≡ length changes.old }
+        ensures worded { length worded.new ≡ length worded.old }
+        ensures words { OnOk result ((c : ℕ) (x y : G.State) → is_awake worded.new c ≡ false → state_at self.old cycle c ≡ Some x → state_at self.new cycle c ≡ Some y → G.codec.words y ≡ G.codec.words x) }
         ensures put { OnOk result ((c : ℕ) → state_at self.new cycle c ≡ (if is_awake set.now c then Some (M.state row.now c) else state_at self.old cycle c)) }
         ensures others { OnOk result ((t c : ℕ) → (t ≡ cycle → ⊥) → state_at self.new t c ≡ state_at self.old t c) }
         ensures tells { OnOk result ((c : ℕ) → is_awake set.now c ≡ true → (is_awake changes.new c ≡ false) ↔ (state_at self.old cycle c ≡ Some (M.state row.now c))) }
@@ -323,6 +327,7 @@ impl<G: Grid> States<G> {
             step,
             set,
             changes,
+            worded,
             cycle,
         ) {
             Ok(()) => {}
@@ -340,6 +345,7 @@ impl<G: Grid> States<G> {
         near: &Neighbours,
         set: &Row,
         changes: &mut Row,
+        worded: &mut Row,
         cycle: u32,
     ) -> Result<(), NoMemory>
         requires later { 0 < cycle }
@@ -347,12 +353,15 @@ impl<G: Grid> States<G> {
         requires width { length set.now ≡ self.old.width }
         requires components { length set.now ≡ G.rules.components slots.now }
         requires changes { length changes.old ≡ length set.now }
+        requires worded { length worded.old ≡ length set.now }
         requires held { HoldsWords G.rules G.codec M.stands M.state slots.now held.old }
         requires near { AreNear G.rules slots.now near.now }
         requires before { (c : ℕ) → c < length set.now → state_at self.old (cycle - 1) c ≡ Some (run G.rules slots.now (cycle - 1) c) }
         requires earlier { 1 < cycle → (c : ℕ) → c < length set.now → state_at self.old (cycle - 2) c ≡ Some (run G.rules slots.now (cycle - 2) c) }
         ensures many { IsAsMany self.old self.new }
         ensures changes { length changes.new ≡ length changes.old }
+        ensures worded { length worded.new ≡ length worded.old }
+        ensures words { OnOk result ((c : ℕ) (x y : G.State) → is_awake worded.new c ≡ false → state_at self.old cycle c ≡ Some x → state_at self.new cycle c ≡ Some y → G.codec.words y ≡ G.codec.words x) }
         ensures held { HoldsWords G.rules G.codec M.stands M.state slots.now held.new }
         ensures put { OnOk result ((c : ℕ) → state_at self.new cycle c ≡ (if is_awake set.now c then Some (run G.rules slots.now cycle c) else state_at self.old cycle c)) }
         ensures others { OnOk result ((t c : ℕ) → (t ≡ cycle → ⊥) → state_at self.new t c ≡ state_at self.old t c) }
@@ -371,6 +380,7 @@ impl<G: Grid> States<G> {
             near,
             set,
             changes,
+            worded,
             cycle,
         ) {
             Ok(()) => {}

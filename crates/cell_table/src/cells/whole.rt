@@ -33,6 +33,15 @@ impl<G: Grid> Cells<G> {
 }
 
 impl<G: Grid> Cells<G> {
+    /// Which cells of a cycle are due.
+    pub(crate) fn due_row(&self, cycle: u32) -> &Row
+        requires { cycle < length self.now }
+        ensures len { length result.now ≡ length (row_at self.now cycle) }
+        ensures due { (c : ℕ) → is_awake result.now c ≡ (held_at self.now cycle c).is_due }
+    {
+        self.due.row(cycle)
+    }
+
     /// Marks just components, those at least whose cells hold at a cycle another state than at an earlier one.
     pub(crate) fn find_changed(&self, from: u32, to: u32, marks: &mut Row)
         requires order { from ≤ to }
@@ -45,34 +54,41 @@ impl<G: Grid> Cells<G> {
     }
 }
 
-/// Gives the due cells of a cycle the states that a row holds, which are those of the run, and none of that cycle is due then. Of
-/// `changes` those components are marked that held another state, or none. Where memory is wanting, nothing is changed but those marks.
+/// Gives the due cells of a cycle the states that a row holds, which are those of the run, and none of that cycle is due then: those of a
+/// set, and all other ones have theirs already. Of `changes` those components are marked that held another state, or none. Where memory is wanting, nothing is changed but those marks.
 pub(crate) fn put_due<G: Grid, M: WholeRow<G>>(
     cells: &mut Cells<G>,
     slots: &G::Slots,
     row: &M,
     step: &M::Step,
     cycle: u32,
+    set: &Row,
     changes: &mut Row,
+    worded: &mut Row,
 ) -> Result<(), NoMemory>
     requires later { 0 < cycle }
     requires within { cycle < length cells.old }
     requires whole { (t : ℕ) → t < length cells.old → length (row_at cells.old t) ≡ G.rules.components slots.now }
+    requires set { length set.now ≡ G.rules.components slots.now }
+    requires due { (c : ℕ) → is_awake set.now c ≡ true → (held_at cells.old cycle c).is_due ≡ true }
+    requires known { (c : ℕ) → (held_at cells.old cycle c).is_due ≡ true → is_awake set.now c ≡ false → (held_at cells.old cycle c).state ≡ Some (run G.rules slots.now cycle c) }
     requires width { length changes.old ≡ G.rules.components slots.now }
+    requires worded { length worded.old ≡ G.rules.components slots.now }
     requires before { (c : ℕ) → c < G.rules.components slots.now → (held_at cells.old (cycle - 1) c).state ≡ Some (run G.rules slots.now (cycle - 1) c) }
     requires row { HoldsRow G.rules M.stands M.state slots.now row.now cycle }
     requires known { IsKnown G.rules G.codec (M.is_still step.now slots.now) (M.has_written step.now slots.now) slots.now cycle }
     ensures len { length cells.new ≡ length cells.old }
     ensures lens { (t : ℕ) → t < length cells.old → length (row_at cells.new t) ≡ G.rules.components slots.now }
     ensures width { length changes.new ≡ length changes.old }
+    ensures worded { length worded.new ≡ length worded.old }
+    ensures words { OnOk result ((c : ℕ) (x y : G.State) → is_awake worded.new c ≡ false → (held_at cells.old cycle c).state ≡ Some x → (held_at cells.new cycle c).state ≡ Some y → G.codec.words y ≡ G.codec.words x) }
     ensures put { OnOk result (IsRowPut G.rules slots.now cells.old cells.new cycle changes.new) }
     ensures versions { (t c : ℕ) → (held_at cells.old t c).is_due ≡ false → (held_at cells.old t c).version ≡ 0 }
     ensures err { OnErr result (cells.new ≡ cells.old) }
 {
-    let set = cells.due.row(cycle);
     match cells
         .states
-        .put_whole::<M>(slots, row, step, set, changes, cycle)
+        .put_whole::<M>(slots, row, step, set, changes, worded, cycle)
     {
         Ok(()) => {}
         Err(_) => return Err(NoMemory),
@@ -88,12 +104,18 @@ pub(crate) fn put_each<G: Grid, M: WholeRow<G>>(
     near: &Neighbours,
     held: &mut Near<M>,
     cycle: u32,
+    set: &Row,
     changes: &mut Row,
+    worded: &mut Row,
 ) -> Result<(), NoMemory>
     requires later { 0 < cycle }
     requires within { cycle < length cells.old }
     requires whole { (t : ℕ) → t < length cells.old → length (row_at cells.old t) ≡ G.rules.components slots.now }
+    requires set { length set.now ≡ G.rules.components slots.now }
+    requires due { (c : ℕ) → is_awake set.now c ≡ true → (held_at cells.old cycle c).is_due ≡ true }
+    requires known { (c : ℕ) → (held_at cells.old cycle c).is_due ≡ true → is_awake set.now c ≡ false → (held_at cells.old cycle c).state ≡ Some (run G.rules slots.now cycle c) }
     requires width { length changes.old ≡ G.rules.components slots.now }
+    requires worded { length worded.old ≡ G.rules.components slots.now }
     requires near { AreNear G.rules slots.now near.now }
     requires before { (c : ℕ) → c < G.rules.components slots.now → (held_at cells.old (cycle - 1) c).state ≡ Some (run G.rules slots.now (cycle - 1) c) }
     requires earlier { 1 < cycle → (c : ℕ) → c < G.rules.components slots.now → (held_at cells.old (cycle - 2) c).state ≡ Some (run G.rules slots.now (cycle - 2) c) }
@@ -102,14 +124,15 @@ pub(crate) fn put_each<G: Grid, M: WholeRow<G>>(
     ensures len { length cells.new ≡ length cells.old }
     ensures lens { (t : ℕ) → t < length cells.old → length (row_at cells.new t) ≡ G.rules.components slots.now }
     ensures width { length changes.new ≡ length changes.old }
+    ensures worded { length worded.new ≡ length worded.old }
+    ensures words { OnOk result ((c : ℕ) (x y : G.State) → is_awake worded.new c ≡ false → (held_at cells.old cycle c).state ≡ Some x → (held_at cells.new cycle c).state ≡ Some y → G.codec.words y ≡ G.codec.words x) }
     ensures put { OnOk result (IsRowPut G.rules slots.now cells.old cells.new cycle changes.new) }
     ensures versions { (t c : ℕ) → (held_at cells.old t c).is_due ≡ false → (held_at cells.old t c).version ≡ 0 }
     ensures err { OnErr result (cells.new ≡ cells.old) }
 {
-    let set = cells.due.row(cycle);
     match cells
         .states
-        .put_each::<M>(slots, held, near, set, changes, cycle)
+        .put_each::<M>(slots, held, near, set, changes, worded, cycle)
     {
         Ok(()) => {}
         Err(_) => return Err(NoMemory),

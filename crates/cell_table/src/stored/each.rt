@@ -354,6 +354,7 @@ pub(super) fn put_each<G: Grid, M: WholeRow<G>>(
     near: &Neighbours,
     set: &Row,
     changes: &mut Row,
+    worded: &mut Row,
     cycle: u32,
 ) -> Result<(), NoMemory>
     requires later { 0 < cycle }
@@ -361,6 +362,7 @@ pub(super) fn put_each<G: Grid, M: WholeRow<G>>(
     requires width { length set.now ≡ rows.old.width }
     requires components { length set.now ≡ G.rules.components slots.now }
     requires changes { length changes.old ≡ length set.now }
+    requires worded { length worded.old ≡ length set.now }
     requires memories { length memories.old ≡ length set.now }
     requires len { length ready.old.items ≡ length set.now }
     requires held { HoldsWords G.rules G.codec M.stands M.state slots.now held.old }
@@ -369,6 +371,8 @@ pub(super) fn put_each<G: Grid, M: WholeRow<G>>(
     requires earlier { 1 < cycle → HoldsRunAt G.rules G.codec slots.now rows.old.rows memories.old (cycle - 2) }
     ensures held { HoldsWords G.rules G.codec M.stands M.state slots.now held.new }
     ensures changes { length changes.new ≡ length changes.old }
+    ensures worded { length worded.new ≡ length worded.old }
+    ensures words { OnOk result ((c : ℕ) → is_awake worded.new c ≡ false → words_at rows.new.rows cycle c ≡ words_at rows.old.rows cycle c) }
     ensures width { rows.new.width ≡ rows.old.width }
     ensures cycles { length rows.new.rows ≡ length rows.old.rows }
     ensures lens { (t : ℕ) → length (slice_index_or rows.new.rows t []) ≡ length (slice_index_or rows.old.rows t []) }
@@ -394,6 +398,8 @@ pub(super) fn put_each<G: Grid, M: WholeRow<G>>(
         }
     }
     put_memories(memories, ready, changes, cycle, end);
-    mark_draft(draft, changes);
+    worded.clear_all();
+    mark_draft(draft, worded);
+    changes.add(worded);
     Ok(())
 }

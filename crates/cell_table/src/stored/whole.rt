@@ -263,6 +263,7 @@ pub(super) fn put_whole<G: Grid, M: WholeRow<G>>(
     step: &M::Step,
     set: &Row,
     changes: &mut Row,
+    worded: &mut Row,
     cycle: u32,
 ) -> Result<(), NoMemory>
     requires later { 0 < cycle }
@@ -270,6 +271,7 @@ pub(super) fn put_whole<G: Grid, M: WholeRow<G>>(
     requires width { length set.now ≡ rows.old.width }
     requires components { length set.now ≡ G.rules.components slots.now }
     requires changes { length changes.old ≡ length set.now }
+    requires worded { length worded.old ≡ length set.now }
     requires memories { length memories.old ≡ length set.now }
     requires len { length ready.old.items ≡ length set.now }
     requires stands { M.stands row.now slots.now }
@@ -277,6 +279,8 @@ pub(super) fn put_whole<G: Grid, M: WholeRow<G>>(
     requires still { (c : ℕ) → is_awake set.now c ≡ true → M.is_still step.now slots.now c ≡ true → G.codec.words (M.state row.now c) ≡ words_at rows.old.rows (cycle - 1) c }
     requires kept { (c : ℕ) → is_awake set.now c ≡ true → M.has_written step.now slots.now c ≡ false → memory_at memories.old c (cycle - 1) ≡ G.codec.memory (M.state row.now c) }
     ensures changes { length changes.new ≡ length changes.old }
+    ensures worded { length worded.new ≡ length worded.old }
+    ensures words { OnOk result ((c : ℕ) → is_awake worded.new c ≡ false → words_at rows.new.rows cycle c ≡ words_at rows.old.rows cycle c) }
     ensures wide { IsWide (length set.now) sets.new }
     ensures width { rows.new.width ≡ rows.old.width }
     ensures cycles { length rows.new.rows ≡ length rows.old.rows }
@@ -306,6 +310,8 @@ pub(super) fn put_whole<G: Grid, M: WholeRow<G>>(
     // Marked so far are the components with other memories. One that its cell has already isn't put again: its list would have a change
     // that is none, and there cycles that are settled at once as alike would end.
     put_memories(memories, ready, changes, cycle, end);
-    changes.add_words(buffer.as_slice());
+    worded.clear_all();
+    worded.add_words(buffer.as_slice());
+    changes.add(worded);
     Ok(())
 }

@@ -25,6 +25,12 @@ pub(super) struct Spare {
     pub changes: Row,
     pub reached: Row,
     pub ranges: Vec<CellRange>,
+    /// The components that got other words, those whose cells are settled by what is near them, and the cells of a cycle that are due and
+    /// hold the run already.
+    pub worded: Row,
+    pub left: Row,
+    pub known: Row,
+    pub known_at: u32,
     /// How many cycles in a row were tried in vain, and how many are to be let by before the next try.
     failed: u32,
     wait: u32,
@@ -38,11 +44,19 @@ impl Spare {
     pub(super) fn new(alloc: Global, count: u32) -> Result<Spare, NoMemory>
         ensures changes { IfOk result (λ s. length s.changes ≡ count) }
         ensures reached { IfOk result (λ s. length s.reached ≡ count) }
+        ensures worded { IfOk result (λ s. length s.worded ≡ count) }
+        ensures left { IfOk result (λ s. length s.left ≡ count) }
+        ensures known { IfOk result (λ s. length s.known ≡ count) }
+        ensures none { IfOk result (λ s. s.known_at ≡ 0) }
     {
         Ok(Spare {
             changes: Row::new(alloc, count, false)?,
             reached: Row::new(alloc, count, false)?,
             ranges: Vec::new(alloc),
+            worded: Row::new(alloc, count, false)?,
+            left: Row::new(alloc, count, false)?,
+            known: Row::new(alloc, count, false)?,
+            known_at: 0,
             failed: 0,
             wait: 0,
         })
@@ -87,6 +101,24 @@ impl<G: Grid> Table<G> {
         true
     }
 
+    /// Whether near each due cell of a cycle all stayed a cycle before. No state is looked at.
+    fn all_wait(&self, cycle: u32, count: u32) -> bool
+        requires there { cycle ≤ self.now.horizon }
+        requires later { 0 < cycle }
+        requires width { count ≡ G.rules.components self.now.slots }
+    {
+        // The number of a component is below this one, so that of the next fits.
+        let _count = count;
+        let mut from = 0;
+        while let Some(component) = self.cells.next_due(cycle, from) {
+            if !self.cells.all_stay(cycle - 1, self.near(component)) {
+                return false;
+            }
+            from = component + 1;
+        }
+        true
+    }
+
     /// Whether each due cell of a cycle gets the state of the cell before, known without a step. The components of those that
     /// hold another one are marked.
     fn begins_alike(&self, cycle: u32, changes: &mut Row) -> bool
@@ -97,7 +129,7 @@ impl<G: Grid> Table<G> {
         ensures len { length changes.new ≡ length changes.old }
         ensures alike { result ≡ true → BeginsAlike G.rules self.now cycle changes.new }
     {
-        if cycle < 2 {
+        if cycle < 2 || !self.all_wait(cycle, changes.len()) {
             return false;
         }
         // The number of a component is below this one, so that of the next fits.

@@ -1,5 +1,8 @@
 //! Settling a cycle at once, by a row of all components.
-ghost use Rattle.std.specs.Prelude.{◌≡◌, ℕ, ◌+◌, ◌≤◌, IfNone, IfSome, length};
+ghost use Rattle.std.specs.Prelude.{◌≡◌, ℕ, ◌+◌, ◌≤◌, ◌<◌, ◌&&◌, ◌==◌, nat_eq, true, false, IfNone, IfSome, length};
+ghost use Rattle.cell_table.specs.Filling.{is_awake};
+ghost use Rattle.cell_table.specs.Seen.{held_at};
+ghost use Rattle.cell_table.specs.Repeating.{any_changes};
 ghost use Rattle.cell_table.specs.Seen.{Seen};
 ghost use Rattle.cell_table.specs.Cells.{AtOrAfter};
 ghost use Rattle.cell_table.specs.Settling.{NoneDueBefore, IsAt, IsFurther};
@@ -16,9 +19,49 @@ use crate::ranges::{make_room, ranges_in};
 use crate::rows::{has_room, mark_changed, reach_in};
 use crate::watcher::Watcher;
 use crate::{Cell, WholeRow};
+use cell_marks::Row;
 use grid_law::Grid;
 
+impl Spare {
+    /// Marks of the cells that are due at a cycle just those that aren't known to hold the run.
+    fn find_left(&mut self, due: &Row, cycle: u32)
+        requires width { length self.old.left ≡ length due.now }
+        requires known { length self.old.known ≡ length due.now }
+        ensures width { length self.new.left ≡ length self.old.left }
+        ensures left { (c : ℕ) → c < length due.now → is_awake self.new.left c ≡ (is_awake due.now c && (nat_eq self.old.known_at cycle && is_awake self.old.known c) == false) }
+    {
+        self.left.clear_all();
+        self.left.add(due);
+        if self.known_at == cycle {
+            self.left.remove(&self.known);
+        }
+    }
+}
+
 impl<G: Grid> Table<G> {
+    /// Finds the cells that become due one cycle later only since a component that they read has another memory, which they don't see:
+    /// what they hold is what the run has. Nothing but that is changed.
+    fn find_known(&self, cycle: u32, spare: &mut Spare)
+        requires width { length spare.old.known ≡ G.rules.components self.now.slots }
+        ensures width { length spare.new.known ≡ length spare.old.known }
+        ensures changes { spare.new.changes ≡ spare.old.changes }
+        ensures reached { spare.new.reached ≡ spare.old.reached }
+        ensures known { (c : ℕ) → spare.new.known_at ≡ cycle + 1 → is_awake spare.new.known c ≡ true → (held_at self.now.rows (cycle + 1) c).is_due ≡ false
+            × is_awake spare.old.changes c ≡ false × (any_changes spare.old.worded (G.rules.near self.now.slots c) (G.rules.components self.now.slots) ≡ false) }
+    {
+        spare.known_at = 0;
+        if cycle + 1 >= self.cells.cycles() || spare.changes.count() == spare.worded.count() {
+            return;
+        }
+        reach_in::<G>(&self.slots, &self.readers, &spare.worded, &mut spare.left);
+        spare.known.clear_all();
+        spare.known.add(&spare.reached);
+        spare.known.remove(&spare.left);
+        spare.known.remove(&spare.changes);
+        spare.known.remove(self.cells.due_row(cycle + 1));
+        spare.known_at = cycle + 1;
+    }
+
     /// Settles the cells of a cycle before which no cell is due, at once: how many were computed. Only cells of
     /// the ranges may hold other states then.
     fn settle_row<M: WholeRow<G>>(
@@ -53,6 +96,7 @@ impl<G: Grid> Table<G> {
             Ok(()) => {}
             Err(_) => return None,
         }
+        spare.find_left(self.cells.due_row(cycle), cycle);
         if !put_row::<G, M>(
             &mut self.cells,
             &self.slots,
@@ -60,7 +104,9 @@ impl<G: Grid> Table<G> {
             along,
             beside,
             cycle,
+            &spare.left,
             &mut spare.changes,
+            &mut spare.worded,
         ) {
             return None;
         }
@@ -71,6 +117,7 @@ impl<G: Grid> Table<G> {
             &spare.changes,
             &mut spare.reached,
         );
+        self.find_known(cycle, spare);
         let changed = spare.changes.count();
         mark_changed::<G>(
             &mut self.cells,
