@@ -49,17 +49,17 @@ fn wipe(set: &mut Vec<u64>)
     }
 }
 
-/// Marks those of the components that are due at a cycle that a step may have moved, and those at which something begins.
-fn find_looked<M: Drop>(rows: &Rows, memories: &Lists<M>, set: &Row, sets: &mut Sets, cycle: u32)
+/// Marks those of the components that are due at a cycle that a step may have moved, and those whose words begin there.
+fn find_looked(rows: &Rows, set: &Row, sets: &mut Sets, cycle: u32)
     requires later { 0 < cycle }
     requires within { cycle < length rows.now.rows }
-    requires lists { length memories.now ≡ length set.now }
     requires wide { IsWide (length set.now) sets.old }
     ensures wide { IsWide (length set.now) sets.new }
     ensures moved { sets.new.moved ≡ sets.old.moved }
+    ensures wrote { sets.new.wrote ≡ sets.old.wrote }
     ensures looked { (c : ℕ) → is_awake sets.new.looked c ≡ true → is_awake set.now c ≡ true }
     ensures left { (c : ℕ) → is_awake set.now c ≡ true → is_awake sets.new.looked c ≡ false → (is_awake sets.old.moved c ≡ false)
-        × (words_at rows.now.rows cycle c ≡ words_at rows.now.rows (cycle - 1) c) × (memory_at memories.now c cycle ≡ memory_at memories.now c (cycle - 1)) }
+        × (is_awake sets.old.wrote c ≡ false) × (words_at rows.now.rows cycle c ≡ words_at rows.now.rows (cycle - 1) c) }
 {
     sets.looked.clear_all();
     if rows.is_blank(cycle) {
@@ -71,8 +71,8 @@ fn find_looked<M: Drop>(rows: &Rows, memories: &Lists<M>, set: &Row, sets: &mut 
     rows.add_begun(cycle, &mut sets.begun);
     sets.looked.add_words(&sets.begun);
     sets.looked.add(&sets.moved);
+    sets.looked.add(&sets.wrote);
     sets.looked.keep(set);
-    add_recalled(memories, set, cycle, &mut sets.looked);
 }
 
 /// Marks the components whose words may begin at a cycle, too.
@@ -87,35 +87,30 @@ fn add_begun(rows: &Rows, cycle: u32, marks: &mut Row)
     }
 }
 
-/// Marks the components of a set whose memory may begin at a cycle, too.
-fn add_recalled<M: Drop>(memories: &Lists<M>, set: &Row, cycle: u32, marks: &mut Row)
-    requires width { length set.now ≡ length marks.old }
-    requires lists { length memories.now ≡ length marks.old }
-    ensures len { length marks.new ≡ length marks.old }
-    ensures more { (c : ℕ) → is_awake marks.old c ≡ true → is_awake marks.new c ≡ true }
-    ensures within { (c : ℕ) → is_awake marks.new c ≡ true → (is_awake marks.old c || is_awake set.now c) ≡ true }
-    ensures same { (c : ℕ) → is_awake set.now c ≡ true → is_awake marks.new c ≡ false → memory_at memories.now c cycle ≡ memory_at memories.now c (cycle - 1) }
+/// Marks the components of a set whose memory may begin at a cycle, in two rows.
+fn add_recalled<M: Drop>(
+    memories: &Lists<M>,
+    set: &Row,
+    cycle: u32,
+    looked: &mut Row,
+    asked: &mut Row,
+)
+    requires looked { length looked.old ≡ length set.now }
+    requires asked { length asked.old ≡ length set.now }
+    requires lists { length memories.now ≡ length set.now }
+    ensures looked { length looked.new ≡ length looked.old }
+    ensures asked { length asked.new ≡ length asked.old }
+    ensures more { (c : ℕ) → is_awake looked.old c ≡ true → is_awake looked.new c ≡ true }
+    ensures within { (c : ℕ) → is_awake looked.new c ≡ true → (is_awake looked.old c || is_awake set.now c) ≡ true }
+    ensures also { (c : ℕ) → is_awake asked.new c ≡ true → (is_awake asked.old c || is_awake looked.new c) ≡ true }
+    ensures same { (c : ℕ) → is_awake set.now c ≡ true → is_awake asked.new c ≡ false → memory_at memories.now c cycle ≡ memory_at memories.now c (cycle - 1) }
+    ensures kept { (c : ℕ) → is_awake asked.old c ≡ true → is_awake asked.new c ≡ true }
 {
     let (low, high) = memories.range();
     for c in low..high {
-        if set.has(c) && !marks.has(c) && memories.begins(c, cycle) {
-            marks.set(c);
-        }
-    }
-}
-
-/// Marks those of a set, too, that have a memory.
-fn add_listed<M: Drop>(memories: &Lists<M>, set: &Row, marks: &mut Row)
-    requires width { length set.now ≡ length marks.old }
-    requires lists { length memories.now ≡ length marks.old }
-    ensures len { length marks.new ≡ length marks.old }
-    ensures more { (c : ℕ) → is_awake marks.old c ≡ true → is_awake marks.new c ≡ true }
-    ensures none { (c t : ℕ) → is_awake set.now c ≡ true → is_awake marks.new c ≡ false → memory_at memories.now c t ≡ memory_at memories.now c 0 }
-{
-    let (low, high) = memories.range();
-    for c in low..high {
-        if set.has(c) {
-            marks.set(c);
+        if set.has(c) && memories.begins(c, cycle) {
+            looked.set(c);
+            asked.set(c);
         }
     }
 }
@@ -145,12 +140,12 @@ pub(super) fn find_sets<G: Grid, M: WholeRow<G>>(
         × (memory_at memories.now c cycle ≡ memory_at memories.now c (cycle - 1)) }
 {
     M::moved(step, slots, &mut sets.moved);
-    find_looked(rows, memories, set, sets, cycle);
     M::written(step, slots, &mut sets.wrote);
+    find_looked(rows, set, sets, cycle);
     sets.asked.clear_all();
     sets.asked.add(&sets.wrote);
-    add_listed(memories, &sets.looked, &mut sets.asked);
-    sets.asked.keep(&sets.looked);
+    sets.asked.keep(set);
+    add_recalled(memories, set, cycle, &mut sets.looked, &mut sets.asked);
 }
 
 /// Marks just components, those at least that have at a cycle other words or another memory than at an earlier one.

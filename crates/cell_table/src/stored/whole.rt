@@ -250,6 +250,23 @@ fn put_words<G: Grid, M: WholeRow<G>>(
     }
 }
 
+/// Before which cycle the cells of a set have to keep the memory that they have, once those of one cycle get another: where no cell has
+/// words from that cycle on, no memory behind it means anything.
+fn last_held(rows: &Rows, set: &Row, cycle: u32) -> u32
+    requires within { cycle < length rows.now.rows }
+    requires width { length set.now ≡ rows.now.width }
+    ensures after { cycle < result }
+    ensures before { result ≤ length rows.now.rows }
+    ensures none { (t c : ℕ) → result ≤ t → is_awake set.now c ≡ true → words_at rows.now.rows t c ≡ [] }
+{
+    let end = rows.len();
+    if rows.is_blank(cycle) && rows.next_change(cycle + 1, end, set.words()) == end {
+        cycle + 1
+    } else {
+        end
+    }
+}
+
 /// The components of a set have at a cycle what a row holds for them after its step; those are marked that had something else. Where
 /// memory is wanting, no cell has another.
 pub(super) fn put_whole<G: Grid, M: WholeRow<G>>(
@@ -295,7 +312,7 @@ pub(super) fn put_whole<G: Grid, M: WholeRow<G>>(
     ensures unmarked { OnOk result ((c : ℕ) → is_awake set.now c ≡ false → is_awake changes.new c ≡ false) }
     ensures err { OnErr result ((rows.new ≡ rows.old) × ((c t : ℕ) → memory_at memories.new c t ≡ memory_at memories.old c t)) }
 {
-    let end = rows.len();
+    let end = last_held(rows, set, cycle);
     find_sets::<G, M>(rows, memories, slots, step, set, sets, cycle);
     are_told::<G, M>(slots, row, set.len());
     let (wrote, asked) = (&sets.wrote, &sets.asked);
