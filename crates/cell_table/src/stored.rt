@@ -1,5 +1,6 @@
 //! The states of all cells, as words by cycle and what isn't in them by component.
-ghost use Rattle.std.specs.Prelude.{◌≡◌, ◌≢◌, ℕ, ◌+◌, ◌-◌, ◌<◌, ◌≤◌, ◌++◌, ◌^◌, ◌↔◌, IsTrue, IfOk, OnOk, OnErr, MatchResult, length, replicate, take, option_map, is_some, true, false, None, Some, if◌then◌else◌, slice_index_or, []};
+ghost use Rattle.std.specs.Prelude.{◌≡◌, ◌≢◌, ℕ, ◌+◌, ◌-◌, ◌<◌, ◌≤◌, ◌++◌, ◌^◌, ◌↔◌, IsTrue, IfOk, OnOk, OnErr, MatchResult, length, replicate, take, option_map, is_some, true, false, None, Some, if◌then◌else◌, slice_index_or, ◌∷◌, []};
+ghost use Rattle.grid_law.specs.declared.turn.Turn.TheVariants.{Ahead, Passed};
 ghost use Rattle.std.specs.Option.{option_copied};
 ghost use Rattle.grid_law.specs.Codec.{IsTold};
 ghost use Rattle.std.specs.Arc.{arc_value};
@@ -25,7 +26,7 @@ use change_lists::Lists;
 use change_rows::{Cells as Draft, Rows};
 use changed::repeat_changed;
 use each::put_each;
-use grid_law::{Grid, NoMemory};
+use grid_law::{Grid, NoMemory, Turn};
 use memory::{Change, is_same, no_changes};
 use put::{put_state, repeat_state};
 use sets::{Sets, find_changed};
@@ -164,6 +165,16 @@ impl<G: Grid> States<G> {
             return false;
         }
         G::words_read(slots, words, cell.component, slot)
+    }
+
+    /// Where along a run a component reads the slot, of which the cell's state is one.
+    pub(crate) fn turn(&self, slots: &G::Slots, cell: Cell, slot: &G::Slot) -> Turn
+        requires { cell.component < G.rules.components slots.now }
+        ensures ahead { result ≡ Ahead → (t u : ℕ) → state_at self.now cell.cycle cell.component ≡ Some (run G.rules slots.now t cell.component) → u ≤ t → G.rules.reads slots.now (run G.rules slots.now u cell.component ∷ []) cell.component slot.now ≡ false }
+        ensures passed { result ≡ Passed → (t u : ℕ) → state_at self.now cell.cycle cell.component ≡ Some (run G.rules slots.now t cell.component) → t ≤ u → G.rules.reads slots.now (run G.rules slots.now u cell.component ∷ []) cell.component slot.now ≡ false }
+    {
+        let words = self.words.words(cell.cycle, cell.component);
+        G::turn(words, slots, cell.component, slot)
     }
 
     /// To before which cycle, `end` at most, the cells of a component have the state of one of them; they may have it longer.

@@ -334,7 +334,7 @@ impl Cells {
         self.heads.reserve(to - from)?;
         match self.words.extend_from_slice(more) {
             Ok(()) => {
-                push_heads(&mut self.heads, heads, from, to, start as u32, base as u32);
+                copy_heads(&mut self.heads, heads, from, to, start as u32, base as u32);
                 Ok(())
             }
             Err(e) => Err(e),
@@ -445,6 +445,118 @@ fn push_heads(heads: &mut Vec<Head>, others: &[Head], from: usize, to: usize, st
             from: head.from - start + base,
         });
     }
+}
+
+/// The same; at once where they begin where they began.
+fn copy_heads(heads: &mut Vec<Head>, others: &[Head], from: usize, to: usize, start: u32, base: u32)
+    requires room { vec_len heads.old + (to - from) ≤ vec_capacity heads.old }
+    requires order { from ≤ to }
+    requires there { to ≤ length others.now }
+    requires climbs { (k : ℕ) → from ≤ k → k < to → start ≤ start_at others.now 0 k }
+    requires small { (k : ℕ) → from ≤ k → k < to → start_at others.now 0 k - start + base < 2 ^ 32 }
+    ensures { heads.new.items ≡ heads.old.items ++ map (moved start base) (slice_range others.now from to) }
+{
+    for i in from..to {
+        let head = others[i];
+        heads.push_reserved(Head {
+            component: head.component,
+            from: head.from - start + base,
+        });
+    }
+}
+
+/// The first component above those of all cells.
+fn end_in(heads: &[Head], words: &[u64]) -> u64
+    requires { IsPacked heads.now words.now }
+    ensures { result ≡ end_of (cells_of heads.now words.now) }
+{
+    let _ = words;
+    let count = heads.len();
+    if count == 0 {
+        return 0;
+    }
+    u64::from(heads[count - 1].component) + 1
+}
+
+/// Where the words of the cell at a place begin, or n behind the last cell.
+fn start_in(heads: &[Head], n: usize, i: usize) -> usize
+    ensures { result ≡ start_at heads.now n i }
+{
+    match heads.get(i) {
+        Some(head) => head.from as usize,
+        None => n,
+    }
+}
+
+/// The words of the cell at a place.
+fn words_in<'a>(heads: &'a [Head], words: &'a [u64], i: usize) -> &'a [u64]
+    requires packed { IsPacked heads.now words.now }
+    requires there { i < length heads.now }
+    ensures { result.now ≡ (cell_at heads.now words.now i).words }
+{
+    let from = start_in(heads, words.len(), i);
+    let to = start_in(heads, words.len(), i + 1);
+    &words[from..to]
+}
+
+/// The words of the cells from a place on and before another one.
+fn words_between<'a>(heads: &'a [Head], words: &'a [u64], from: usize, to: usize) -> &'a [u64]
+    requires packed { IsPacked heads.now words.now }
+    requires order { from ≤ to }
+    requires there { to ≤ length heads.now }
+    ensures { result.now ≡ slice_range words.now (start_at heads.now (length words.now) from) (start_at heads.now (length words.now) to) }
+{
+    let start = start_in(heads, words.len(), from);
+    let end = start_in(heads, words.len(), to);
+    &words[start..end]
+}
+
+/// The words of a component, where there is a cell of it.
+fn find_in<'a>(heads: &'a [Head], words: &'a [u64], c: u32) -> Option<&'a [u64]>
+    requires { IsPacked heads.now words.now }
+    ensures { option_copied result ≡ found (cells_of heads.now words.now) c }
+{
+    let place = place_in(heads, c);
+    if is_at(heads, place, c) {
+        Some(words_in(heads, words, place))
+    } else {
+        None
+    }
+}
+
+/// The same, where a guess of the cell's place is tried first.
+fn find_near<'a>(heads: &'a [Head], words: &'a [u64], c: u32, guess: usize) -> Option<&'a [u64]>
+    requires { IsPacked heads.now words.now }
+    ensures { option_copied result ≡ found (cells_of heads.now words.now) c }
+{
+    if is_at(heads, guess, c) {
+        Some(words_in(heads, words, guess))
+    } else {
+        find_in(heads, words, c)
+    }
+}
+
+/// Whether the cell at a place is one of c.
+fn is_at(heads: &[Head], i: usize, c: u32) -> bool
+    ensures { IsTrue result ↔ ((i < length heads.now) × ((head_at heads.now 0 i).component ≡ c)) }
+{
+    match heads.get(i) {
+        Some(head) => head.component == c,
+        None => false,
+    }
+}
+
+/// How many components are below c.
+fn place_in(heads: &[Head], c: u32) -> usize
+    requires { (i j : ℕ) → i < j → j < length heads.now → (head_at heads.now 0 i).component < (head_at heads.now 0 j).component }
+    ensures { IsPlace heads.now c result }
+{
+    if start == base {
+        // There is room, so nothing grows and nothing is refused.
+        let _ = heads.extend_from_slice(&others[from..to]);
+        return;
+    }
+    push_heads(heads, others, from, to, start, base);
 }
 
 /// The first component above those of all cells.

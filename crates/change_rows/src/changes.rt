@@ -48,6 +48,9 @@ pub(crate) fn words_in(s: &Changes, t: usize, c: u32) -> &[u64]
     requires component { c < s.now.width }
     ensures { result.now ≡ standing (begins_at s.now.rows.items s.now.seam s.now.at c) t }
 {
+    if is_change(&s.marks, t, c) {
+        return words_from(&s.rows, &s.marks, Some(t), c);
+    }
     let last = last_change(&s.marks, t, c);
     match in_seam(s, last, t, c) {
         Some(words) => words,

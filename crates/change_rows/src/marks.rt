@@ -88,25 +88,13 @@ impl Marks {
         next_in(self.words.as_slice(), self.blocks.as_slice(), t, end, k)
     }
 
-    /// No component is marked at a cycle any more.
-    pub fn clear(&mut self, t: usize)
+    /// Marks just these components at a cycle.
+    pub fn put(&mut self, t: usize, word: u64)
         requires { t < length self.old }
-        ensures { self.new ≡ slice_set self.old t 0 }
+        ensures { self.new ≡ slice_set self.old t word }
     {
-        self.words[t] = 0;
-    }
-
-    /// Marks a component at a cycle.
-    pub fn set(&mut self, t: usize, k: u32)
-        requires cycle { t < length self.old }
-        requires component { k < 64 }
-        ensures len { length self.new ≡ length self.old }
-        ensures set { is_set self.new t k ≡ true }
-        ensures others { (u i : ℕ) → (u ≡ t → i ≡ k → ⊥) → is_set self.new u i ≡ is_set self.old u i }
-    {
-        let word = with_bit(self.words[t], k);
         self.words[t] = word;
-        let block = with_bit(self.blocks[t / 64], k);
+        let block = self.blocks[t / 64] | word;
         self.blocks[t / 64] = block;
     }
 
@@ -337,29 +325,23 @@ fn bits_below(word: u64, k: u32) -> usize
     (word & !(u64::MAX << k)).count_ones() as usize
 }
 
-/// No component is marked at a cycle any more.
-fn clear_row(lines: &mut Vec<Marks>, t: usize)
-    requires { (w : ℕ) → w < length lines.old.items → t < length (slice_index_or lines.old.items w []) }
-    ensures len { length lines.new.items ≡ length lines.old.items }
-    ensures lines { (w : ℕ) → slice_index_or lines.new.items w [] ≡ slice_set (slice_index_or lines.old.items w []) t 0 }
+/// The marks of those of the 64 components of a word of which there are cells from a place on, and how many cells are of them or of
+/// components before them.
+fn word_from(cells: &Cells, from: usize, w: usize) -> (u64, usize)
+    requires { from ≤ length cells.now }
+    ensures from { from ≤ result.1 }
+    ensures to { result.1 ≤ length cells.now }
+    ensures within { (i : ℕ) → from ≤ i → i < result.1 → component_at cells.now i / 64 ≡ w }
+    ensures next { result.1 < length cells.now → component_at cells.now result.1 / 64 ≡ w → ⊥ }
+    ensures marks { (k : ℕ) → k < 64 → is_one result.0 k ≡ is_some (found (slice_range cells.now from result.1) (64 * w + k)) }
 {
-    for w in 0..lines.len() {
-        lines[w].clear(t);
+    let mut word = 0;
+    let mut i = from;
+    while i < cells.len() && cells.component(i) as usize / 64 == w {
+        word = with_bit(word, cells.component(i) % 64);
+        i += 1;
     }
-}
-
-/// Marks the components of cells at a cycle.
-fn set_row(lines: &mut Vec<Marks>, t: usize, cells: &Cells)
-    requires tall { (w : ℕ) → w < length lines.old.items → t < length (slice_index_or lines.old.items w []) }
-    requires wide { end_of cells.now ≤ 64 * length lines.old.items }
-    ensures len { length lines.new.items ≡ length lines.old.items }
-    ensures tall { (w : ℕ) → length (slice_index_or lines.new.items w []) ≡ length (slice_index_or lines.old.items w []) }
-    ensures marks { (u c : ℕ) → is_marked lines.new.items u c ≡ cond (nat_eq u t) (is_some (found cells.now c) || is_marked lines.old.items u c) (is_marked lines.old.items u c) }
-{
-    for i in 0..cells.len() {
-        let c = cells.component(i);
-        lines[c as usize / 64].set(t, c % 64);
-    }
+    (word, i)
 }
 
 /// The components of cells, and no others, are marked at a cycle.
@@ -370,6 +352,10 @@ pub(crate) fn mark_row(lines: &mut Vec<Marks>, t: usize, cells: &Cells)
     ensures tall { (w : ℕ) → length (slice_index_or lines.new.items w []) ≡ length (slice_index_or lines.old.items w []) }
     ensures marks { (u c : ℕ) → c < 64 * length lines.old.items → is_marked lines.new.items u c ≡ cond (nat_eq u t) (is_some (found cells.now c)) (is_marked lines.old.items u c) }
 {
-    clear_row(lines, t);
-    set_row(lines, t, cells);
+    let mut from = 0;
+    for w in 0..lines.len() {
+        let (word, next) = word_from(cells, from, w);
+        lines[w].put(t, word);
+        from = next;
+    }
 }

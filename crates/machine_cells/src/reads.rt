@@ -7,6 +7,7 @@ ghost use Rattle.machine_cells.specs.Words.{state_from};
 ghost use Rattle.machine_cells.specs.Reads.{is_listed, index_reads, entry_reads, out_reads, last_reads, back_reads, fixed_reads, later_reads, start_reads, later_may_read, proc_may_read};
 
 use crate::MachineState;
+use grid_law::Turn;
 use omega_net::{Component, Net, ScriptEntry};
 use page_map::{ADDRESSES, PAGE_WORDS, PAGES};
 use project_book::{Depths, Project, SCRIPT_ENTRIES, Slot};
@@ -65,7 +66,33 @@ fn proc_words_read(project: &Project, proc: u8, words: &[u64], slot: Slot) -> bo
         Slot::Page(_) | Slot::Window => {
             entry_reads(project.entry(u32::from(proc), u32::from(index)), slot)
         }
-        _ => proc_reads(project, proc, &read_proc(head, body), slot),
+        _ => read_reads(project, proc, head, body, slot),
+    }
+}
+
+/// Whether a processor does that is read out of its words.
+#[inline(never)]
+fn read_reads(project: &Project, proc: u8, head: u64, body: &[u64], slot: Slot) -> bool
+    ensures { result ≡ proc_reads project.now proc (proc_from head body.now) slot }
+{
+    proc_reads(project, proc, &read_proc(head, body), slot)
+}
+
+/// Where along a run the entry of a slot stands for a processor whose state has these words: its index never falls.
+pub(crate) fn entry_turn(proc: u8, words: &[u64], slot: Slot) -> Turn {
+    let (head, _) = split_first(words);
+    match slot {
+        Slot::Entry(p, i) if p == u32::from(proc) && head % 4 == 0 => {
+            let index = u32::from(index_in(head));
+            if index < i {
+                Turn::Ahead
+            } else if index > i {
+                Turn::Passed
+            } else {
+                Turn::Here
+            }
+        }
+        _ => Turn::Here,
     }
 }
 

@@ -5,7 +5,7 @@ ghost use Rattle.cell_table.specs.Reads.{reads_by};
 
 use super::Cells;
 use crate::Cell;
-use grid_law::Grid;
+use grid_law::{Grid, Turn};
 
 impl<G: Grid> Cells<G> {
     /// Whether a cell holds a state.
@@ -39,5 +39,12 @@ impl<G: Grid> Cells<G> {
         ensures { result ≡ reads_by G.rules slots.now cell.component slot.now (held_at self.now cell.cycle cell.component).state }
     {
         self.states.reads(slots, cell, slot)
+    }
+
+    /// Where along a run a component reads the slot, of which the cell's state is one.
+    pub(crate) fn turn(&self, slots: &G::Slots, cell: Cell, slot: &G::Slot) -> Turn
+        requires { cell.component < G.rules.components slots.now }
+    {
+        self.states.turn(slots, cell, slot)
     }
 }

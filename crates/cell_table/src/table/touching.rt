@@ -14,7 +14,7 @@ ghost use Rattle.cell_table.specs.Cost.{Costs, CostsAnEdit};
 use super::Table;
 use crate::marks::{add_where, retouch};
 use crate::{Cell, CellRange, TouchFault};
-use grid_law::{Changed, Grid, NoMemory, Reader};
+use grid_law::{Changed, Grid, NoMemory, Reader, Turn};
 use std::alloc::Global;
 use std::sync::Arc;
 
@@ -113,6 +113,49 @@ impl<G: Grid> Table<G> {
         Ok(to)
     }
 
+    /// Whether it can be told where along the run a component reads the slot: where all cells hold the run.
+    fn has_turns(&self, slot: &G::Slot) -> bool
+        ensures { result ≡ true → HoldsRun G.rules self.now }
+    {
+        self.cells.due_total() == 0 && G::has_turns(slot)
+    }
+
+    /// From which cycle on a component may read the slot, where no earlier one from `from` on does, up to the last.
+    fn turn_from(&self, component: u32, slot: &G::Slot, from: u32, last: u32) -> u32
+        requires there { component < G.rules.components self.now.slots }
+        requires held { HoldsRun G.rules self.now }
+        requires later { 0 < from }
+        requires last { last ≤ self.now.horizon }
+        ensures from { from ≤ result }
+        ensures to { from ≤ last + 1 → result ≤ last + 1 }
+        ensures none { (t : ℕ) → from ≤ t → t < result → cell_reads_one G.rules self.now.slots self.now.rows slot.now t component ≡ false }
+    {
+        let mut low = from;
+        let mut high = last + 1;
+        while low < high {
+            let cycle = low + (high - low) / 2;
+            let own = Cell {
+                cycle: cycle - 1,
+                component,
+            };
+            if self.cells.turn(&self.slots, own, slot) == Turn::Ahead {
+                low = cycle + 1;
+            } else {
+                high = cycle;
+            }
+        }
+        low
+    }
+
+    /// Whether a component that holds the run reads the slot at no cycle any more behind that of a cell of its own.
+    fn has_passed(&self, own: Cell, slot: &G::Slot) -> bool
+        requires there { own.component < G.rules.components self.now.slots }
+        requires held { HoldsRun G.rules self.now }
+        ensures { result ≡ true → (t : ℕ) → own.cycle < t → cell_reads_one G.rules self.now.slots self.now.rows slot.now t own.component ≡ false }
+    {
+        self.cells.turn(&self.slots, own, slot) == Turn::Passed
+    }
+
     /// Adds the cells of later cycles, up to the last, at which a component reads the slot. One that is sure to read it isn't
     /// asked; another one is, once for each stretch of its own states.
     #[inline(never)]
@@ -135,9 +178,16 @@ impl<G: Grid> Table<G> {
         // The cycles are at most this many, so the next cycle's number fits.
         let _cycles = self.cells.cycles();
         let mut from = self.add_always(component, slot, last, ready, ranges)?;
+        let turns = self.has_turns(slot);
+        if turns {
+            from = self.turn_from(component, slot, from, last);
+        }
         while from <= last {
             let cycle = from - 1;
             let own = Cell { cycle, component };
+            if turns && self.has_passed(own, slot) {
+                return Ok(());
+            }
             let end = self.stands_to(own);
             let to = end.min(last) + 1;
             let reads = self.reads_by(own, slot);
