@@ -39,27 +39,39 @@ impl Spare {
 }
 
 impl<G: Grid> Table<G> {
-    /// Finds the cells that become due one cycle later only since a component that they read has another memory, which they don't see:
-    /// what they hold is what the run has. Nothing but that is changed.
-    fn find_known(&self, cycle: u32, spare: &mut Spare)
+    /// Marks just the components that read one that changes. Those are known that aren't due one cycle later, don't change, and read only
+    /// components that have another memory, which they don't see: what they hold there is what the run has.
+    fn find_reached(&self, cycle: u32, spare: &mut Spare)
+        requires there { cycle ≤ self.now.horizon }
+        requires changes { length spare.old.changes ≡ G.rules.components self.now.slots }
+        requires reached { length spare.old.reached ≡ G.rules.components self.now.slots }
         requires width { length spare.old.known ≡ G.rules.components self.now.slots }
+        requires worded { (c : ℕ) → is_awake spare.old.worded c ≡ true → is_awake spare.old.changes c ≡ true }
         ensures width { length spare.new.known ≡ length spare.old.known }
         ensures changes { spare.new.changes ≡ spare.old.changes }
-        ensures reached { spare.new.reached ≡ spare.old.reached }
-        ensures known { (c : ℕ) → spare.new.known_at ≡ cycle + 1 → is_awake spare.new.known c ≡ true → (held_at self.now.rows (cycle + 1) c).is_due ≡ false
-            × is_awake spare.old.changes c ≡ false × (any_changes spare.old.worded (G.rules.near self.now.slots c) (G.rules.components self.now.slots) ≡ false) }
+        ensures len { length spare.new.reached ≡ length spare.old.reached }
+        ensures reached { (c : ℕ) → c < G.rules.components self.now.slots
+            → is_awake spare.new.reached c ≡ any_changes spare.old.changes (G.rules.near self.now.slots c) (G.rules.components self.now.slots) }
+        ensures known { (c : ℕ) → spare.new.known_at ≡ cycle + 1 → is_awake spare.new.known c ≡ true → ((held_at self.now.rows (cycle + 1) c).is_due ≡ false)
+            × (is_awake spare.old.changes c ≡ false) × (any_changes spare.old.worded (G.rules.near self.now.slots c) (G.rules.components self.now.slots) ≡ false) }
     {
+        let (slots, readers) = (&self.slots, &self.readers);
         spare.known_at = 0;
-        if cycle + 1 >= self.cells.cycles() || spare.changes.count() == spare.worded.count() {
+        reach_in::<G>(slots, readers, &spare.worded, &mut spare.reached);
+        if spare.changes.count() == spare.worded.count() {
             return;
         }
-        reach_in::<G>(&self.slots, &self.readers, &spare.worded, &mut spare.left);
-        spare.known.clear_all();
-        spare.known.add(&spare.reached);
-        spare.known.remove(&spare.left);
-        spare.known.remove(&spare.changes);
-        spare.known.remove(self.cells.due_row(cycle + 1));
-        spare.known_at = cycle + 1;
+        spare.left.clear_all();
+        spare.left.add(&spare.changes);
+        spare.left.remove(&spare.worded);
+        reach_in::<G>(slots, readers, &spare.left, &mut spare.known);
+        spare.known.remove(&spare.reached);
+        spare.reached.add(&spare.known);
+        if cycle + 1 < self.cells.cycles() {
+            spare.known.remove(&spare.changes);
+            spare.known.remove(self.cells.due_row(cycle + 1));
+            spare.known_at = cycle + 1;
+        }
     }
 
     /// Settles the cells of a cycle before which no cell is due, at once: how many were computed. Only cells of
@@ -111,13 +123,7 @@ impl<G: Grid> Table<G> {
             return None;
         }
         ranges_in(&spare.changes, cycle, cycle + 1, &mut spare.ranges);
-        reach_in::<G>(
-            &self.slots,
-            &self.readers,
-            &spare.changes,
-            &mut spare.reached,
-        );
-        self.find_known(cycle, spare);
+        self.find_reached(cycle, spare);
         let changed = spare.changes.count();
         mark_changed::<G>(
             &mut self.cells,
