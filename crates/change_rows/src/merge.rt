@@ -1,5 +1,5 @@
 //! Cells of one row put together from those of two.
-ghost use Rattle.std.specs.Prelude.{◌≡◌, ℕ, ◌+◌, ◌<◌, ◌≤◌, ◌^◌, ◌↔◌, max, [], List, None, cond, is_some, IsTrue, IfOk, OnOk, length, take, unwrap_or};
+ghost use Rattle.std.specs.Prelude.{◌≡◌, ℕ, ◌+◌, ◌<◌, ◌≤◌, ◌^◌, ◌↔◌, max, [], List, None, cond, is_some, IsTrue, IfOk, OnOk, length, take, slice_range, unwrap_or};
 ghost use Rattle.std.specs.Option.{option_or, option_copied};
 ghost use Rattle.change_rows.specs.Cells.{found, end_of, component_at, IsAscending, IsSplit};
 
@@ -19,6 +19,14 @@ pub(crate) fn seek(cells: &Cells, from: usize, c: u32) -> usize
         i += 1;
     }
     i
+}
+
+/// Whether no cell from a place on is below a component, as the cell at that place tells.
+#[inline(always)]
+pub(crate) fn is_past(cells: &Cells, place: usize, c: u32) -> bool
+    ensures { result ≡ true → (e : ℕ) → e < c → found (slice_range cells.now place (length cells.now)) e ≡ None }
+{
+    place >= cells.len() || cells.component(place) >= c
 }
 
 /// Whether the cell at a place is one of c.

@@ -14,25 +14,28 @@ fn mark_lines(shape: Shape, set: u64, first: u32, marks: &mut Marks) {
     marks.add_word(first as usize / 64, within << (first % 64));
 }
 
-/// Marks the switch of a stage with a label, where its number within the stage is added to one.
-fn mark_switch(shape: Shape, stage: u32, label: u32, first: u32, marks: &mut Marks) {
+/// The bit of a switch of a stage with a label, by its number within the stage.
+fn switch_bit(shape: Shape, stage: u32, label: u32) -> u64 {
     if label >= shape.lines() {
-        return;
+        return 0;
     }
     let index = line_of(shape, stage, label);
-    if index < shape.half() {
-        marks.set(first + index);
-    }
+    if index < shape.half() { 1 << index } else { 0 }
 }
 
-/// Marks the switches of a stage that a set has by their labels, whose numbers begin with one.
+/// Marks the switches of a stage that a set has by their labels, whose numbers begin with one. A stage has its switches within one word.
 fn mark_stage(shape: Shape, stage: u32, set: u64, first: u32, marks: &mut Marks) {
+    if set == 0 {
+        return;
+    }
     let mut rest = set;
+    let mut bits = 0;
     while rest != 0 {
         let label = rest.trailing_zeros();
         rest &= rest - 1;
-        mark_switch(shape, stage, label, first, marks);
+        bits |= switch_bit(shape, stage, label);
     }
+    marks.add_word(first as usize / 64, bits << (first % 64));
 }
 
 /// The same of all stages of a network.
