@@ -12,7 +12,7 @@ use omega_net::{Component, Net, ScriptEntry};
 use page_map::{ADDRESSES, PAGE_WORDS, PAGES};
 use project_book::{Depths, Project, SCRIPT_ENTRIES, Slot};
 use ref_proc::{Outgoing, ProcState};
-use state_words::{index_in, read_proc, split_first};
+use state_words::{index_in, read_proc, shows_in, split_first};
 
 /// Whether a component reads a slot at cycle 0, beside the shape: a module all first words and pages.
 pub(crate) fn start_reads(component: Component, slot: Slot) -> bool
@@ -66,6 +66,8 @@ fn proc_words_read(project: &Project, proc: u8, words: &[u64], slot: Slot) -> bo
         Slot::Page(_) | Slot::Window => {
             entry_reads(project.entry(u32::from(proc), u32::from(index)), slot)
         }
+        // Where nothing waits to leave, it reads the depth of no queue.
+        Slot::Depth(_) if !shows_in(head) => false,
         _ => read_reads(project, proc, head, body, slot),
     }
 }
