@@ -438,12 +438,11 @@ fn push_heads(heads: &mut Vec<Head>, others: &[Head], from: usize, to: usize, st
     requires small { (k : ℕ) → from ≤ k → k < to → start_at others.now 0 k - start + base < 2 ^ 32 }
     ensures { heads.new.items ≡ heads.old.items ++ map (moved start base) (slice_range others.now from to) }
 {
-    for i in from..to {
-        let head = others[i];
-        heads.push_reserved(Head {
-            component: head.component,
-            from: head.from - start + base,
-        });
+    let at = heads.len();
+    // There is room, so nothing grows and nothing is refused.
+    let _ = heads.extend_from_slice(&others[from..to]);
+    for i in at..heads.len() {
+        heads[i].from = heads[i].from - start + base;
     }
 }
 
