@@ -16,10 +16,10 @@ use cell_marks::Row;
 use grid_law::Grid;
 
 /// How many cells of a cycle are due at least where a row of all components is loaded to settle it.
-const WIDE: u32 = 16;
+const WIDE: u32 = 24;
 
 /// The same where the row holds the cycle before already.
-const STILL_WIDE: u32 = 12;
+const STILL_WIDE: u32 = 16;
 
 /// How many cells of a cycle are due at least where a row settles it.
 fn least_due<M>(along: &Option<Along<M>>, cycle: u32) -> u32 {

@@ -108,7 +108,7 @@ fn add_recalled<M: Drop>(
 {
     let (low, high) = memories.range();
     for c in low..high {
-        if set.has(c) && memories.begins(c, cycle) {
+        if set.has(c) && !asked.has(c) && memories.begins(c, cycle) {
             looked.set(c);
             asked.set(c);
         }
