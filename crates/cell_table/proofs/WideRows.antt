@@ -51,8 +51,8 @@ module _ {State Slots Slot : Type 0} (R : Rules State Slots Slot) (laws : Laws R
   row_steps stands_so steps = record {
     stands_so = stands_so;
     states = λ c h. steps c h
-      ∙ ap (λ xs. R.step s xs c) (map_same (state old) (run R s (t - 1)) (R.components s) row.states (R.near s c) (recursion_from_All (λ k. k < R.components s) (R.near s c) (laws.near_within s c h)))
-      ∙ run_steps R s t c later;
+        ∙ ap (λ xs. R.step s xs c) (map_same (state old) (run R s (t - 1)) (R.components s) row.states (R.near s c) (recursion_from_All (λ k. k < R.components s) (R.near s c) (laws.near_within s c h)))
+        ∙ run_steps R s t c later;
   }
 
   -- and what is known of the step is known of the run
