@@ -95,7 +95,7 @@ some_words width rows = record { width = width; rows = rows }
 -- a row that is filled is one in which all components have other words
 module _ (v v1 : Words) (whole : IsWhole v) (t : ℕ) (there : t < length v.rows) (members : List ℕ) (ws : ℕ → List ℕ) (marks : List Bool) (wide : length marks ≡ v.width) (bits : (c : ℕ) → c < length marks → is_in members c ≡ is_awake marks c) (full : count_in marks ≡ length marks)
     (e : v1 ≡ record { width = v.width; rows = set v.rows t (filled v.width ws) }) where
-  put : ℕ → List ℕ
+  abbrev put : ℕ → List ℕ
   put c = cond (is_in members c) (ws c) (get_or (get_or v.rows t []) c [])
 
   long_filled : length (filled v.width ws) ≡ v.width

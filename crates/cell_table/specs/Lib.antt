@@ -1,5 +1,4 @@
 pub mod Seen
-pub mod Codes
 pub mod Cells
 pub mod Inputs
 pub mod Consistent

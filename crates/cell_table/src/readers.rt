@@ -1,5 +1,5 @@
 //! Which components read which.
-ghost use Rattle.std.specs.Prelude.{◌≡◌, ℕ, ◌<◌, IfOk, OnOk, length, List, [], false, replicate, All};
+ghost use Rattle.std.specs.Prelude.{◌≡◌, ℕ, ◌<◌, ◌||◌, IfOk, OnOk, length, List, [], false, replicate, All};
 ghost use Rattle.std.specs.Arc.{arc_value};
 ghost use Rattle.cell_table.specs.Readers.{has, readers_at, IsIndex, AreMasks, AreTurned, AreNear};
 ghost use Rattle.cell_table.specs.Filling.{is_awake};

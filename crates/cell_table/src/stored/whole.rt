@@ -1,5 +1,5 @@
 //! The states that a row of all components holds, for those of a set.
-ghost use Rattle.std.specs.Prelude.{◌≡◌, ℕ, ◌+◌, ◌-◌, ◌<◌, ◌≤◌, ◌↔◌, ◌||◌, IfOk, OnOk, OnErr, MatchResult, length, true, false, None, slice_index_or, slice_set, []};
+ghost use Rattle.std.specs.Prelude.{◌≡◌, ℕ, ◌+◌, ◌-◌, ◌*◌, ◌<◌, ◌≤◌, ◌↔◌, ◌||◌, IfOk, OnOk, OnErr, MatchResult, length, true, false, None, slice_index_or, slice_set, []};
 ghost use Rattle.grid_law.specs.Codec.{IsTold};
 ghost use Rattle.change_rows.specs.Rows.{words_at, replaced};
 ghost use Rattle.change_rows.specs.Marks.{is_in};
@@ -234,10 +234,10 @@ fn put_words<G: Grid, M: WholeRow<G>>(
     if set.count() == set.len() && rows.is_blank(cycle) {
         // All cells had no words, and each gets some.
         copy_words(buffer, set.words())?;
-        return match rows.fill(cycle, &source) {
-            Ok(()) => Ok(()),
-            Err(_) => Err(NoMemory),
-        };
+        match rows.fill(cycle, &source) {
+            Ok(()) => return Ok(()),
+            Err(_) => return Err(NoMemory),
+        }
     }
     let words = sets.looked.words();
     copy_words(buffer, words)?;
