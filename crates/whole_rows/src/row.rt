@@ -30,6 +30,7 @@ pub struct MachineRow {
 }
 
 impl Model for MachineRow {
+    ghost use Rattle.std.specs.Prelude.{◌≡◌};
     ghost use Rattle.flat_row.specs.Row.{Arrays};
 
     ghost Value = { Arrays };
@@ -115,10 +116,10 @@ impl WholeRow<Rp3> for MachineRow {
     ) -> Result<Option<SharedWords>, NoMemory> {
         let component = component_at(s.shape(), c);
         let beside = &mut self.beside;
-        match self.row.next_words(s, component, memory, beside, words) {
-            Ok(left) => left_in(alloc, memory, left),
-            Err(_) => Err(NoMemory),
-        }
+        let Ok(left) = self.row.next_words(s, component, memory, beside, words) else {
+            return Err(NoMemory);
+        };
+        left_in(alloc, memory, left)
     }
 
     fn is_still(step: &Changed, s: &Project, c: u32) -> bool {
