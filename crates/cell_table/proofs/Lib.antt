@@ -42,3 +42,4 @@ pub mod Counted
 pub mod Waves
 pub mod Noted
 pub mod NotedRows
+pub mod Knowing

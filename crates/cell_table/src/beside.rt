@@ -1,5 +1,5 @@
 //! Rows of all components that whoever settles keeps from call to call.
-ghost use Rattle.std.specs.Prelude.{◌≡◌, ℕ, IfSome, OnOk, is_some, length, true, false};
+ghost use Rattle.std.specs.Prelude.{◌≡◌, ℕ, IfSome, OnOk, is_some, replicate, true, false};
 ghost use Rattle.grid_law.specs.Codec.{Codec};
 ghost use Rattle.cell_table.specs.NextWords.{AreBeside, HoldsWords};
 
@@ -35,7 +35,7 @@ impl<M> Beside<M> {
 
 /// Nothing is known of any of so many components.
 fn know_nothing(at: &mut Vec<u32>, count: u32) -> Result<(), NoMemory>
-    ensures len { OnOk result (length at.new.items ≡ count) }
+    ensures { OnOk result (at.new.items ≡ replicate count 0) }
 {
     at.clear();
     at.resize(count as usize, 0)?;

@@ -1,6 +1,7 @@
 //! All components of a grid at one cycle, stepped together.
-ghost use Rattle.std.specs.Prelude.{◌≡◌, ◌==◌, length, ℕ, ◌<◌, ◌++◌, ◌↔◌, IsTrue, IfSome, IfOk, OnOk, OnErr, map, option_map, slice_index_or, true, false, Some};
+ghost use Rattle.std.specs.Prelude.{◌≡◌, ◌==◌, length, ℕ, suc, ◌<◌, ◌++◌, ◌↔◌, IsTrue, IfSome, IfOk, OnOk, OnErr, map, option_map, slice_index_or, true, false, Some};
 ghost use Rattle.grid_law.specs.Codec.{IsTold};
+ghost use Rattle.grid_law.specs.Run.{run};
 ghost use Rattle.std.specs.Option.{option_copied, option_or};
 ghost use Rattle.cell_table.specs.Codes.{IsCodeOf};
 ghost use Rattle.cell_table.specs.NextWords.{IsNear};
@@ -78,7 +79,7 @@ pub trait WholeRow<G: Grid>: Drop {
 
     /// Appends the words of a component one cycle later than the states near it, of which the row holds the words; the memory of its own
     /// one, or none, is handed over, and no other is asked. Told is the memory that it has one cycle later, or none where that is the
-    /// same. The row stays as it is.
+    /// same, of states of a run. The row stays as it is.
     ///
     /// # Errors
     ///
@@ -101,9 +102,9 @@ pub trait WholeRow<G: Grid>: Drop {
         ensures told { OnOk result ((xs : ℕ → G.State) → IsNear G.rules G.codec (state self.old) xs s.now c
             → G.codec.memory (xs c) ≡ option_copied memory.entry
             → IsTold G.codec (G.rules.step s.now (map xs (G.rules.near s.now c)) c)) }
-        ensures memory { IfOk result (λ left. (xs : ℕ → G.State) → IsNear G.rules G.codec (state self.old) xs s.now c
-            → G.codec.memory (xs c) ≡ option_copied memory.entry
-            → G.codec.memory (G.rules.step s.now (map xs (G.rules.near s.now c)) c) ≡ option_or left (G.codec.memory (xs c))) };
+        ensures memory { IfOk result (λ left. (t : ℕ) → IsNear G.rules G.codec (state self.old) (run G.rules s.now t) s.now c
+            → G.codec.memory (run G.rules s.now t c) ≡ option_copied memory.entry
+            → G.codec.memory (run G.rules s.now (suc t) c) ≡ option_or left (G.codec.memory (run G.rules s.now t c))) };
 
     /// Marks just the components that aren't known to be as they were before the step.
     fn moved(step: &Self::Step, s: &G::Slots, moved: &mut Row)

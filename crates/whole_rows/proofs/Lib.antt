@@ -1,3 +1,5 @@
 pub mod Stepping
 pub mod Fitting
 pub mod Loading
+pub mod Rising
+pub mod Nexting

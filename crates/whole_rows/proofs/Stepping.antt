@@ -35,7 +35,7 @@ states_of_all S f n h (c ∷ cs) a = ap (λ o. cons_option o (states_at S cs)) (
 pub get_state : (R : Arrays) (c : ℕ) → c < components R.k → slice_get (states_of R) c ≡ Some (state_in R c)
 get_state R c h = slice_get-map (λ d. state_of R (component_of R.k d)) (below (components R.k)) c ∙ ap (option_map (λ d. state_of R (component_of R.k d))) (below-get (components R.k) c h)
 
-some_is : {X : Type 0} {x y : X} → Some x ≡ Some y → x ≡ y
+pub some_is : {X : Type 0} {x y : X} → Some x ≡ Some y → x ≡ y
 some_is h = cc
 
 -- a row before the first cycle

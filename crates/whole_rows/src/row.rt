@@ -152,10 +152,10 @@ impl WholeRow<Rp3> for MachineRow {
     ) -> Result<Option<SharedWords>, NoMemory> {
         let component = self.component(c);
         let beside = &mut self.beside;
-        match self.row.next_words(s, component, memory, beside, words) {
-            Ok(left) => left_in(alloc, memory, left),
-            Err(_) => Err(NoMemory),
-        }
+        let Ok(left) = self.row.next_words(s, component, memory, beside, words) else {
+            return Err(NoMemory);
+        };
+        left_in(alloc, memory, left)
     }
 
     fn moved(step: &Changed, s: &Project, moved: &mut Marks) {
