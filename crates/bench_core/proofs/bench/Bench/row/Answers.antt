@@ -21,7 +21,7 @@ loop-component-preserved c =
     let n = c.loop-component.component in
     let end : c.components-component-end.result ≡ components P.k = rw c.project.ensures at c.components-component-end.ensures in
     let inside : n < components P.k = omega (arith, end, c.loop-component-test.true) in
-    let shown : option_map arc_value c.in_ok-shared.field-0 ≡ held c.args.self.now.table c.args.cycle n = rw (← c.self.view_is) c.in_ok-shared.ensures in
+    let shown : option_map arc_value c.in_ok-state.field-0 ≡ held c.args.self.now.table c.args.cycle n = rw (← c.self.view_is) c.in_ok-state.ensures in
     let found : Some (run rp3_rules P c.args.cycle n) ≡ Some (arc_value c.in-Some.state) = sym (c.requires.there c.args.cycle n (omega arith) inside) ∙ sym shown ∙ ap (option_map arc_value) c.in-Some.is in
     let all = row_at P c.args.cycle in
     ap (map arc_value) c.in_ok-push-in-Some.ensures.items
