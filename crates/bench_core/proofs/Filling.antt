@@ -1,12 +1,12 @@
 -- The counters of a table where many cells were filled together.
-use Rattle.std.proofs.Common.{◌≡◌, ℕ, ◌+◌, ◌<◌, ◌≤◌, ◌∙◌, ◌⊎◌, ◌||◌, refl, sym, ap, arith, inl, inr, cond, Bool, true, false, Option, None, List, length, take, get_or, All}
+use Rattle.std.proofs.Common.{◌≡◌, ℕ, ◌+◌, ◌<◌, ◌≤◌, ◌∙◌, ◌||◌, refl, sym, ap, arith, cond, Bool, true, false, Option, None, List, length, take, get_or, All}
 use Rattle.std.proofs.lemmas.Bool.Decides.{nat_tests}
 use Rattle.std.proofs.lemmas.List.Elements.{All-weaker}
 use Rattle.std.proofs.lemmas.List.Folds.{list_any_none, list_any_more}
 use Rattle.omega_net.specs.Numbers.{components}
 use Rattle.cell_table.specs.Seen.{Seen}
 use Rattle.cell_table.specs.Cells.{IsThere}
-use Rattle.cell_table.specs.Passing.{HoldsOutside, HoldsBut}
+use Rattle.cell_table.specs.Passing.{HoldsBut}
 use Rattle.cell_table.specs.Touches.{covers, is_marked, IsWithin}
 use Rattle.cell_table.specs.declared.cell.CellRange.{CellRange}
 use Rattle.machine_cells.specs.declared.state.MachineState.{MachineState}
@@ -46,10 +46,6 @@ stands_none sums at states c from stands = stands_along sums at (filled_in at st
 pub stands_start : (sums : Kept) (at states : States) (from to : ℕ) → StandsFor sums at → StandsFor sums (filled_to at states 0 from to)
 stands_start sums at states from to stands = stands_along sums at (filled_to at states 0 from to) stands (λ u d le lt. grind (arith, nat_tests))
 
--- where each cell outside of the cycles holds the same in both maps, the first is the second once it was filled from it
-same_outside : (at states : States) (n from to u d : ℕ) → d < n → ((u < from) ⊎ (to ≤ u) → at u d ≡ states u d) → filled_to at states n from to u d ≡ states u d
-same_outside at states n from to u d lt same = grind (arith, nat_tests)
-
 -- counters that counted nothing count a table, once all components were counted up to its horizon
 pub counted_whole : (sums : Kept) (v : Seen MachineState Project) (n end : ℕ) → sums.k ≡ v.slots.k → n ≡ components v.slots.k → end ≡ v.horizon + 1
     → StandsFor sums (filled_to (λ t c. None) (held v) n 0 end) → IsCounted sums v
@@ -57,23 +53,6 @@ counted_whole sums v n end shape all last stands =
     counts_held sums (filled_to (λ t c. None) (held v) n 0 end) v shape stands
     (λ u d there. let cycle = there.cycle in let lt : d < n = rw all there.component in grind (arith, nat_tests))
     (λ u d past. grind (arith, nat_tests))
-
--- the counters of the table before count the one after, once all components were counted
-pub counted_filled : (sums next : Kept) (old new : Seen MachineState Project) (from m n : ℕ) → IsCounted sums old → HoldsOutside rp3_rules old new from m → next.k ≡ sums.k → n ≡ components sums.k
-    → StandsFor next (filled_to (present old) (held new) n from (from + m)) → IsCounted next new
-counted_filled sums next old new from m n counts is shape all stands =
-    counts_held next (filled_to (present old) (held new) n from (from + m)) new (shape ∙ counts.shape ∙ ap (λ (P : Project). P.k) (sym is.slots)) stands
-    (λ u d there.
-    let was : IsThere rp3_rules old u d = record { cycle = omega (arith, there.cycle, is.horizon); component = rw is.slots at there.component } in
-    same_outside (present old) (held new) n from (from + m) u d (rw (all, counts.shape) was.component) (λ place. present_at old u d was.cycle ∙ kept u d was place))
-    (λ u d past. behind u d (omega (arith, past, is.horizon)))
-  where
-    kept : (u d : ℕ) → IsThere rp3_rules old u d → (u < from) ⊎ (from + m ≤ u) → held old u d ≡ held new u d
-    kept u d there (inl h) = sym (is.before u d there h)
-    kept u d there (inr h) = sym (is.behind u d there h)
-
-    behind : (u d : ℕ) → old.horizon < u → filled_to (present old) (held new) n from (from + m) u d ≡ None
-    behind u d past = let within = is.within in grind (arith, nat_tests, present_past old u d)
 
 -- one range more
 pub stands_range : (sums next : Kept) (at states : States) (ranges : List CellRange) (i : ℕ) (d : CellRange) → i < length ranges → StandsFor sums (filled_over at states (take i ranges))

@@ -20,20 +20,22 @@ mod wave;
 use crate::Noted;
 use crate::counters::Counters;
 use crate::recent::Recent;
-use cell_table::Table;
+use cell_table::{Beside, Table};
 use machine_cells::Rp3;
 use project_book::Project;
 use std::alloc::Global;
 use std::marker::Model;
+use whole_rows::MachineRow;
 
-/// A project, its run as far as it was computed, the edits that were accepted, the answers that were told last, and, once
-/// a counter or a profile was asked, the counters.
+/// A project, its run as far as it was computed, the edits that were accepted, the answers that were told last, once
+/// a counter or a profile was asked, the counters, and the rows by which cells are settled.
 #[derive(Drop)]
 pub struct Bench {
     table: Table<Rp3>,
     counters: Counters,
     journal: Vec<Noted>,
     recent: Recent,
+    rows: Beside<MachineRow>,
 }
 
 impl Model for Bench {
@@ -75,6 +77,7 @@ impl Bench {
                 counters: Counters::none(),
                 journal: Vec::new(alloc),
                 recent,
+                rows: Beside::none(),
             }),
             Err(project) => Err(project),
         }

@@ -6,9 +6,10 @@ ghost use Rattle.cell_table.specs.Touches.{IsWithin};
 ghost use Rattle.bench_core.specs.Shown.{held, IsCounted, AreCounted};
 ghost use Rattle.bench_core.specs.Filling.{filled_in, filled_to, filled_over};
 ghost use Rattle.monitor_sums.specs.Kept.{StandsFor};
-ghost use Rattle.monitor_sums.specs.Sums.{States, cleared};
+ghost use Rattle.monitor_sums.specs.Sums.{States, changed, cleared};
 ghost use Rattle.project_book.specs.Limits.{max_horizon};
 
+use crate::lent::lent;
 use cell_table::{Cell, CellRange, Table, Watcher};
 use grid_law::NoMemory;
 use machine_cells::Rp3;
@@ -89,57 +90,94 @@ fn count_table(alloc: Global, table: &Table<Rp3>) -> Result<Sums, NoMemory>
 {
     let shape = Shape::new(table.slots().k()).unwrap();
     let mut sums = Sums::new(alloc, shape)?;
-    count_all_filled(&mut sums, table, 0, table.horizon() + 1);
+    count_all_filled(&mut sums, table, 0, table.horizon() + 1)?;
     Ok(sums)
+}
+
+/// Counts what a cell holds in place of what it held.
+///
+/// # Errors
+///
+/// Where the state couldn't be shared. Nothing is counted.
+fn count_cell(sums: &mut Sums, table: &Table<Rp3>, cell: Cell) -> Result<(), NoMemory>
+    requires component { cell.component < components sums.old.k }
+    requires cycle { cell.cycle ≤ max_horizon }
+    ensures shape { sums.new.k ≡ sums.old.k }
+    ensures stands { OnOk result ((at : States) → StandsFor sums.old at → StandsFor sums.new (changed at cell.cycle cell.component (held table.now cell.cycle cell.component))) }
+{
+    let state = table.shared(cell)?;
+    sums.change(cell.component, cell.cycle, lent(&state));
+    Ok(())
 }
 
 /// Counts what a component holds at the cycles from one on to before another: each stretch of equal states
 /// at once.
-fn count_filled(sums: &mut Sums, table: &Table<Rp3>, component: u32, from: u32, to: u32)
+///
+/// # Errors
+///
+/// Where a state couldn't be shared. Some of the cells may be counted.
+fn count_filled(
+    sums: &mut Sums,
+    table: &Table<Rp3>,
+    component: u32,
+    from: u32,
+    to: u32,
+) -> Result<(), NoMemory>
     requires component { component < components sums.old.k }
     requires same { sums.old.k ≡ table.now.slots.k }
     requires later { from ≤ to }
     requires within { to ≤ max_horizon + 1 }
     requires there { to ≤ table.now.horizon + 1 }
     ensures shape { sums.new.k ≡ sums.old.k }
-    ensures stands { (at : States) → StandsFor sums.old at → StandsFor sums.new (filled_in at (held table.now) component from to) }
+    ensures stands { OnOk result ((at : States) → StandsFor sums.old at → StandsFor sums.new (filled_in at (held table.now) component from to)) }
 {
     let mut cycle = from;
-    let mut hint = 0;
     while cycle < to {
-        let part = table.standing(Cell { cycle, component }, hint);
-        let end = part.end.min(to);
-        sums.fill(component, cycle, end, part.state);
+        let cell = Cell { cycle, component };
+        let last = table.stands_to(cell);
+        let end = last.min(to);
+        let state = table.shared(cell)?;
+        sums.fill(component, cycle, end, lent(&state));
         cycle = end;
-        hint = part.stretch.saturating_add(1);
     }
+    Ok(())
 }
 
 /// Counts what all components hold at the cycles from one on to before another.
-fn count_all_filled(sums: &mut Sums, table: &Table<Rp3>, from: u32, to: u32)
+///
+/// # Errors
+///
+/// As `count_filled`.
+fn count_all_filled(sums: &mut Sums, table: &Table<Rp3>, from: u32, to: u32) -> Result<(), NoMemory>
     requires same { sums.old.k ≡ table.now.slots.k }
     requires later { from ≤ to }
     requires within { to ≤ max_horizon + 1 }
     requires there { to ≤ table.now.horizon + 1 }
     ensures shape { sums.new.k ≡ sums.old.k }
-    ensures stands { (at : States) → StandsFor sums.old at → StandsFor sums.new (filled_to at (held table.now) (components sums.old.k) from to) }
+    ensures stands { OnOk result ((at : States) → StandsFor sums.old at → StandsFor sums.new (filled_to at (held table.now) (components sums.old.k) from to)) }
 {
     for component in 0..sums.shape().components() {
-        count_filled(sums, table, component, from, to);
+        count_filled(sums, table, component, from, to)?;
     }
+    Ok(())
 }
 
 /// Counts what the cells of these ranges hold.
-fn count_ranges(sums: &mut Sums, table: &Table<Rp3>, ranges: &[CellRange])
+///
+/// # Errors
+///
+/// As `count_filled`.
+fn count_ranges(sums: &mut Sums, table: &Table<Rp3>, ranges: &[CellRange]) -> Result<(), NoMemory>
     requires same { sums.old.k ≡ table.now.slots.k }
     requires short { table.now.horizon ≤ max_horizon }
     requires within { All (IsWithin (table.now.horizon + 1) (components sums.old.k)) ranges.now }
     ensures shape { sums.new.k ≡ sums.old.k }
-    ensures stands { (at : States) → StandsFor sums.old at → StandsFor sums.new (filled_over at (held table.now) ranges.now) }
+    ensures stands { OnOk result ((at : States) → StandsFor sums.old at → StandsFor sums.new (filled_over at (held table.now) ranges.now)) }
 {
     for range in ranges {
-        count_filled(sums, table, range.component, range.from, range.to);
+        count_filled(sums, table, range.component, range.from, range.to)?;
     }
+    Ok(())
 }
 
 impl Watcher<Rp3> for Counters {
@@ -148,8 +186,11 @@ impl Watcher<Rp3> for Counters {
     ghost keeps = { λ counters table. (table.horizon ≤ max_horizon) × AreCounted counters table };
 
     fn stored(&mut self, table: &Table<Rp3>, cell: Cell) {
-        if let Some(sums) = &mut self.sums {
-            sums.change(cell.component, cell.cycle, table.state(cell));
+        // Where a state couldn't be shared there are no sums then, and they are counted again when they are next asked for.
+        if let Some(mut sums) = self.sums.take() {
+            if count_cell(&mut sums, table, cell).is_ok() {
+                self.sums = Some(sums);
+            }
         }
     }
 
@@ -158,15 +199,11 @@ impl Watcher<Rp3> for Counters {
         let _ = cell;
     }
 
-    fn filled(&mut self, table: &Table<Rp3>, from: u32, cycles: u32) {
-        if let Some(sums) = &mut self.sums {
-            count_all_filled(sums, table, from, from + cycles);
-        }
-    }
-
     fn refilled(&mut self, table: &Table<Rp3>, ranges: &[CellRange]) {
-        if let Some(sums) = &mut self.sums {
-            count_ranges(sums, table, ranges);
+        if let Some(mut sums) = self.sums.take() {
+            if count_ranges(&mut sums, table, ranges).is_ok() {
+                self.sums = Some(sums);
+            }
         }
     }
 }

@@ -15,6 +15,7 @@
 mod asked;
 mod bench;
 mod counters;
+mod lent;
 mod limits;
 mod noted;
 mod recent;

@@ -1,10 +1,11 @@
 -- Words to which the bits of others are added.
-use Rattle.std.proofs.Common.{◌≡◌, ℕ, zero, suc, ◌+◌, ◌-◌, ◌*◌, ◌/◌, ◌%◌, ◌^◌, ◌<◌, ◌≤◌, ◌∙◌, sym, ap, refl, subst, arith, min, max, w64, Bool, true, false, eqb, ◌||◌, ◌&&◌, ◌⊎◌, inl, inr, List, [], ◌∷◌, length, get_or, take}
+use Rattle.std.proofs.Common.{eq-eqb, ◌≡◌, ℕ, zero, suc, ◌+◌, ◌-◌, ◌*◌, ◌/◌, ◌%◌, ◌^◌, ◌<◌, ◌≤◌, ◌∙◌, sym, ap, refl, subst, arith, min, max, w64, Bool, true, false, eqb, ◌||◌, ◌&&◌, ◌⊎◌, inl, inr, List, [], ◌∷◌, length, get_or, take}
 use Rattle.std.proofs.Math.ListN.{set}
 use Rattle.std.specs.Int.{bit_at}
 use Rattle.std.specs.Int.Bits.{bit_and, bit_or}
 use Rattle.std.specs.Int.Count.{ones}
-use Rattle.std.proofs.lemmas.Bool.{cases_lt, cases_eq}
+use Rattle.std.proofs.Math.Bool.{or-false}
+use Rattle.std.proofs.lemmas.Bool.{cases_lt, cases_eq, ne_eqb}
 use Rattle.std.proofs.lemmas.List.{get_or-set_same, get_or-set_other, get_or-take, length-take}
 use Rattle.std.proofs.lemmas.List.Sums.{count_by-le-length}
 use Rattle.std.proofs.lemmas.List.FromFn.{length-map-range_with_len, get_or-map-range_with_len}
@@ -76,11 +77,15 @@ either zero (suc (suc y)) h k = absurd (omega arith)
 either (suc zero) (suc (suc y)) h k = absurd (omega arith)
 either (suc (suc x)) y h k = absurd (omega arith)
 
+-- the bits of two words joined
+pub joined_bit : (a b w i : ℕ) → bit_or a b ≡ w → (is_one a i || is_one b i) ≡ is_one w i
+joined_bit a b w i e = sym (either (bit_at a i) (bit_at b i) (bit_at-lt a i) (bit_at-lt b i)) ∙ ap (λ u. eqb u 1) (sym (bit_at_or a b i)) ∙ ap (λ v. is_one v i) e
+
 -- a bit of the word that was changed, and of the others
-here : (words : List ℕ) (at w c : ℕ) → at < length words → c / 64 ≡ at → bit_in (set words at w) c ≡ is_one w (c % 64)
+pub here : (words : List ℕ) (at w c : ℕ) → at < length words → c / 64 ≡ at → bit_in (set words at w) c ≡ is_one w (c % 64)
 here words at w c there e = ap (λ u. is_one (get_or (set words at w) u 0) (c % 64)) e ∙ ap (λ v. is_one v (c % 64)) (get_or-set_same words at w 0 there)
 
-elsewhere : (words : List ℕ) (at w c : ℕ) → (c / 64 ≡ at → ⊥) → bit_in (set words at w) c ≡ bit_in words c
+pub elsewhere : (words : List ℕ) (at w c : ℕ) → (c / 64 ≡ at → ⊥) → bit_in (set words at w) c ≡ bit_in words c
 elsewhere words at w c ne = ap (λ v. is_one v (c % 64)) (get_or-set_other words at (c / 64) w 0 ne)
 
 -- the words up to that one have the bits of both
@@ -111,6 +116,26 @@ added_more words olds other at more m n there span small missed done rest c h lo
 -- the words after that one are as they were
 pub added_rest : (words olds : List ℕ) (at w : ℕ) → ((c : ℕ) → 64 * at ≤ c → bit_in words c ≡ bit_in olds c) → (c : ℕ) → 64 * (at + 1) ≤ c → bit_in (set words at w) c ≡ bit_in olds c
 added_rest words olds at w rest c h = elsewhere words at w c (λ e. absurd (omega (arith, e, h))) ∙ rest c (omega arith)
+
+-- bits of one word are added
+pub word_added : (words : List ℕ) (at o more m n : ℕ) → at < length words → m ≡ min (n - 64 * at) 64 → more < 2 ^ m → Misses (get_or words at 0) o more m → (c : ℕ) → c < n → bit_in (set words at (bit_or (get_or words at 0) more)) c ≡ (bit_in words c || (eqb (c / 64) at && is_one o (c % 64)))
+word_added words at o more m n there span small missed c low = by_word (cases_eq (c / 64) at)
+  where
+    w : ℕ
+    w = get_or words at 0
+
+    by_word : (c / 64 ≡ at) ⊎ (c / 64 ≡ at → ⊥) → bit_in (set words at (bit_or w more)) c ≡ (bit_in words c || (eqb (c / 64) at && is_one o (c % 64)))
+    by_word (inl e) =
+        let i = c % 64 in
+        here words at (bit_or w more) c there e
+        ∙ ap (λ b. eqb b 1) (or_adds w o more m i small missed ∙ missed i (omega (arith, e, span, low)))
+        ∙ either (bit_at w i) (bit_at o i) (bit_at-lt w i) (bit_at-lt o i)
+        ∙ ap (λ u. is_one (get_or words u 0) i || is_one o i) (sym e)
+        ∙ ap (λ b. bit_in words c || (b && is_one o i)) (sym (eq-eqb _ _ e))
+    by_word (inr ne) =
+        elsewhere words at (bit_or w more) c ne
+        ∙ sym (or-false (bit_in words c))
+        ∙ ap (λ b. bit_in words c || (b && is_one o (c % 64))) (sym (ne_eqb _ _ ne))
 
 -- as many more are set as there are ones in what was added
 pub added_counted : (words : List ℕ) (at o more m n : ℕ) → at < length words → m ≤ 64 → 64 * at + m ≤ n → more < 2 ^ m → Misses (get_or words at 0) o more m → count_in (bits_of (set words at (bit_or (get_or words at 0) more)) n) ≡ count_in (bits_of words n) + ones more

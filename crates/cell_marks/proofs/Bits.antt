@@ -125,17 +125,17 @@ row_none words n from z h none k above = by_place (cases_lt k n)
 pub row_first : (words : List ℕ) (n from c : ℕ) → c < n → from ≤ c → bit_in words c ≡ true → ((k : ℕ) → from ≤ k → k < c → bit_in words k ≡ false) → IsFirstFrom (bits_of words n) from c
 row_first words n from c h above there none = (above, at_bits words n c h ∙ there, λ k low high. at_bits words n k (omega arith) ∙ none k low high)
 
--- words that are cleared in turn
-pub cleared_more : (words : List ℕ) (at w : ℕ) → at < length words → ((i : ℕ) → i < 64 → eqb (bit_at w i) 1 ≡ false) → ((k : ℕ) → k < 64 * at → bit_in words k ≡ false) → (k : ℕ) → k < 64 * (at + 1) → bit_in (set words at w) k ≡ false
-cleared_more words at w there blank done k h = by_word (cases_lt (k / 64) at)
+-- words whose bits are made alike in turn
+pub alike_more : (words : List ℕ) (at w : ℕ) (b : Bool) → at < length words → ((i : ℕ) → i < 64 → eqb (bit_at w i) 1 ≡ b) → ((k : ℕ) → k < 64 * at → bit_in words k ≡ b) → (k : ℕ) → k < 64 * (at + 1) → bit_in (set words at w) k ≡ b
+alike_more words at w b there alike done k h = by_word (cases_lt (k / 64) at)
   where
-    by_word : (k / 64 < at) ⊎ (at ≤ k / 64) → bit_in (set words at w) k ≡ false
+    by_word : (k / 64 < at) ⊎ (at ≤ k / 64) → bit_in (set words at w) k ≡ b
     by_word (inl l) =
         ap (λ v. eqb (bit_at v (k % 64)) 1) (get_or-set_other words at (k / 64) w 0 (λ e. absurd (omega (arith, e, l)))) ∙ done k (omega arith)
     by_word (inr l) =
         let e : k / 64 ≡ at = omega (arith, l, h) in
-        ap (λ u. eqb (bit_at (get_or (set words at w) u 0) (k % 64)) 1) e ∙ ap (λ v. eqb (bit_at v (k % 64)) 1) (get_or-set_same words at w 0 there) ∙ blank (k % 64) (omega arith)
+        ap (λ u. eqb (bit_at (get_or (set words at w) u 0) (k % 64)) 1) e ∙ ap (λ v. eqb (bit_at v (k % 64)) 1) (get_or-set_same words at w 0 there) ∙ alike (k % 64) (omega arith)
 
--- a row of which no bit is set
-pub bits_blank : (words : List ℕ) (m n : ℕ) → n ≤ 64 * m → ((k : ℕ) → k < 64 * m → bit_in words k ≡ false) → bits_of words n ≡ replicate n false
-bits_blank words m n room blank = sym (bits_are words n (replicate n false) (length-replicate n false) (λ c h. get_or-replicate n c false false h ∙ sym (blank c (omega (arith, room, h)))))
+-- a row whose bits are all alike
+pub bits_alike : (words : List ℕ) (m n : ℕ) (b : Bool) → n ≤ 64 * m → ((k : ℕ) → k < 64 * m → bit_in words k ≡ b) → bits_of words n ≡ replicate n b
+bits_alike words m n b room alike = sym (bits_are words n (replicate n b) (length-replicate n b) (λ c h. get_or-replicate n c b false h ∙ sym (alike c (omega (arith, room, h)))))

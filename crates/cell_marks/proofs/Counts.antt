@@ -55,7 +55,8 @@ count_added f g h a m n room before within after =
         by_start (inl l) = same (before c l) (omega (arith, l))
         by_start (inr high) = by_end high (cases_lt (c - a) m)
 
-count_alike : (f g : ℕ → Bool) (n : ℕ) → ((c : ℕ) → c < n → g c ≡ f c) → count g n ≡ count f n
+-- places that are alike hold as many
+pub count_alike : (f g : ℕ → Bool) (n : ℕ) → ((c : ℕ) → c < n → g c ≡ f c) → count g n ≡ count f n
 count_alike f g zero each = refl
 count_alike f g (suc n) each =
     omega (arith, count_more f n, count_more g n, ap bit (each n (omega arith)), count_alike f g n (λ c h. each c (omega arith)))

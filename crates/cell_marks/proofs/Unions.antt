@@ -1,5 +1,5 @@
 -- Words of which one has just the bits of two others.
-use Rattle.std.proofs.Common.{◌≡◌, ℕ, zero, suc, ◌+◌, ◌-◌, ◌*◌, ◌%◌, ◌^◌, ◌<◌, ◌≤◌, ◌∙◌, sym, ap, refl, arith, max, Bool, true, false, cond, eqb, ◌||◌, ◌⊎◌, inl, inr, List, length, get_or, w64}
+use Rattle.std.proofs.Common.{◌≡◌, ℕ, zero, suc, ◌+◌, ◌-◌, ◌*◌, ◌%◌, ◌^◌, ◌<◌, ◌≤◌, ◌∙◌, sym, ap, refl, arith, max, min, subst, Bool, true, false, cond, eqb, ◌||◌, ◌⊎◌, inl, inr, List, length, get_or, w64}
 use Rattle.std.specs.Int.{bit_at, trailing_zeros}
 use Rattle.std.specs.Int.Bits.{bit_or, bit_xor}
 use Rattle.std.specs.Int.Count.{trailing_of_zero}
@@ -88,6 +88,22 @@ union_in_word one other union n k m left within each i h =
     ∙ ap (λ u. bit_in one (64 * k + i) || u) (sym (bit_of_word other k i small))
     ∙ each (64 * k + i) (omega arith)
     ∙ bit_of_word union k i small
+
+-- the first bits are alike as far as those of one word more
+pub union_more : (one other union : List ℕ) (n k m : ℕ) → m ≡ min (n - 64 * k) 64 → ((i : ℕ) → i < m → (is_one (get_or one k 0) i || is_one (get_or other k 0) i) ≡ is_one (get_or union k 0) i) → ((c : ℕ) → c < 64 * k → c < n → (bit_in one c || bit_in other c) ≡ bit_in union c) → (c : ℕ) → c < 64 * (k + 1) → c < n → (bit_in one c || bit_in other c) ≡ bit_in union c
+union_more one other union n k m span here before c h low = by_place (cases_lt c (64 * k))
+  where
+    in_word : (i : ℕ) → i < m → i < 64 → 64 * k + i ≡ c → (bit_in one c || bit_in other c) ≡ bit_in union c
+    in_word i l small e =
+        subst (λ u. (bit_in one u || bit_in other u) ≡ bit_in union u) e
+        (ap (λ u. u || bit_in other (64 * k + i)) (bit_of_word one k i small)
+        ∙ ap (λ u. is_one (get_or one k 0) i || u) (bit_of_word other k i small)
+        ∙ here i l
+        ∙ sym (bit_of_word union k i small))
+
+    by_place : (c < 64 * k) ⊎ (64 * k ≤ c) → (bit_in one c || bit_in other c) ≡ bit_in union c
+    by_place (inl l) = before c l low
+    by_place (inr l) = in_word (c - 64 * k) (omega (arith, l, h, low, span)) (omega (arith, l, h)) (omega (arith, l))
 
 -- words that show rows
 pub len_of : (words : List ℕ) (n : ℕ) (row : List Bool) → bits_of words n ≡ row → length row ≡ n

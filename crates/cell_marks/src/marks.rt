@@ -73,6 +73,14 @@ impl Marks {
         counted(&self.rows[..wanted])
     }
 
+    /// The marks of a cycle.
+    pub fn row(&self, t: u32) -> &Row
+        requires { t < length self.now.rows }
+        ensures { result.now ≡ row_at self.now.rows t }
+    {
+        &self.rows[t as usize]
+    }
+
     /// Whether a cell is marked; one that isn't there isn't.
     pub fn has(&self, t: u32, c: u32) -> bool
         ensures { result ≡ has self.now.rows t c }

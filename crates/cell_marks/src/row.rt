@@ -1,11 +1,13 @@
 //! One row of marks.
-ghost use Rattle.std.specs.Prelude.{◌≡◌, ℕ, ◌<◌, ◌≤◌, ◌+◌, ◌*◌, ◌^◌, ◌↔◌, ◌||◌, true, false, IsTrue, MatchOption, IfOk, length, replicate, slice_set, take, if◌then◌else◌};
-ghost use Rattle.cell_marks.specs.Bits.{bit_in};
+ghost use Rattle.std.specs.Prelude.{◌≡◌, ℕ, ◌<◌, ◌≤◌, ◌+◌, ◌*◌, ◌^◌, ◌↔◌, ◌||◌, ◌&&◌, ◌/◌, ◌%◌, true, false, nat_eq, IsTrue, MatchOption, IfOk, length, replicate, slice_set, take, if◌then◌else◌, not};
+ghost use Rattle.cell_marks.specs.Bits.{bit_in, bits_of};
+ghost use Rattle.std.specs.Int.{bit_at};
 ghost use Rattle.cell_marks.specs.Marked.{is_set, count_in, union, row_at, any_marks, IsFirstFrom};
 
 use crate::word::word_of;
 use crate::words::{
-    add_in, clear_all_in, clear_in, counted_in, first_in, has_in, is_union_in, join_in, set_in,
+    add_in, add_one, clear_all_in, clear_in, counted_in, first_in, has_in, is_union_in, join_in,
+    keep_in, remove_in, set_all_in, set_in,
 };
 use smallvec::{SmallVec, smallvec};
 use std::alloc::{AllocError, Global};
@@ -91,6 +93,15 @@ impl Row {
         }
     }
 
+    /// The marks as bits, 64 in a word; a bit behind the last component means nothing.
+    pub fn words(&self) -> &[u64]
+        ensures room { length self.now ≤ 64 * length result.now }
+        ensures bits { (c : ℕ) → c < length self.now → bit_in result.now c ≡ is_set self.now c }
+    {
+        let _len = self.len;
+        &self.words
+    }
+
     /// Whether the components marked in one row or the other are just those marked here; 64 of them in one step.
     pub(crate) fn is_union(&self, one: &Row, other: &Row) -> bool
         requires one { length one.now ≡ length self.now }
@@ -131,6 +142,47 @@ impl Row {
         self.count += added;
     }
 
+    /// Marks all components whose bits are set in these words, too; 64 of them in one step.
+    #[tactic(auto, using(crate::proofs::Added::count_le))]
+    pub fn add_words(&mut self, words: &[u64])
+        requires { length self.old ≤ 64 * length words.now }
+        ensures { self.new ≡ union self.old (bits_of words.now (length self.old)) }
+    {
+        let more = add_in(&mut self.words, words, self.len);
+        self.count += more;
+    }
+
+    /// Marks those of the 64 components of a word whose bits are set in another one, too.
+    #[inline(always)]
+    pub fn add_word(&mut self, w: usize, word: u64)
+        requires { 64 * w < length self.old }
+        ensures len { length self.new ≡ length self.old }
+        ensures marks { (c : ℕ) → c < length self.old → is_set self.new c ≡ (is_set self.old c || (nat_eq (c / 64) w && nat_eq (bit_at word (c % 64)) 1)) }
+    {
+        let fresh = add_one(&mut self.words, self.len, w, word);
+        self.count += fresh;
+    }
+
+    /// Takes away the marks of the components that another row doesn't mark; 64 of them in one step.
+    pub fn keep(&mut self, other: &Row)
+        requires { length other.now ≡ length self.old }
+        ensures len { length self.new ≡ length self.old }
+        ensures marks { (c : ℕ) → c < length self.old → is_set self.new c ≡ (is_set self.old c && is_set other.now c) }
+    {
+        let _len = other.len;
+        self.count = keep_in(&mut self.words, &other.words, self.len);
+    }
+
+    /// Takes away the marks of the components that another row marks; 64 of them in one step.
+    pub fn remove(&mut self, other: &Row)
+        requires { length other.now ≡ length self.old }
+        ensures len { length self.new ≡ length self.old }
+        ensures marks { (c : ℕ) → c < length self.old → is_set self.new c ≡ (is_set self.old c && not (is_set other.now c)) }
+    {
+        let _len = other.len;
+        self.count = remove_in(&mut self.words, &other.words, self.len);
+    }
+
     /// Marks just the components that some row of the list marks, of those rows whose own component is marked in `set`: 64 of
     /// them in one step, and they are counted once.
     pub fn gather(&mut self, rows: &[Row], set: &Row)
@@ -151,6 +203,14 @@ impl Row {
         let was_set = self.has(c);
         self.count = fewer(self.count, was_set);
         clear_in(&mut self.words, self.len, c);
+    }
+
+    /// Marks all components.
+    pub fn mark_all(&mut self)
+        ensures { self.new ≡ replicate (length self.old) true }
+    {
+        set_all_in(&mut self.words);
+        self.count = self.len;
     }
 
     /// Takes all marks away.

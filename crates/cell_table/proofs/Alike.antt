@@ -93,6 +93,13 @@ module _ {State Slots Slot : Type 0} (R : Rules State Slots Slot) (v : Seen Stat
     pub own : (u : ℕ) → s ≤ u → u < to → (held_at v.rows u c).state ≡ (held_at v.rows s c).state
     pub near : All (StaysBefore R v s changes to) ms
 
+  -- two cycles at least are needed for anything to happen otherwise
+  pub stays_few : (to : ℕ) → to ≤ s + 1 → StaysAlikeTo R v s changes c to
+  stays_few to few = record {
+    own = λ u a b. (let e : u ≡ s = omega (arith, a, b, few) in ap (λ t. (held_at v.rows t c).state) e);
+    near = λ m i f u a b. (let e : u ≡ s - 1 = omega (arith, a, b, few) in ap (λ t. (held_at v.rows t m).state) e);
+  }
+
   holds_less : (to to1 : ℕ) → to1 ≤ to → (m : ℕ) → StaysBefore R v s changes to m → StaysBefore R v s changes to1 m
   holds_less to to1 h m f e u a b = f e u a (omega (arith, b, h))
 

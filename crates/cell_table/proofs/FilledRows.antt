@@ -1,13 +1,11 @@
--- Lines that were filled or go on, with the marks of the cycles filled taken away, as rows of cells.
-use Rattle.std.proofs.Common.{◌≡◌, ℕ, ◌-◌, ◌<◌, ◌≤◌, ◌∙◌, ◌⊎◌, inl, inr, sym, ap, arith, Bool, true, false, cond, Option, None, Some, List, length, replicate, get_or, refl}
+-- States that were put or go on, with the marks of their cycles taken away, as rows of cells.
+use Rattle.std.proofs.Common.{◌≡◌, ℕ, ◌<◌, ◌≤◌, ◌∙◌, ◌⊎◌, inl, inr, sym, ap, arith, Bool, false, Option, List, length, replicate, get_or}
 use Rattle.std.proofs.lemmas.Bool.{cases_lt}
-use Rattle.std.proofs.lemmas.List.{get_or_past, get_or-replicate, length-replicate}
-use Rattle.state_line.specs.Lined.{Lined, GoesOn}
+use Rattle.std.proofs.lemmas.List.{get_or-replicate, length-replicate}
 use Rattle.cell_marks.specs.Marked.{Marked, row_at as marks_at, has as has_mark}
-use Rattle.cell_table.specs.Seen.{Held, stored, row_at, held_at}
-use Rattle.cell_table.specs.Layout.{version_at, line_at, state_at, kept, kept_at, rows_of, cleared, IsLayout, IsSameStates}
-use Rattle.cell_table.specs.Filling.{is_awake}
-use Rattle.cell_table.proofs.Keeping.{seen, seen_cycle, seen_length, held_kept}
+use Rattle.cell_table.specs.Seen.{Held, held_at}
+use Rattle.cell_table.specs.Layout.{version_at, kept, kept_at, rows_of, cleared, IsLayout, IsBounded}
+use Rattle.cell_table.proofs.Keeping.{seen, held_kept, bounded_along}
 
 -- the rows that were cleared are as long as before
 pub marks_filled : (due due1 : Marked) (from to : ℕ) → ((t : ℕ) → t < length due.rows → length (marks_at due.rows t) ≡ due.width) → ((t : ℕ) → from ≤ t → t < to → marks_at due1.rows t ≡ replicate due.width false) → ((t : ℕ) → t < from → marks_at due1.rows t ≡ marks_at due.rows t) → ((t : ℕ) → to ≤ t → marks_at due1.rows t ≡ marks_at due.rows t) → (t : ℕ) → t < length due.rows → length (marks_at due1.rows t) ≡ due.width
@@ -18,24 +16,9 @@ marks_filled due due1 from to whole cleared earlier later t h = by_cycle (cases_
     by_cycle (inr k) (inl l) = ap length (cleared t k l) ∙ length-replicate due.width false
     by_cycle (inr k) (inr l) = ap length (later t l) ∙ whole t h
 
--- no state where there is none within the cycles
-pub none_on : {State : Type 0} (lines : List (Lined State)) (n t c : ℕ) → length (line_at lines c).states ≡ n → (t < n → state_at lines t c ≡ None) → state_at lines t c ≡ None
-none_on lines n t c len within = by_cycle (cases_lt t n)
-  where
-    by_cycle : (t < n) ⊎ (n ≤ t) → state_at lines t c ≡ None
-    by_cycle (inl h) = within h
-    by_cycle (inr h) = get_or_past (line_at lines c).states t None (omega (arith, len, h))
-
--- there is a line for each place of a row
-pub lines_each : {State : Type 0} (lines : List (Lined State)) (due : Marked) (versions : List (List ℕ)) (rows : List (List (Held State))) (n : ℕ) → IsLayout lines due versions → rows_of lines due versions ≡ rows → 0 < length rows → ((t : ℕ) → t < length rows → length (row_at rows t) ≡ n) → length lines ≡ n
-lines_each lines due versions rows n layout e some whole =
-    layout.components ∙ sym (seen_length lines due versions rows e 0 (seen_cycle lines due versions rows e 0 some)) ∙ whole 0 some
-
-module _ {State : Type 0} (lines lines1 : List (Lined State)) (due due1 : Marked) (versions : List (List ℕ)) (rows : List (List (Held State))) (layout : IsLayout lines due versions) (e : rows_of lines due versions ≡ rows) (len : length lines1 ≡ length lines) (lens : (c : ℕ) → length (line_at lines1 c).states ≡ length (line_at lines c).states) (width : due1.width ≡ due.width) (cycles : length due1.rows ≡ length due.rows) (marks : (t : ℕ) → t < length due.rows → length (marks_at due1.rows t) ≡ due.width) where
-  pub layout_filled : IsLayout lines1 due1 versions
+module _ {State : Type 0} (states states1 : ℕ → ℕ → Option State) (due due1 : Marked) (versions : List (List ℕ)) (rows : List (List (Held State))) (bounded : IsBounded states due.width (length due.rows)) (layout : IsLayout due versions) (e : rows_of states due versions ≡ rows) (bounded1 : IsBounded states1 due.width (length due.rows)) (width : due1.width ≡ due.width) (cycles : length due1.rows ≡ length due.rows) (marks : (t : ℕ) → t < length due.rows → length (marks_at due1.rows t) ≡ due.width) where
+  pub layout_filled : IsLayout due1 versions
   layout_filled = record {
-    components = len ∙ layout.components ∙ sym width;
-    cycles = λ c h. lens c ∙ layout.cycles c (omega (arith, h, width)) ∙ sym cycles;
     marks = λ t h. marks t (omega (arith, h, cycles)) ∙ sym width;
     rows = layout.rows ∙ sym cycles;
     numbers = λ t h. layout.numbers t (omega (arith, h, cycles)) ∙ sym width;
@@ -43,58 +26,20 @@ module _ {State : Type 0} (lines lines1 : List (Lined State)) (due due1 : Marked
     short = omega (arith, layout.short, cycles);
   }
 
-  pub filled_cell : (t c : ℕ) → held_at (rows_of lines1 due1 versions) t c ≡ kept_at lines1 due1 versions t c
-  filled_cell t c = held_kept lines1 due1 versions layout_filled t c
+  pub filled_cell : (t c : ℕ) → held_at (rows_of states1 due1 versions) t c ≡ kept_at states1 due1 versions t c
+  filled_cell t c = held_kept states1 due1 versions (bounded_along states1 width cycles bounded1) layout_filled t c
 
   -- a cell whose state and mark stay is the same
-  pub same_cell : (t c : ℕ) → state_at lines1 t c ≡ state_at lines t c → marks_at due1.rows t ≡ marks_at due.rows t → held_at (rows_of lines1 due1 versions) t c ≡ held_at rows t c
+  pub same_cell : (t c : ℕ) → states1 t c ≡ states t c → marks_at due1.rows t ≡ marks_at due.rows t → held_at (rows_of states1 due1 versions) t c ≡ held_at rows t c
   same_cell t c s m =
       filled_cell t c
       ∙ ap (λ (o : Option State). kept o (has_mark due1.rows t c) (version_at versions t c)) s
-      ∙ ap (λ (row : List Bool). kept (state_at lines t c) (get_or row c false) (version_at versions t c)) m
-      ∙ sym (seen lines due versions rows e layout t c)
+      ∙ ap (λ (row : List Bool). kept (states t c) (get_or row c false) (version_at versions t c)) m
+      ∙ sym (seen states due versions rows e bounded layout t c)
 
   -- a cell that isn't due then
-  pub cleared_cell : (t c : ℕ) (o : Option State) → c < due.width → marks_at due1.rows t ≡ replicate due.width false → state_at lines1 t c ≡ o → held_at (rows_of lines1 due1 versions) t c ≡ cleared o
+  pub cleared_cell : (t c : ℕ) (o : Option State) → c < due.width → marks_at due1.rows t ≡ replicate due.width false → states1 t c ≡ o → held_at (rows_of states1 due1 versions) t c ≡ cleared o
   cleared_cell t c o h m s =
       filled_cell t c
       ∙ ap (λ (o : Option State). kept o (has_mark due1.rows t c) (version_at versions t c)) s
       ∙ ap (λ (b : Bool). kept o b (version_at versions t c)) (ap (λ row. get_or row c false) m ∙ get_or-replicate due.width c false false h)
-
-  -- a cell that was filled
-  pub passed_cell : (t c : ℕ) (x : State) → c < due.width → marks_at due1.rows t ≡ replicate due.width false → state_at lines1 t c ≡ Some x → held_at (rows_of lines1 due1 versions) t c ≡ stored x
-  passed_cell t c x h m s = cleared_cell t c (Some x) h m s
-
--- lines that go on from a cycle to before another where they are marked
-module _ {State : Type 0} (lines lines1 lines2 : List (Lined State)) (changes : List Bool) (from to : ℕ) (same : IsSameStates lines lines1) (place : (c : ℕ) → is_awake changes c ≡ true → (line_at lines1 c).place ≡ from) (extended : (c : ℕ) → is_awake changes c ≡ true → GoesOn (line_at lines1 c) (line_at lines2 c) × ((line_at lines2 c).place ≡ to)) (others : (c : ℕ) → is_awake changes c ≡ false → line_at lines2 c ≡ line_at lines1 c) where
-  same_at : (t c : ℕ) → state_at lines1 t c ≡ state_at lines t c
-  same_at t c = ap (λ xs. get_or xs t None) (same.same c)
-
-  other_at : (t c : ℕ) → is_awake changes c ≡ false → state_at lines2 t c ≡ state_at lines t c
-  other_at t c e = ap (λ (l : Lined State). get_or l.states t None) (others c e) ∙ same_at t c
-
-  pub earlier_state : (t c : ℕ) → t < from → state_at lines2 t c ≡ state_at lines t c
-  earlier_state t c h = by_change (is_awake changes c) refl
-    where
-      by_change : (b : Bool) → is_awake changes c ≡ b → state_at lines2 t c ≡ state_at lines t c
-      by_change true e = (extended c e).0.before t (omega (arith, place c e, h)) ∙ same_at t c
-      by_change false e = other_at t c e
-
-  pub later_state : (t c : ℕ) → to ≤ t → state_at lines2 t c ≡ state_at lines t c
-  later_state t c h = by_change (is_awake changes c) refl
-    where
-      by_change : (b : Bool) → is_awake changes c ≡ b → state_at lines2 t c ≡ state_at lines t c
-      by_change true e = let x = extended c e in x.0.rest t (omega (arith, x.1, h)) ∙ same_at t c
-      by_change false e = other_at t c e
-
-  pub repeated_state : (t c : ℕ) → from ≤ t → t < to → state_at lines2 t c ≡ state_at lines (cond (is_awake changes c) (from - 1) t) c
-  repeated_state t c h k = by_change (is_awake changes c) refl
-    where
-      by_change : (b : Bool) → is_awake changes c ≡ b → state_at lines2 t c ≡ state_at lines (cond (is_awake changes c) (from - 1) t) c
-      by_change true e =
-          let x = extended c e in
-          x.0.run t (omega (arith, place c e, h)) (omega (arith, x.1, k))
-          ∙ ap (λ n. state_at lines1 (n - 1) c) (place c e)
-          ∙ same_at (from - 1) c
-          ∙ ap (λ b. state_at lines (cond b (from - 1) t) c) (sym e)
-      by_change false e = other_at t c e ∙ ap (λ b. state_at lines (cond b (from - 1) t) c) (sym e)

@@ -9,7 +9,7 @@ use Rattle.cell_table.specs.Consistent.{IsTable}
 use Rattle.cell_table.specs.Gives.{held_after}
 use Rattle.cell_table.specs.Touches.{held_touched}
 use Rattle.cell_table.specs.Settling.{NoneDueBefore}
-use Rattle.cell_table.specs.Filling.{AllNew, is_awake}
+use Rattle.cell_table.specs.Filling.{is_awake}
 use Rattle.cell_table.specs.Layout.{cleared}
 
 module _ {State : Type 0} where
@@ -50,14 +50,6 @@ module _ {State Slots Slot : Type 0} (R : Rules State Slots Slot) where
   pub held_to_both : (s : Slots) (rows : List (List (Held State))) (n m k : ℕ) → (k ≡ n) ⊎ (k ≡ m) → AreHeld R s rows n → AreHeld R s rows m → AreHeld R s rows k
   held_to_both s rows n m k (inl e) a b t c h = a t c (omega (arith, h, e))
   held_to_both s rows n m k (inr e) a b t c h = b t c (omega (arith, h, e))
-
-  -- cells that hold a state are none of those that are new
-  pub held_before : (v : Seen State Slots) (from n : ℕ) → n ≤ v.horizon + 1 → AreHeld R v.slots v.rows n → AllNew R v from → (t c : ℕ) → t < n → c < R.components v.slots → t < from
-  held_before v from n within held news t c h k = by_cycle (cases_lt t from)
-    where
-      by_cycle : (t < from) ⊎ (from ≤ t) → t < from
-      by_cycle (inl l) = l
-      by_cycle (inr l) = absurd (false≢true (sym (ap is_some (news t c (record { cycle = omega (arith, within, h); component = k }) l)) ∙ held t c h k))
 
   module _ (s : Slots) (n : ℕ) (rows rows1 : List (List (Held State))) (changes : List Bool) (from to : ℕ) where
     -- where cells hold again what was held before

@@ -1,4 +1,10 @@
 pub mod Keeping
+pub mod Stated
+pub mod Codes
+pub mod Coded
+pub mod Changed
+pub mod Grown
+pub mod ChangedRows
 pub mod Counts
 pub mod Marking
 pub mod Tables
@@ -11,11 +17,10 @@ pub mod Alike
 pub mod Passes
 pub mod Repeated
 pub mod SettledRow
-pub mod Filled
+pub mod LeftOut
 pub mod FilledRows
-pub mod PutRows
 pub mod WideRows
-pub mod Woken
+pub mod Whole
 pub mod MarkedCycle
 pub mod MarkedRow
 pub mod Held
@@ -38,3 +43,9 @@ pub mod Counted
 pub mod Waves
 pub mod Noted
 pub mod NotedRows
+pub mod Knowing
+pub mod Looking
+pub mod PutRow
+pub mod Drafted
+pub mod Begun
+pub mod Next

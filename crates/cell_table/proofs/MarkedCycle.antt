@@ -2,19 +2,15 @@
 use Rattle.std.proofs.Common.{◌≡◌, ℕ, zero, suc, ◌+◌, ◌<◌, ◌≤◌, ◌∙◌, ap, refl, arith, Bool, true, false, cond, eqb, ◌&&◌, eq-eqb, ◌⊎◌, inl, inr, List}
 use Rattle.std.proofs.lemmas.Bool.{ne_eqb, cases_lt}
 use Rattle.grid_law.specs.Rules.{Rules}
-use Rattle.cell_table.specs.Seen.{Held, fresh, marked}
+use Rattle.cell_table.specs.Seen.{Held, marked}
 use Rattle.cell_table.specs.Readers.{has}
 use Rattle.cell_table.specs.Passing.{differing, woken}
 
 module _ {State : Type 0} where
-  pub marked_next : (t : ℕ) (near is_near : Bool) (r : Held State) (v was : ℕ) → near ≡ is_near → r ≡ fresh was → cond (eqb (t + 1) (t + 1) && near) (marked r v) r ≡ fresh (cond is_near v was)
-  marked_next t true is_near r v was e q = rw (← e, eq-eqb (t + 1) (t + 1) refl) (ap (λ k. marked k v) q)
-  marked_next t false is_near r v was e q = rw (← e, eq-eqb (t + 1) (t + 1) refl) q
-
   pub marked_other : (u t : ℕ) (near : Bool) (r : Held State) (v : ℕ) → (u ≡ t + 1 → ⊥) → cond (eqb u (t + 1) && near) (marked r v) r ≡ r
   marked_other u t near r v n = rw (ne_eqb u (t + 1) n) refl
 
-  -- as marked_next, of any cell
+  -- one of those that are near
   pub marked_again : (t : ℕ) (near is_near : Bool) (r was : Held State) (v w : ℕ) → near ≡ is_near → r ≡ was → v ≡ w → cond (eqb (t + 1) (t + 1) && near) (marked r v) r ≡ cond is_near (marked was w) was
   marked_again t near is_near r was v w e q same = rw (eq-eqb (t + 1) (t + 1) refl, e, q, same) refl
 

@@ -5,15 +5,14 @@ use Rattle.std.proofs.lemmas.Bool.{cases_lt, cases_eq, ne_eqb, eqb-true, and_par
 use Rattle.std.proofs.lemmas.List.{get_or-set_same, get_or-set_other, get_or_past, get_or-replicate}
 use Rattle.std.proofs.lemmas.List.FromFn.{length-map-range_with_len, get_or-map-range_with_len}
 use Rattle.std.proofs.lemmas.List.Folds.{list_any_more}
-use Rattle.state_line.specs.Lined.{Lined}
 use Rattle.cell_marks.specs.Marked.{Marked, is_set, union, row_at as marks_at, has as has_mark}
 use Rattle.cell_table.specs.Seen.{Held, nothing, fresh, row_at, held_in, held_at, marked}
-use Rattle.cell_table.specs.Layout.{version_at, state_at, kept, rows_of, IsLayout}
+use Rattle.cell_table.specs.Layout.{version_at, kept, rows_of, IsLayout, IsBounded}
 use Rattle.cell_table.specs.declared.cell.CellRange.{CellRange}
 use Rattle.cell_table.specs.Touches.{GoesOn, covers, is_later, has_later, is_marked, is_marked_else, held_marked}
 use Rattle.cell_table.proofs.Marking.{both}
 use Rattle.cell_table.proofs.Asking.{range_on}
-use Rattle.cell_table.proofs.Keeping.{seen, seen_cycles, seen_length, held_kept, length_rows, length_row, lens_past}
+use Rattle.cell_table.proofs.Keeping.{seen, seen_cycles, seen_length, held_kept, length_rows, length_row, lens_past, bounded_along}
 
 -- a mark of a union
 is_set_union : (a b : List Bool) (c : ℕ) → length b ≡ length a → is_set (union a b) c ≡ (is_set a c || is_set b c)
@@ -65,17 +64,18 @@ module _ {State : Type 0} where
   held_more a b s m m1 v v1 version e f =
       ap (λ (x : Bool). kept s x v1) e ∙ ap (λ (x : ℕ). kept s (m || (a && b)) x) f ∙ held_both a b s m v version
 
-  module _ (lines : List (Lined State)) (due due1 : Marked) (versions versions1 : List (List ℕ)) (layout : IsLayout lines due versions) (rows : List (List (Held State))) (e : rows_of lines due versions ≡ rows) (t : ℕ) (row : List Bool) (version : ℕ) (there : t < length due.rows) (wide : length row ≡ length (marks_at due.rows t)) (joins : due1 ≡ record { width = due.width; rows = set due.rows t (union (marks_at due.rows t) row) }) (len : length versions1 ≡ length versions) (lens : (u : ℕ) → length (get_or versions1 u []) ≡ length (get_or versions u [])) where
+  module _ (states : ℕ → ℕ → Option State) (due due1 : Marked) (versions versions1 : List (List ℕ)) (bounded : IsBounded states due.width (length due.rows)) (layout : IsLayout due versions) (rows : List (List (Held State))) (e : rows_of states due versions ≡ rows) (t : ℕ) (row : List Bool) (version : ℕ) (there : t < length due.rows) (wide : length row ≡ length (marks_at due.rows t)) (joins : due1 ≡ record { width = due.width; rows = set due.rows t (union (marks_at due.rows t) row) }) (len : length versions1 ≡ length versions) (lens : (u : ℕ) → length (get_or versions1 u []) ≡ length (get_or versions u [])) where
     cycles : length due1.rows ≡ length due.rows
     cycles = ap (λ (m : Marked). length m.rows) joins ∙ length-set due.rows t _
 
     width : due1.width ≡ due.width
     width = ap (λ (m : Marked). m.width) joins
 
-    pub layout_joined : IsLayout lines due1 versions1
+    pub bounded_joined : IsBounded states due1.width (length due1.rows)
+    bounded_joined = bounded_along states width cycles bounded
+
+    pub layout_joined : IsLayout due1 versions1
     layout_joined = record {
-      components = layout.components ∙ sym width;
-      cycles = λ c h. layout.cycles c (omega (arith, h, width)) ∙ sym cycles;
       marks = λ u h. ap (λ (m : Marked). length (marks_at m.rows u)) joins ∙ length_joined due.rows t row there wide u ∙ layout.marks u (omega (arith, h, cycles)) ∙ sym width;
       rows = len ∙ layout.rows ∙ sym cycles;
       numbers = λ u h. lens u ∙ layout.numbers u (omega (arith, h, cycles)) ∙ sym width;
@@ -83,27 +83,27 @@ module _ {State : Type 0} where
       short = omega (arith, layout.short, cycles);
     }
 
-    pub rows_len : length (rows_of lines due1 versions1) ≡ length rows
-    rows_len = length_rows lines due1 versions1 ∙ cycles ∙ sym (seen_cycles lines due versions rows e)
+    pub rows_len : length (rows_of states due1 versions1) ≡ length rows
+    rows_len = length_rows states due1 versions1 ∙ cycles ∙ sym (seen_cycles states due versions rows e)
 
-    pub rows_lens : (u : ℕ) → length (row_at (rows_of lines due1 versions1) u) ≡ length (row_at rows u)
+    pub rows_lens : (u : ℕ) → length (row_at (rows_of states due1 versions1) u) ≡ length (row_at rows u)
     rows_lens u = by_cycle (cases_lt u (length due.rows))
       where
-        by_cycle : (u < length due.rows) ⊎ (length due.rows ≤ u) → length (row_at (rows_of lines due1 versions1) u) ≡ length (row_at rows u)
-        by_cycle (inl k) = length_row lines due1 versions1 u (omega (arith, k, cycles)) ∙ width ∙ sym (seen_length lines due versions rows e u k)
-        by_cycle (inr k) = lens_past lines due1 versions1 u (omega (arith, k, cycles)) ∙ sym (ap (λ r. length (row_at r u)) (sym e) ∙ lens_past lines due versions u k)
+        by_cycle : (u < length due.rows) ⊎ (length due.rows ≤ u) → length (row_at (rows_of states due1 versions1) u) ≡ length (row_at rows u)
+        by_cycle (inl k) = length_row states due1 versions1 u (omega (arith, k, cycles)) ∙ width ∙ sym (seen_length states due versions rows e u k)
+        by_cycle (inr k) = lens_past states due1 versions1 u (omega (arith, k, cycles)) ∙ sym (ap (λ r. length (row_at r u)) (sym e) ∙ lens_past states due versions u k)
 
     -- what is held then for each cell
-    pub joined_row : (u c : ℕ) → held_at (rows_of lines due1 versions1) u c ≡ kept (state_at lines u c) (has_mark due.rows u c || ((eqb u t) && is_set row c)) (version_at versions1 u c)
+    pub joined_row : (u c : ℕ) → held_at (rows_of states due1 versions1) u c ≡ kept (states u c) (has_mark due.rows u c || ((eqb u t) && is_set row c)) (version_at versions1 u c)
     joined_row u c =
-        held_kept lines due1 versions1 layout_joined u c
-        ∙ ap (λ b. kept (state_at lines u c) b (version_at versions1 u c)) (ap (λ (m : Marked). has_mark m.rows u c) joins ∙ has_joined due.rows t row there wide u c)
+        held_kept states due1 versions1 bounded_joined layout_joined u c
+        ∙ ap (λ b. kept (states u c) b (version_at versions1 u c)) (ap (λ (m : Marked). has_mark m.rows u c) joins ∙ has_joined due.rows t row there wide u c)
 
-    pub marked_row : (has : ℕ → Bool) → ((c : ℕ) → is_set row c ≡ has c) → ((u c : ℕ) → version_at versions1 u c ≡ cond ((eqb u t) && has c) version (version_at versions u c)) → (u c : ℕ) → held_at (rows_of lines due1 versions1) u c ≡ cond ((eqb u t) && has c) (marked (held_at rows u c) version) (held_at rows u c)
+    pub marked_row : (has : ℕ → Bool) → ((c : ℕ) → is_set row c ≡ has c) → ((u c : ℕ) → version_at versions1 u c ≡ cond ((eqb u t) && has c) version (version_at versions u c)) → (u c : ℕ) → held_at (rows_of states due1 versions1) u c ≡ cond ((eqb u t) && has c) (marked (held_at rows u c) version) (held_at rows u c)
     marked_row has same at u c =
-        held_kept lines due1 versions1 layout_joined u c
-        ∙ held_more (eqb u t) (has c) (state_at lines u c) (has_mark due.rows u c) (has_mark due1.rows u c) (version_at versions u c) (version_at versions1 u c) version (ap (λ (m : Marked). has_mark m.rows u c) joins ∙ has_joined due.rows t row there wide u c ∙ ap (λ b. has_mark due.rows u c || ((eqb u t) && b)) (same c)) (at u c)
-        ∙ ap (λ (k : Held State). cond ((eqb u t) && has c) (marked k version) k) (sym (seen lines due versions rows e layout u c))
+        held_kept states due1 versions1 bounded_joined layout_joined u c
+        ∙ held_more (eqb u t) (has c) (states u c) (has_mark due.rows u c) (has_mark due1.rows u c) (version_at versions u c) (version_at versions1 u c) version (ap (λ (m : Marked). has_mark m.rows u c) joins ∙ has_joined due.rows t row there wide u c ∙ ap (λ b. has_mark due.rows u c || ((eqb u t) && b)) (same c)) (at u c)
+        ∙ ap (λ (k : Held State). cond ((eqb u t) && has c) (marked k version) k) (sym (seen states due versions rows e bounded layout u c))
 
 abbrev pub none_range : CellRange
 none_range = record { component = 0; from = 0; to = 0 }

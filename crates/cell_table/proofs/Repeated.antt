@@ -36,6 +36,18 @@ count_taken p xs d f none more (suc n) h =
 pub count_whole : {X : Type 0} (p : X → Bool) (xs : List X) (d : X) (f : ℕ → ℕ) (n : ℕ) → length xs ≡ n → f 0 ≡ 0 → ((k : ℕ) → k < length xs → f (suc k) ≡ cond (p (get_or xs k d)) (f k + 1) (f k)) → f n ≡ count_by p xs
 count_whole p xs d f n len none more = count_taken p xs d f none more n (omega (arith, len)) ∙ ap (count_by p) (take_all n xs (omega (arith, len)))
 
+one_more : (n w : ℕ) → suc n * w ≡ w + n * w
+one_more n w = omega arith
+
+mul_le_right : (m k w : ℕ) → k ≤ w → m * k ≤ m * w
+mul_le_right zero k w h = omega arith
+mul_le_right (suc m) k w h = omega (arith, one_more m k, one_more m w, mul_le_right m k w h, h)
+
+-- the room for all cycles is enough for all but one in which fewer change, and one more
+pub room_changed : (clock m w k : ℕ) → 0 < m → k ≤ w → clock + m * w < 2 ^ 64 → clock + (m - 1) * k + w < 2 ^ 64
+room_changed clock zero w k some few room = absurd (omega (arith, some))
+room_changed clock (suc m) w k some few room = let e : suc m - 1 ≡ m = omega arith in omega (arith, room, one_more m w, mul_le_right m k w few, ap (λ n. n * k) e)
+
 -- how many components are marked, told one by one
 pub differing_count : (changes : List Bool) (t n : ℕ) → length changes ≡ n → differing (λ u c. is_awake changes c) t n ≡ count_in changes
 differing_count changes t n len = count_whole (λ b. b) changes false (differing (λ u c. is_awake changes c) t) n len refl (λ k h. refl)

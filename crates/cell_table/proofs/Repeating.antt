@@ -95,7 +95,7 @@ module _ {State Slots Slot : Type 0} (R : Rules State Slots Slot) (laws : Laws R
 
   module _ (t : ℕ) (after : s ≤ t + 1) (within : t + 1 < e) (at : Alike t) where
     steps : (c : ℕ) → c < C → due c ≡ true → run R v.slots (t + 1) c ≡ run R v.slots t c
-    steps c k d = let back : t + 1 - 1 ≡ t = omega arith in (run_stays R v.slots t c (omega (arith, after, begins.later)) (λ m i. at.near within c m k d i)).1 ∙ ap (λ n. run R v.slots n c) back
+    steps c k d = run_stays R v.slots t c (omega (arith, after, begins.later)) (λ m i. at.near within c m k d i)
 
     near_holds : (c m : ℕ) → c < C → due c ≡ false → has (R.near v.slots c) m ≡ true → (held_at v.rows t m).state ≡ Some (run R v.slots t m)
     near_holds c m k d i = by_cycle (cases_lt t s)

@@ -1,6 +1,5 @@
 -- A cycle that was settled at once: it was passed as one store after another would.
-use Rattle.std.proofs.Common.{◌≡◌, ◌↔◌, ℕ, zero, suc, ◌+◌, ◌-◌, ◌*◌, ◌^◌, ◌<◌, ◌≤◌, ◌∙◌, sym, ap, subst, refl, arith, Bool, true, false, cond, ◌&&◌, ◌⊎◌, inl, inr, Option, Some, is_some, List, length, All, nat_le, nat_lt}
-use Rattle.std.specs.Option.{option_or}
+use Rattle.std.proofs.Common.{◌≡◌, ◌↔◌, ℕ, zero, suc, ◌+◌, ◌*◌, ◌^◌, ◌<◌, ◌≤◌, ◌∙◌, sym, ap, subst, refl, arith, Bool, true, false, cond, ◌&&◌, ◌⊎◌, inl, inr, Some, is_some, List, length, All, nat_le, nat_lt}
 use Rattle.std.proofs.lemmas.Bool.{cases_lt, cases_eq}
 use Rattle.std.proofs.lemmas.Bool.Decides.{nat_tests}
 use Rattle.cell_marks.specs.Marked.{count_in}
@@ -16,13 +15,12 @@ use Rattle.cell_table.specs.Filling.{is_awake}
 use Rattle.cell_table.specs.Touches.{is_marked, IsWithin}
 use Rattle.cell_table.specs.Passing.{differing, woken, clock_behind, reached, costing, IsPassed, HoldsBut}
 use Rattle.cell_table.specs.Settling.{NoneDueBefore, IsAt}
-use Rattle.cell_table.specs.WholeRows.{IsFound}
+use Rattle.cell_table.specs.WholeRows.{IsRowPut}
 use Rattle.cell_table.proofs.Runs.{holds_run_at}
 use Rattle.cell_table.proofs.Passing.{passed_at_end, passed_table}
 use Rattle.cell_table.proofs.Repeated.{count_whole, differing_count}
 
-module _ {State Slots Slot : Type 0} (R : Rules State Slots Slot) (laws : Laws R) (v : Seen State Slots) (table : IsTable R v.slots v.horizon v.rows) (s : ℕ) (from_there : s ≤ v.horizon) (none : NoneDueBefore R v s 0) (changes : List Bool) (new : ℕ → Option State) (width : length changes ≡ R.components v.slots)
-    (found : (c : ℕ) → c < R.components v.slots → (held_at v.rows s c).is_due ≡ true → IsFound R v s c (is_awake changes c) (new c)) (unmarked : (c : ℕ) → c < R.components v.slots → (held_at v.rows s c).is_due ≡ false → is_awake changes c ≡ false) where
+module _ {State Slots Slot : Type 0} (R : Rules State Slots Slot) (laws : Laws R) (v : Seen State Slots) (table : IsTable R v.slots v.horizon v.rows) (s : ℕ) (from_there : s ≤ v.horizon) (none : NoneDueBefore R v s 0) (changes : List Bool) (width : length changes ≡ R.components v.slots) (rows1 : List (List (Held State))) (row_put : IsRowPut R v.slots v.rows rows1 s changes) where
   abbrev C : ℕ
   C = R.components v.slots
 
@@ -40,34 +38,31 @@ module _ {State Slots Slot : Type 0} (R : Rules State Slots Slot) (laws : Laws R
   runs_there c h e = holds_run_at R laws v table s c (there_at c h) (λ t1 c1 k l. none t1 c1 k (omega (arith, l), λ p. absurd (omega (arith, l, p)))) e
 
   -- a component is marked exactly where it doesn't hold the run's state
-  tells_at : (c : ℕ) → c < C → (is_awake changes c ≡ false) ↔ ((held_at v.rows s c).state ≡ Some (run R v.slots s c))
+  pub tells_at : (c : ℕ) → c < C → (is_awake changes c ≡ false) ↔ ((held_at v.rows s c).state ≡ Some (run R v.slots s c))
   tells_at c h = by_due (held_at v.rows s c).is_due refl
     where
       by_due : (b : Bool) → (held_at v.rows s c).is_due ≡ b → (is_awake changes c ≡ false) ↔ ((held_at v.rows s c).state ≡ Some (run R v.slots s c))
-      by_due true e = (found c h e).tells
-      by_due false e = (λ _. runs_there c h e, λ _. unmarked c h e)
+      by_due true e = row_put.tells c h e
+      by_due false e = (λ _. runs_there c h e, λ _. row_put.unmarked c h e)
 
   -- and what is put is the run's state
-  puts_run : (c : ℕ) → c < C → cond (is_awake changes c) (option_or (new c) (held_at v.rows (s - 1) c).state) (held_at v.rows s c).state ≡ Some (run R v.slots s c)
-  puts_run c h = by_mark (is_awake changes c) refl
+  pub puts_run : (c : ℕ) → c < C → held_at rows1 s c ≡ cleared (Some (run R v.slots s c))
+  puts_run c h = row_put.put c h ∙ ap cleared (by_due (held_at v.rows s c).is_due refl)
     where
-      by_due : (b : Bool) → (held_at v.rows s c).is_due ≡ b → is_awake changes c ≡ true → option_or (new c) (held_at v.rows (s - 1) c).state ≡ Some (run R v.slots s c)
-      by_due true e p = (found c h e).put p
-      by_due false e p = let q = unmarked c h e in cc
+      by_due : (b : Bool) → (held_at v.rows s c).is_due ≡ b → cond b (Some (run R v.slots s c)) (held_at v.rows s c).state ≡ Some (run R v.slots s c)
+      by_due true e = refl
+      by_due false e = runs_there c h e
 
-      by_mark : (b : Bool) → is_awake changes c ≡ b → cond b (option_or (new c) (held_at v.rows (s - 1) c).state) (held_at v.rows s c).state ≡ Some (run R v.slots s c)
-      by_mark true p = by_due (held_at v.rows s c).is_due refl p
-      by_mark false p = (tells_at c h).0 p
+  kept : (t c : ℕ) → (t ≡ s → ⊥) → held_at rows1 t c ≡ held_at v.rows t c
+  kept = row_put.others
 
   tells : (t c : ℕ) → IsThere R v t c → s ≤ t → t < s + 1 → (is_awake changes c ≡ false) ↔ ((held_at v.rows t c).state ≡ Some (run R v.slots t c))
   tells t c there h l =
       let here : s ≡ t = omega (arith, h, l) in
       subst (λ u. (is_awake changes c ≡ false) ↔ ((held_at v.rows u c).state ≡ Some (run R v.slots u c))) here (tells_at c there.component)
 
-  module _ (rows1 rows2 : List (List (Held State))) (clock : ℕ) (few : C < 4294967296) (versionless : (t c : ℕ) → (held_at v.rows t c).is_due ≡ false → (held_at v.rows t c).version ≡ 0)
+  module _ (rows2 : List (List (Held State))) (clock : ℕ) (few : C < 4294967296) (versionless : (t c : ℕ) → (held_at v.rows t c).is_due ≡ false → (held_at v.rows t c).version ≡ 0)
       (is_clock : clock ≡ v.clock + count_in changes) (room : v.clock + 1 * C < 2 ^ 64) (whole : IsWhole R v.slots v.horizon rows2)
-      (put : (c : ℕ) → c < C → held_at rows1 s c ≡ cleared (cond (is_awake changes c) (option_or (new c) (held_at v.rows (s - 1) c).state) (held_at v.rows s c).state))
-      (kept : (t c : ℕ) → (t ≡ s → ⊥) → held_at rows1 t c ≡ held_at v.rows t c)
       (others : (t c : ℕ) → t ≤ v.horizon → (t ≡ s + 1 → ⊥) → held_at rows2 t c ≡ held_at rows1 t c)
       (behind : s + 1 ≤ v.horizon → (c : ℕ) → c < C → held_at rows2 (s + 1) c ≡ woken R v.slots rows1 marks v.clock s C c) where
     abbrev now : Seen State Slots
@@ -103,7 +98,7 @@ module _ {State Slots Slot : Type 0} (R : Rules State Slots Slot) (laws : Laws R
       within = omega (arith, from_there);
       tells = tells;
       before = λ t c there h. others t c there.cycle (λ p. absurd (omega (arith, h, p))) ∙ kept t c (λ p. absurd (omega (arith, h, p)));
-      passed = λ t c there h l. (let here : s ≡ t = omega (arith, h, l) in subst (λ u. held_at rows2 u c ≡ cleared (Some (run R v.slots u c))) here (others s c from_there (λ p. absurd (omega (arith, p))) ∙ put c there.component ∙ ap cleared (puts_run c there.component)));
+      passed = λ t c there h l. (let here : s ≡ t = omega (arith, h, l) in subst (λ u. held_at rows2 u c ≡ cleared (Some (run R v.slots u c))) here (others s c from_there (λ p. absurd (omega (arith, p))) ∙ puts_run c there.component));
       behind = λ t c there p. (let here : s + 1 ≡ t = omega (arith, p) in subst (λ u. held_at rows2 u c ≡ reached R v marks s 1 c) here (behind (omega (arith, there.cycle, here)) c there.component ∙ woken_same C c ∙ behind_reached c));
       later = λ t c there h. others t c there.cycle (λ p. absurd (omega (arith, h, p))) ∙ kept t c (λ p. absurd (omega (arith, h, p)));
     }

@@ -1,5 +1,5 @@
 -- The states of some components in a row.
-use Rattle.std.proofs.Common.{◌≡◌, ℕ, zero, suc, ◌<◌, ◌∙◌, sym, ap, refl, arith, get_or, map, take, subst, ◌≤◌, Bool, true, false, Option, None, Some, List, [], ◌∷◌, length, ◌||◌, eqb}
+use Rattle.std.proofs.Common.{◌≡◌, ℕ, zero, suc, ◌∙◌, ap, refl, arith, get_or, map, take, subst, ◌≤◌, Bool, true, false, Option, None, Some, List, [], ◌∷◌, length, ◌||◌, eqb}
 use Rattle.std.specs.List.{AllByRecursion}
 use Rattle.std.proofs.lemmas.Bool.{true≢false, eqb-false}
 use Rattle.cell_table.specs.Seen.{Held, held_in}
@@ -26,22 +26,6 @@ module _ {State : Type 0} where
   length_states_of row (m ∷ ms) xs h =
       let p = parts_of (held_in row m).state (states_of row ms) xs h in
       ap length p.whole ∙ ap suc (length_states_of row ms p.others p.others_are)
-
-  -- each is a component's
-  pub state_in_place : (row : List (Held State)) (ms : List ℕ) (xs : List State) → states_of row ms ≡ Some xs → (i m : ℕ) (d : State) → i < length ms → (held_in row (get_or ms i m)).state ≡ Some (get_or xs i d)
-  state_in_place row [] xs h i m d k = absurd (omega arith)
-  state_in_place row (c ∷ ms) xs h zero m d k =
-      let p = parts_of (held_in row c).state (states_of row ms) xs h in
-      p.first_is ∙ ap (λ ys. Some (get_or ys 0 d)) (sym p.whole)
-  state_in_place row (c ∷ ms) xs h (suc i) m d k =
-      let p = parts_of (held_in row c).state (states_of row ms) xs h in
-      state_in_place row ms p.others p.others_are i m d (omega arith) ∙ ap (λ ys. Some (get_or ys (suc i) d)) (sym p.whole)
-
-  pub one_state : (row : List (Held State)) (ms : List ℕ) (xs : List State) (i m : ℕ) (x d : State) → states_of row ms ≡ Some xs → i < length ms → Some x ≡ (held_in row (get_or ms i m)).state → x ≡ get_or xs i d
-  one_state row ms xs i m x d h k e = let f : Some x ≡ Some (get_or xs i d) = e ∙ state_in_place row ms xs h i m d k in cc
-
-  pub no_state : (row : List (Held State)) (ms : List ℕ) (xs : List State) (i m : ℕ) (d : State) → states_of row ms ≡ Some xs → i < length ms → None ≡ (held_in row (get_or ms i m)).state → d ≡ get_or xs i d
-  no_state row ms xs i m d h k e = let f : None ≡ Some (get_or xs i d) = e ∙ state_in_place row ms xs h i m d k in cc
 
   -- the first five of at most five
   pub first_five : (xs : List State) (n : ℕ) (d : State) → length xs ≡ n → n ≤ 5 → take n (get_or xs 0 d ∷ get_or xs 1 d ∷ get_or xs 2 d ∷ get_or xs 3 d ∷ get_or xs 4 d ∷ []) ≡ xs

@@ -1,7 +1,6 @@
--- How a table keeps its cells: for each component a line of states, and by cycle marks of the due cells and versions.
-use Rattle.std.specs.Prelude.{◌≡◌, ℕ, ◌<◌, ◌==◌, ◌&&◌, ◌^◌, if◌then◌else◌, Bool, Option, None, false, List, [], ◌∷◌, map, length, replicate, slice_index_or}
+-- How a table keeps its cells: the state of each, and by cycle marks of the due cells and versions.
+use Rattle.std.specs.Prelude.{◌≡◌, ℕ, ◌<◌, ◌≤◌, ◌==◌, ◌&&◌, ◌^◌, if◌then◌else◌, Bool, Option, None, false, List, [], ◌∷◌, map, length, replicate, slice_index_or}
 use Rattle.std.specs.List.{range_with_len}
-use Rattle.state_line.specs.Lined.{Lined}
 use Rattle.cell_marks.specs.Marked.{Marked, has as has_mark}
 use Rattle.cell_table.specs.Seen.{Held, row_at, held_at}
 
@@ -19,54 +18,69 @@ IsEach count (first ∷ others) = length (first ∷ others) ≡ count
 abbrev pub version_at : List (List ℕ) → ℕ → ℕ → ℕ
 version_at versions t c = slice_index_or (slice_index_or versions t []) c 0
 
+-- the states of cells: the rows are those of the cycles from 0 on, and each has that of each of `width` components, where it has one
+pub record Stated (State : Type 0) : Type 0 where
+  pub width : ℕ
+  pub rows : List (List (Option State))
+
+-- marks and versions are those of the same cells
+pub record IsLayout (due : Marked) (versions : List (List ℕ)) : Type 0 where
+  pub marks : (t : ℕ) → t < length due.rows → length (slice_index_or due.rows t []) ≡ due.width
+  pub rows : length versions ≡ length due.rows
+  pub numbers : (t : ℕ) → t < length due.rows → length (slice_index_or versions t []) ≡ due.width
+  pub few : due.width < 2 ^ 32
+  pub short : length due.rows < 2 ^ 32
+
 module _ {State : Type 0} where
-  -- the line of a component
-  abbrev pub line_at : List (Lined State) → ℕ → Lined State
-  line_at lines c = slice_index_or lines c (record { states = []; place = 0; room = 0 })
-
-  -- the state of a cell
-  abbrev pub state_at : List (Lined State) → ℕ → ℕ → Option State
-  state_at lines t c = slice_index_or (line_at lines c).states t None
-
   -- what a state, a mark and a version are together: the version counts only where the cell is due
   abbrev pub kept : Option State → Bool → ℕ → Held State
   kept state is_due version = record { state = state; is_due = is_due; version = (if is_due then version else 0) }
-
-  -- what is held for a cell
-  abbrev pub kept_at : List (Lined State) → Marked → List (List ℕ) → ℕ → ℕ → Held State
-  kept_at lines due versions t c = kept (state_at lines t c) (has_mark due.rows t c) (version_at versions t c)
 
   -- what is held for a cell once it isn't due
   abbrev pub cleared : Option State → Held State
   cleared state = record { state = state; is_due = false; version = 0 }
 
+  -- what is held for a cell, where `states` has the state of each
+  abbrev pub kept_at : (ℕ → ℕ → Option State) → Marked → List (List ℕ) → ℕ → ℕ → Held State
+  kept_at states due versions t c = kept (states t c) (has_mark due.rows t c) (version_at versions t c)
+
   -- and for all, row by row
-  abbrev pub rows_of : List (Lined State) → Marked → List (List ℕ) → List (List (Held State))
-  rows_of lines due versions = map (λ t. map (kept_at lines due versions t) (range_with_len 0 due.width)) (range_with_len 0 (length due.rows))
+  abbrev pub rows_of : (ℕ → ℕ → Option State) → Marked → List (List ℕ) → List (List (Held State))
+  rows_of states due versions = map (λ t. map (kept_at states due versions t) (range_with_len 0 due.width)) (range_with_len 0 (length due.rows))
 
-  -- lines, marks and versions are those of the same cells
-  pub record IsLayout (lines : List (Lined State)) (due : Marked) (versions : List (List ℕ)) : Type 0 where
-    pub components : length lines ≡ due.width
-    pub cycles : (c : ℕ) → c < due.width → length (line_at lines c).states ≡ length due.rows
-    pub marks : (t : ℕ) → t < length due.rows → length (slice_index_or due.rows t []) ≡ due.width
-    pub rows : length versions ≡ length due.rows
-    pub numbers : (t : ℕ) → t < length due.rows → length (slice_index_or versions t []) ≡ due.width
-    pub few : due.width < 2 ^ 32
-    pub short : length due.rows < 2 ^ 32
-
-  -- the lines show the same states
-  pub record IsSameStates (olds news : List (Lined State)) : Type 0 where
-    pub len : length news ≡ length olds
-    pub same : (c : ℕ) → (line_at news c).states ≡ (line_at olds c).states
-
-  -- the lines show another state for one cell
-  pub record IsOtherState (olds news : List (Lined State)) (t c : ℕ) (state : Option State) : Type 0 where
-    pub len : length news ≡ length olds
-    pub lens : (c1 : ℕ) → length (line_at news c1).states ≡ length (line_at olds c1).states
-    pub at : (t1 c1 : ℕ) → state_at news t1 c1 ≡ (if (t1 == t) && (c1 == c) then state else state_at olds t1 c1)
+  -- there is no state of a cell that isn't there
+  pub record IsBounded (states : ℕ → ℕ → Option State) (width n : ℕ) : Type 0 where
+    pub cycles : (t c : ℕ) → n ≤ t → states t c ≡ None
+    pub components : (t c : ℕ) → width ≤ c → states t c ≡ None
 
   -- another thing is held for one cell
   pub record IsOtherCell (olds news : List (List (Held State))) (t c : ℕ) (held : Held State) : Type 0 where
     pub len : length news ≡ length olds
     pub lens : (t1 : ℕ) → length (row_at news t1) ≡ length (row_at olds t1)
     pub at : (t1 c1 : ℕ) → held_at news t1 c1 ≡ (if (t1 == t) && (c1 == c) then held else held_at olds t1 c1)
+
+  -- the state of a cell; none where there is no such cell
+  abbrev pub state_at : Stated State → ℕ → ℕ → Option State
+  state_at states t c = slice_index_or (slice_index_or states.rows t []) c None
+
+  -- states are those of the same cells as the marks
+  pub record IsStated (states : Stated State) (due : Marked) : Type 0 where
+    pub width : states.width ≡ due.width
+    pub cycles : length states.rows ≡ length due.rows
+    pub whole : (t : ℕ) → t < length due.rows → length (slice_index_or states.rows t []) ≡ due.width
+
+  -- states of the same cells
+  pub record IsAsMany (olds news : Stated State) : Type 0 where
+    pub width : news.width ≡ olds.width
+    pub cycles : length news.rows ≡ length olds.rows
+    pub lens : (t : ℕ) → length (slice_index_or news.rows t []) ≡ length (slice_index_or olds.rows t [])
+
+  -- the states are the same
+  pub record IsSameStates (olds news : Stated State) : Type 0 where
+    pub many : IsAsMany olds news
+    pub same : (t c : ℕ) → state_at news t c ≡ state_at olds t c
+
+  -- one cell has another state, or none
+  pub record IsOtherState (olds news : Stated State) (t c : ℕ) (state : Option State) : Type 0 where
+    pub many : IsAsMany olds news
+    pub at : (t1 c1 : ℕ) → state_at news t1 c1 ≡ (if (t1 == t) && (c1 == c) then state else state_at olds t1 c1)

@@ -19,9 +19,15 @@ pub mod Cones
 pub mod Settling
 pub mod Cost
 pub mod Layout
+pub mod Codes
+pub mod Coded
+pub mod Ready
 pub mod Waves
 pub mod Filling
 pub mod Passing
 pub mod Repeating
 pub mod WholeRows
+pub mod NextWords
 pub mod Noted
+pub mod Sets
+pub mod Spares

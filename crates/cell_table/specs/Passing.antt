@@ -54,14 +54,6 @@ module _ {State Slots Slot : Type 0} (R : Rules State Slots Slot) (old : Seen St
     pub later : (t c : ℕ) → IsThere R old t c → from + m < t → held_at new.rows t c ≡ held_at old.rows t c
 
 module _ {State Slots Slot : Type 0} (R : Rules State Slots Slot) where
-  -- but for m cycles from one on each cell holds the state that it held
-  pub record HoldsOutside (old new : Seen State Slots) (from m : ℕ) : Type 0 where
-    pub slots : new.slots ≡ old.slots
-    pub horizon : new.horizon ≡ old.horizon
-    pub within : from + m ≤ old.horizon + 1
-    pub before : (t c : ℕ) → IsThere R old t c → t < from → (held_at new.rows t c).state ≡ (held_at old.rows t c).state
-    pub behind : (t c : ℕ) → IsThere R old t c → from + m ≤ t → (held_at new.rows t c).state ≡ (held_at old.rows t c).state
-
   -- each cell that is in none of these ranges holds the state that it held
   pub record HoldsBut (old new : Seen State Slots) (ranges : List CellRange) : Type 0 where
     pub slots : new.slots ≡ old.slots

@@ -1,11 +1,9 @@
 //! What is held for the cells.
-ghost use Rattle.std.specs.Prelude.{◌≡◌, ℕ, ◌+◌, ◌-◌, ◌<◌, ◌≤◌, ◌++◌, ◌^◌, ◌↔◌, ◌||◌, IsTrue, All, IfOk, OnOk, OnErr, IfErr, length, replicate, map, take, option_map, is_some, true, false, ◌==◌, ◌&&◌, MatchOption, Some, None, if◌then◌else◌, nat_lt, slice_index_or, []};
-ghost use Rattle.std.specs.Option.{option_copied, option_or};
+ghost use Rattle.std.specs.Prelude.{◌≡◌, ℕ, ◌+◌, ◌-◌, ◌<◌, ◌≤◌, ◌++◌, ◌^◌, ◌↔◌, ◌||◌, IsTrue, All, IfOk, OnOk, OnErr, IfErr, MatchResult, length, replicate, map, take, option_map, is_some, true, false, ◌==◌, ◌&&◌, MatchOption, Some, None, if◌then◌else◌, nat_lt, slice_index_or, []};
 ghost use Rattle.std.specs.Arc.{arc_value};
 ghost use Rattle.cell_table.specs.Seen.{fresh, stored, marked, held_at, row_at, due_in_row, due_up_to};
 ghost use Rattle.cell_table.specs.Inputs.{states_of};
-ghost use Rattle.cell_table.specs.Readers.{has, near_at, IsIndex, AreNear};
-ghost use Rattle.grid_law.specs.Run.{run};
+ghost use Rattle.cell_table.specs.Readers.{has, near_at};
 ghost use Rattle.cell_table.specs.Settling.{IsNextDueInRow};
 ghost use Rattle.cell_table.specs.Layout.{cleared, version_at, IsOtherCell};
 ghost use Rattle.cell_table.specs.Repeating.{any_changes};
@@ -13,64 +11,59 @@ ghost use Rattle.cell_table.specs.Noted.{noted};
 ghost use Rattle.cell_marks.specs.Marked.{has as has_mark};
 ghost use Rattle.cell_table.specs.Filling.{is_awake};
 
+mod looks;
 mod standing;
+mod whole;
 
 use crate::Cell;
-use crate::fill::fill_lines;
-use crate::lines::{
-    are_empty_from, bring_to, cut_ends, extend_changed, grow_ends, lines_of, put_changed,
-    put_state, repeat_state, reserve_changed, reserve_ends, shared_in, state_in, stays_in,
-};
 use crate::neighbours::Neighbours;
-use crate::readers::Readers;
+use crate::stored::States;
 use crate::versions::{
-    Versions, forget_in, grow_rows, is_noted_in, note_in, rows_of, set_version, set_versions,
-    version_in,
+    Versions, begin_in, grow_rows, note_in, rows_of, set_version, set_versions, version_in,
 };
 use cell_marks::{Marks, Row};
 use grid_law::{Grid, NoMemory};
-use state_line::Line;
 use std::alloc::Global;
 use std::marker::Model;
 use std::sync::Arc;
+pub(crate) use whole::{no_versions, put_due, put_each};
 
-/// The cells of the first cycles: for each component a line of states, and by cycle which cells are
-/// due, and their versions.
+/// The cells of the first cycles: the states, and by cycle which cells are due, and their versions.
 #[derive(Drop)]
-pub(crate) struct Cells<S> {
-    lines: Vec<Line<S>>,
+pub(crate) struct Cells<G: Grid> {
+    states: States<G>,
     due: Marks,
     versions: Vec<Versions>,
 }
 
-impl<S> Model for Cells<S> {
+impl<G: Grid> Model for Cells<G> {
     ghost use Rattle.std.specs.Prelude.{List};
     ghost use Rattle.cell_table.specs.Seen.{Held};
-    ghost use Rattle.cell_table.specs.Layout.{rows_of, IsLayout};
+    ghost use Rattle.cell_table.specs.Layout.{rows_of, state_at, IsLayout, IsStated};
 
-    ghost Value = { List (List (Held S)) };
+    ghost Value = { List (List (Held G.State)) };
 
-    ghost view = { λ k. rows_of k.lines.items k.due k.versions.items };
+    ghost view = { λ k. rows_of (state_at k.states) k.due k.versions.items };
 
-    ghost invariant = { λ k. IsLayout k.lines.items k.due k.versions.items };
+    ghost invariant = { λ k. IsStated k.states k.due × IsLayout k.due k.versions.items };
 }
 
-impl<S: Drop> Cells<S> {
+impl<G: Grid> Cells<G> {
     /// New cells of `cycles` cycles, all due.
     pub(crate) fn new(
         alloc: Global,
         count: u32,
         cycles: u32,
         version: u64,
-    ) -> Result<Cells<S>, NoMemory>
+    ) -> Result<Cells<G>, NoMemory>
         ensures { IfOk result (λ k. k ≡ replicate cycles (replicate count (fresh version))) }
     {
-        let lines = lines_of(alloc, count, cycles)?;
+        let states = States::new(alloc, count, cycles)?;
         let versions = rows_of(alloc, cycles, count, version)?;
         let mut due = Marks::new(alloc, count);
         due.grow(alloc, cycles, true)?;
         Ok(Cells {
-            lines,
+            states,
             due,
             versions,
         })
@@ -78,7 +71,7 @@ impl<S: Drop> Cells<S> {
 
     /// Where its memory comes from.
     pub(crate) fn allocator(&self) -> Global {
-        *self.lines.allocator()
+        self.states.allocator()
     }
 
     /// How many cycles there are.
@@ -88,19 +81,11 @@ impl<S: Drop> Cells<S> {
         self.due.len()
     }
 
-    /// The state that a cell holds.
-    #[inline(always)]
-    pub(crate) fn state(&self, cell: Cell) -> Option<&S>
-        ensures { option_copied result ≡ (held_at self.now cell.cycle cell.component).state }
-    {
-        state_in(&self.lines, cell)
-    }
-
     /// One more owner of the state that a cell holds.
-    pub(crate) fn shared(&self, cell: Cell) -> Result<Option<Arc<S>>, NoMemory>
+    pub(crate) fn shared(&self, cell: Cell) -> Result<Option<Arc<G::State>>, NoMemory>
         ensures { IfOk result (λ o. option_map arc_value o ≡ (held_at self.now cell.cycle cell.component).state) }
     {
-        shared_in(&self.lines, cell)
+        self.states.shared(cell)
     }
 
     /// Whether a cell holds the state of the cell one cycle earlier, known without a look at
@@ -109,15 +94,7 @@ impl<S: Drop> Cells<S> {
     pub(crate) fn stays(&self, cell: Cell) -> bool
         ensures { result ≡ true → (0 < cell.cycle) × ((held_at self.now (cell.cycle - 1) cell.component).state ≡ (held_at self.now cell.cycle cell.component).state) }
     {
-        stays_in(&self.lines, cell)
-    }
-
-    /// Whether no cell holds a state from a cycle on, known by one look at each component; there may
-    /// be such cycles besides.
-    pub(crate) fn is_empty_from(&self, cycle: u32) -> bool
-        ensures { result ≡ true → (t c : ℕ) → cycle ≤ t → (held_at self.now t c).state ≡ None }
-    {
-        are_empty_from(&self.lines, cycle)
+        self.states.stays(cell)
     }
 
     pub(crate) fn is_due(&self, cell: Cell) -> bool
@@ -177,30 +154,21 @@ impl<S: Drop> Cells<S> {
         self.due.is_alike(cycle, among, other)
     }
 
-    /// Gets these components ready for looks at what they hold at a cycle and the one before. No cell changes.
-    pub(crate) fn bring_to(&mut self, cycle: u32, components: &[u32])
-        requires cycle { cycle < length self.old }
-        requires there { All (λ c. c < length (row_at self.old cycle)) components.now }
-        ensures { self.new ≡ self.old }
-    {
-        bring_to(&mut self.lines, components, cycle);
-    }
-
     /// Puts another state for a cell, which isn't due then. Where memory is wanting, nothing is
     /// changed, and the state comes back.
-    pub(crate) fn put(&mut self, cell: Cell, state: Arc<S>) -> Result<(), Arc<S>>
+    pub(crate) fn put(&mut self, cell: Cell, state: Arc<G::State>) -> Result<(), Arc<G::State>>
         requires cycle { cell.cycle < length self.old }
         requires component { cell.component < length (row_at self.old cell.cycle) }
         ensures ok { OnOk result (IsOtherCell self.old self.new cell.cycle cell.component (stored (arc_value state))) }
         ensures err { OnErr result (self.new ≡ self.old) }
         ensures back { IfErr result (λ back. arc_value back ≡ arc_value state) }
     {
-        match put_state(&mut self.lines, cell, state) {
+        match self.states.put(cell, &state) {
             Ok(()) => {
                 self.due.clear(cell.cycle, cell.component);
                 Ok(())
             }
-            Err(state) => Err(state),
+            Err(_) => Err(state),
         }
     }
 
@@ -214,7 +182,7 @@ impl<S: Drop> Cells<S> {
             (cleared (held_at self.old (cell.cycle - 1) cell.component).state)) }
         ensures err { OnErr result (self.new ≡ self.old) }
     {
-        match repeat_state(&mut self.lines, cell) {
+        match self.states.repeat(cell) {
             Ok(()) => {
                 self.due.clear(cell.cycle, cell.component);
                 Ok(())
@@ -239,7 +207,7 @@ impl<S: Drop> Cells<S> {
         requires component { cell.component < length (row_at self.old cell.cycle) }
         ensures { IsOtherCell self.old self.new cell.cycle cell.component (marked (held_at self.old cell.cycle cell.component) version) }
     {
-        forget_idle(&mut self.versions, &self.due, cell.cycle);
+        begin_idle(&mut self.versions, &self.due, cell.cycle, version);
         self.due.set(cell.cycle, cell.component);
         set_version(&mut self.versions, cell.cycle, cell.component, version);
     }
@@ -255,7 +223,7 @@ impl<S: Drop> Cells<S> {
         ensures at { (t c : ℕ) → held_at self.new t c
             ≡ (if (t == cycle) && has list.now c then marked (held_at self.old t c) version else held_at self.old t c) }
     {
-        forget_idle(&mut self.versions, &self.due, cycle);
+        begin_idle(&mut self.versions, &self.due, cycle, version);
         self.due.set_all(cycle, row);
         set_versions(&mut self.versions, cycle, list, version);
     }
@@ -283,7 +251,7 @@ impl<S: Drop> Cells<S> {
         ensures noted { result ≡ true → (c : ℕ) → c < length changes.now
             → held_at self.new cycle c ≡ noted (held_at self.old cycle c) changes.now (near_at (arc_value near.now) c) clock (length changes.now) }
     {
-        forget_idle(&mut self.versions, &self.due, cycle);
+        begin_idle(&mut self.versions, &self.due, cycle, clock);
         if !note_in(&mut self.versions, cycle, near, changes, clock) {
             return false;
         }
@@ -295,7 +263,7 @@ impl<S: Drop> Cells<S> {
     pub(crate) fn truncate(&mut self, n: u32)
         ensures { self.new ≡ take n self.old }
     {
-        cut_ends(&mut self.lines, n);
+        self.states.truncate(n);
         self.due.truncate(n);
         self.versions.truncate(n as usize);
     }
@@ -307,25 +275,20 @@ impl<S: Drop> Cells<S> {
         ensures ok { OnOk result (self.new ≡ self.old ++ replicate m (replicate (length (row_at self.old 0)) (fresh version))) }
         ensures err { OnErr result (self.new ≡ self.old) }
     {
-        let alloc = *self.lines.allocator();
-        let count = self.lines.len() as u32;
+        let alloc = self.states.allocator();
+        let count = self.states.width();
         let n = self.due.len();
-        match reserve_ends(&mut self.lines, n) {
+        match self.states.grow(m) {
             Ok(()) => {}
             Err(_) => return Err(NoMemory),
         }
-        match self.due.grow(alloc, m, true) {
-            Ok(()) => {}
-            Err(_) => return Err(NoMemory),
-        }
-        match grow_rows(&mut self.versions, alloc, m, count, version) {
+        match grow_due(&mut self.due, &mut self.versions, alloc, m, count, version) {
             Ok(()) => {}
             Err(_) => {
-                self.due.truncate(n);
+                self.states.truncate(n);
                 return Err(NoMemory);
             }
         }
-        grow_ends(&mut self.lines, n, m);
         Ok(())
     }
 
@@ -335,7 +298,7 @@ impl<S: Drop> Cells<S> {
     {
         for component in near {
             let component = *component;
-            if self.state(Cell { cycle, component }).is_none() {
+            if !self.has_state(Cell { cycle, component }) {
                 return false;
             }
         }
@@ -347,7 +310,7 @@ impl<S: Drop> Cells<S> {
         &self,
         cycle: u32,
         near: &[u32],
-        states: &mut Vec<Arc<S>>,
+        states: &mut Vec<Arc<G::State>>,
     ) -> Result<bool, NoMemory>
         ensures { IfOk result (λ all. (if all then Some (map arc_value states.new.items) else None) ≡ states_of (row_at self.now cycle) near.now) }
     {
@@ -381,7 +344,7 @@ impl<S: Drop> Cells<S> {
 
 /// Whether these components hold these states at a cycle.
 pub(crate) fn are_held<G: Grid>(
-    cells: &Cells<G::State>,
+    cells: &Cells<G>,
     cycle: u32,
     near: &[u32],
     states: &[Arc<G::State>],
@@ -393,31 +356,56 @@ pub(crate) fn are_held<G: Grid>(
     }
     for i in 0..near.len() {
         let component = near[i];
-        match cells.state(Cell { cycle, component }) {
-            Some(state) => {
-                if !G::same(state, &states[i]) {
-                    return false;
-                }
-            }
-            None => return false,
+        if !cells.holds(Cell { cycle, component }, &states[i]) {
+            return false;
         }
     }
     true
 }
 
-/// Lets go of the changes that are noted at a cycle of which no cell is due: no version counts there.
-fn forget_idle(versions: &mut Vec<Versions>, due: &Marks, t: u32)
+/// Adds marks and versions of m cycles of new cells; where memory is wanting, nothing is changed.
+fn grow_due(
+    due: &mut Marks,
+    versions: &mut Vec<Versions>,
+    alloc: Global,
+    m: u32,
+    count: u32,
+    version: u64,
+) -> Result<(), NoMemory>
+    requires fits { length due.old.rows + m < 2 ^ 32 }
+    ensures due { MatchResult result
+        (λ _. due.new ≡ record { width = due.old.width; rows = due.old.rows ++ replicate m (replicate due.old.width true) })
+        (λ _. due.new ≡ due.old) }
+    ensures ok { OnOk result (versions.new.items ≡ versions.old.items ++ replicate m (replicate count version)) }
+    ensures err { OnErr result (versions.new.items ≡ versions.old.items) }
+{
+    let n = due.len();
+    match due.grow(alloc, m, true) {
+        Ok(()) => {}
+        Err(_) => return Err(NoMemory),
+    }
+    match grow_rows(versions, alloc, m, count, version) {
+        Ok(()) => {}
+        Err(_) => {
+            due.truncate(n);
+            return Err(NoMemory);
+        }
+    }
+    Ok(())
+}
+
+/// Gives all cells of a cycle one version, where none of them is due: no version counts there, and the cells that become due have that
+/// one, without a version for each.
+#[inline(always)]
+fn begin_idle(versions: &mut Vec<Versions>, due: &Marks, t: u32, version: u64)
     ensures len { length versions.new.items ≡ length versions.old.items }
     ensures lens { (u : ℕ) → length (slice_index_or versions.new.items u []) ≡ length (slice_index_or versions.old.items u []) }
     ensures due { (u c : ℕ) → has_mark due.now.rows u c ≡ true → version_at versions.new.items u c ≡ version_at versions.old.items u c }
 {
-    if !is_noted_in(versions, t) {
-        return;
-    }
     if due.row_count(t) > 0 {
         return;
     }
-    forget_in(versions, t);
+    begin_in(versions, t, version);
 }
 
 /// Takes the marks of these rows away.
@@ -435,41 +423,10 @@ fn clear_rows(due: &mut Marks, from: u32, to: u32)
     }
 }
 
-/// Fills the cells, which hold the run to before a cycle and nothing from there on, with the run, to before `end`: to
-/// before which cycle. What is filled isn't due. Where memory is wanting, it ends earlier.
-pub(crate) fn fill_cells<G: Grid>(
-    cells: &mut Cells<G::State>,
-    slots: &G::Slots,
-    neighbours: &Neighbours,
-    readers: &Readers,
-    from: u32,
-    end: u32,
-) -> u32
-    requires near { AreNear G.rules slots.now neighbours.now }
-    requires from { from < end }
-    requires within { end ≤ length cells.old }
-    requires whole { (t : ℕ) → t < length cells.old → length (row_at cells.old t) ≡ G.rules.components slots.now }
-    requires index { IsIndex G.rules slots.now readers.now }
-    requires known { (t c : ℕ) → c < G.rules.components slots.now → t < from → (held_at cells.old t c).state ≡ Some (run G.rules slots.now t c) }
-    requires none { (t c : ℕ) → c < G.rules.components slots.now → from ≤ t → t < length cells.old → (held_at cells.old t c).state ≡ None }
-    ensures len { length cells.new ≡ length cells.old }
-    ensures lens { (t : ℕ) → t < length cells.old → length (row_at cells.new t) ≡ G.rules.components slots.now }
-    ensures from { from ≤ result }
-    ensures end { result ≤ end }
-    ensures earlier { (t c : ℕ) → c < G.rules.components slots.now → t < from → held_at cells.new t c ≡ held_at cells.old t c }
-    ensures passed { (t c : ℕ) → c < G.rules.components slots.now → from ≤ t → t < result → held_at cells.new t c ≡ stored (run G.rules slots.now t c) }
-    ensures rest { (t c : ℕ) → c < G.rules.components slots.now → result ≤ t → t < length cells.old → held_at cells.new t c ≡ held_at cells.old t c }
-    ensures versions { (t c : ℕ) → (held_at cells.old t c).is_due ≡ false → (held_at cells.old t c).version ≡ 0 }
-{
-    let to = fill_lines::<G>(&mut cells.lines, slots, neighbours, readers, from, end);
-    clear_rows(&mut cells.due, from, to);
-    to
-}
-
 /// Lets the components that change keep the state of the cycle before `from` to before `to`, and no cell of these cycles
 /// is due then. Where memory is wanting, nothing is changed.
-pub(crate) fn repeat_cells<S: Drop>(
-    cells: &mut Cells<S>,
+pub(crate) fn repeat_cells<G: Grid>(
+    cells: &mut Cells<G>,
     changes: &Row,
     from: u32,
     to: u32,
@@ -486,41 +443,10 @@ pub(crate) fn repeat_cells<S: Drop>(
     ensures versions { (t c : ℕ) → (held_at cells.old t c).is_due ≡ false → (held_at cells.old t c).version ≡ 0 }
     ensures err { OnErr result (cells.new ≡ cells.old) }
 {
-    match reserve_changed(&mut cells.lines, changes, from) {
+    match cells.states.repeat_changed(changes, from, to) {
         Ok(()) => {}
         Err(_) => return Err(NoMemory),
     }
-    extend_changed(&mut cells.lines, changes, from, to);
     clear_rows(&mut cells.due, from, to);
-    Ok(())
-}
-
-/// Puts what is new for each component that changes at a cycle, or where nothing is new the state of the cycle before, and no cell of
-/// that cycle is due then. Where memory is wanting, nothing is changed.
-pub(crate) fn put_cells<S: Drop>(
-    cells: &mut Cells<S>,
-    changes: &Row,
-    news: &mut Vec<Option<Arc<S>>>,
-    cycle: u32,
-) -> Result<(), NoMemory>
-    requires later { 0 < cycle }
-    requires within { cycle < length cells.old }
-    requires width { (t : ℕ) → t < length cells.old → length (row_at cells.old t) ≡ length changes.now }
-    requires news { length news.old.items ≡ length changes.now }
-    ensures len { length cells.new ≡ length cells.old }
-    ensures lens { (t : ℕ) → t < length cells.old → length (row_at cells.new t) ≡ length changes.now }
-    ensures len_news { length news.new.items ≡ length news.old.items }
-    ensures put { OnOk result ((c : ℕ) → c < length changes.now → held_at cells.new cycle c
-        ≡ cleared (if is_awake changes.now c then option_or (option_map arc_value (slice_index_or news.old.items c None)) (held_at cells.old (cycle - 1) c).state else (held_at cells.old cycle c).state)) }
-    ensures others { OnOk result ((t c : ℕ) → (t ≡ cycle → ⊥) → held_at cells.new t c ≡ held_at cells.old t c) }
-    ensures versions { (t c : ℕ) → (held_at cells.old t c).is_due ≡ false → (held_at cells.old t c).version ≡ 0 }
-    ensures err { OnErr result (cells.new ≡ cells.old) }
-{
-    match reserve_changed(&mut cells.lines, changes, cycle) {
-        Ok(()) => {}
-        Err(_) => return Err(NoMemory),
-    }
-    put_changed(&mut cells.lines, changes, news, cycle);
-    clear_rows(&mut cells.due, cycle, cycle + 1);
     Ok(())
 }

@@ -17,7 +17,7 @@ use std::marker::Model;
 pub(crate) fn due_down<G: Grid>(
     alloc: Global,
     slots: &G::Slots,
-    cells: &Cells<G::State>,
+    cells: &Cells<G>,
     cell: Cell,
 ) -> Result<u64, NoMemory>
     requires cycle { cell.cycle < length cells.now }
@@ -85,7 +85,7 @@ impl Members {
 
     /// How many of them are due at a cycle.
     #[tactic(auto, using(crate::proofs::Cones::count_more))]
-    fn due_among<S: Drop>(&self, cells: &Cells<S>, cycle: u32) -> u64
+    fn due_among<G: Grid>(&self, cells: &Cells<G>, cycle: u32) -> u64
         ensures value { result
             ≡ count_by (λ c. is_in self.now c && due_at cells.now cycle c) (range_with_len 0 (length self.now.marks)) }
         ensures few { result < 2 ^ 32 }

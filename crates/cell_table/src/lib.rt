@@ -22,8 +22,8 @@
 //! ```
 //!
 //! Claims may be dropped, given back late, or stand twice for one cell, while others are given back
-//! and the project is edited. A state is lent by `state`; `shared` gives one more owner of it, who
-//! keeps it while the table goes on.
+//! and the project is edited. `shared` puts a state together for an owner, who keeps it while the table
+//! goes on; no state is lent.
 //!
 //! # What is promised
 //!
@@ -45,41 +45,42 @@
 //!
 //! # How it is kept
 //!
-//! Callers see a list of rows, one for each cycle. Inside, each component has a line of its states
-//! (`state_line`), in which equal states at consecutive cycles are one stretch, and the due cells are
-//! bits that are counted (`cell_marks`). So an edit asks a reader of a slot once for each stretch, or not at all
-//! where it is sure to read it;
-//! a cell whose near cells all go on in their stretches gets the state of the cell before it without
-//! a step; and where nothing is due, one number tells it. Cycles that are all new are filled: each is
-//! computed before it is stored, and only components near one that changed are looked at. Cycles in which
-//! the same happens as in the one before, since each due cell gets the state of the cell before it, are
-//! settled at once. What a cycle that is settled at once makes due is marked 64 cells in a step, and the next
-//! cycle's versions are not written: which components changed is noted there, and they follow from it.
+//! Callers see a list of rows, one for each cycle. Inside, a state is the words of its code and what isn't in them: the words that
+//! begin at a cycle are a row of `change_rows`, what isn't in them is a list of changes for each component (`change_lists`), and the
+//! due cells are bits that are counted (`cell_marks`). No state is kept itself: `shared` puts one together. Two states are compared
+//! by their words. So an edit asks a reader of a slot once for each stretch of cells at which nothing begins, or not at all where it
+//! is sure to read it; a cell at whose near cells nothing begins gets the state of the cell before it without a step; and where
+//! nothing is due, one number tells it. A cycle of which many cells are due is settled at once by a row of all components, and so are
+//! cycles in which the same happens as in the one before, since each due cell gets the state of the cell before it. What a cycle that
+//! is settled at once makes due is marked 64 cells in a step, and the next cycle's versions are not written: which components changed
+//! is noted there, and they follow from it.
 //!
-//! The crate stands on `grid_law` for grids and their laws, on `state_line` and `cell_marks`, on
+//! The crate stands on `grid_law` for grids and their laws, on `change_rows`, `change_lists` and `cell_marks`, on
 //! `arrayvec` for lists of near components, and on `smallvec` for short lists of versions.
 #![tactic(auto)]
 
+mod along;
+mod beside;
 mod cell;
 mod cells;
 mod claim;
 mod components;
 mod cone;
-mod fill;
+mod few;
 mod given;
-mod lines;
 mod marks;
-mod near;
 mod neighbours;
 mod ranges;
 mod readers;
 mod rows;
+mod stored;
 mod table;
 mod versions;
 mod watcher;
 mod whole_row;
 mod work;
 
+pub use beside::Beside;
 pub use cell::{Cell, CellRange};
 pub use claim::{Claim, Done};
 pub use given::{Given, SettleFault, Settled, StoreFault, TouchFault};

@@ -8,7 +8,7 @@ ghost use Rattle.cell_table.specs.Touches.{GoesOn, covers, is_later, has_later, 
 use crate::cells::Cells;
 use crate::{Cell, CellRange};
 use cell_marks::Row;
-use grid_law::NoMemory;
+use grid_law::{Grid, NoMemory};
 
 /// Whether a range begins where another one of its component ends.
 fn goes_on(last: CellRange, range: CellRange) -> bool
@@ -42,7 +42,7 @@ pub(crate) fn add_where(
 }
 
 /// Marks the cells of a range.
-fn mark_range<S: Drop>(cells: &mut Cells<S>, range: CellRange, count: u32, version: u64)
+fn mark_range<G: Grid>(cells: &mut Cells<G>, range: CellRange, count: u32, version: u64)
     requires within { IsWithin (length cells.old) count range }
     requires whole { (t : ℕ) → t < length cells.old → length (row_at cells.old t) ≡ count }
     ensures len { length cells.new ≡ length cells.old }
@@ -95,7 +95,7 @@ fn gather(ranges: &[CellRange], to: u32, row: &mut Row, list: &mut Vec<u32>) -> 
 
 /// Marks the cells of these components at the cycles from 1 on to before one. What lies side by side is marked together:
 /// a cycle at a time.
-fn mark_later<S: Drop>(cells: &mut Cells<S>, row: &Row, list: &[u32], to: u32, version: u64)
+fn mark_later<G: Grid>(cells: &mut Cells<G>, row: &Row, list: &[u32], to: u32, version: u64)
     requires some { 0 < to }
     requires to { to ≤ length cells.old }
     requires whole { (t : ℕ) → t < length cells.old → length (row_at cells.old t) ≡ length row.now }
@@ -115,8 +115,8 @@ fn mark_later<S: Drop>(cells: &mut Cells<S>, row: &Row, list: &[u32], to: u32, v
 }
 
 /// Marks the cells of the ranges that haven't all cycles from 1 on to before one.
-fn mark_others<S: Drop>(
-    cells: &mut Cells<S>,
+fn mark_others<G: Grid>(
+    cells: &mut Cells<G>,
     ranges: &[CellRange],
     to: u32,
     count: u32,
@@ -137,7 +137,7 @@ fn mark_others<S: Drop>(
 }
 
 /// Drops the cycles past the horizon, or adds cycles of new cells up to it.
-fn resize<S: Drop>(cells: &mut Cells<S>, horizon: u32, version: u64) -> Result<(), NoMemory>
+fn resize<G: Grid>(cells: &mut Cells<G>, horizon: u32, version: u64) -> Result<(), NoMemory>
     requires some { 0 < length cells.old }
     ensures len { OnOk result (length cells.new ≡ horizon + 1) }
     ensures at { OnOk result ((t : ℕ) → t ≤ horizon → row_at cells.new t
@@ -162,8 +162,8 @@ fn resize<S: Drop>(cells: &mut Cells<S>, horizon: u32, version: u64) -> Result<(
 }
 
 /// Follows an edit: the cycles up to the horizon, with these cells marked.
-pub(crate) fn retouch<S: Drop>(
-    cells: &mut Cells<S>,
+pub(crate) fn retouch<G: Grid>(
+    cells: &mut Cells<G>,
     ranges: &[CellRange],
     last: u32,
     horizon: u32,

@@ -1,12 +1,11 @@
 //! Which components read which.
-ghost use Rattle.std.specs.Prelude.{◌≡◌, ℕ, ◌<◌, IfOk, OnOk, length, List, [], false, replicate, All};
+ghost use Rattle.std.specs.Prelude.{◌≡◌, ℕ, ◌<◌, ◌||◌, IfOk, OnOk, length, List, [], true, false, replicate, All};
 ghost use Rattle.std.specs.Arc.{arc_value};
 ghost use Rattle.cell_table.specs.Readers.{has, readers_at, IsIndex, AreMasks, AreTurned, AreNear};
 ghost use Rattle.cell_table.specs.Filling.{is_awake};
 ghost use Rattle.cell_table.specs.Repeating.{any_changes};
 
 use crate::components::Components;
-use crate::fill::wake;
 use crate::neighbours::Neighbours;
 use cell_marks::Row;
 use grid_law::{Grid, NoMemory};
@@ -72,6 +71,17 @@ fn lists_of<G: Grid>(alloc: Global, slots: &G::Slots) -> Result<Vec<Components>,
     Ok(lists)
 }
 
+/// Marks these components.
+fn wake(marks: &mut Row, components: &[u32])
+    requires { All (λ k. k < length marks.old) components.now }
+    ensures len { length marks.new ≡ length marks.old }
+    ensures at { (c : ℕ) → is_awake marks.new c ≡ (is_awake marks.old c || has components.now c) }
+{
+    for component in components {
+        marks.set(*component);
+    }
+}
+
 /// The marks of each list.
 fn masks_of(alloc: Global, lists: &Vec<Components>, count: u32) -> Result<Vec<Row>, NoMemory>
     requires count { length lists.now.items ≡ count }
@@ -129,9 +139,14 @@ impl Readers {
         requires reached { length reached.old ≡ length self.now }
         ensures len { length reached.new ≡ length reached.old }
         ensures reached { (k : ℕ) → k < length self.now → (near : List ℕ)
-            → ((c : ℕ) → c < length self.now → has (readers_at self.now c) k ≡ has near c)
+            → ((c : ℕ) → c < length self.now → has (readers_at self.now c) k ≡ has near c) → has near k ≡ true
             → is_awake reached.new k ≡ any_changes changes.now near (length self.now) }
     {
+        if changes.count() == changes.len() {
+            // Each component reads itself.
+            reached.mark_all();
+            return;
+        }
         reached.gather(self.masks.as_slice(), changes);
     }
 

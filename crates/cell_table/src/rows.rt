@@ -2,7 +2,7 @@
 ghost use Rattle.std.specs.Prelude.{◌≡◌, ℕ, ◌+◌, ◌*◌, ◌<◌, ◌≤◌, ◌-◌, ◌^◌, ◌↔◌, ◌&&◌, ◌==◌, Some, true, false, length, All, if◌then◌else◌, OnOk, OnErr, IfErr};
 ghost use Rattle.std.specs.Arc.{arc_value};
 ghost use Rattle.cell_table.specs.Seen.{held_at, row_at, marked, fresh};
-ghost use Rattle.cell_table.specs.Filling.{version_after, is_awake};
+ghost use Rattle.cell_table.specs.Filling.{is_awake};
 ghost use Rattle.cell_table.specs.Passing.{woken};
 ghost use Rattle.cell_table.specs.Readers.{has, readers_at, IsIndex};
 ghost use Rattle.cell_table.specs.Gives.{Stores};
@@ -16,7 +16,7 @@ use grid_law::{Grid, NoMemory};
 use std::sync::Arc;
 
 /// Marks the cells of these components at a cycle.
-pub(crate) fn mark_each<S: Drop>(cells: &mut Cells<S>, cycle: u32, components: &[u32], version: u64)
+pub(crate) fn mark_each<G: Grid>(cells: &mut Cells<G>, cycle: u32, components: &[u32], version: u64)
     requires cycle { cycle < length cells.old }
     requires within { All (λ k. k < length (row_at cells.old cycle)) components.now }
     ensures len { length cells.new ≡ length cells.old }
@@ -31,7 +31,7 @@ pub(crate) fn mark_each<S: Drop>(cells: &mut Cells<S>, cycle: u32, components: &
 }
 
 /// Marks the cells that read a cell, one cycle later.
-fn mark_readers<S: Drop>(cells: &mut Cells<S>, readers: &Readers, cell: Cell, version: u64)
+fn mark_readers<G: Grid>(cells: &mut Cells<G>, readers: &Readers, cell: Cell, version: u64)
     requires cycle { cell.cycle < length cells.old }
     requires within { (t : ℕ) → t < length cells.old → All (λ k. k < length (row_at cells.old t)) (readers_at readers.now cell.component) }
     ensures len { length cells.new ≡ length cells.old }
@@ -45,36 +45,27 @@ fn mark_readers<S: Drop>(cells: &mut Cells<S>, readers: &Readers, cell: Cell, ve
     }
 }
 
-/// Marks the cells one cycle later, as the stores of so many components in turn do, the clock being `clock` before them.
-pub(crate) fn mark_cycle<G: Grid>(
-    cells: &mut Cells<G::State>,
+/// Marks just the components that read one that changes.
+pub(crate) fn reach_in<G: Grid>(
     slots: &G::Slots,
     readers: &Readers,
-    cycle: u32,
-    clock: u64,
-    count: u32,
+    changes: &Row,
+    reached: &mut Row,
 )
-    requires cycle { cycle + 1 < length cells.old }
-    requires count { count ≡ G.rules.components slots.now }
-    requires whole { (t : ℕ) → t < length cells.old → length (row_at cells.old t) ≡ G.rules.components slots.now }
     requires index { IsIndex G.rules slots.now readers.now }
-    requires room { clock + count < 2 ^ 64 }
-    requires news { (c : ℕ) → c < count → held_at cells.old (cycle + 1) c ≡ fresh (held_at cells.old (cycle + 1) c).version }
-    ensures len { length cells.new ≡ length cells.old }
-    ensures lens { (t : ℕ) → length (row_at cells.new t) ≡ length (row_at cells.old t) }
-    ensures others { (t c : ℕ) → t < length cells.old → (t ≡ cycle + 1 → ⊥) → held_at cells.new t c ≡ held_at cells.old t c }
-    ensures marked { (c : ℕ) → c < count → held_at cells.new (cycle + 1) c ≡ fresh (version_after (G.rules.near slots.now c) clock (held_at cells.old (cycle + 1) c).version count) }
+    requires width { length changes.now ≡ G.rules.components slots.now }
+    requires len { length reached.old ≡ G.rules.components slots.now }
+    ensures len { length reached.new ≡ length reached.old }
+    ensures reached { (c : ℕ) → c < G.rules.components slots.now
+        → is_awake reached.new c ≡ any_changes changes.now (G.rules.near slots.now c) (G.rules.components slots.now) }
 {
     let _ = slots;
-    for component in 0..count {
-        let version = clock + u64::from(component) + 1;
-        mark_readers(cells, readers, Cell { cycle, component }, version);
-    }
+    readers.gather(changes, reached);
 }
 
 /// As `mark_changed`, by the list of readers of each component.
 fn mark_in_turn<G: Grid>(
-    cells: &mut Cells<G::State>,
+    cells: &mut Cells<G>,
     slots: &G::Slots,
     readers: &Readers,
     changes: &Row,
@@ -107,7 +98,7 @@ fn mark_in_turn<G: Grid>(
 /// Marks the cells one cycle later, as the stores of the components that change do one after another, the clock being
 /// `clock` before them. Which cells read one of them is known.
 pub(crate) fn mark_changed<G: Grid>(
-    cells: &mut Cells<G::State>,
+    cells: &mut Cells<G>,
     slots: &G::Slots,
     readers: &Readers,
     changes: &Row,
@@ -138,73 +129,20 @@ pub(crate) fn mark_changed<G: Grid>(
     mark_in_turn::<G>(cells, slots, readers, changes, cycle, clock);
 }
 
+/// Whether the clock has room for so many cells in each of so many cycles.
+pub(crate) fn has_room(clock: u64, cycles: u32, count: u32) -> bool
+    ensures { result ≡ true → clock + cycles * count < 2 ^ 64 }
+{
+    let cells = u64::from(cycles) * u64::from(count);
+    cells <= u64::MAX - clock
+}
+
 /// The clock after so many cycles of so many cells.
 pub(crate) fn clock_filled(clock: u64, cycles: u32, count: u32) -> u64
     requires { clock + cycles * count < 2 ^ 64 }
     ensures { result ≡ clock + cycles * count }
 {
     clock + u64::from(cycles) * u64::from(count)
-}
-
-/// As `mark_filled`, where there is such a cycle and one behind it.
-fn mark_behind<G: Grid>(
-    cells: &mut Cells<G::State>,
-    slots: &G::Slots,
-    readers: &Readers,
-    from: u32,
-    to: u32,
-    clock: u64,
-    count: u32,
-)
-    requires later { from < to }
-    requires within { to < length cells.old }
-    requires count { count ≡ G.rules.components slots.now }
-    requires whole { (t : ℕ) → t < length cells.old → length (row_at cells.old t) ≡ G.rules.components slots.now }
-    requires index { IsIndex G.rules slots.now readers.now }
-    requires room { clock + (to - from) * count < 2 ^ 64 }
-    requires news { (c : ℕ) → c < count → held_at cells.old to c ≡ fresh (held_at cells.old to c).version }
-    ensures len { length cells.new ≡ length cells.old }
-    ensures lens { (t : ℕ) → length (row_at cells.new t) ≡ length (row_at cells.old t) }
-    ensures others { (t c : ℕ) → t < length cells.old → (t ≡ to → ⊥) → held_at cells.new t c ≡ held_at cells.old t c }
-    ensures marked { (c : ℕ) → c < count
-        → held_at cells.new to c ≡ fresh (version_after (G.rules.near slots.now c) (clock + (to - from - 1) * count) (held_at cells.old to c).version count) }
-{
-    let before = clock_filled(clock, to - from - 1, count);
-    mark_cycle::<G>(cells, slots, readers, to - 1, before, count);
-}
-
-/// Marks the cells behind filled cycles, as their last stores do: those of cycles `from` to before `to`, in order, the
-/// clock being `clock` before them.
-pub(crate) fn mark_filled<G: Grid>(
-    cells: &mut Cells<G::State>,
-    slots: &G::Slots,
-    readers: &Readers,
-    from: u32,
-    to: u32,
-    clock: u64,
-    count: u32,
-)
-    requires after { from ≤ to }
-    requires end { to ≤ length cells.old }
-    requires count { count ≡ G.rules.components slots.now }
-    requires whole { (t : ℕ) → t < length cells.old → length (row_at cells.old t) ≡ G.rules.components slots.now }
-    requires index { IsIndex G.rules slots.now readers.now }
-    requires room { clock + (to - from) * count < 2 ^ 64 }
-    requires news { (c : ℕ) → c < count → to < length cells.old → held_at cells.old to c ≡ fresh (held_at cells.old to c).version }
-    ensures len { length cells.new ≡ length cells.old }
-    ensures lens { (t : ℕ) → length (row_at cells.new t) ≡ length (row_at cells.old t) }
-    ensures others { (t c : ℕ) → t < length cells.old → (t ≡ to → ⊥) → held_at cells.new t c ≡ held_at cells.old t c }
-    ensures still { from ≡ to → (c : ℕ) → held_at cells.new to c ≡ held_at cells.old to c }
-    ensures marked { from < to → (c : ℕ) → c < count → to < length cells.old
-        → held_at cells.new to c ≡ fresh (version_after (G.rules.near slots.now c) (clock + (to - from - 1) * count) (held_at cells.old to c).version count) }
-{
-    if from == to {
-        return;
-    }
-    if to >= cells.cycles() {
-        return;
-    }
-    mark_behind::<G>(cells, slots, readers, from, to, clock, count);
 }
 
 /// The clock after a store.
@@ -218,7 +156,7 @@ pub(crate) fn clock_after(clock: u64, changed: bool) -> u64
 /// Stores a state; where it changed, marks the cells one cycle later that read it. Where memory is
 /// wanting, nothing is changed, and the state comes back.
 pub(crate) fn store_in<G: Grid>(
-    cells: &mut Cells<G::State>,
+    cells: &mut Cells<G>,
     slots: &G::Slots,
     readers: &Readers,
     cell: Cell,
@@ -252,7 +190,7 @@ pub(crate) fn store_in<G: Grid>(
 /// changed, marks the cells one cycle later that read it. Where memory is wanting, nothing is
 /// changed.
 pub(crate) fn repeat_in<G: Grid>(
-    cells: &mut Cells<G::State>,
+    cells: &mut Cells<G>,
     slots: &G::Slots,
     readers: &Readers,
     cell: Cell,

@@ -1,7 +1,6 @@
 //! The table.
 ghost use Rattle.std.specs.Prelude.{◌≡◌, ℕ, ◌+◌, ◌<◌, ◌≤◌, IfOk, IfErr, List, replicate, Some, ◌↔◌, IsTrue, [], option_map};
 ghost use Rattle.std.specs.Arc.{arc_value};
-ghost use Rattle.std.specs.Option.{option_copied};
 ghost use Rattle.cell_table.specs.Seen.{held_at, due_at, fresh};
 ghost use Rattle.cell_table.specs.Cells.{IsThere};
 ghost use Rattle.cell_table.specs.Consistent.{IsWhole, IsConsistent};
@@ -15,7 +14,6 @@ ghost use Rattle.grid_law.specs.Run.{run};
 mod alike;
 mod claiming;
 mod cone;
-mod filling;
 mod giving;
 mod settling;
 mod standing;
@@ -39,7 +37,7 @@ pub struct Table<G: Grid> {
     slots: G::Slots,
     horizon: u32,
     clock: u64,
-    cells: Cells<G::State>,
+    cells: Cells<G>,
     readers: Readers,
     neighbours: Neighbours,
     /// Before which cycle each cell is known to hold a state; there may be more of them.
@@ -144,21 +142,13 @@ impl<G: Grid> Table<G> {
         &self.slots
     }
 
-    /// The state that the cell holds, up to date or not; a cell that isn't there has none.
-    #[inline(always)]
-    pub fn state(&self, cell: Cell) -> Option<&G::State>
-        ensures { option_copied result ≡ (held_at self.now.rows cell.cycle cell.component).state }
-    {
-        self.cells.state(cell)
-    }
-
-    /// One more owner of the state that the cell holds, up to date or not; none for a cell that
-    /// isn't there. Nothing is copied: the state lives on with this owner once the table has
-    /// another one. NoMemory where it has as many owners as can be counted.
+    /// The state that the cell holds, up to date or not, put together for this owner; none for a cell
+    /// that isn't there. It lives on once the table has another one.
     ///
     /// # Errors
     ///
-    /// Where the state has as many owners as can be counted. Nothing is changed.
+    /// Where a growth was refused, or what isn't in the state's words has as many owners as can be
+    /// counted. Nothing is changed.
     pub fn shared(&self, cell: Cell) -> Result<Option<Arc<G::State>>, NoMemory>
         ensures { IfOk result (λ o. option_map arc_value o ≡ (held_at self.now.rows cell.cycle cell.component).state) }
     {

@@ -202,10 +202,21 @@ impl Versions {
         }
     }
 
+    /// Whether all components are known at once to have this version.
+    #[inline(always)]
+    fn is_all(&self, version: u64) -> bool
+        ensures { result ≡ true → (c : ℕ) → c < length self.now → slice_index_or self.now c 0 ≡ version }
+    {
+        self.all == version && self.each.is_empty() && self.near.is_none()
+    }
+
     pub(crate) fn set(&mut self, c: u32, version: u64)
         requires { c < length self.old }
         ensures { self.new ≡ slice_set self.old c version }
     {
+        if self.is_all(version) {
+            return;
+        }
         write_down(
             &mut self.each,
             &mut self.near,
@@ -223,6 +234,9 @@ impl Versions {
         ensures len { length self.new ≡ length self.old }
         ensures at { (c : ℕ) → slice_index_or self.new c 0 ≡ (if has components.now c then version else slice_index_or self.old c 0) }
     {
+        if self.is_all(version) {
+            return;
+        }
         write_down(
             &mut self.each,
             &mut self.near,
@@ -232,11 +246,6 @@ impl Versions {
             self.all,
         );
         put_all(&mut self.each, components, version);
-    }
-
-    /// Whether changes are noted.
-    fn is_noted(&self) -> bool {
-        self.near.is_some()
     }
 
     /// Notes that these components changed one cycle earlier and were stored in turn, the clock being `clock` before them. Where
@@ -261,30 +270,25 @@ impl Versions {
         true
     }
 
-    /// Lets go of the changes that are noted.
-    fn forget(&mut self)
-        ensures { length self.new ≡ length self.old }
+    /// Gives all components one version. Changes that are noted are let go.
+    #[inline(always)]
+    fn begin(&mut self, version: u64)
+        ensures { self.new ≡ replicate (length self.old) version }
     {
         drop(self.near.take());
+        self.each.clear();
+        self.all = version;
     }
 }
 
-/// Whether changes are noted at a cycle.
-pub(crate) fn is_noted_in(rows: &Vec<Versions>, t: u32) -> bool {
-    match rows.get(t as usize) {
-        Some(row) => row.is_noted(),
-        None => false,
-    }
-}
-
-/// Lets go of the changes that are noted at a cycle.
-pub(crate) fn forget_in(rows: &mut Vec<Versions>, t: u32)
+/// Gives all cells of a cycle one version, and lets go of the changes that are noted there.
+pub(crate) fn begin_in(rows: &mut Vec<Versions>, t: u32, version: u64)
     ensures len { length rows.new.items ≡ length rows.old.items }
     ensures lens { (u : ℕ) → length (slice_index_or rows.new.items u []) ≡ length (slice_index_or rows.old.items u []) }
     ensures others { (u c : ℕ) → (u ≡ t → ⊥) → version_at rows.new.items u c ≡ version_at rows.old.items u c }
 {
     if let Some(row) = rows.get_mut(t as usize) {
-        row.forget();
+        row.begin(version);
     }
 }
 

@@ -9,7 +9,7 @@ use grid_law::Grid;
 pub trait Watcher<G: Grid> {
     ghost use Rattle.cell_table.specs.Seen.{Seen};
     ghost use Rattle.cell_table.specs.Gives.{IsStored, HoldsSame};
-    ghost use Rattle.cell_table.specs.Passing.{HoldsOutside, HoldsBut};
+    ghost use Rattle.cell_table.specs.Passing.{HoldsBut};
 
     /// What a watcher keeps of the table that it watches.
     ghost keeps: { Self → Seen G.State G.Slots → Type 0 };
@@ -22,11 +22,6 @@ pub trait Watcher<G: Grid> {
     /// The state that the cell held was stored for it: no state of the table has changed.
     fn kept(&mut self, table: &Table<G>, cell: Cell)
         requires { (before : Seen G.State G.Slots) × keeps self.old before × HoldsSame G.rules before table.now }
-        ensures { keeps self.new table.now };
-
-    /// States were stored for all cells of so many cycles from one on, and for no others.
-    fn filled(&mut self, table: &Table<G>, from: u32, cycles: u32)
-        requires { (before : Seen G.State G.Slots) × keeps self.old before × HoldsOutside G.rules before table.now from cycles }
         ensures { keeps self.new table.now };
 
     /// States were stored for cells of these ranges, and for no others.
@@ -50,12 +45,6 @@ impl<G: Grid> Watcher<G> for Nobody {
     fn kept(&mut self, table: &Table<G>, cell: Cell) {
         let _ = table;
         let _ = cell;
-    }
-
-    fn filled(&mut self, table: &Table<G>, from: u32, cycles: u32) {
-        let _ = table;
-        let _ = from;
-        let _ = cycles;
     }
 
     fn refilled(&mut self, table: &Table<G>, ranges: &[CellRange]) {

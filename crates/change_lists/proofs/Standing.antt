@@ -1,8 +1,11 @@
 -- What stands at a cycle, by what begins before it and behind it.
-use Rattle.std.proofs.Common.{◌≡◌, ℕ, zero, suc, ◌+◌, ◌<◌, ◌≤◌, ◌∙◌, ◌⊎◌, inl, inr, sym, ap, refl, arith, Bool, true, false, cond, eqb, leb, ◌||◌, Option, None, List, [], ◌∷◌, ◌++◌}
-use Rattle.std.proofs.lemmas.Bool.{cases_lt, le-leb, lt-leb, eq-eqb, ne_eqb, eqb-true, eqb-false, false≢true, or_parts}
+use Rattle.std.proofs.Common.{◌≡◌, ℕ, zero, suc, ◌+◌, ◌<◌, ◌≤◌, ◌∙◌, ◌⊎◌, inl, inr, sym, ap, refl, arith, Bool, true, false, cond, eqb, leb, ◌||◌, Option, None, List, [], ◌∷◌, ◌++◌, drop, length, get_or}
+use Rattle.std.proofs.Math.ListN.{set}
+use Rattle.std.proofs.Math.Seq.{drop-nil}
+use Rattle.std.proofs.lemmas.Bool.{cases_eq, cases_lt, le-leb, lt-leb, eq-eqb, ne_eqb, eqb-true, eqb-false, false≢true, or_parts}
+use Rattle.std.proofs.lemmas.List.{get_or_default, get_or-set_same, get_or-set_other}
 use Rattle.change_lists.specs.declared.begun.Begun.{Begun}
-use Rattle.change_lists.specs.Changes.{standing, standing_before, begins, starts, Rises}
+use Rattle.change_lists.specs.Changes.{Changes, list_at, standing, standing_before, begins, starts, Rises, IsCut}
 
 or_assoc : (a b c : Bool) → (a || (b || c)) ≡ ((a || b) || c)
 or_assoc true b c = refl
@@ -113,3 +116,34 @@ module _ {V : Type 0} where
   pub steady : (xs : List (Begun V)) (t : ℕ) → begins xs t ≡ false → standing xs t None ≡ standing_before xs t
   steady xs zero e = none_yet xs None e
   steady xs (suc t) e = stays_on xs t None e
+
+  -- nothing begins of an empty list, and only of one
+  pub starts_of_none : (xs : List (Begun V)) (i t : ℕ) → xs ≡ [] → starts (drop i xs) t ≡ false
+  starts_of_none xs i t e = ap (λ ys. starts (drop i ys) t) e ∙ ap (λ ys. starts ys t) (drop-nil i)
+
+  pub none_begins : (xs : List (Begun V)) → ((t : ℕ) → begins xs t ≡ false) → xs ≡ []
+  none_begins [] h = refl
+  none_begins (b ∷ rest) h = absurd (false≢true (sym (h b.from) ∙ ap (λ u. u || begins rest b.from) (eq-eqb b.from b.from refl)))
+
+  -- where nothing begins for a component, nothing does once the changes of one are others
+  pub none_set : (lists : List (Changes V)) (c d : ℕ) (x y : Changes V) → c < length lists → y ≡ get_or lists c y → (y.begun ≡ [] → x.begun ≡ []) → list_at lists d ≡ [] → list_at (set lists c x) d ≡ []
+  none_set lists c d x y there was kept none = by_place (cases_eq d c)
+    where
+      by_place : (d ≡ c) ⊎ (d ≡ c → ⊥) → list_at (set lists c x) d ≡ []
+      by_place (inl e) =
+          let old : y.begun ≡ list_at lists c = ap (λ z. z.begun) (was ∙ get_or_default lists c y (record { begun = []; room = 0 }) there) in
+          let mine : list_at lists c ≡ [] = ap (list_at lists) (sym e) ∙ none in
+          ap (list_at (set lists c x)) e ∙ ap (λ z. z.begun) (get_or-set_same lists c x (record { begun = []; room = 0 }) there) ∙ kept (old ∙ mine)
+      by_place (inr ne) = ap (λ z. z.begun) (get_or-set_other lists c d x (record { begun = []; room = 0 }) ne) ∙ none
+
+  -- nor once all that begins from a cycle on was removed
+  pub none_cut : (olds news : List (Changes V)) (d n m : ℕ) → ((c : ℕ) → c < m → IsCut (list_at olds c) (list_at news c) n) → ((c : ℕ) → m ≤ c → list_at news c ≡ list_at olds c) → list_at olds d ≡ [] → list_at news d ≡ []
+  none_cut olds news d n m done rest none = by_place (cases_lt d m)
+    where
+      by_cycle : IsCut (list_at olds d) (list_at news d) n → (t : ℕ) → (t < n) ⊎ (n ≤ t) → begins (list_at news d) t ≡ false
+      by_cycle cut t (inl h) = cut.begin_earlier t h ∙ ap (λ xs. begins xs t) none
+      by_cycle cut t (inr h) = cut.begin_later t h
+
+      by_place : (d < m) ⊎ (m ≤ d) → list_at news d ≡ []
+      by_place (inl h) = none_begins (list_at news d) (λ t. by_cycle (done d h) t (cases_lt t n))
+      by_place (inr h) = rest d h ∙ none

@@ -180,6 +180,7 @@ impl<V: Drop> ChangeList<V> {
         requires none { (u : ℕ) → from < u → u < to → begins self.old.begun u ≡ false }
         ensures written { IsWritten self.old.begun self.new.begun from to end (standing_before self.old.begun from) result }
         ensures begins { begins self.new.begun from ≡ false }
+        ensures nothing { self.old.begun ≡ [] → self.new.begun ≡ [] }
     {
         let i = place(self.begun.as_slice(), from);
         if !is_at(self.begun.as_slice(), i, from) {
@@ -196,6 +197,7 @@ impl<V: Drop> ChangeList<V> {
         requires { from < to }
         ensures written { IsWritten self.old.begun self.new.begun from to end (standing_before self.old.begun from) result }
         ensures begins { begins self.new.begun from ≡ false }
+        ensures nothing { self.old.begun ≡ [] → self.new.begun ≡ [] }
     {
         let mut at = self.next(from + 1, to);
         let mut again = self.go_on_once(from, at, end);

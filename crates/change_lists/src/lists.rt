@@ -13,17 +13,20 @@ use std::marker::Model;
 #[derive(Drop)]
 pub struct Lists<V> {
     lists: Vec<ChangeList<V>>,
+    /// Where nothing begins for a component, it may be outside of these: from the first on and before the second.
+    low: u32,
+    high: u32,
 }
 
 impl<V> Model for Lists<V> {
-    ghost use Rattle.std.specs.Prelude.{List, ◌<◌, ◌^◌, length};
-    ghost use Rattle.change_lists.specs.Changes.{Changes};
+    ghost use Rattle.std.specs.Prelude.{List, ℕ, ◌≡◌, ◌<◌, ◌≤◌, ◌^◌, [], length};
+    ghost use Rattle.change_lists.specs.Changes.{Changes, list_at};
 
     ghost Value = { List (Changes V) };
 
     ghost view = { λ l. l.lists.items };
 
-    ghost invariant = { λ l. length l.lists.items < 2 ^ 32 };
+    ghost invariant = { λ l. (length l.lists.items < 2 ^ 32) × (l.high ≤ length l.lists.items) × ((c : ℕ) → c < l.low → list_at l.lists.items c ≡ []) × ((c : ℕ) → l.high ≤ c → list_at l.lists.items c ≡ []) };
 }
 
 impl<V: Drop> Lists<V> {
@@ -43,7 +46,22 @@ impl<V: Drop> Lists<V> {
                 Err(_) => return Err(AllocError),
             }
         }
-        Ok(Lists { lists })
+        Ok(Lists {
+            lists,
+            low: width,
+            high: 0,
+        })
+    }
+
+    /// From which component on and before which there are all for which something begins.
+    #[inline(always)]
+    pub fn range(&self) -> (u32, u32)
+        ensures within { result.1 ≤ length self.now }
+        ensures below { (c : ℕ) → c < result.0 → list_at self.now c ≡ [] }
+        ensures above { (c : ℕ) → result.1 ≤ c → list_at self.now c ≡ [] }
+    {
+        let _ = &self.lists;
+        (self.low, self.high)
     }
 
     /// How many components there are.
@@ -130,6 +148,8 @@ impl<V: Drop> Lists<V> {
         ensures width { length self.new ≡ length self.old }
         ensures others { (d : ℕ) → (d ≡ c → ⊥) → changes_at self.new d ≡ changes_at self.old d }
     {
+        self.low = self.low.min(c);
+        self.high = self.high.max(c + 1);
         self.lists[c as usize].put(t, end, value, stood)
     }
 

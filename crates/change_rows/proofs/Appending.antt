@@ -1,7 +1,7 @@
 -- Cells of others behind all cells, at once.
-use Rattle.std.proofs.Common.{◌≡◌, ℕ, zero, suc, ◌+◌, ◌-◌, ◌<◌, ◌≤◌, ◌^◌, ◌∙◌, ◌⊎◌, inl, inr, sym, ap, subst, arith, List, [], ◌∷◌, ◌++◌, length, map, take, drop, get_or, slice_range}
-use Rattle.std.proofs.lemmas.Bool.{cases_eq}
-use Rattle.std.proofs.lemmas.List.{get_or_default, get_or-drop, length-append, length-take, length-drop, append-nil, append_assoc, map-append, take_more, drop-drop}
+use Rattle.std.proofs.Common.{◌≡◌, ℕ, zero, suc, ◌+◌, ◌-◌, ◌<◌, ◌≤◌, ◌^◌, ◌∙◌, ◌⊎◌, inl, inr, sym, ap, subst, arith, refl, List, [], ◌∷◌, ◌++◌, length, map, take, drop, get_or, slice_range}
+use Rattle.std.proofs.lemmas.Bool.{cases_eq, cases_lt}
+use Rattle.std.proofs.lemmas.List.{get_or_default, get_or-drop, get_or-take, get_or-map, length-map, get_or_append_left, get_or-append_right, same_lists, length-append, length-take, length-drop, append-nil, append_assoc, map-append, take_more, drop-drop}
 use lib.Seq.{take-add}
 use Rattle.change_rows.specs.declared.cells.Head.{Head}
 use Rattle.change_rows.specs.Cells.{Held, no_cell, end_of, component_at}
@@ -201,16 +201,46 @@ module _ (heads hs hs1 : List Head) (words ws ws1 more : List ℕ) (from to star
     pub appended_packed : IsPacked heads1 words1
     appended_packed = subst (λ (v : List Head). IsPacked v words1) (sym heads_is) (subst (IsPacked (run_heads heads hs words ws from packed others (to - from))) (sym words_is) whole.holds)
 
--- one head more is pushed
-pub heads_pushed : (heads0 heads heads1 others : List Head) (from i begin base : ℕ) (d x : Head) → from ≤ i → i < length others → heads ≡ heads0 ++ map (moved begin base) (slice_range others from i) → x ≡ moved begin base (get_or others i d) → heads1 ≡ heads ++ x ∷ [] → heads1 ≡ heads0 ++ map (moved begin base) (slice_range others from (i + 1))
-heads_pushed heads0 heads heads1 others from i begin base d x low high e f g =
-    let n = i - from in
-    let next : (i + 1) - from ≡ n + 1 = omega (arith, low) in
-    let here : from + n ≡ i = omega (arith, low) in
-    g ∙ ap (λ (v : List Head). v ++ x ∷ []) e ∙ ap (λ (y : Head). (heads0 ++ map (moved begin base) (slice_range others from i)) ++ y ∷ []) (f ∙ ap (λ (k : ℕ). moved begin base (get_or others k d)) (sym here) ∙ ap (moved begin base) (sym (get_or-drop from others n d)))
-    ∙ append_assoc heads0 (map (moved begin base) (slice_range others from i)) (moved begin base (get_or (drop from others) n d) ∷ [])
-    ∙ ap (λ (v : List Head). heads0 ++ v)
-    (
-    sym (map-append (moved begin base) (take n (drop from others)) (get_or (drop from others) n d ∷ []))
-    ∙ ap (map (moved begin base)) (sym (take_more (drop from others) n d (omega (arith, low, high, length-drop from others))) ∙ ap (λ (k : ℕ). take k (drop from others)) (sym next))
-    )
+-- heads of others behind all heads
+module _ (heads others : List Head) (from to : ℕ) (order : from ≤ to) (there : to ≤ length others) where
+  run_length : length (slice_range others from to) ≡ to - from
+  run_length = omega (arith, length-take (to - from) (drop from others), length-drop from others, order, there)
+
+  -- where they begin where they began, they are the same
+  module _ (begin base : ℕ) (alike : begin ≡ base) (climbs : (k : ℕ) → from ≤ k → k < to → begin ≤ start_at others 0 k) where
+    head_kept : (x : Head) → begin ≤ x.from → moved begin base x ≡ x
+    head_kept x h = let e : x.from - begin + base ≡ x.from = omega (arith, h, alike) in ap (λ (n : ℕ). same_head x.component n) e
+      where
+        same_head : ℕ → ℕ → Head
+        same_head c n = record { component = c; from = n }
+
+    pub heads_kept : (news : List Head) → news ≡ heads ++ slice_range others from to → news ≡ heads ++ map (moved begin base) (slice_range others from to)
+    heads_kept news e = e ∙ ap (λ (v : List Head). heads ++ v) (sym (same_lists (map (moved begin base) (slice_range others from to)) (slice_range others from to) (length-map (slice_range others from to) (moved begin base)) each))
+      where
+        each : (k : ℕ) (d : Head) → k < length (map (moved begin base) (slice_range others from to)) → get_or (map (moved begin base) (slice_range others from to)) k d ≡ get_or (slice_range others from to) k d
+        each k d h =
+            let low : k < to - from = omega (arith, h, length-map (slice_range others from to) (moved begin base), run_length) in
+            let here : get_or (slice_range others from to) k d ≡ get_or others (from + k) d = get_or-take (to - from) (drop from others) k d low ∙ get_or-drop from others k d in
+            let start : (get_or (slice_range others from to) k d).from ≡ start_at others 0 (from + k) = ap (λ (x : Head). x.from) (here ∙ get_or_default others (from + k) d _ (omega (arith, low, order, there))) in
+            get_or-map (moved begin base) (slice_range others from to) k d d (omega (arith, low, run_length))
+            ∙ head_kept (get_or (slice_range others from to) k d) (omega (arith, start, climbs (from + k) (omega arith) (omega (arith, low, order))))
+
+  -- each of them is moved
+  pub heads_moved : (begin base at : ℕ) (longer news : List Head) → at ≡ length heads → longer ≡ heads ++ slice_range others from to → length news ≡ length longer → ((k : ℕ) (d : Head) → k < at → get_or news k d ≡ get_or longer k d) → ((k : ℕ) (d : Head) → at ≤ k → k < length longer → get_or news k d ≡ moved begin base (get_or longer k d)) → news ≡ heads ++ map (moved begin base) (slice_range others from to)
+  heads_moved begin base n longer news same e len before done =
+      let whole : length longer ≡ length heads + (to - from) = ap length e ∙ length-append heads (slice_range others from to) ∙ ap (λ (n : ℕ). length heads + n) run_length in
+      let run : length (map (moved begin base) (slice_range others from to)) ≡ to - from = length-map (slice_range others from to) (moved begin base) ∙ run_length in
+      let out : length (heads ++ map (moved begin base) (slice_range others from to)) ≡ length heads + (to - from) = length-append heads (map (moved begin base) (slice_range others from to)) ∙ ap (λ (n : ℕ). length heads + n) run in
+      same_lists news (heads ++ map (moved begin base) (slice_range others from to)) (len ∙ whole ∙ sym out) (λ k d h. by_place k d (omega (arith, h, len)) (omega (arith, h, len, whole)) (cases_lt k (length heads)))
+    where
+      by_place : (k : ℕ) (d : Head) → k < length longer → k < length heads + (to - from) → (k < length heads) ⊎ (length heads ≤ k) → get_or news k d ≡ get_or (heads ++ map (moved begin base) (slice_range others from to)) k d
+      by_place k d h low (inl l) =
+          before k d (omega (arith, l, same))
+          ∙ ap (λ (v : List Head). get_or v k d) e
+          ∙ get_or_append_left heads (slice_range others from to) d k l
+          ∙ sym (get_or_append_left heads (map (moved begin base) (slice_range others from to)) d k l)
+      by_place k d h low (inr l) =
+          done k d (omega (arith, l, same)) h
+          ∙ ap (λ (v : List Head). moved begin base (get_or v k d)) e
+          ∙ ap (moved begin base) (get_or-append_right heads (slice_range others from to) (length heads) k d refl l)
+          ∙ sym (get_or-append_right heads (map (moved begin base) (slice_range others from to)) (length heads) k d refl l ∙ get_or-map (moved begin base) (slice_range others from to) (k - length heads) d d (omega (arith, l, low, run_length)))

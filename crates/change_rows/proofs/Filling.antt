@@ -1,7 +1,7 @@
 -- A row without words is filled.
-use Rattle.std.proofs.Common.{◌≡◌, ℕ, zero, suc, ◌+◌, ◌-◌, ◌<◌, ◌≤◌, ◌∙◌, ◌⊎◌, inl, inr, sym, ap, refl, subst, arith, Bool, true, false, unwrap_or, Option, Some, None, List, [], length, get_or}
+use Rattle.std.proofs.Common.{◌≡◌, ℕ, zero, suc, ◌+◌, ◌-◌, ◌<◌, ◌≤◌, ◌∙◌, sym, ap, refl, arith, Bool, true, false, unwrap_or, Option, Some, None, List, [], length, get_or}
 use Rattle.change_rows.specs.Cells.{Held, no_cell, found, end_of, component_at, IsAscending}
-use Rattle.change_rows.specs.Standing.{standing, standing_before}
+use Rattle.change_rows.specs.Standing.{standing}
 use Rattle.change_rows.specs.Changes.{row_at, begins_at}
 use Rattle.change_rows.proofs.Finding.{ascends, found_at, below_end}
 use Rattle.change_rows.proofs.Standing.{at_once, begins_seam}
@@ -40,6 +40,11 @@ blank_seam rows seam at t width c asc len end here empty none h =
     let there : found seam c ≡ Some w = full seam width c asc len end h in
     let stands : standing (begins_at rows seam at c) t ≡ w = at_once (begins_at rows seam at c) t w (begins_seam rows seam at c t (ap (λ (r : List Held). found r c) empty) (sym here) ∙ there) in
     there ∙ ap Some (sym stands ∙ none)
+
+-- what stands at a row in which nothing else begins than a seam of cells without words
+pub blank_stands : (rows : List (List Held)) (seam : List Held) (at t width c : ℕ) → IsAscending seam → length seam ≡ width → end_of seam ≤ width → at ≡ t → row_at rows t ≡ [] → (get_or seam c no_cell).words ≡ [] → c < width → standing (begins_at rows seam at c) t ≡ []
+blank_stands rows seam at t width c asc len end here empty none h =
+    at_once (begins_at rows seam at c) t [] (begins_seam rows seam at c t (ap (λ (r : List Held). found r c) empty) (sym here) ∙ full seam width c asc len end h ∙ ap Some none)
 
 -- what a row without words and the row behind it hold
 pub filled_kept : (still : Bool) (o : Option (List ℕ)) (before w : List ℕ) → (still ≡ false → o ≡ Some w) → (still ≡ true → o ≡ None) → (still ≡ true → w ≡ before) → unwrap_or o before ≡ w

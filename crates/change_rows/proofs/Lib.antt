@@ -16,3 +16,6 @@ pub mod FirstBit
 pub mod Members
 pub mod Sourcing
 pub mod Filling
+pub mod Begun
+pub mod Leaving
+pub mod Lined

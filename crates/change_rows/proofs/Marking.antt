@@ -1,57 +1,18 @@
 -- Lines of marks.
-use Rattle.std.proofs.Common.{◌≡◌, ℕ, ◌+◌, ◌*◌, ◌/◌, ◌%◌, ◌<◌, ◌≤◌, ◌∙◌, ◌⊎◌, inl, inr, sym, ap, refl, arith, Bool, true, false, cond, eqb, ◌&&◌, ◌||◌, is_some, Option, Some, None, List, [], ◌∷◌, ◌++◌, ◌-◌, zero, suc, min, replicate, length, take, get_or}
+use Rattle.std.proofs.Common.{◌≡◌, ℕ, ◌+◌, ◌*◌, ◌/◌, ◌%◌, ◌<◌, ◌≤◌, ◌∙◌, ◌⊎◌, inl, inr, sym, ap, refl, arith, Bool, true, false, cond, eqb, ◌||◌, is_some, Option, Some, None, List, [], ◌∷◌, ◌++◌, ◌-◌, zero, suc, min, replicate, length, take, get_or}
 use Rattle.std.specs.Option.{option_or}
 use Rattle.std.proofs.Math.ListN.{set}
 use lib.Bits.{bit_and}
 use Rattle.std.specs.Int.{bit_at}
 use Rattle.std.proofs.lemmas.Nat.Bits.{bit_at-zero, bit_at_and}
-use Rattle.std.proofs.lemmas.Bool.{cases_eq, eq-eqb, ne_eqb, cases_lt, eqb-true}
+use Rattle.std.proofs.lemmas.Bool.{cases_eq, ne_eqb, cases_lt, eqb-true}
 use Rattle.std.proofs.lemmas.List.{get_or-set_same, get_or-set_other, take_more, get_or_past, get_or_append_left, get_or-append_right}
 use Rattle.change_rows.specs.Cells.{Held, no_cell, found, end_of, component_at}
-use Rattle.change_rows.specs.Marks.{is_one, is_set, is_marked, is_in}
+use Rattle.change_rows.specs.Marks.{is_one, is_set, is_in}
 use Rattle.change_rows.proofs.Finding.{found_append, below_end}
 
 pub below_lines : (cells : List Held) (i c n : ℕ) → i < length cells → c ≡ component_at cells i → end_of cells ≤ 64 * n → c / 64 < n
 below_lines cells i c n h e room = let low : component_at cells i < end_of cells = below_end cells i h in omega (arith, low, e, room)
-
--- one more is marked
-module _ (lines : List (List ℕ)) (line : List ℕ) (t c : ℕ)
-    (there : c / 64 < length lines)
-    (here : is_set line t (c % 64) ≡ true)
-    (others : (u i : ℕ) → (u ≡ t → i ≡ c % 64 → ⊥) → is_set line u i ≡ is_set (get_or lines (c / 64) []) u i) where
-  same_line : (u d : ℕ) → d / 64 ≡ c / 64 → is_marked (set lines (c / 64) line) u d ≡ is_set line u (d % 64)
-  same_line u d e =
-      ap (λ (w : ℕ). is_set (get_or (set lines (c / 64) line) w []) u (d % 64)) e
-      ∙ ap (λ (l : List ℕ). is_set l u (d % 64)) (get_or-set_same lines (c / 64) line [] there)
-
-  pub unlike : (u d : ℕ) → (u ≡ t → c ≡ d → ⊥) → is_marked (set lines (c / 64) line) u d ≡ is_marked lines u d
-  unlike u d ne = by_line (cases_eq (d / 64) (c / 64))
-    where
-      by_line : (d / 64 ≡ c / 64) ⊎ (d / 64 ≡ c / 64 → ⊥) → is_marked (set lines (c / 64) line) u d ≡ is_marked lines u d
-      by_line (inl e) =
-          same_line u d e ∙ others u (d % 64) (λ p q. ne p (omega (arith, e, q)))
-          ∙ ap (λ (w : ℕ). is_set (get_or lines w []) u (d % 64)) (sym e)
-      by_line (inr n) = ap (λ (l : List ℕ). is_set l u (d % 64)) (get_or-set_other lines (c / 64) (d / 64) line [] n)
-
-  pub written : (u d : ℕ) → is_marked (set lines (c / 64) line) u d ≡ cond (eqb u t && eqb c d) true (is_marked lines u d)
-  written u d = by_cases (cases_eq u t) (cases_eq c d)
-    where
-      by_cases : (u ≡ t) ⊎ (u ≡ t → ⊥) → (c ≡ d) ⊎ (c ≡ d → ⊥) → is_marked (set lines (c / 64) line) u d ≡ cond (eqb u t && eqb c d) true (is_marked lines u d)
-      by_cases (inl e) (inl f) =
-          same_line u d (ap (λ (x : ℕ). x / 64) (sym f))
-          ∙ ap (λ (x : ℕ). is_set line x (d % 64)) e ∙ ap (λ (x : ℕ). is_set line t (x % 64)) (sym f) ∙ here
-          ∙ sym (ap (λ (b : Bool). cond (b && eqb c d) true (is_marked lines u d)) (eq-eqb u t e) ∙ ap (λ (b : Bool). cond b true (is_marked lines u d)) (eq-eqb c d f))
-      by_cases (inl e) (inr n) =
-          unlike u d (λ _ q. n q)
-          ∙ sym (ap (λ (b : Bool). cond (b && eqb c d) true (is_marked lines u d)) (eq-eqb u t e) ∙ ap (λ (b : Bool). cond b true (is_marked lines u d)) (ne_eqb c d n))
-      by_cases (inr n) _ = unlike u d (λ p _. n p) ∙ sym (ap (λ (b : Bool). cond (b && eqb c d) true (is_marked lines u d)) (ne_eqb u t n))
-
-bools : (e f a m : Bool) → cond (e && f) true (cond e (a || m) m) ≡ cond e ((a || f) || m) m
-bools false f a m = refl
-bools true true true m = refl
-bools true true false m = refl
-bools true false true m = refl
-bools true false false m = refl
 
 some_or : (o p : Option (List ℕ)) → is_some (option_or o p) ≡ (is_some o || is_some p)
 some_or None p = refl
@@ -69,13 +30,7 @@ found_more cells i c d h e =
     ∙ some_or (found (take i cells) d) (found (x ∷ []) d)
     ∙ ap (λ (b : Bool). is_some (found (take i cells) d) || b) (some_one (eqb x.component d) x.words ∙ ap (λ (k : ℕ). eqb k d) (sym e))
 
-pub marked_more : (lines0 lines : List (List ℕ)) (line : List ℕ) (cells : List Held) (t i c : ℕ) → i < length cells → c ≡ component_at cells i → c / 64 < length lines → is_set line t (c % 64) ≡ true → ((u k : ℕ) → (u ≡ t → k ≡ c % 64 → ⊥) → is_set line u k ≡ is_set (get_or lines (c / 64) []) u k) → ((u d : ℕ) → is_marked lines u d ≡ cond (eqb u t) (is_some (found (take i cells) d) || is_marked lines0 u d) (is_marked lines0 u d)) → (u d : ℕ) → is_marked (set lines (c / 64) line) u d ≡ cond (eqb u t) (is_some (found (take (i + 1) cells) d) || is_marked lines0 u d) (is_marked lines0 u d)
-marked_more lines0 lines line cells t i c h e there here others before u d =
-    written lines line t c there here others u d
-    ∙ ap (cond (eqb u t && eqb c d) true) (before u d)
-    ∙ bools (eqb u t) (eqb c d) (is_some (found (take i cells) d)) (is_marked lines0 u d)
-    ∙ ap (λ (b : Bool). cond (eqb u t) (b || is_marked lines0 u d) (is_marked lines0 u d)) (sym (found_more cells i c d h e))
-
+-- a line is another one of the same length
 pub tall_more : (lines0 lines : List (List ℕ)) (line : List ℕ) (k : ℕ) → k < length lines → length line ≡ length (get_or lines k []) → ((w : ℕ) → length (get_or lines w []) ≡ length (get_or lines0 w [])) → (w : ℕ) → length (get_or (set lines k line) w []) ≡ length (get_or lines0 w [])
 tall_more lines0 lines line k there same before w = by_place (cases_eq w k)
   where
@@ -84,37 +39,6 @@ tall_more lines0 lines line k there same before w = by_place (cases_eq w k)
         ap (λ (j : ℕ). length (get_or (set lines k line) j [])) e ∙ ap length (get_or-set_same lines k line [] there) ∙ same
         ∙ ap (λ (j : ℕ). length (get_or lines j [])) (sym e) ∙ before w
     by_place (inr n) = ap length (get_or-set_other lines k w line [] n) ∙ before w
-
--- a row that was cleared first
-pub marked_anew : (lines0 lines1 lines2 : List (List ℕ)) (cells : List Held) (t : ℕ) → ((w : ℕ) → w < length lines0 → t < length (get_or lines0 w [])) → ((w : ℕ) → get_or lines1 w [] ≡ set (get_or lines0 w []) t 0) → ((u c : ℕ) → is_marked lines2 u c ≡ cond (eqb u t) (is_some (found cells c) || is_marked lines1 u c) (is_marked lines1 u c)) → (u c : ℕ) → c < 64 * length lines0 → is_marked lines2 u c ≡ cond (eqb u t) (is_some (found cells c)) (is_marked lines0 u c)
-marked_anew lines0 lines1 lines2 cells t tall cleared marks u c small = marks u c ∙ by_row (cases_eq u t)
-  where
-    line : List ℕ
-    line = get_or lines0 (c / 64) []
-
-    or_false : (b : Bool) → (b || false) ≡ b
-    or_false true = refl
-    or_false false = refl
-
-    by_row : (u ≡ t) ⊎ (u ≡ t → ⊥) → cond (eqb u t) (is_some (found cells c) || is_marked lines1 u c) (is_marked lines1 u c) ≡ cond (eqb u t) (is_some (found cells c)) (is_marked lines0 u c)
-    by_row (inl e) =
-        let none : is_marked lines1 u c ≡ false =
-        ap (λ (l : List ℕ). is_set l u (c % 64)) (cleared (c / 64))
-        ∙ ap (λ (x : ℕ). is_set (set (get_or lines0 (c / 64) []) t 0) x (c % 64)) e
-        ∙ ap (λ (w : ℕ). is_one w (c % 64)) (get_or-set_same (get_or lines0 (c / 64) []) t 0 0 (tall (c / 64) (omega arith)))
-        ∙ none_of_zero (c % 64)
-        in
-        ap (λ (b : Bool). cond b (is_some (found cells c) || is_marked lines1 u c) (is_marked lines1 u c)) (eq-eqb u t e)
-        ∙ ap (λ (b : Bool). is_some (found cells c) || b) none ∙ or_false (is_some (found cells c))
-        ∙ sym (ap (λ (b : Bool). cond b (is_some (found cells c)) (is_marked lines0 u c)) (eq-eqb u t e))
-      where
-        none_of_zero : (k : ℕ) → is_one 0 k ≡ false
-        none_of_zero k = ap (λ (b : ℕ). eqb b 1) (bit_at-zero k)
-    by_row (inr n) =
-        ap (λ (b : Bool). cond b (is_some (found cells c) || is_marked lines1 u c) (is_marked lines1 u c)) (ne_eqb u t n)
-        ∙ ap (λ (l : List ℕ). is_set l u (c % 64)) (cleared (c / 64))
-        ∙ ap (λ (w : ℕ). is_one w (c % 64)) (get_or-set_other (get_or lines0 (c / 64) []) t u 0 0 n)
-        ∙ sym (ap (λ (b : Bool). cond b (is_some (found cells c)) (is_marked lines0 u c)) (ne_eqb u t n))
 
 -- zeros more
 pub zeros_set : (xs ys zs : List ℕ) (m : ℕ) → xs ≡ ys ++ replicate m 0 → ys ≡ zs → (t k : ℕ) → is_set xs t k ≡ is_set zs t k

@@ -1,5 +1,6 @@
 -- Cells in two buffers.
 use Rattle.std.proofs.Common.{Some, None, ◌≡◌, ℕ, ◌+◌, ◌-◌, ◌<◌, ◌≤◌, ◌^◌, ◌∙◌, ◌⊎◌, inl, inr, sym, ap, refl, subst, arith, List, [], ◌∷◌, ◌++◌, length, take, drop, get_or}
+use Rattle.std.proofs.Math.Seq.{drop-nil, take-nil}
 use Rattle.std.proofs.lemmas.Bool.{cases_eq, cases_lt}
 use Rattle.std.proofs.lemmas.List.{get_or_default, get_or_past, get_or_append_left, get_or_push, length_push, length-append, drop-append-le, take-append-le, length-drop, take_all, drop_at, append-nil, same_lists}
 use Rattle.std.proofs.lemmas.List.FromFn.{length-map-range_with_len, get_or-map-range_with_len}
@@ -25,6 +26,21 @@ start_is heads n i d h = ap (λ (x : Head). x.from) (get_or_default heads i _ d 
 
 pub words_is : (heads : List Head) (words : List ℕ) (i : ℕ) → i < length heads → (get_or (cells_of heads words) i no_cell).words ≡ take (start_at heads (length words) (i + 1) - start_at heads (length words) i) (drop (start_at heads (length words) i) words)
 words_is heads words i h = ap (λ (x : Held). x.words) (at_cells heads words i no_cell h)
+
+nothing : (words : List ℕ) → length words ≡ 0 → words ≡ []
+nothing [] e = refl
+nothing (w ∷ ws) e = absurd (omega (arith, e))
+
+-- cells of no words
+pub no_words : (heads : List Head) (words : List ℕ) (i : ℕ) → length words ≡ 0 → (get_or (cells_of heads words) i no_cell).words ≡ []
+no_words heads words i none = by_place (cases_lt i (length heads))
+  where
+    by_place : (i < length heads) ⊎ (length heads ≤ i) → (get_or (cells_of heads words) i no_cell).words ≡ []
+    by_place (inl h) =
+        let s = start_at heads (length words) i in
+        let n = start_at heads (length words) (i + 1) - s in
+        words_is heads words i h ∙ ap (λ (w : List ℕ). take n (drop s w)) (nothing words none) ∙ ap (take n) (drop-nil s) ∙ take-nil n
+    by_place (inr h) = ap (λ (x : Held). x.words) (get_or_past (cells_of heads words) i no_cell (omega (arith, h, length_cells heads words)))
 
 -- a component's place tells what is found
 pub found_here : (heads : List Head) (words : List ℕ) (c n : ℕ) → IsPacked heads words → IsPlace heads c n → n < length heads → (head_at heads 0 n).component ≡ c → found (cells_of heads words) c ≡ Some (get_or (cells_of heads words) n no_cell).words

@@ -1,16 +1,14 @@
 -- A row is put from a source.
-use Rattle.std.proofs.Common.{◌≡◌, ℕ, ◌+◌, ◌<◌, ◌≤◌, ◌∙◌, ◌⊎◌, inl, inr, sym, ap, refl, subst, arith, Bool, true, false, cond, eqb, ◌&&◌, unwrap_or, Option, Some, None, List, [], ◌∷◌, ◌++◌, length, take, slice_range}
+use Rattle.std.proofs.Common.{◌≡◌, ℕ, ◌+◌, ◌<◌, ◌≤◌, ◌∙◌, ◌⊎◌, inl, inr, sym, ap, refl, subst, arith, Bool, true, false, cond, eqb, ◌&&◌, unwrap_or, Option, Some, None, List, [], ◌∷◌, length}
 use Rattle.std.specs.Option.{option_or}
 use Rattle.std.proofs.Math.ListN.{set}
 use Rattle.std.proofs.lemmas.Bool.{cases_eq, cases_lt, eq-eqb, ne_eqb, false≢true}
-use Rattle.std.proofs.lemmas.List.{take_all}
-use Rattle.change_rows.specs.Cells.{Held, found, end_of, component_at, IsSplit}
+use Rattle.change_rows.specs.Cells.{Held, found, end_of, IsSplit}
 use Rattle.change_rows.specs.Marks.{is_in}
 use Rattle.change_rows.specs.Standing.{standing, standing_before}
 use Rattle.change_rows.specs.Changes.{row_at, begins_at}
 use Rattle.change_rows.specs.Laid.{IsLaid, IsOver, IsTold}
 use Rattle.change_rows.proofs.Editing.{absent}
-use Rattle.change_rows.proofs.Standing.{at_once}
 use Rattle.change_rows.proofs.Putting.{stands_by, put_at, alike}
 use Rattle.change_rows.proofs.Finding.{found_past}
 

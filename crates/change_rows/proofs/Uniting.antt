@@ -1,5 +1,5 @@
 -- Cells of two lists below a component, behind others.
-use Rattle.std.proofs.Common.{◌≡◌, ℕ, ◌+◌, ◌<◌, ◌≤◌, ◌∙◌, ◌⊎◌, inl, inr, sym, ap, refl, subst, arith, max, unwrap_or, Option, Some, None, List, [], ◌∷◌, ◌++◌, length, take, get_or, slice_range}
+use Rattle.std.proofs.Common.{◌≡◌, ℕ, ◌+◌, ◌<◌, ◌≤◌, ◌∙◌, ◌⊎◌, inl, inr, sym, ap, arith, max, unwrap_or, Option, Some, None, List, [], ◌∷◌, ◌++◌, length, take, get_or, slice_range}
 use Rattle.std.specs.Option.{option_or}
 use Rattle.std.proofs.lemmas.Bool.{cases_eq, cases_lt}
 use Rattle.std.proofs.lemmas.List.{take_all}
@@ -50,7 +50,7 @@ module _ (over out mid : List Held) (i place q e : ℕ) (asc : IsAscending over)
   run_end = ran_below over [] out mid i place asc order next.within (λ _. omega arith) ran e (omega (arith, end, h)) next.below
 
 -- all cells of a list before a place are below a component, and none behind it is
-gap : (under : List Held) (j q e d : ℕ) → IsAscending under → j ≤ length under → end_of (take j under) ≤ q → (j < length under → e ≤ component_at under j) → q ≤ d → d < e → found under d ≡ None
+pub gap : (under : List Held) (j q e d : ℕ) → IsAscending under → j ≤ length under → end_of (take j under) ≤ q → (j < length under → e ≤ component_at under j) → q ≤ d → d < e → found under d ≡ None
 gap under j q e d asc within below above l m = found_gap under j d asc within (omega (arith, below, l)) (λ h. omega (arith, above h, m))
 
 -- the bound so far: below it all cells are taken

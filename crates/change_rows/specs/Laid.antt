@@ -1,5 +1,5 @@
 -- A row in which the components of a set hold other words, and the seam behind it.
-use Rattle.std.specs.Prelude.{◌≡◌, ℕ, ◌+◌, ◌<◌, ◌≤◌, true, false, Option, None, unwrap_or, List, [], length}
+use Rattle.std.specs.Prelude.{◌≡◌, ℕ, ◌+◌, ◌<◌, ◌≤◌, true, false, None, unwrap_or, List, [], length}
 use Rattle.std.specs.Option.{option_or}
 use Rattle.change_rows.specs.Cells.{Held, found, end_of, IsSplit}
 use Rattle.change_rows.specs.Marks.{is_in}

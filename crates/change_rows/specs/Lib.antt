@@ -5,3 +5,4 @@ pub mod Standing
 pub mod Rows
 pub mod Changes
 pub mod Laid
+pub mod Left

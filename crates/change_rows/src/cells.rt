@@ -68,6 +68,14 @@ impl Cells {
         self.heads.is_empty()
     }
 
+    /// Whether no cell has words, as far as the buffer of them all tells.
+    #[inline(always)]
+    pub(crate) fn has_no_words(&self) -> bool
+        ensures { result ≡ true → (i : ℕ) → (slice_index_or self.now i no_cell).words ≡ [] }
+    {
+        self.words.is_empty()
+    }
+
     /// Removes all cells. The buffers stay.
     pub fn clear(&mut self)
         ensures { self.new ≡ [] }
@@ -326,7 +334,7 @@ impl Cells {
         self.heads.reserve(to - from)?;
         match self.words.extend_from_slice(more) {
             Ok(()) => {
-                push_heads(&mut self.heads, heads, from, to, start as u32, base as u32);
+                copy_heads(&mut self.heads, heads, from, to, start as u32, base as u32);
                 Ok(())
             }
             Err(e) => Err(e),
@@ -430,13 +438,29 @@ fn push_heads(heads: &mut Vec<Head>, others: &[Head], from: usize, to: usize, st
     requires small { (k : ℕ) → from ≤ k → k < to → start_at others.now 0 k - start + base < 2 ^ 32 }
     ensures { heads.new.items ≡ heads.old.items ++ map (moved start base) (slice_range others.now from to) }
 {
-    for i in from..to {
-        let head = others[i];
-        heads.push_reserved(Head {
-            component: head.component,
-            from: head.from - start + base,
-        });
+    let at = heads.len();
+    // There is room, so nothing grows and nothing is refused.
+    let _ = heads.extend_from_slice(&others[from..to]);
+    for i in at..heads.len() {
+        heads[i].from = heads[i].from - start + base;
     }
+}
+
+/// The same; at once where they begin where they began.
+fn copy_heads(heads: &mut Vec<Head>, others: &[Head], from: usize, to: usize, start: u32, base: u32)
+    requires room { vec_len heads.old + (to - from) ≤ vec_capacity heads.old }
+    requires order { from ≤ to }
+    requires there { to ≤ length others.now }
+    requires climbs { (k : ℕ) → from ≤ k → k < to → start ≤ start_at others.now 0 k }
+    requires small { (k : ℕ) → from ≤ k → k < to → start_at others.now 0 k - start + base < 2 ^ 32 }
+    ensures { heads.new.items ≡ heads.old.items ++ map (moved start base) (slice_range others.now from to) }
+{
+    if start == base {
+        // There is room, so nothing grows and nothing is refused.
+        let _ = heads.extend_from_slice(&others[from..to]);
+        return;
+    }
+    push_heads(heads, others, from, to, start, base);
 }
 
 /// The first component above those of all cells.

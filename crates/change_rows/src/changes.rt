@@ -1,13 +1,13 @@
 //! Rows of changes, and where a cell's words are found in them.
-ghost use Rattle.std.specs.Prelude.{◌≡◌, ℕ, ◌+◌, ◌*◌, ◌/◌, ◌%◌, ◌<◌, ◌≤◌, [], None, Some, true, false, cond, nat_eq, MatchOption, IfSome, OnOk, OnErr, length, is_some, unwrap_or, slice_index_or, slice_set};
+ghost use Rattle.std.specs.Prelude.{◌≡◌, ℕ, ◌+◌, ◌*◌, ◌/◌, ◌%◌, ◌<◌, ◌≤◌, ◌||◌, [], None, Some, true, false, cond, nat_eq, MatchOption, IfSome, OnOk, OnErr, length, is_some, unwrap_or, slice_index_or, slice_set};
 ghost use Rattle.change_rows.specs.Cells.{found, end_of};
 ghost use Rattle.change_rows.specs.Marks.{is_one, is_set, is_marked, is_in};
 ghost use Rattle.change_rows.specs.Standing.{standing};
 ghost use Rattle.change_rows.specs.Changes.{row_at, begins_at, IsChanges};
 
 use crate::cells::Cells;
-use crate::marks::{Marks, block_has, block_has_any, has_any, mark_row, rank, with_bit};
-use crate::sets::is_member;
+use crate::marks::{Marks, block_has_any, has_any, mark_row, rank, with_bit};
+use crate::sets::{add, is_member};
 use std::alloc::{AllocError, Global};
 
 /// For each row the cells at which other words begin than a cycle before; all others go on.
@@ -48,6 +48,9 @@ pub(crate) fn words_in(s: &Changes, t: usize, c: u32) -> &[u64]
     requires component { c < s.now.width }
     ensures { result.now ≡ standing (begins_at s.now.rows.items s.now.seam s.now.at c) t }
 {
+    if is_change(&s.marks, t, c) {
+        return words_from(&s.rows, &s.marks, Some(t), c);
+    }
     let last = last_change(&s.marks, t, c);
     match in_seam(s, last, t, c) {
         Some(words) => words,
@@ -137,6 +140,34 @@ pub(crate) fn begin_word(s: &Changes, t: usize, w: usize) -> u64
     word
 }
 
+/// Adds to a set the components of cells.
+fn add_cells(cells: &Cells, set: &mut [u64])
+    requires { end_of cells.now ≤ 64 * length set.old }
+    ensures len { length set.new ≡ length set.old }
+    ensures all { (c : ℕ) → is_in set.new c ≡ (is_in set.old c || is_some (found cells.now c)) }
+{
+    for i in 0..cells.len() {
+        add(set, cells.component(i));
+    }
+}
+
+/// Adds to a set the components at whose cells something begins.
+pub(crate) fn add_begun(s: &Changes, t: usize, set: &mut [u64])
+    requires changes { IsChanges s.now.width s.now.rows.items s.now.marks.items s.now.seam s.now.at }
+    requires row { t < length s.now.rows.items }
+    requires room { s.now.width ≤ 64 * length set.old }
+    ensures len { length set.new ≡ length set.old }
+    ensures more { (c : ℕ) → is_in set.old c ≡ true → is_in set.new c ≡ true }
+    ensures rest { (c : ℕ) → c < s.now.width → is_in set.new c ≡ false → begins_at s.now.rows.items s.now.seam s.now.at c t ≡ None }
+{
+    for w in 0..s.marks.len().min(set.len()) {
+        set[w] |= s.marks[w].word(t);
+    }
+    if t == s.at {
+        add_cells(&s.seam, set);
+    }
+}
+
 /// Whether there is a cell of a component of a set.
 fn is_any(cells: &Cells, set: &[u64]) -> bool
     ensures { result ≡ false → (c : ℕ) → is_in set.now c ≡ true → found cells.now c ≡ None }
@@ -161,41 +192,47 @@ fn may_begin(s: &Changes, t: usize, set: &[u64]) -> bool
     has_any(&s.marks, t, set)
 }
 
-/// Whether 64 rows begin with row u, all before `end`, and the seam belongs to none of them.
-fn is_block(s: &Changes, u: u32, end: u32) -> bool
-    requires { u ≤ end }
-    ensures start { result ≡ true → u % 64 ≡ 0 }
-    ensures within { result ≡ true → u + 64 ≤ end }
-    ensures seam { result ≡ true → u ≤ s.now.at → s.now.at < u + 64 → ⊥ }
+/// To before which row, `end` at most, the 64 rows go on that row u is among.
+fn block_to(u: u32, end: u32) -> u32
+    requires { u < end }
+    ensures after { u < result }
+    ensures within { result ≤ end }
+    ensures near { (k : ℕ) → u ≤ k → k < result → k / 64 ≡ u / 64 }
 {
-    u % 64 == 0 && end - u >= 64 && (s.at < u as usize || s.at - u as usize >= 64)
+    let left = 64 - u % 64;
+    if end - u <= left { end } else { u + left }
 }
 
-/// Whether nothing begins at the cells of a set of components in the 64 rows from row u on.
-fn is_quiet(s: &Changes, u: u32, end: u32, set: &[u64]) -> bool
+/// Whether nothing begins at the cells of a set of components in the rows from row u on and before another one, which are all among the
+/// same 64.
+fn is_quiet(s: &Changes, u: u32, to: u32, set: &[u64]) -> bool
     requires changes { IsChanges s.now.width s.now.rows.items s.now.marks.items s.now.seam s.now.at }
-    requires row { u < end }
-    requires end { end ≤ length s.now.rows.items }
-    ensures within { result ≡ true → u + 64 ≤ end }
-    ensures steady { result ≡ true → (k c : ℕ) → u ≤ k → k < u + 64 → c < s.now.width → is_in set.now c ≡ true → begins_at s.now.rows.items s.now.seam s.now.at c k ≡ None }
+    requires row { u < to }
+    requires near { (k : ℕ) → u ≤ k → k < to → k / 64 ≡ u / 64 }
+    requires end { to ≤ length s.now.rows.items }
+    ensures steady { result ≡ true → (k c : ℕ) → u ≤ k → k < to → c < s.now.width → is_in set.now c ≡ true → begins_at s.now.rows.items s.now.seam s.now.at c k ≡ None }
 {
-    is_block(s, u, end) && !block_has_any(&s.marks, u as usize, set)
+    (s.at < u as usize || s.at >= to as usize) && !block_has_any(&s.marks, u as usize, set)
 }
 
-/// Whether nothing of a component begins in the 64 rows from row u on.
-fn is_quiet_of(s: &Changes, u: u32, end: u32, c: u32) -> bool
+/// The first row from row u on, and before another one, at which something of a set of components may begin.
+fn first_begin(s: &Changes, u: u32, to: u32, set: &[u64]) -> u32
     requires changes { IsChanges s.now.width s.now.rows.items s.now.marks.items s.now.seam s.now.at }
-    requires row { u < end }
-    requires end { end ≤ length s.now.rows.items }
-    requires component { c < s.now.width }
-    ensures within { result ≡ true → u + 64 ≤ end }
-    ensures steady { result ≡ true → (k : ℕ) → u ≤ k → k < u + 64 → begins_at s.now.rows.items s.now.seam s.now.at c k ≡ None }
+    requires order { u ≤ to }
+    requires end { to ≤ length s.now.rows.items }
+    ensures from { u ≤ result }
+    ensures to { result ≤ to }
+    ensures steady { (k c : ℕ) → u ≤ k → k < result → c < s.now.width → is_in set.now c ≡ true → begins_at s.now.rows.items s.now.seam s.now.at c k ≡ None }
 {
-    is_block(s, u, end) && !block_has(&s.marks, u as usize, c)
+    let mut k = u;
+    while k < to && !may_begin(s, k as usize, set) {
+        k += 1;
+    }
+    k
 }
 
-/// The first row from t on, and before `end`, at which something of a set of components may begin. 64 rows are passed over at once
-/// where nothing of them does.
+/// The first row from t on, and before `end`, at which something of a set of components may begin. Rows are passed over at once, as far
+/// as 64 of them have nothing of it.
 pub(crate) fn next_begin(s: &Changes, t: u32, end: u32, set: &[u64]) -> u32
     requires changes { IsChanges s.now.width s.now.rows.items s.now.marks.items s.now.seam s.now.at }
     requires end { end ≤ length s.now.rows.items }
@@ -206,13 +243,14 @@ pub(crate) fn next_begin(s: &Changes, t: u32, end: u32, set: &[u64]) -> u32
 {
     let mut u = t;
     while u < end {
-        if is_quiet(s, u, end, set) {
-            u += 64;
-        } else if may_begin(s, u as usize, set) {
-            return u;
-        } else {
-            u += 1;
+        let to = block_to(u, end);
+        if !is_quiet(s, u, to, set) {
+            let first = first_begin(s, u, to, set);
+            if first < to {
+                return first;
+            }
         }
+        u = to;
     }
     u
 }
@@ -227,17 +265,11 @@ pub(crate) fn next_of(s: &Changes, t: u32, end: u32, c: u32) -> u32
     ensures past { end < t → result ≡ t }
     ensures steady { (u : ℕ) → t ≤ u → u < result → begins_at s.now.rows.items s.now.seam s.now.at c u ≡ None }
 {
-    let mut u = t;
-    while u < end {
-        if is_quiet_of(s, u, end, c) {
-            u += 64;
-        } else if begins_in(s, u as usize, c) {
-            return u;
-        } else {
-            u += 1;
-        }
+    let next = s.marks[c as usize / 64].next(t as usize, end as usize, c % 64) as u32;
+    if s.at >= t as usize && s.at < next as usize && s.seam.has(c) {
+        return s.at as u32;
     }
-    u
+    next
 }
 
 /// Other cells for a row, with their marks.

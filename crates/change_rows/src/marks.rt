@@ -1,6 +1,6 @@
 //! At which cycles the cells of components begin.
 ghost use Rattle.std.specs.Prelude.{◌≡◌, ℕ, ◌+◌, ◌*◌, ◌/◌, ◌<◌, ◌≤◌, max, ◌++◌, ◌||◌, [], List, true, false, cond, nat_eq, MatchOption, OnOk, length, take, replicate, is_some, slice_index_or, slice_set};
-ghost use Rattle.change_rows.specs.Cells.{found, end_of};
+ghost use Rattle.change_rows.specs.Cells.{found, end_of, IsSplit};
 ghost use Rattle.change_rows.specs.Marks.{is_one, is_set, is_marked, is_in, IsCovered};
 
 use crate::cells::Cells;
@@ -76,25 +76,25 @@ impl Marks {
         last_in(self.words.as_slice(), self.blocks.as_slice(), t, k)
     }
 
-    /// No component is marked at a cycle any more.
-    pub fn clear(&mut self, t: usize)
-        requires { t < length self.old }
-        ensures { self.new ≡ slice_set self.old t 0 }
+    /// The first cycle from t on, and before `end`, at which a component is marked, or else that.
+    pub fn next(&self, t: usize, end: usize, k: u32) -> usize
+        requires cycles { end ≤ length self.now }
+        requires component { k < 64 }
+        ensures from { t ≤ result }
+        ensures to { t ≤ end → result ≤ end }
+        ensures past { end < t → result ≡ t }
+        ensures none { (u : ℕ) → t ≤ u → u < result → is_set self.now u k ≡ false }
     {
-        self.words[t] = 0;
+        next_in(self.words.as_slice(), self.blocks.as_slice(), t, end, k)
     }
 
-    /// Marks a component at a cycle.
-    pub fn set(&mut self, t: usize, k: u32)
-        requires cycle { t < length self.old }
-        requires component { k < 64 }
-        ensures len { length self.new ≡ length self.old }
-        ensures set { is_set self.new t k ≡ true }
-        ensures others { (u i : ℕ) → (u ≡ t → i ≡ k → ⊥) → is_set self.new u i ≡ is_set self.old u i }
+    /// Marks just these components at a cycle.
+    pub fn put(&mut self, t: usize, word: u64)
+        requires { t < length self.old }
+        ensures { self.new ≡ slice_set self.old t word }
     {
-        let word = with_bit(self.words[t], k);
         self.words[t] = word;
-        let block = with_bit(self.blocks[t / 64], k);
+        let block = self.blocks[t / 64] | word;
         self.blocks[t / 64] = block;
     }
 
@@ -191,18 +191,22 @@ pub(crate) fn with_bit(word: u64, k: u32) -> u64
     word | (1 << k)
 }
 
-/// Where the last block before one ends that may have a mark; 0 where there is none.
-fn block_end(blocks: &[u64], at: usize, k: u32) -> usize
-    requires blocks { at ≤ length blocks.now }
+/// The last cycle before one, from another one on, at which a component is marked.
+fn last_of(words: &[u64], from: usize, to: usize, k: u32) -> Option<usize>
+    requires cycles { to ≤ length words.now }
     requires component { k < 64 }
-    ensures low { result ≤ at }
-    ensures none { (b : ℕ) → result ≤ b → b < at → is_set blocks.now b k ≡ false }
+    ensures { MatchOption result
+        ((u : ℕ) → from ≤ u → u < to → is_set words.now u k ≡ false)
+        (λ b. (from ≤ b) × (b < to) × (is_set words.now b k ≡ true) × ((u : ℕ) → b < u → u < to → is_set words.now u k ≡ false)) }
 {
-    let mut b = at;
-    while b > 0 && !has_bit(blocks[b - 1], k) {
-        b -= 1;
+    let mut at = to;
+    while at > from {
+        at -= 1;
+        if has_bit(words[at], k) {
+            return Some(at);
+        }
     }
-    b
+    None
 }
 
 /// The last cycle up to t at which a component is marked. Blocks without the mark are passed over at once.
@@ -216,15 +220,57 @@ fn last_in(words: &[u64], blocks: &[u64], t: usize, k: u32) -> Option<usize>
 {
     let mut at = t + 1;
     while at > 0 {
-        at -= 1;
-        if has_bit(words[at], k) {
-            return Some(at);
+        let block = (at - 1) / 64;
+        if has_bit(blocks[block], k) {
+            let last = last_of(words, block * 64, at, k);
+            if last.is_some() {
+                return last;
+            }
         }
-        if at % 64 == 0 {
-            at = block_end(blocks, at / 64, k) * 64;
-        }
+        at = block * 64;
     }
     None
+}
+
+/// The first cycle from one on, and before another one, at which a component is marked, or else that.
+fn first_of(words: &[u64], from: usize, to: usize, k: u32) -> usize
+    requires cycles { to ≤ length words.now }
+    requires order { from ≤ to }
+    requires component { k < 64 }
+    ensures from { from ≤ result }
+    ensures to { result ≤ to }
+    ensures none { (u : ℕ) → from ≤ u → u < result → is_set words.now u k ≡ false }
+    ensures there { result < to → is_set words.now result k ≡ true }
+{
+    let mut at = from;
+    while at < to && !has_bit(words[at], k) {
+        at += 1;
+    }
+    at
+}
+
+/// The same. Blocks without the mark are passed over at once.
+fn next_in(words: &[u64], blocks: &[u64], t: usize, end: usize, k: u32) -> usize
+    requires cycles { end ≤ length words.now }
+    requires component { k < 64 }
+    requires covered { IsCovered words.now blocks.now }
+    ensures from { t ≤ result }
+    ensures to { t ≤ end → result ≤ end }
+    ensures past { end < t → result ≡ t }
+    ensures none { (u : ℕ) → t ≤ u → u < result → is_set words.now u k ≡ false }
+{
+    let mut at = t;
+    while at < end {
+        let to = end.min((at / 64 + 1) * 64);
+        if has_bit(blocks[at / 64], k) {
+            let next = first_of(words, at, to, k);
+            if next < to {
+                return next;
+            }
+        }
+        at = to;
+    }
+    at
 }
 
 fn has_both(word: u64, other: u64) -> bool
@@ -259,15 +305,6 @@ pub(crate) fn block_has_any(lines: &Vec<Marks>, t: usize, set: &[u64]) -> bool
     false
 }
 
-/// Whether a component may be marked at one of the 64 cycles that a cycle is among.
-pub(crate) fn block_has(lines: &Vec<Marks>, t: usize, c: u32) -> bool
-    requires component { c < 64 * length lines.now.items }
-    requires row { t < length (slice_index_or lines.now.items (c / 64) []) }
-    ensures { result ≡ false → (u : ℕ) → u / 64 ≡ t / 64 → is_marked lines.now.items u c ≡ false }
-{
-    has_bit(lines[c as usize / 64].block(t), c % 64)
-}
-
 /// How many components below c are marked at a cycle: the place of its cell, where a row has one.
 pub(crate) fn rank(lines: &Vec<Marks>, t: usize, c: u32) -> usize
     requires tall { (w : ℕ) → w < length lines.now.items → t < length (slice_index_or lines.now.items w []) }
@@ -288,29 +325,20 @@ fn bits_below(word: u64, k: u32) -> usize
     (word & !(u64::MAX << k)).count_ones() as usize
 }
 
-/// No component is marked at a cycle any more.
-fn clear_row(lines: &mut Vec<Marks>, t: usize)
-    requires { (w : ℕ) → w < length lines.old.items → t < length (slice_index_or lines.old.items w []) }
-    ensures len { length lines.new.items ≡ length lines.old.items }
-    ensures lines { (w : ℕ) → slice_index_or lines.new.items w [] ≡ slice_set (slice_index_or lines.old.items w []) t 0 }
+/// The marks of those of the 64 components of a word of which there are cells, where the cells below the word are known, and how many
+/// cells are below the next one.
+fn word_from(cells: &Cells, from: usize, w: usize) -> (u64, usize)
+    requires { IsSplit cells.now (64 * w) from }
+    ensures below { IsSplit cells.now (64 * (w + 1)) result.1 }
+    ensures marks { (k : ℕ) → k < 64 → is_one result.0 k ≡ is_some (found cells.now (64 * w + k)) }
 {
-    for w in 0..lines.len() {
-        lines[w].clear(t);
+    let mut word = 0;
+    let mut i = from;
+    while i < cells.len() && cells.component(i) as usize / 64 == w {
+        word = with_bit(word, cells.component(i) % 64);
+        i += 1;
     }
-}
-
-/// Marks the components of cells at a cycle.
-fn set_row(lines: &mut Vec<Marks>, t: usize, cells: &Cells)
-    requires tall { (w : ℕ) → w < length lines.old.items → t < length (slice_index_or lines.old.items w []) }
-    requires wide { end_of cells.now ≤ 64 * length lines.old.items }
-    ensures len { length lines.new.items ≡ length lines.old.items }
-    ensures tall { (w : ℕ) → length (slice_index_or lines.new.items w []) ≡ length (slice_index_or lines.old.items w []) }
-    ensures marks { (u c : ℕ) → is_marked lines.new.items u c ≡ cond (nat_eq u t) (is_some (found cells.now c) || is_marked lines.old.items u c) (is_marked lines.old.items u c) }
-{
-    for i in 0..cells.len() {
-        let c = cells.component(i);
-        lines[c as usize / 64].set(t, c % 64);
-    }
+    (word, i)
 }
 
 /// The components of cells, and no others, are marked at a cycle.
@@ -321,6 +349,10 @@ pub(crate) fn mark_row(lines: &mut Vec<Marks>, t: usize, cells: &Cells)
     ensures tall { (w : ℕ) → length (slice_index_or lines.new.items w []) ≡ length (slice_index_or lines.old.items w []) }
     ensures marks { (u c : ℕ) → c < 64 * length lines.old.items → is_marked lines.new.items u c ≡ cond (nat_eq u t) (is_some (found cells.now c)) (is_marked lines.old.items u c) }
 {
-    clear_row(lines, t);
-    set_row(lines, t, cells);
+    let mut from = 0;
+    for w in 0..lines.len() {
+        let (word, next) = word_from(cells, from, w);
+        lines[w].put(t, word);
+        from = next;
+    }
 }

@@ -1,5 +1,5 @@
 //! Cells of one row put together from those of two.
-ghost use Rattle.std.specs.Prelude.{◌≡◌, ℕ, ◌+◌, ◌<◌, ◌≤◌, ◌^◌, ◌↔◌, max, [], List, None, cond, is_some, IsTrue, IfOk, OnOk, length, take, unwrap_or};
+ghost use Rattle.std.specs.Prelude.{◌≡◌, ℕ, ◌+◌, ◌<◌, ◌≤◌, ◌^◌, ◌↔◌, max, [], List, None, true, cond, is_some, IsTrue, IfOk, OnOk, length, take, unwrap_or};
 ghost use Rattle.std.specs.Option.{option_or, option_copied};
 ghost use Rattle.change_rows.specs.Cells.{found, end_of, component_at, IsAscending, IsSplit};
 
@@ -19,6 +19,15 @@ pub(crate) fn seek(cells: &Cells, from: usize, c: u32) -> usize
         i += 1;
     }
     i
+}
+
+/// Whether no cell from a place on is below a component, as the cell at that place tells.
+#[inline(always)]
+fn is_past(cells: &Cells, place: usize, c: u32) -> bool
+    ensures past { result ≡ true → place < length cells.now → c ≤ component_at cells.now place }
+    ensures ascending { IsAscending cells.now }
+{
+    place >= cells.len() || cells.component(place) >= c
 }
 
 /// Whether the cell at a place is one of c.
@@ -133,4 +142,35 @@ pub(crate) fn unite_below(
     let place = seek(over, from, c);
     out.append(over, from, place)?;
     Ok((place, to))
+}
+
+/// The same; at once where none of their cells is between.
+///
+/// # Errors
+///
+/// Where a growth was refused.
+#[inline(always)]
+pub(crate) fn unite_to(
+    over: &Cells,
+    under: &Cells,
+    i: usize,
+    j: usize,
+    low: u32,
+    c: u32,
+    out: &mut Cells,
+) -> Result<(usize, usize), AllocError>
+    requires order { low ≤ c }
+    requires over { IsSplit over.now low i }
+    requires under { IsSplit under.now low j }
+    requires end { end_of out.old ≤ low }
+    ensures over { IfOk result (λ at. IsSplit over.now c at.0) }
+    ensures under { IfOk result (λ at. IsSplit under.now c at.1) }
+    ensures low { OnOk result ((d : ℕ) → d < low → found out.new d ≡ found out.old d) }
+    ensures found { OnOk result ((d : ℕ) → low ≤ d → d < c → found out.new d ≡ option_or (found over.now d) (found under.now d)) }
+    ensures end { OnOk result (end_of out.new ≤ c) }
+{
+    if is_past(over, i, c) && is_past(under, j, c) {
+        return Ok((i, j));
+    }
+    unite_below(over, under, i, j, low, c, out)
 }

@@ -5,7 +5,7 @@ ghost use Rattle.change_rows.specs.Marks.{is_one, is_in};
 ghost use Rattle.change_rows.specs.Rows.{Table, words_at, overlaid, replaced, filled, repeated, IsWhole};
 
 use crate::cells::Cells;
-use crate::changes::{Changes, begin_word, begins_in, next_begin, next_of, words_in};
+use crate::changes::{Changes, add_begun, begin_word, begins_in, next_begin, next_of, words_in};
 use crate::edit::{Buffers, put};
 use crate::fill::fill;
 use crate::grow::{cut, grow};
@@ -136,6 +136,19 @@ impl Rows {
         begin_word(&self.changes, t as usize, w)
     }
 
+    /// Adds to a set the components at which other words may begin in row t than they hold a cycle before. Those that aren't in it then
+    /// hold the same. The set has a bit for each component, 64 in a word.
+    pub fn add_begun(&self, t: u32, set: &mut [u64])
+        requires later { 0 < t }
+        requires row { t < length self.now.rows }
+        requires room { self.now.width ≤ 64 * length set.old }
+        ensures len { length set.new ≡ length set.old }
+        ensures more { (c : ℕ) → is_in set.old c ≡ true → is_in set.new c ≡ true }
+        ensures same { (c : ℕ) → c < self.now.width → is_in set.new c ≡ false → words_at self.now.rows t c ≡ words_at self.now.rows (t - 1) c }
+    {
+        add_begun(&self.changes, t as usize, set);
+    }
+
     /// Rows more, whose cells have no words.
     ///
     /// # Errors
@@ -225,6 +238,20 @@ impl Rows {
             changed,
         )?;
         Ok(())
+    }
+
+    /// Whether it is known at once that no component holds words in row t: that it is the row behind the one that was put last, and that
+    /// what stands beside the rows for it has no words. Where it says no, row t may be without words too.
+    #[inline(always)]
+    pub fn is_blank(&self, t: u32) -> bool
+        requires { t < length self.now.rows }
+        ensures { result ≡ true → (c : ℕ) → c < self.now.width → words_at self.now.rows t c ≡ [] }
+    {
+        let s = &self.changes;
+        if s.at == t as usize && s.rows[t as usize].is_empty() && s.seam.len() == s.width as usize {
+            return s.seam.has_no_words();
+        }
+        false
     }
 
     /// All components hold in row t the words that a source has for them, where they held none there; all other rows hold what they

@@ -1,15 +1,15 @@
 //! Cells that hold over several rows what they hold before them.
-ghost use Rattle.std.specs.Prelude.{◌≡◌, ℕ, ◌+◌, ◌-◌, ◌*◌, ◌<◌, ◌≤◌, [], List, None, Some, true, false, cond, ◌&&◌, nat_lt, nat_le, OnOk, OnErr, IfOk, length, is_some, unwrap_or, slice_index_or, slice_set};
+ghost use Rattle.std.specs.Prelude.{◌≡◌, ℕ, ◌+◌, ◌-◌, ◌*◌, ◌<◌, ◌≤◌, [], List, None, Some, true, false, cond, ◌&&◌, nat_lt, nat_le, All, OnOk, OnErr, IfOk, length, is_some, unwrap_or, slice_index_or, slice_set};
 ghost use Rattle.change_rows.specs.Cells.{found, end_of};
 ghost use Rattle.change_rows.specs.Marks.{is_in};
 ghost use Rattle.change_rows.specs.Standing.{standing};
 ghost use Rattle.change_rows.specs.Changes.{row_at, begins_at, IsChanges};
+ghost use Rattle.change_rows.specs.Left.{left_in};
 
 use crate::cells::Cells;
-use crate::changes::{Changes, is_change, put_cells, words_in};
+use crate::changes::{Changes, is_change, next_begin, put_cells, words_in};
 use crate::edit::{Buffers, push_other, settle};
-use crate::marks::has_any;
-use crate::sets::is_member;
+use crate::sets::{is_member, next_in};
 use std::alloc::{AllocError, Global};
 use std::mem;
 
@@ -32,28 +32,16 @@ fn without(cells: &Cells, set: &[u64], out: &mut Cells) -> Result<(), AllocError
     Ok(())
 }
 
-/// A cell without words, where a set has its component.
-fn choose(set: &[u64], c: u32, out: &mut Cells) -> Result<(), AllocError>
-    requires { end_of out.old ≤ c }
-    ensures chosen { OnOk result (is_some (found out.new c) ≡ is_in set.now c) }
-    ensures others { OnOk result ((d : ℕ) → (d ≡ c → ⊥) → found out.new d ≡ found out.old d) }
-    ensures end { OnOk result (end_of out.new ≤ c + 1) }
-{
-    if !is_member(set, c) {
-        return Ok(());
-    }
-    out.push(c, &[])?;
-    Ok(())
-}
-
 /// Cells without words of the components of a set.
 fn chosen_of(set: &[u64], width: u32, out: &mut Cells) -> Result<(), AllocError>
     ensures chosen { OnOk result ((c : ℕ) → c < width → is_some (found out.new c) ≡ is_in set.now c) }
     ensures end { OnOk result (end_of out.new ≤ width) }
 {
     out.clear();
-    for c in 0..width {
-        choose(set, c, out)?;
+    let mut c = next_in(set, 0, width);
+    while c < width {
+        out.push(c, &[])?;
+        c = next_in(set, c + 1, width);
     }
     Ok(())
 }
@@ -129,8 +117,14 @@ fn seam_of(
     Ok(())
 }
 
-/// A row without the cells of the chosen components, which are those of a set; nothing where none of them begins there, so
-/// that the row stays.
+/// A row, and the cells that it is left.
+#[derive(Drop)]
+struct Left {
+    row: usize,
+    cells: Cells,
+}
+
+/// A row without the cells of the components of a set.
 ///
 /// # Errors
 ///
@@ -138,28 +132,22 @@ fn seam_of(
 fn left_of(
     alloc: Global,
     s: &Changes,
-    t: usize,
+    row: usize,
     set: &[u64],
-    chosen: &Cells,
     buffer: &mut Cells,
-) -> Result<Option<Cells>, AllocError>
+) -> Result<Left, AllocError>
     requires changes { IsChanges s.now.width s.now.rows.items s.now.marks.items s.now.seam s.now.at }
-    requires row { t < length s.now.rows.items }
-    requires chosen { (c : ℕ) → c < s.now.width → is_some (found chosen.now c) ≡ is_in set.now c }
-    requires wide { end_of chosen.now ≤ s.now.width }
-    ensures found { IfOk result (λ left. (c : ℕ) → found (unwrap_or left (row_at s.now.rows.items t)) c ≡ cond (is_some (found chosen.now c)) None (found (row_at s.now.rows.items t) c)) }
-    ensures end { IfOk result (λ left. end_of (unwrap_or left (row_at s.now.rows.items t)) ≤ s.now.width) }
+    requires row { row < length s.now.rows.items }
+    ensures row { IfOk result (λ left. left.row ≡ row) }
+    ensures found { IfOk result (λ left. (c : ℕ) → found left.cells c ≡ cond (is_in set.now c) None (found (row_at s.now.rows.items row) c)) }
+    ensures end { IfOk result (λ left. end_of left.cells ≤ s.now.width) }
 {
-    if !has_any(&s.marks, t, set) {
-        return Ok(None);
-    }
-    let _ = chosen;
-    without(&s.rows[t], set, buffer)?;
-    let row = buffer.copy(alloc)?;
-    Ok(Some(row))
+    without(&s.rows[row], set, buffer)?;
+    let cells = buffer.copy(alloc)?;
+    Ok(Left { row, cells })
 }
 
-/// The rows behind `before` up to `last`, without the cells of the chosen components; nothing for those that stay.
+/// Those of the rows behind `before` up to `last` at which a component of a set may begin, without the cells of these components, by row.
 ///
 /// # Errors
 ///
@@ -170,60 +158,57 @@ fn rest_of(
     before: usize,
     last: usize,
     set: &[u64],
-    chosen: &Cells,
     buffer: &mut Cells,
-) -> Result<Vec<Option<Cells>>, AllocError>
+) -> Result<Vec<Left>, AllocError>
     requires changes { IsChanges s.now.width s.now.rows.items s.now.marks.items s.now.seam s.now.at }
     requires order { before ≤ last }
     requires row { last < length s.now.rows.items }
-    requires chosen { (c : ℕ) → c < s.now.width → is_some (found chosen.now c) ≡ is_in set.now c }
-    requires wide { end_of chosen.now ≤ s.now.width }
-    ensures len { IfOk result (λ rest. before + length rest.items ≡ last) }
-    ensures found { IfOk result (λ rest. (u c : ℕ) → before < u → u ≤ last → found (unwrap_or (slice_index_or rest.items (u - (before + 1)) None) (row_at s.now.rows.items u)) c ≡ cond (is_some (found chosen.now c)) None (found (row_at s.now.rows.items u) c)) }
-    ensures end { IfOk result (λ rest. (u : ℕ) → before < u → u ≤ last → end_of (unwrap_or (slice_index_or rest.items (u - (before + 1)) None) (row_at s.now.rows.items u)) ≤ s.now.width) }
+    ensures rows { IfOk result (λ rest. All (λ left. left.row ≤ last) rest.items) }
+    ensures end { IfOk result (λ rest. All (λ left. end_of left.cells ≤ s.now.width) rest.items) }
+    ensures before { IfOk result (λ rest. (u : ℕ) → u ≤ before → left_in rest.items u ≡ None) }
+    ensures behind { IfOk result (λ rest. (u : ℕ) → last < u → left_in rest.items u ≡ None) }
+    ensures found { IfOk result (λ rest. (u c : ℕ) → before < u → u ≤ last → c < s.now.width → found (unwrap_or (left_in rest.items u) (row_at s.now.rows.items u)) c ≡ cond (is_in set.now c) None (found (row_at s.now.rows.items u) c)) }
 {
-    let mut rest = Vec::with_capacity(alloc, last - before)?;
-    for t in before + 1..last + 1 {
-        match rest.push(left_of(alloc, s, t, set, chosen, buffer)?) {
+    let mut rest = Vec::new(alloc);
+    let end = last as u32 + 1;
+    let mut row = next_begin(s, before as u32 + 1, end, set);
+    while row < end {
+        match rest.push(left_of(alloc, s, row as usize, set, buffer)?) {
             Ok(()) => {}
             Err(_) => return Err(AllocError),
         }
+        row = next_begin(s, row + 1, end, set);
     }
     Ok(rest)
 }
 
-/// Other cells for a row, where there are any.
-fn put_left(s: &mut Changes, t: usize, left: Option<Cells>)
+/// The cells that a row is left, in the place of its own.
+fn put_left(s: &mut Changes, left: Left)
     requires changes { IsChanges s.old.width s.old.rows.items s.old.marks.items s.old.seam s.old.at }
-    requires row { t < length s.old.rows.items }
-    requires wide { end_of (unwrap_or left (row_at s.old.rows.items t)) ≤ s.old.width }
+    requires row { left.row < length s.old.rows.items }
+    requires wide { end_of left.cells ≤ s.old.width }
     ensures changes { IsChanges s.new.width s.new.rows.items s.new.marks.items s.new.seam s.new.at }
     ensures width { s.new.width ≡ s.old.width }
     ensures seam { s.new.seam ≡ s.old.seam }
-    ensures rows { s.new.rows.items ≡ slice_set s.old.rows.items t (unwrap_or left (row_at s.old.rows.items t)) }
+    ensures rows { s.new.rows.items ≡ slice_set s.old.rows.items left.row left.cells }
 {
-    match left {
-        Some(row) => put_cells(&mut s.rows, &mut s.marks, t, row),
-        None => {}
-    }
+    put_cells(&mut s.rows, &mut s.marks, left.row, left.cells);
 }
 
-/// Other cells for the rows behind `before`, where there are any.
-fn put_rows(s: &mut Changes, before: usize, rest: Vec<Option<Cells>>)
+/// The cells that rows are left, in the place of theirs.
+fn put_rows(s: &mut Changes, rest: Vec<Left>)
     requires changes { IsChanges s.old.width s.old.rows.items s.old.marks.items s.old.seam s.old.at }
-    requires rows { before + length rest.items < length s.old.rows.items }
-    requires wide { (u : ℕ) → before < u → u ≤ before + length rest.items → end_of (unwrap_or (slice_index_or rest.items (u - (before + 1)) None) (row_at s.old.rows.items u)) ≤ s.old.width }
+    requires rows { All (λ left. left.row < length s.old.rows.items) rest.items }
+    requires wide { All (λ left. end_of left.cells ≤ s.old.width) rest.items }
     ensures changes { IsChanges s.new.width s.new.rows.items s.new.marks.items s.new.seam s.new.at }
     ensures width { s.new.width ≡ s.old.width }
     ensures seam { s.new.seam ≡ s.old.seam }
     ensures len { length s.new.rows.items ≡ length s.old.rows.items }
-    ensures inside { (u : ℕ) → before < u → u ≤ before + length rest.items → row_at s.new.rows.items u ≡ unwrap_or (slice_index_or rest.items (u - (before + 1)) None) (row_at s.old.rows.items u) }
-    ensures before { (u : ℕ) → u ≤ before → row_at s.new.rows.items u ≡ row_at s.old.rows.items u }
-    ensures behind { (u : ℕ) → before + length rest.items < u → row_at s.new.rows.items u ≡ row_at s.old.rows.items u }
+    ensures rows { (u : ℕ) → row_at s.new.rows.items u ≡ unwrap_or (left_in rest.items u) (row_at s.old.rows.items u) }
 {
     let mut rest = rest;
     while let Some(left) = rest.pop() {
-        put_left(s, before + 1 + rest.len(), left);
+        put_left(s, left);
     }
 }
 
@@ -253,8 +238,8 @@ pub(crate) fn repeat(
     settle(s, &mut b.row)?;
     chosen_of(set, s.width, &mut b.chosen)?;
     seam_of(s, before, last, &b.chosen, &mut b.seam)?;
-    let rest = rest_of(alloc, s, before, last, set, &b.chosen, &mut b.row)?;
-    put_rows(s, before, rest);
+    let rest = rest_of(alloc, s, before, last, set, &mut b.row)?;
+    put_rows(s, rest);
     mem::swap(&mut s.seam, &mut b.seam);
     s.at = last + 1;
     Ok(())

@@ -10,7 +10,7 @@ ghost use Rattle.change_rows.specs.Laid.{IsLaid, IsOver, IsTold};
 use crate::cells::Cells;
 use crate::changes::{Changes, lay};
 use crate::edit::{Buffers, goes_on, settle_for, words_before};
-use crate::merge::{behind, get_at, unite_below};
+use crate::merge::{behind, get_at, unite_below, unite_to};
 use crate::sets::{add, is_void, next_in, wipe};
 use crate::source::Source;
 use std::alloc::AllocError;
@@ -223,7 +223,8 @@ fn lay_one<S: Source>(
     ensures other { IfOk result (λ next. next.2 ≡ true → standing (begins_at s.now.rows.items s.now.seam s.now.at c) t ≡ S.words source.now c → ⊥) }
     ensures same { IfOk result (λ next. next.2 ≡ false → standing (begins_at s.now.rows.items s.now.seam s.now.at c) t ≡ S.words source.now c) }
 {
-    let (i, j) = unite_below(own(s, t), &s.seam, i, j, low, c, row)?;
+    // Mostly nothing begins between two components of the set.
+    let (i, j) = unite_to(own(s, t), &s.seam, i, j, low, c, row)?;
     let other = put_one(s, t, c, source, begun_at(s, t, i, j, c), row, seam)?;
     Ok((behind(own(s, t), i, c), behind(&s.seam, j, c), other))
 }

@@ -64,12 +64,17 @@ struct Rows<'a> {
 impl<'a> States for Rows<'a> {
     ghost at = { λ s t c. state_in (map (λ row. map arc_value row.items) s.rows.now) t c };
 
-    fn served(&self, cycle: u32, component: u32, depth: u32) -> Option<(Net, Request)> {
-        served_by(state_at(self.rows, cycle, component), depth)
+    fn served(
+        &self,
+        cycle: u32,
+        component: u32,
+        depth: u32,
+    ) -> Result<Option<(Net, Request)>, NoMemory> {
+        Ok(served_by(state_at(self.rows, cycle, component), depth))
     }
 
-    fn second(&self, cycle: u32, component: u32, tag: Tag) -> Option<Tag> {
-        second_of(state_at(self.rows, cycle, component), tag)
+    fn second(&self, cycle: u32, component: u32, tag: Tag) -> Result<Option<Tag>, NoMemory> {
+        Ok(second_of(state_at(self.rows, cycle, component), tag))
     }
 }
 

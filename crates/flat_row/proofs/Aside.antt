@@ -1,6 +1,6 @@
 -- A combining switch that is taken one cycle further beside the row.
-use Rattle.std.proofs.Common.{◌≡◌, ℕ, ◌-◌, ◌<◌, ◌≤◌, Bool, List, [], ◌∷◌, ap, sym, ◌∙◌, arith}
-use Rattle.std.specs.Prelude.{is_some}
+use Rattle.std.proofs.Common.{◌≡◌, ℕ, ◌-◌, ◌^◌, ◌<◌, ◌≤◌, Bool, List, [], ◌∷◌, ap, sym, subst, refl, ◌∙◌, arith}
+use Rattle.std.specs.Prelude.{is_some, slice_index}
 use Rattle.arrayvec.specs.ArrayVec.{ArrayVec}
 use Rattle.omega_net.specs.declared.message.Request.{Request}
 use Rattle.omega_net.specs.declared.message.Reply.{Reply}
@@ -15,6 +15,7 @@ use Rattle.comb_switch.specs.declared.settings.CombSettings.{CombSettings}
 use Rattle.comb_switch.specs.CombSwitch.{arrives, returns_to, comb_turn_after, requests_in, replies_in, comb_after}
 use Rattle.project_book.specs.Project.{Project}
 use Rattle.machine_cells.specs.declared.state.MachineState.TheVariants.{Comb}
+use Rattle.state_words.specs.Fits.{IsRequest, IsReply, IsWaiting, IsQueue, AreQueues, IsComb}
 use Rattle.state_words.specs.Words.{bytes}
 use Rattle.machine_cells.specs.Words.{words_of}
 use Rattle.flat_row.specs.Combining.{core, meeting, splitting}
@@ -26,6 +27,7 @@ use Rattle.flat_row.specs.Row.{Network, port_label, queue_of, turn_of, wait_of, 
 use Rattle.flat_row.proofs.Carrying.{port_bit}
 use Rattle.flat_row.proofs.Mixing.{arrives_back, returns_forth}
 use Rattle.flat_row.proofs.Showing.{StandsAt}
+use Rattle.flat_row.proofs.Telling.{combined_fit, turn_later}
 use Rattle.flat_row.proofs.Turning.{stands}
 
 abbrev made : List (ArrayVec Request) → List (ArrayVec Reply) → ArrayVec Waiting → List ℕ → ℕ → ℕ → CombState
@@ -112,6 +114,25 @@ module _ (settings : CombSettings) (t : Traffic) (a : CombState) where
         ∙ ap (λ i. bytes (comb_turn_after settings t a 0) (comb_turn_after settings t a 1) i (combined_of D.waits x)) we
         ∙ ap (bytes (comb_turn_after settings t a 0) (comb_turn_after settings t a 1) back_turn) (ap (λ (s : CombState). s.combined) returned_is))
         ∙ sym (ap (λ s. words_of (Comb s)) comb_parts)
+
+    pub comb_fits : IsQueue IsRequest (queue_at D.requests.queues x) → IsQueue IsRequest (queue_at D.requests.queues y) → IsQueue IsReply (queue_at D.replies.queues x) → IsQueue IsReply (queue_at D.replies.queues y)
+        → IsQueue IsWaiting (wait_of D.waits x) → slice_index a.turn 0 < 2 ^ 8 → slice_index a.turn 1 < 2 ^ 8 → a.rturn < 2 ^ 8 → IsComb (comb_after settings t a)
+    comb_fits f0 f1 b0 b1 w t0 t1 r = subst IsComb (sym comb_parts) (record {
+      fwd = subst (AreQueues IsRequest) (ap (λ (s : CombState). s.fwd) met_is) (record {
+        two = refl;
+        first = subst (IsQueue IsRequest) (ap (λ (l : Queues Request). queue_at l.queues x) requests_kept ∙ ap (queue_at C.requests.queues) (sym p0)) f0;
+        second = subst (IsQueue IsRequest) (ap (λ (l : Queues Request). queue_at l.queues y) requests_kept ∙ ap (queue_at C.requests.queues) (sym p1)) f1;
+      });
+      rev = subst (AreQueues IsReply) (ap (λ (s : CombState). s.rev) returned_is) (record {
+        two = refl;
+        first = subst (IsQueue IsReply) (ap (queue_at D.replies.queues) (sym p0)) b0;
+        second = subst (IsQueue IsReply) (ap (queue_at D.replies.queues) (sym p1)) b1;
+      });
+      wait = subst (IsQueue IsWaiting) (ap (λ (s : CombState). s.wait) returned_is) w;
+      turn = record { two = refl; first = turn_later (slice_index a.turn 0) _ _ t0; second = turn_later (slice_index a.turn 1) _ _ t1 };
+      rturn = turn_later a.rturn _ _ r;
+      combined = subst (λ n. n < 2 ^ 8) (ap (λ (s : CombState). s.combined) returned_is) (combined_fit D.waits x);
+    })
 
 -- the labels of a switch's ports
 pub comb_ports : (P : Project) → P.k ≤ 6 → (s j : ℕ) → s < P.k → j < half P.k → (b x y : ℕ) → b ≡ P.k - 1 - s → x ≡ port_label P.k s j 0 → y ≡ port_label P.k s j 1

@@ -113,7 +113,7 @@ flat_alike : {X A : Type 0} (f g : X → List A) (xs : List X) → ((x : X) → 
 flat_alike f g [] h = refl
 flat_alike f g (x ∷ xs) h = ap (λ ys. ys ++ flat_map f xs) (h x) ∙ ap (λ ys. g x ++ ys) (flat_alike f g xs h)
 
-moves_forgotten : (P : Project) (S : List MachineState) → moves P S ≡ moves P (map forgotten S)
+pub moves_forgotten : (P : Project) (S : List MachineState) → moves P S ≡ moves P (map forgotten S)
 moves_forgotten P S =
     flat_alike (λ w. forward_moves w (request_over P S w) ++ back_moves w (reply_over P S w)) (λ w. forward_moves w (request_over P (map forgotten S) w) ++ back_moves w (reply_over P (map forgotten S) w)) (wires P.k)
     (λ w. ap (λ o. forward_moves w o ++ back_moves w (reply_over P S w)) (over_alike P S w (request_between P w) (request_alike P w))

@@ -1,5 +1,5 @@
 -- The words of a low switch and of a module one cycle later, by the messages in their queues.
-use Rattle.std.proofs.Common.{◌≡◌, ℕ, suc, ◌+◌, ◌*◌, ◌<◌, Bool, true, false, cond, List, [], refl, ap, sym, ◌∙◌, Option, None, Some, arith}
+use Rattle.std.proofs.Common.{◌≡◌, ℕ, suc, ◌+◌, ◌*◌, ◌<◌, ◌≤◌, length, All, subst, Bool, true, false, cond, List, [], refl, ap, sym, ◌∙◌, Option, None, Some, arith}
 use Rattle.std.specs.Prelude.{◌||◌, is_some, slice_get}
 use Rattle.arrayvec.specs.ArrayVec.{ArrayVec}
 use Rattle.omega_net.specs.declared.component.Net.{Net}
@@ -8,6 +8,7 @@ use Rattle.omega_net.specs.declared.message.Request.{Request}
 use Rattle.omega_net.specs.declared.message.Reply.{Reply}
 use Rattle.omega_net.specs.declared.message.Traffic.{Traffic}
 use Rattle.omega_net.specs.declared.component.Component.TheVariants.{Module as ModuleAt}
+use Rattle.omega_net.specs.Limits.{queue_places}
 use Rattle.omega_net.specs.Numbers.{lines}
 use Rattle.omega_net.specs.Wires.{net_number}
 use Rattle.omega_net.specs.Queues.{head, queue_after, turn_after}
@@ -23,14 +24,16 @@ use Rattle.project_book.specs.declared.edit.Depths.TheVariants.{ModuleQueue}
 use Rattle.machine_cells.specs.declared.state.MachineState.TheVariants.{Module, Low}
 use Rattle.machine_cells.specs.Moves.{moves}
 use Rattle.machine_cells.specs.Cycle.{module_traffic, part_of}
+use Rattle.state_words.specs.Fits.{IsRequest, IsReply, IsModule, IsLow}
 use Rattle.state_words.specs.Words.{bytes, one_if}
-use Rattle.machine_cells.specs.Words.{words_of, memory_of}
+use Rattle.machine_cells.specs.Words.{words_of, memory_of, IsState}
 use Rattle.flat_row.specs.Parts.{parts_words}
 use Rattle.flat_row.specs.Masks.{has}
 use Rattle.flat_row.specs.Next.{module_given, part_given, memory_left}
 use Rattle.flat_row.specs.Row.{Network, Arrays, queue_of, port_label, turn_of, low_of, module_of, states_of}
 use Rattle.flat_row.specs.Step.{Serves}
 use Rattle.flat_row.proofs.Handing.{given_module}
+use Rattle.flat_row.proofs.Telling.{queue_fits, turn_fits, turn_later}
 
 pub parts_alike : (kind : ℕ) (a f b g : List Request) (c u d v : List Reply) (m n : ℕ) → a ≡ f → b ≡ g → c ≡ u → d ≡ v → m ≡ n → parts_words kind a b c d [] m ≡ parts_words kind f g u v [] n
 parts_alike kind a f b g c u d v m n ae be ce de me =
@@ -112,6 +115,27 @@ module _ (k : ℕ) (n N : Network) (same : N ≡ n) (s j b c : ℕ) (t T : Traff
       ∙ ap (λ i. bytes (turn_then 0) (turn_then 1) i r1) (back_turn_so 0 x (own 0) r0 q0 x_is q0e r0e)
       ∙ ap (bytes (turn_then 0) (turn_then 1) (back_then 0)) (back_turn_so 1 y (own 1) r1 q1 y_is q1e r1e))
 
+  pub low_fits : (f g new_f new_g : List Request) (u v new_u new_v : List Reply)
+      → f ≡ (queue_of N.requests l x).items → g ≡ (queue_of N.requests l y).items → u ≡ (queue_of N.replies s x).items → v ≡ (queue_of N.replies s y).items
+      → new_f ≡ (requests_in c t 0 (record { items = f })).items → new_g ≡ (requests_in c t 1 (record { items = g })).items
+      → new_u ≡ (replies_in c t 0 (record { items = u })).items → new_v ≡ (replies_in c t 1 (record { items = v })).items
+      → length new_f ≤ queue_places → length new_g ≤ queue_places → length new_u ≤ queue_places → length new_v ≤ queue_places
+      → All IsRequest new_f → All IsRequest new_g → All IsReply new_u → All IsReply new_v → IsLow (low_after b T (low_of k n s j))
+  low_fits f g new_f new_g u v new_u new_v fe ge ue ve nf ng nu nv lf lg lu lv af ag au av = record {
+    fwd = record {
+      two = refl;
+      first = queue_fits IsRequest (requests_in b T 0 (queue_of n.requests (suc s) (own 0))) new_f (requests_so 0 x (own 0) f new_f x_is fe nf) lf af;
+      second = queue_fits IsRequest (requests_in b T 1 (queue_of n.requests (suc s) (own 1))) new_g (requests_so 1 y (own 1) g new_g y_is ge ng) lg ag;
+    };
+    rev = record {
+      two = refl;
+      first = queue_fits IsReply (replies_in b T 0 (queue_of n.replies s (own 0))) new_u (replies_so 0 x (own 0) u new_u x_is ue nu) lu au;
+      second = queue_fits IsReply (replies_in b T 1 (queue_of n.replies s (own 1))) new_v (replies_so 1 y (own 1) v new_v y_is ve nv) lv av;
+    };
+    turn = record { two = refl; first = turn_later (turn_of n.turns s (own 0)) _ _ (turn_fits n.turns s (own 0)); second = turn_later (turn_of n.turns s (own 1)) _ _ (turn_fits n.turns s (own 1)) };
+    rturn = record { two = refl; first = turn_later (turn_of n.back_turns s (own 0)) _ _ (turn_fits n.back_turns s (own 0)); second = turn_later (turn_of n.back_turns s (own 1)) _ _ (turn_fits n.back_turns s (own 1)) };
+  }
+
 -- a module that serves, by the queues of both networks
 one_served : (N : Option Net) → (is_net LowNet N || is_net CombNet N) ≡ is_some N
 one_served None = refl
@@ -137,6 +161,36 @@ module _ (t : ModuleTraffic) (s : ModuleState) (N : Option Net) (at_low at_comb 
       by_net None = refl
       by_net (Some LowNet) = refl
       by_net (Some CombNet) = refl
+
+  on_net_so : (answer : Option Reply) → answer ≡ answer_to s.words (served_on s N) → (at : Bool) (net : Net) → at ≡ is_net net N → cond at answer None ≡ answer_if (is_net net N) (answer_to s.words (served_on s N))
+  on_net_so answer answered at net e = if_answered at answer ∙ ap (λ x. answer_if x answer) e ∙ ap (answer_if (is_net net N)) answered
+
+  -- its queues one cycle later
+  abbrev ServesThen : List Request → List Request → List Reply → List Reply → Type 0
+  ServesThen a b c d = ((a ≡ (requests_after t s N LowNet).items) × (b ≡ (requests_after t s N CombNet).items)) × ((c ≡ (replies_after t s N LowNet).items) × (d ≡ (replies_after t s N CombNet).items))
+
+  queues_then : (answer : Option Reply) (new_a new_b : List Request) (new_c new_d : List Reply) → answer ≡ answer_to s.words (served_on s N)
+      → new_a ≡ (queue_after at_low (message_at t.requests 0) None (queue_at s.requests 0)).items → new_b ≡ (queue_after at_comb (message_at t.requests 1) None (queue_at s.requests 1)).items
+      → new_c ≡ (queue_after (mark_at t.replies_leave 0) (cond at_low answer None) None (queue_at s.replies 0)).items
+      → new_d ≡ (queue_after (mark_at t.replies_leave 1) (cond at_comb answer None) None (queue_at s.replies 1)).items
+      → ServesThen new_a new_b new_c new_d
+  queues_then answer new_a new_b new_c new_d answered ae be ce de = (
+    (ae ∙ ap (λ x. (queue_after x (message_at t.requests 0) None (queue_at s.requests 0)).items) low_so, be ∙ ap (λ x. (queue_after x (message_at t.requests 1) None (queue_at s.requests 1)).items) comb_so),
+    (ce ∙ ap (λ o. (queue_after (mark_at t.replies_leave 0) o None (queue_at s.replies 0)).items) (on_net_so answer answered at_low LowNet low_so), de ∙ ap (λ o. (queue_after (mark_at t.replies_leave 1) o None (queue_at s.replies 1)).items) (on_net_so answer answered at_comb CombNet comb_so)),
+  )
+
+  pub serving_fits : (answer : Option Reply) (new_a new_b : List Request) (new_c new_d : List Reply) → answer ≡ answer_to s.words (served_on s N)
+      → new_a ≡ (queue_after at_low (message_at t.requests 0) None (queue_at s.requests 0)).items → new_b ≡ (queue_after at_comb (message_at t.requests 1) None (queue_at s.requests 1)).items
+      → new_c ≡ (queue_after (mark_at t.replies_leave 0) (cond at_low answer None) None (queue_at s.replies 0)).items
+      → new_d ≡ (queue_after (mark_at t.replies_leave 1) (cond at_comb answer None) None (queue_at s.replies 1)).items
+      → length new_a ≤ queue_places → length new_b ≤ queue_places → length new_c ≤ queue_places → length new_d ≤ queue_places
+      → All IsRequest new_a → All IsRequest new_b → All IsReply new_c → All IsReply new_d → IsModule (module_serving t s N)
+  serving_fits answer new_a new_b new_c new_d answered ae be ce de la lb lc ld fa fb fc fd =
+      let so : ServesThen new_a new_b new_c new_d = queues_then answer new_a new_b new_c new_d answered ae be ce de in
+      record {
+        requests = record { two = refl; first = queue_fits IsRequest (requests_after t s N LowNet) new_a so.0.0 la fa; second = queue_fits IsRequest (requests_after t s N CombNet) new_b so.0.1 lb fb };
+        replies = record { two = refl; first = queue_fits IsReply (replies_after t s N LowNet) new_c so.1.0 lc fc; second = queue_fits IsReply (replies_after t s N CombNet) new_d so.1.1 ld fd };
+      }
 
   pub module_told : (answer : Option Reply) (turn : Bool) (new_a new_b : List Request) (new_c new_d : List Reply) (small : ℕ)
       → answer ≡ answer_to s.words (served_on s N) → net_for turn ≡ turn_from s.turn N
@@ -239,6 +293,24 @@ module _ (P : Project) (R : Arrays) (size : R.k ≡ P.k) (m : ℕ) (within : m <
       ∙ ap (λ o. (queue_after (mark_at T.replies_leave 1) o None (queue_at s.replies 1)).items) comb_answered)
       se
       ∙ part_is
+
+  pub module_fits : (answer low_answer comb_answer : Option Reply) (new_a new_b : List Request) (new_c new_d : List Reply)
+      → answer ≡ answer_to s.words request → low_answer ≡ cond at_low answer None → comb_answer ≡ cond at_comb answer None
+      → new_a ≡ (queue_after at_low (message_at t.requests 0) None (record { items = low_waits })).items → new_b ≡ (queue_after at_comb (message_at t.requests 1) None (record { items = comb_waits })).items
+      → new_c ≡ (queue_after (mark_at t.replies_leave 0) low_answer None (record { items = low_shows })).items → new_d ≡ (queue_after (mark_at t.replies_leave 1) comb_answer None (record { items = comb_shows })).items
+      → length new_a ≤ queue_places → length new_b ≤ queue_places → length new_c ≤ queue_places → length new_d ≤ queue_places
+      → All IsRequest new_a → All IsRequest new_b → All IsReply new_c → All IsReply new_d → IsState (part_given P R (ModuleAt m) memory)
+  module_fits answer low_answer comb_answer new_a new_b new_c new_d answered low_answered comb_answered ae be ce de la lb lc ld fa fb fc fd =
+      subst IsState (sym (ap (λ x. part_of P (moves P (states_of R)) (Some (ModuleAt m)) x) (given_module R m memory)))
+      (serving_fits T s N at_low at_comb low_so comb_so answer new_a new_b new_c new_d
+      (answered ∙ ap (answer_to s.words) it_serves)
+      (ae ∙ ap (λ q. (queue_after at_low (message_at t.requests 0) None q).items) low_queue ∙ ap (λ t. (queue_after at_low (message_at t.requests 0) None (queue_at s.requests 0)).items) handed)
+      (be ∙ ap (λ q. (queue_after at_comb (message_at t.requests 1) None q).items) comb_queue ∙ ap (λ t. (queue_after at_comb (message_at t.requests 1) None (queue_at s.requests 1)).items) handed)
+      (ce ∙ ap (λ q. (queue_after (mark_at t.replies_leave 0) low_answer None q).items) low_replies ∙ ap (λ t. (queue_after (mark_at t.replies_leave 0) low_answer None (queue_at s.replies 0)).items) handed
+      ∙ ap (λ o. (queue_after (mark_at T.replies_leave 0) o None (queue_at s.replies 0)).items) low_answered)
+      (de ∙ ap (λ q. (queue_after (mark_at t.replies_leave 1) comb_answer None q).items) comb_replies ∙ ap (λ t. (queue_after (mark_at t.replies_leave 1) comb_answer None (queue_at s.replies 1)).items) handed
+      ∙ ap (λ o. (queue_after (mark_at T.replies_leave 1) o None (queue_at s.replies 1)).items) comb_answered)
+      la lb lc ld fa fb fc fd)
 
   pub module_left : (left : Option Stored) → words_after s.words request ≡ memory_left s.words left → memory_of (part_given P R (ModuleAt m) memory) ≡ memory_left s.words left
   module_left left so =

@@ -1,7 +1,7 @@
 -- Marks of queues.
 use Rattle.std.proofs.Common.{◌≡◌, ℕ, ◌+◌, ◌*◌, ◌%◌, ◌^◌, ◌<◌, ◌≤◌, Bool, true, false, cond, refl, ap, sym, ◌∙◌, subst, ◌⊎◌, inl, inr, List, length, get_or, replicate, arith}
 use Rattle.std.proofs.Math.ListN.{set, length-set}
-use Rattle.std.proofs.lemmas.List.{get_or-set_same, get_or-set_other, get_or_default, get_or-replicate, get_or_past, length-replicate}
+use Rattle.std.proofs.lemmas.List.{set-get_or, get_or-set_same, get_or-set_other, get_or_default, get_or-replicate, get_or_past, length-replicate}
 use Rattle.std.specs.Prelude.{◌==◌, bit_and, bit_or, [], IsSome}
 use Rattle.std.specs.Int.{bit_not, w64}
 use Rattle.std.proofs.lemmas.Bool.{cases_lt, eq-eqb, eqb-true, ne_eqb}
@@ -106,6 +106,12 @@ module _ {T : Type 0} where
         where
           false_true : false ≡ true → ⊥
           false_true e = cc
+
+  -- and where a queue is put back as it was found
+  pub marks_stay : (route : T → ℕ) (rule : Rule) (queues : List (ArrayVec T)) (marks : Marks) (x : ℕ) (q : ArrayVec T)
+      → AreMarked route rule queues marks → q ≡ get_or queues x q → AreMarked route rule (set queues x q) marks
+  marks_stay route rule queues marks x q before e =
+      subst (λ l. AreMarked route rule l marks) (sym (ap (set queues x) e ∙ set-get_or queues x q)) before
 
   -- empty queues
   pub all_empty : (route : T → ℕ) (rule : Rule) (lines : ℕ) (marks : Marks) → lines ≤ 64

@@ -100,6 +100,10 @@ impl<T: Routed> Level<T> {
         ensures { self.new ≡ with_queue self.old x (record { items = option_to_list message }) }
     {
         let queue = &mut self.queues[x as usize];
+        if message.is_none() && queue.as_slice().is_empty() {
+            // What an empty queue shows is marked.
+            return;
+        }
         queue.hold(message);
         let shown = shown_by(self.rule, queue.as_slice());
         self.marks = with_shown(self.marks, x, shown);
@@ -122,6 +126,10 @@ impl<T: Routed> Level<T> {
         ensures { self.new ≡ with_queue self.old x (record { items = messages.now }) }
     {
         let queue = &mut self.queues[x as usize];
+        if messages.is_empty() && queue.as_slice().is_empty() {
+            // What an empty queue shows is marked.
+            return;
+        }
         queue.copy(messages);
         let shown = shown_by(self.rule, queue.as_slice());
         self.marks = with_shown(self.marks, x, shown);
@@ -149,6 +157,10 @@ impl<T: Routed + TwoWords> Level<T> {
         ensures rest { result.now ≡ after count words.now }
     {
         let queue = &mut self.queues[x as usize];
+        if count == 0 && queue.as_slice().is_empty() {
+            // What an empty queue shows is marked.
+            return words;
+        }
         let rest = fill(queue, words, count);
         let shown = shown_by(self.rule, queue.as_slice());
         self.marks = with_shown(self.marks, x, shown);

@@ -11,7 +11,7 @@ ghost use Rattle.mem_module.specs.Memory.{IsAscending, word_at, with_word};
 ghost use Rattle.mem_module.specs.MemModule.{answer_to, words_after};
 ghost use Rattle.low_switch.specs.LowSwitch.{request_through, reply_through};
 ghost use Rattle.state_words.specs.Words.{one_if};
-ghost use Rattle.machine_cells.specs.Words.{memory_of, words_of};
+ghost use Rattle.machine_cells.specs.Words.{IsState, memory_of, words_of};
 ghost use Rattle.flat_row.specs.Next.{IsAnother, memory_given, memory_left, module_given, next_state, part_given, waiting};
 ghost use Rattle.flat_row.specs.Row.{IsRowOf, buffers_at, wait_of};
 
@@ -31,14 +31,15 @@ use machine_cells::{MachineState, encode};
 use mem_module::{SharedWords, Stored};
 use omega_net::{Component, Net, Reply, Request, Traffic, bit_of, turn_after};
 use project_book::Project;
-use state_words::bytes;
+use state_words::{bytes, is_proc};
 use std::alloc::AllocError;
 use traffic::either_of;
 
 impl Row {
     /// Appends the words of a component one cycle later, as [`Row::words`] appends those of its state: a step of the one component, which
     /// changes nothing in the row. Only what the row holds of the components near it matters, and a module's memory is that which is
-    /// handed over, if one is. Told is what the module leaves in its memory, where it leaves another word.
+    /// handed over, if one is. Told is what the module leaves in its memory, where it leaves another word. The words tell the state but for
+    /// that memory: it is one of the machine's types.
     ///
     /// # Errors
     ///
@@ -57,6 +58,7 @@ impl Row {
         ensures err { OnErr result (words.new.items ≡ words.old.items) }
         ensures left { IfSome (option_copied memory.entry) IsAscending → IfOk result (λ left. memory_of (next_state project.now self.now component (option_copied memory.entry)) ≡ memory_left (memory_given self.now component (option_copied memory.entry)) left) }
         ensures another { IfOk result (IsAnother (memory_given self.now component (option_copied memory.entry))) }
+        ensures state { OnOk result (IsState (next_state project.now self.now component (option_copied memory.entry))) }
     {
         match component {
             Component::Proc(p) => self.next_proc(project, p, words)?,
@@ -83,12 +85,14 @@ impl Row {
         requires there { p < lines project.now.k }
         ensures ok { OnOk result (words.new.items ≡ words.old.items ++ words_of (part_given project.now self.now (ProcAt p) None)) }
         ensures err { OnErr result (words.new.items ≡ words.old.items) }
+        ensures state { OnOk result (IsState (part_given project.now self.now (ProcAt p) None)) }
     {
         let at = u32::from(p);
         let traffic = self.proc_traffic(project, at);
         let own = self.processor(at);
         let settings = proc_settings(project, p, own.index);
         let next = own.step(&settings, &traffic);
+        is_proc(&next);
         encode(&MachineState::Proc(next), words)
     }
 
@@ -105,6 +109,7 @@ impl Row {
         requires index { index < half project.now.k }
         ensures ok { OnOk result (words.new.items ≡ words.old.items ++ words_of (part_given project.now self.now (Switch LowNet stage index) None)) }
         ensures err { OnErr result (words.new.items ≡ words.old.items) }
+        ensures state { OnOk result (IsState (part_given project.now self.now (Switch LowNet stage index) None)) }
     {
         let traffic = self.switch_traffic(project, Net::Low, stage, index);
         let bit = project.k() - 1 - stage;
@@ -122,6 +127,10 @@ impl Row {
         let second = requests_then(bit, &traffic, 1, messages_at(&side.requests, s + 1, y));
         let first_back = replies_then(bit, &traffic, 0, messages_at(&side.replies, s, x));
         let second_back = replies_then(bit, &traffic, 1, messages_at(&side.replies, s, y));
+        first.fits();
+        second.fits();
+        first_back.fits();
+        second_back.fits();
         write_after(words, 2, &first, &second, &first_back, &second_back, turns)
     }
 
@@ -139,6 +148,7 @@ impl Row {
         requires index { index < half project.now.k }
         ensures ok { OnOk result (words.new.items ≡ words.old.items ++ words_of (part_given project.now self.now (Switch CombNet stage index) None)) }
         ensures err { OnErr result (words.new.items ≡ words.old.items) }
+        ensures state { OnOk result (IsState (part_given project.now self.now (Switch CombNet stage index) None)) }
     {
         let traffic = self.switch_traffic(project, Net::Comb, stage, index);
         let settings = comb_settings(project, stage);
@@ -163,6 +173,7 @@ impl Row {
             both_turn_then(&traffic, bit_in(side.back_turns[s], x)),
             beside.combined(x),
         );
+        beside.fit(x, y);
         beside.write(words, x, y, small)
     }
 
@@ -190,6 +201,7 @@ impl Row {
         ensures err { OnErr result (words.new.items ≡ words.old.items) }
         ensures left { IfSome (option_copied memory.entry) IsAscending → IfOk result (λ left. memory_of (part_given project.now self.now (ModuleAt m) (option_copied memory.entry)) ≡ memory_left (module_given self.now m (option_copied memory.entry)).words left) }
         ensures another { IfOk result (IsAnother (module_given self.now m (option_copied memory.entry)).words) }
+        ensures state { OnOk result (IsState (part_given project.now self.now (ModuleAt m) (option_copied memory.entry))) }
     {
         let traffic = self.module_traffic(project, m);
         self.is_row();
@@ -214,6 +226,10 @@ impl Row {
         let turn = one_if(has(served.turn, m));
         let serves = one_if(either_of(at_low, at_comb));
         let small = turn + 2 * serves;
+        first.fits();
+        second.fits();
+        first_back.fits();
+        second_back.fits();
         write_after(words, 1, &first, &second, &first_back, &second_back, small)?;
         Ok(left)
     }

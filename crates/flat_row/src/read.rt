@@ -1,5 +1,7 @@
 //! The states of components, read out of the row.
 ghost use Rattle.std.specs.Prelude.{◌≡◌, ◌<◌, ◌≤◌, ◌+◌, length, IfOk, Some};
+ghost use Rattle.machine_cells.specs.Codec.{memory_in};
+ghost use Rattle.omega_net.specs.declared.component.Component.TheVariants.{Module as ModuleAt};
 ghost use Rattle.std.specs.Option.{option_copied};
 ghost use Rattle.omega_net.specs.Limits.{queue_places};
 ghost use Rattle.omega_net.specs.Numbers.{lines, half, Exists};
@@ -13,7 +15,6 @@ use crate::labels::label_of;
 use crate::level::Level;
 use crate::marks::Routed;
 use crate::row::Row;
-use crate::words::copied;
 use comb_switch::CombState;
 use grid_law::NoMemory;
 use low_switch::LowState;
@@ -80,9 +81,21 @@ impl Row {
         requires { m < lines self.now.k }
         ensures { IfOk result (λ state. state ≡ module_of self.now m) }
     {
-        let words = copied(alloc, self.words[m as usize].as_slice())?;
-        let words = SharedWords::new(alloc, words)?;
+        let words = self.memory_words(alloc, m)?;
         self.module_with(alloc, m, words)
+    }
+
+    /// A module's words of memory.
+    ///
+    /// # Errors
+    ///
+    /// Where a growth was refused.
+    pub fn memory_words(&self, alloc: Global, m: u32) -> Result<SharedWords, NoMemory>
+        requires { m < lines self.now.k }
+        ensures { IfOk result (λ words. Some words ≡ memory_in (state_of self.now (Some (ModuleAt m)))) }
+    {
+        let words = self.words[m as usize].copy(alloc)?;
+        Ok(SharedWords::new(alloc, words)?)
     }
 
     /// The state of a module that has these words of memory.

@@ -1,10 +1,13 @@
 //! The trait of machines that are simulated cell by cell.
-ghost use Rattle.std.specs.Prelude.{◌≡◌, ◌<◌, ◌≤◌, ◌+◌, ◌↔◌, IsTrue, IfOk, IsOk, OnOk, OnErr, Option, length, map, option_map, ◌∷◌, ◌++◌, [], vec_len, vec_capacity};
+ghost use Rattle.std.specs.Prelude.{◌≡◌, ℕ, false, ◌<◌, ◌≤◌, ◌+◌, ◌↔◌, IsTrue, IfOk, IsOk, OnOk, OnErr, Option, length, map, option_map, ◌∷◌, ◌++◌, [], vec_len, vec_capacity};
 ghost use Rattle.std.specs.Arc.{arc_value};
 ghost use Rattle.grid_law.specs.Codec.{Codec, CodecLaws, IsTold};
 ghost use Rattle.grid_law.specs.Rules.{Rules, Laws, Agrees, IsNext};
+ghost use Rattle.grid_law.specs.Run.{run};
+ghost use Rattle.grid_law.specs.ByWords.{IsByWords};
+ghost use Rattle.grid_law.specs.declared.turn.Turn.TheVariants.{Ahead, Passed};
 
-use crate::{NoMemory, Reader};
+use crate::{NoMemory, Reader, Turn};
 use arrayvec::ArrayVec;
 use std::alloc::Global;
 use std::sync::Arc;
@@ -163,6 +166,20 @@ pub trait Grid {
     fn words_read(s: &Self::Slots, words: &[u64], c: u32, slot: &Self::Slot) -> bool
         requires { c < rules.components s.now }
         ensures { (memory : Option Self.Memory) → result ≡ rules.reads s.now (codec.state words.now memory ∷ []) c slot.now };
+
+    /// A component's next state hangs on the words of the states near it and, of their memories, on that of its own state alone. Nothing is
+    /// done when it runs.
+    fn by_words(s: &Self::Slots)
+        ensures { IsByWords rules codec s.now };
+
+    /// Whether it may be told where along a run the slot is read.
+    fn has_turns(slot: &Self::Slot) -> bool;
+
+    /// Where along a run a component reads the slot, whose state at some cycle has these words.
+    fn turn(words: &[u64], s: &Self::Slots, c: u32, slot: &Self::Slot) -> Turn
+        requires { c < rules.components s.now }
+        ensures ahead { result ≡ Ahead → (t u : ℕ) → codec.words (run rules s.now t c) ≡ words.now → u ≤ t → rules.reads s.now (run rules s.now u c ∷ []) c slot.now ≡ false }
+        ensures passed { result ≡ Passed → (t u : ℕ) → codec.words (run rules s.now t c) ≡ words.now → t ≤ u → rules.reads s.now (run rules s.now u c ∷ []) c slot.now ≡ false };
 
     /// The same memory, with one more owner.
     ///

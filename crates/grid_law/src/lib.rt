@@ -34,6 +34,7 @@ mod line;
 mod no_memory;
 mod numbers;
 mod reader;
+mod turn;
 
 pub use changed::Changed;
 pub use grid::Grid;
@@ -42,3 +43,4 @@ pub use line::Line;
 pub use no_memory::NoMemory;
 pub use numbers::{LONGEST, LineSlot, Number, Numbers, SlotFault};
 pub use reader::Reader;
+pub use turn::Turn;

@@ -3,7 +3,7 @@ ghost use Rattle.std.specs.Prelude.{◌≡◌, ◌↔◌, IsTrue, ◌∷◌, [],
 ghost use Rattle.std.specs.Arc.{arc_value};
 ghost use Rattle.grid_law.specs.Line.{same_read, reader_of, number_from};
 
-use crate::{Grid, LineSlot, NoMemory, Number, Numbers, Reader};
+use crate::{Grid, LineSlot, NoMemory, Number, Numbers, Reader, Turn};
 use arrayvec::ArrayVec;
 use std::alloc::Global;
 use std::sync::Arc;
@@ -132,6 +132,16 @@ impl Grid for Line {
             LineSlot::Seed(_) => false,
             LineSlot::Add(place) => *place == c && number_from(words) % 2 == 1,
         }
+    }
+
+    fn by_words(_s: &Numbers) {}
+
+    fn has_turns(_slot: &LineSlot) -> bool {
+        false
+    }
+
+    fn turn(_words: &[u64], _s: &Numbers, _c: u32, _slot: &LineSlot) -> Turn {
+        Turn::Here
     }
 
     fn share_memory(_memory: &()) -> Result<(), NoMemory> {

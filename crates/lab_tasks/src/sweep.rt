@@ -398,8 +398,10 @@ fn table_of<'a, T: Threads + Sync>(
     let Ok(mut bench) = Bench::new(alloc, project, 0) else {
         return Err(End::Memory);
     };
-    add_rows(rt, alloc, &mut text, &mut bench, all, queries)?;
-    Ok(text)
+    match add_rows(rt, alloc, &mut text, &mut bench, all, queries) {
+        Ok(()) => Ok(text),
+        Err(end) => Err(end),
+    }
 }
 
 /// The table of a sweep over a project.

@@ -7,7 +7,7 @@ use Rattle.ref_proc.specs.declared.state.Outgoing.{Outgoing}
 use Rattle.project_book.specs.declared.slot.Slot.TheVariants.{Entry}
 use Rattle.machine_cells.specs.Reads.{is_listed, same_slot, index_reads, entry_reads, out_reads}
 
-or_false : (b : Bool) → (b || false) ≡ b
+pub or_false : (b : Bool) → (b || false) ≡ b
 or_false true = refl
 or_false false = refl
 

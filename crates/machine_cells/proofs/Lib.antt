@@ -14,3 +14,6 @@ pub mod Staying
 pub mod Listing
 pub mod Entries
 pub mod Telling
+pub mod ByHead
+pub mod Forgetting
+pub mod Turning

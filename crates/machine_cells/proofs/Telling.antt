@@ -18,7 +18,7 @@ use Rattle.machine_cells.specs.Codec.{memory_in, or_none, rp3_codec}
 use Rattle.machine_cells.specs.Reads.{is_listed, later_reads}
 
 -- a state
-chosen : (h k : ℕ) (ws : List ℕ) (memory : List Stored) → h % 2 ^ 2 ≡ k
+pub chosen : (h k : ℕ) (ws : List ℕ) (memory : List Stored) → h % 2 ^ 2 ≡ k
     → state_with h ws memory ≡ (if k == 0 then Proc (proc_from h ws) else if k == 1 then Module (module_from h ws memory) else if k == 2 then Low (low_from h ws) else Comb (comb_from h ws))
 chosen h k ws memory e = ap (λ n. if n == 0 then Proc (proc_from h ws) else if n == 1 then Module (module_from h ws memory) else if n == 2 then Low (low_from h ws) else Comb (comb_from h ws)) e
 

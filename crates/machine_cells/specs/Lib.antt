@@ -4,6 +4,7 @@ pub mod Run
 pub mod Putting
 pub mod Cells
 pub mod Reads
+pub mod Turns
 pub mod GridRules
 pub mod Words
 pub mod Codec

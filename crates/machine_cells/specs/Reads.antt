@@ -12,7 +12,7 @@ use Rattle.grid_law.specs.Rules.{reader_at}
 use Rattle.ref_proc.specs.declared.state.Outgoing.{Outgoing}
 use Rattle.project_book.specs.Limits.{script_entries}
 use Rattle.machine_cells.specs.declared.state.MachineState.{MachineState}
-use Rattle.machine_cells.specs.declared.state.MachineState.TheVariants.{Proc, Module, Low, Comb}
+use Rattle.machine_cells.specs.declared.state.MachineState.TheVariants.{Proc}
 use Rattle.project_book.specs.Project.{Project, entry_at, page_of, word_of}
 use Rattle.project_book.specs.Slots.{SameAt}
 use Rattle.project_book.specs.Queues.{forward_queue}

@@ -11,12 +11,12 @@ use crate::MachineState;
 use crate::agree::{agree_later, same_memory};
 use crate::near::state_at;
 use crate::readers::readers;
-use crate::reads::{fixed_reads, later_reads, start_reads, words_read};
+use crate::reads::{entry_turn, fixed_reads, later_reads, start_reads, words_read};
 use crate::start::start_of;
 use crate::step::{moved, pulled};
 use crate::words::{encode, has_memory, has_words, is_state, read_state};
 use arrayvec::ArrayVec;
-use grid_law::{Grid, NoMemory, Reader};
+use grid_law::{Grid, NoMemory, Reader, Turn};
 use mem_module::SharedWords;
 use omega_net::{Component, Shape};
 use project_book::{Project, Slot};
@@ -178,6 +178,21 @@ impl Grid for Rp3 {
         match slot {
             Slot::Shape => true,
             _ => words_read(s, component, words, *slot),
+        }
+    }
+
+    fn by_words(s: &Project) {
+        let _ = s;
+    }
+
+    fn has_turns(slot: &Slot) -> bool {
+        matches!(slot, Slot::Entry(..))
+    }
+
+    fn turn(words: &[u64], s: &Project, c: u32, slot: &Slot) -> Turn {
+        match component_at(s.shape(), c) {
+            Component::Proc(proc) => entry_turn(proc, words, *slot),
+            Component::Module(_) | Component::Switch { .. } => Turn::Here,
         }
     }
 

@@ -3,15 +3,19 @@ ghost use Rattle.std.specs.Prelude.{◌≡◌, ◌<◌, ◌∷◌, Some, List};
 ghost use Rattle.mem_module.specs.declared.words.Stored.{Stored};
 ghost use Rattle.project_book.specs.declared.slot.Slot.TheVariants.{Depth, Wait, Combine};
 ghost use Rattle.project_book.specs.declared.edit.Depths.TheVariants.{LowForward, LowReverse, CombForward, CombReverse, ModuleQueue};
+ghost use Rattle.state_words.specs.Reading.{proc_from};
 ghost use Rattle.machine_cells.specs.Words.{state_from};
+ghost use Rattle.grid_law.specs.declared.turn.Turn.TheVariants.{Ahead, Passed};
+ghost use Rattle.machine_cells.specs.Turns.{IsAhead, IsPassed};
 ghost use Rattle.machine_cells.specs.Reads.{is_listed, index_reads, entry_reads, out_reads, last_reads, back_reads, fixed_reads, later_reads, start_reads, later_may_read, proc_may_read};
 
 use crate::MachineState;
+use grid_law::Turn;
 use omega_net::{Component, Net, ScriptEntry};
 use page_map::{ADDRESSES, PAGE_WORDS, PAGES};
 use project_book::{Depths, Project, SCRIPT_ENTRIES, Slot};
 use ref_proc::{Outgoing, ProcState};
-use state_words::{read_proc, split_first};
+use state_words::{index_in, read_proc, shows_in, split_first};
 
 /// Whether a component reads a slot at cycle 0, beside the shape: a module all first words and pages.
 pub(crate) fn start_reads(component: Component, slot: Slot) -> bool
@@ -55,10 +59,48 @@ fn proc_words_read(project: &Project, proc: u8, words: &[u64], slot: Slot) -> bo
     ensures { (memory : List Stored) → result ≡ is_listed (later_reads project.now (Some (Component.Proc proc)) (state_from words.now memory)) slot }
 {
     let (head, body) = split_first(words);
-    if head % 4 == 0 {
-        proc_reads(project, proc, &read_proc(head, body), slot)
-    } else {
-        false
+    if head % 4 != 0 {
+        return false;
+    }
+    let index = index_in(head);
+    match slot {
+        // By the index alone, so the rest of the state isn't read out of the words.
+        Slot::Entry(..) => index_reads(proc, index, slot),
+        Slot::Page(_) | Slot::Window => {
+            entry_reads(project.entry(u32::from(proc), u32::from(index)), slot)
+        }
+        // Where nothing waits to leave, it reads the depth of no queue.
+        Slot::Depth(_) if !shows_in(head) => false,
+        _ => read_reads(project, proc, head, body, slot),
+    }
+}
+
+/// Whether a processor does that is read out of its words.
+#[inline(never)]
+fn read_reads(project: &Project, proc: u8, head: u64, body: &[u64], slot: Slot) -> bool
+    ensures { result ≡ is_listed (later_reads project.now (Some (Component.Proc proc)) (MachineState.Proc (proc_from head body.now))) slot }
+{
+    proc_reads(project, proc, &read_proc(head, body), slot)
+}
+
+/// Where along a run the entry of a slot stands for a processor whose state has these words: its index never falls.
+pub(crate) fn entry_turn(proc: u8, words: &[u64], slot: Slot) -> Turn
+    ensures ahead { result ≡ Ahead → IsAhead proc words.now slot }
+    ensures passed { result ≡ Passed → IsPassed proc words.now slot }
+{
+    let (head, _) = split_first(words);
+    match slot {
+        Slot::Entry(p, i) if p == u32::from(proc) && head % 4 == 0 => {
+            let index = u32::from(index_in(head));
+            if index < i {
+                Turn::Ahead
+            } else if index > i {
+                Turn::Passed
+            } else {
+                Turn::Here
+            }
+        }
+        _ => Turn::Here,
     }
 }
 

@@ -2,44 +2,66 @@
 ghost use Rattle.flat_row.specs.Row.{IsRowOf};
 
 use crate::rows::four;
+use cell_marks::Row;
 use cell_table::WholeRow;
 use flat_row::Changed;
-use machine_cells::{MachineState, from_scratch};
+use grid_law::Grid;
+use machine_cells::{MachineState, Rp3, from_scratch};
 use project_book::Project;
 use std::alloc::Global;
 use std::sync::Arc;
 use std::test::Fail;
 use whole_rows::MachineRow;
 
-/// Puts these states.
-fn put(project: &Project, row: &mut MachineRow, states: &[Arc<MachineState>]) -> Result<bool, Fail>
+/// Puts these states, by their words and their memories.
+fn put(
+    alloc: Global,
+    project: &Project,
+    row: &mut MachineRow,
+    states: &[Arc<MachineState>],
+) -> Result<bool, Fail>
     requires { IsRowOf project.now row.old }
     ensures { IsRowOf project.now row.new }
 {
+    let mut words = Vec::new(alloc);
     for c in 0..project.shape().components() {
         let state = states.get(c as usize).ok_or("no such state")?;
-        if !row.load(project, c, state) {
+        words.clear();
+        Rp3::encode(state, &mut words)?;
+        if !row.load(project, c, words.as_slice()) {
             return Ok(false);
+        }
+        match Rp3::memory(state)? {
+            Some(memory) => {
+                if !row.load_memory(alloc, project, c, &memory) {
+                    return Ok(false);
+                }
+            }
+            None => {}
         }
     }
     Ok(true)
 }
 
-/// Whether a row holds these states, and gives each, beside those of the cycle before.
+/// Whether a row holds these states: it has their words, the first one too, and their memories.
 fn holds(
     alloc: Global,
     project: &Project,
     row: &MachineRow,
-    before: &[Arc<MachineState>],
     states: &[Arc<MachineState>],
 ) -> Result<bool, Fail>
     requires { IsRowOf project.now row.now }
 {
+    let mut words = Vec::new(alloc);
     for c in 0..project.shape().components() {
-        let own = before.get(c as usize).ok_or("no such state")?;
         let state = states.get(c as usize).ok_or("no such state")?;
-        let read = row.read(alloc, project, c, own)?;
-        if !row.is_held(project, c, state) || !read.same(state) {
+        words.clear();
+        row.words(project, c, &mut words)?;
+        let memory = row.memory(alloc, project, c)?;
+        if !Rp3::is_code(state, words.as_slice(), memory.as_ref())
+            || !row.has_memory(project, c, memory.as_ref())
+            || words.first().copied() != Some(row.first_word(project, c))
+        {
             return Ok(false);
         }
     }
@@ -48,14 +70,17 @@ fn holds(
 
 /// How many are still in a step from these states to those. None where one of them isn't the same.
 fn still(
+    alloc: Global,
     project: &Project,
     step: &Changed,
     before: &[Arc<MachineState>],
     states: &[Arc<MachineState>],
 ) -> Result<Option<u32>, Fail> {
     let mut many = 0_u32;
+    let mut moved = Row::new(alloc, project.shape().components(), false)?;
+    MachineRow::moved(step, project, &mut moved);
     for c in 0..project.shape().components() {
-        if MachineRow::is_still(step, project, c) {
+        if !moved.has(c) {
             let own = before.get(c as usize).ok_or("no such state")?;
             let state = states.get(c as usize).ok_or("no such state")?;
             if !own.same(state) {
@@ -76,14 +101,14 @@ fn along_the_run(alloc: Global, project: &Project) -> Result<Option<u32>, Fail> 
     for t in (1..rows.len()).rev() {
         let before = rows[t - 1].as_slice();
         let states = rows[t].as_slice();
-        if !put(project, &mut row, before)? || !holds(alloc, project, &row, before, before)? {
+        if !put(alloc, project, &mut row, before)? || !holds(alloc, project, &row, before)? {
             return Ok(None);
         }
         let step = row.step(project).ok_or("no memory")?;
-        if !holds(alloc, project, &row, before, states)? {
+        if !holds(alloc, project, &row, states)? {
             return Ok(None);
         }
-        match still(project, &step, before, states)? {
+        match still(alloc, project, &step, before, states)? {
             Some(more) => many = many.saturating_add(more),
             None => return Ok(None),
         }

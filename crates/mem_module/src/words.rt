@@ -85,7 +85,11 @@ impl Words {
     }
 
     /// A copy, with room for one more row.
-    pub(crate) fn copy(&self, alloc: Global) -> Result<Words, NoMemory>
+    ///
+    /// # Errors
+    ///
+    /// Where a growth was refused.
+    pub fn copy(&self, alloc: Global) -> Result<Words, NoMemory>
         ensures { IfOk result (λ copy. copy ≡ self.now) }
     {
         let mut stored = Vec::with_capacity(alloc, self.stored.len().saturating_add(1))?;

@@ -1,4 +1,4 @@
-//! Tests of the parts that the machine and its table are built of: words, places, lines, grids, and each component alone. A
+//! Tests of the parts that the machine and its table are built of: words, places, marks, grids, and each component alone. A
 //! crate with tests is proved twice by the gate, so the tests of crates whose proofs take long stand beside them. Nothing
 //! stands on this crate.
 #![tactic(auto)]
@@ -8,7 +8,6 @@ mod comb;
 #[cfg(test)]
 mod grids;
 #[cfg(test)]
-mod lines;
 #[cfg(test)]
 mod low;
 #[cfg(test)]

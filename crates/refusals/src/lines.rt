@@ -48,8 +48,12 @@ fn row(table: &Table<Line>, cycle: u32) -> [Option<u32>; 3] {
     ]
 }
 
+/// What a cell holds, shared over again where that is refused.
 fn state(table: &Table<Line>, cycle: u32, component: u32) -> Option<u32> {
-    table.state(Cell { cycle, component }).copied()
+    match again!(table.shared(Cell { cycle, component })) {
+        Some(Some(state)) => Some(*state),
+        _ => None,
+    }
 }
 
 fn look_at(table: &Table<Line>) -> Looks {

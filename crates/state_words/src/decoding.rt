@@ -1,5 +1,5 @@
 //! Components read out of words.
-ghost use Rattle.std.specs.Prelude.{◌≡◌, ◌/◌, ◌%◌, ◌^◌, IfOk};
+ghost use Rattle.std.specs.Prelude.{◌≡◌, ◌/◌, ◌%◌, ◌^◌, ℕ, List, is_some, IfOk};
 ghost use Rattle.state_words.specs.Reading.{proc_from, module_from, low_from, comb_from};
 
 use crate::fields::{byte, high, low, net_from, short};
@@ -29,6 +29,20 @@ pub fn read_proc(head: u64, words: &[u64]) -> ProcState
         got: [from_low, from_comb],
         sent: mark_in(head >> 5),
     }
+}
+
+/// The index of the processor of a head.
+pub fn index_in(head: u64) -> u16
+    ensures { (words : List ℕ) → result ≡ (proc_from head words).index }
+{
+    short(head >> 6)
+}
+
+/// Whether the processor of a head shows a request.
+pub fn shows_in(head: u64) -> bool
+    ensures { (words : List ℕ) → result ≡ is_some (proc_from head words).out }
+{
+    mark_in(head >> 2)
 }
 
 /// The module of a head and what follows it, with this memory.

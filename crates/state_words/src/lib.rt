@@ -33,7 +33,7 @@ mod reading;
 mod writing;
 
 pub use comparing::{comb_has_words, low_has_words, module_has_words, proc_has_words};
-pub use decoding::{read_comb, read_low, read_module, read_proc};
+pub use decoding::{index_in, read_comb, read_low, read_module, read_proc, shows_in};
 pub use encoding::{write_comb, write_low, write_module, write_proc};
 pub use fits::{all_fit, is_comb, is_low, is_module, is_proc};
 pub use heads::{bytes, length_of, proc_head, queues_head};

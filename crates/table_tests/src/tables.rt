@@ -125,7 +125,7 @@ impl Stage {
             Step::Claim(component, cycle) => claimed(&self.table, Cell { cycle, component }),
             Step::Compute(component, cycle) => self.compute(Cell { cycle, component }),
             Step::Give => self.give(),
-            Step::Row(cycle) => Ok(Came::States(row(&self.table, cycle))),
+            Step::Row(cycle) => Ok(Came::States(row(&self.table, cycle)?)),
             Step::Shared(component, cycle) => shared(&self.table, Cell { cycle, component }),
             Step::DueTo(cycle) => Ok(Came::Number(self.table.due_to(cycle))),
             Step::DueCone(component, cycle) => {
@@ -244,16 +244,19 @@ fn shared(table: &Table<Line>, cell: Cell) -> Result<Came, Fail> {
     }
 }
 
-fn row(table: &Table<Line>, cycle: u32) -> [Option<u32>; 3] {
-    [
-        state(table, cycle, 0),
-        state(table, cycle, 1),
-        state(table, cycle, 2),
-    ]
+fn row(table: &Table<Line>, cycle: u32) -> Result<[Option<u32>; 3], Fail> {
+    Ok([
+        state(table, cycle, 0)?,
+        state(table, cycle, 1)?,
+        state(table, cycle, 2)?,
+    ])
 }
 
-fn state(table: &Table<Line>, cycle: u32, component: u32) -> Option<u32> {
-    table.state(Cell { cycle, component }).copied()
+fn state(table: &Table<Line>, cycle: u32, component: u32) -> Result<Option<u32>, Fail> {
+    match table.shared(Cell { cycle, component })? {
+        Some(state) => Ok(Some(*state)),
+        None => Ok(None),
+    }
 }
 
 // All 9 cells at first. Then Seed(2) is 6: place 2 starts with 6; its readers at cycle 1 are places

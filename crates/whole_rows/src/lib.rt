@@ -2,10 +2,13 @@
 //!
 //! The crate joins `flat_row` and the trait [`cell_table::WholeRow`], for which `machine_cells` has the grid. It promises what the trait
 //! asks: a row that holds the states of a cycle holds, after its step, for each cell the step of the near ones; what it says to be
-//! still is as it was; and a state is compared, put and read exactly (`specs/Rows.antt`).
+//! still is as it was, and what it says not to have written has the memory that it had; and a state's words and memory are put, compared
+//! and read exactly (`specs/Rows.antt`).
 #![tactic(auto)]
 
 mod memory;
+mod moved;
 mod row;
+mod words;
 
 pub use row::MachineRow;

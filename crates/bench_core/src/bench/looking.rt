@@ -1,5 +1,5 @@
 //! Looking up replies, states and words.
-ghost use Rattle.std.specs.Prelude.{◌≡◌, ◌<◌, ◌≤◌, ◌*◌, suc, is_some, true, nat_lt, if◌then◌else◌};
+ghost use Rattle.std.specs.Prelude.{◌≡◌, ◌<◌, ◌≤◌, ◌*◌, suc, IfOk, is_some, true, nat_lt, if◌then◌else◌};
 ghost use Rattle.std.specs.Option.{option_copied};
 ghost use Rattle.omega_net.specs.Numbers.{components};
 ghost use Rattle.page_map.specs.Limits.{address_count};
@@ -11,6 +11,7 @@ ghost use Rattle.bench_core.specs.Seeking.{replied_in};
 
 use super::Bench;
 use crate::Asked;
+use crate::lent::lent;
 use cell_table::Cell;
 use grid_law::NoMemory;
 use machine_cells::MachineState;
@@ -26,58 +27,75 @@ fn sent_in(state: Option<&MachineState>, cycles: u32) -> u32
 impl Bench {
     /// Whether a processor issued so many references and one more by a cycle. The stretches of its equal
     /// states are looked at from cycle 0 on, each once, until it is known.
-    fn has_issued(&self, proc: u32, issue: u32, last: u32) -> bool
+    ///
+    /// # Errors
+    ///
+    /// Where a state couldn't be shared.
+    fn has_issued(&self, proc: u32, issue: u32, last: u32) -> Result<bool, NoMemory>
         requires proc { proc < components (project_of self.now).k }
         requires within { last ≤ (project_of self.now).horizon }
-        ensures { result ≡ nat_lt issue (issued (λ t. held self.now.table t proc) (suc last)) }
+        ensures { IfOk result (λ has. has ≡ nat_lt issue (issued (λ t. held self.now.table t proc) (suc last))) }
     {
         self.is_bench();
         let component = proc;
         let mut count = 0;
         let mut cycle = 0;
-        let mut hint = 0;
         while cycle <= last && count <= issue {
-            let part = self.table.standing(Cell { cycle, component }, hint);
-            let end = part.end.min(last + 1);
-            count += sent_in(part.state, end - cycle);
+            let cell = Cell { cycle, component };
+            let to = self.table.stands_to(cell);
+            let end = to.min(last + 1);
+            let held = self.table.shared(cell)?;
+            count += sent_in(lent(&held), end - cycle);
             cycle = end;
-            hint = part.stretch.saturating_add(1);
         }
-        count > issue
+        Ok(count > issue)
     }
 
     /// The first reply that a processor received for an issue number, by a cycle. The stretches of its equal
     /// states are looked at from cycle 0 on, each once, up to that one.
-    fn first_reply(&self, proc: u32, issue: u32, last: u32) -> Option<Received>
+    ///
+    /// # Errors
+    ///
+    /// As `has_issued`.
+    fn first_reply(&self, proc: u32, issue: u32, last: u32) -> Result<Option<Received>, NoMemory>
         requires proc { proc < components (project_of self.now).k }
         requires within { last ≤ (project_of self.now).horizon }
-        ensures { result ≡ first_reply (λ t. held self.now.table t proc) issue (suc last) }
+        ensures { IfOk result (λ reply. reply ≡ first_reply (λ t. held self.now.table t proc) issue (suc last)) }
     {
         self.is_bench();
         let component = proc;
         let mut cycle = 0;
-        let mut hint = 0;
         while cycle <= last {
-            let part = self.table.standing(Cell { cycle, component }, hint);
-            match word_got(part.state, issue) {
-                Some(word) => return Some(Received { cycle, word }),
-                None => cycle = part.end.min(last + 1),
+            let cell = Cell { cycle, component };
+            let end = self.table.stands_to(cell);
+            let held = self.table.shared(cell)?;
+            match word_got(lent(&held), issue) {
+                Some(word) => return Ok(Some(Received { cycle, word })),
+                None => cycle = end.min(last + 1),
             }
-            hint = part.stretch.saturating_add(1);
         }
-        None
+        Ok(None)
     }
 
     /// What the states held up to a cycle tell of a reference: its reply, once it was issued and answered.
-    pub(super) fn replied_by(&self, proc: u32, issue: u32, last: u32) -> Option<Received>
+    ///
+    /// # Errors
+    ///
+    /// As `has_issued`.
+    pub(super) fn replied_by(
+        &self,
+        proc: u32,
+        issue: u32,
+        last: u32,
+    ) -> Result<Option<Received>, NoMemory>
         requires proc { proc < components (project_of self.now).k }
         requires within { last ≤ (project_of self.now).horizon }
-        ensures { result ≡ replied_in (λ t. held self.now.table t proc) issue (suc last) }
+        ensures { IfOk result (λ reply. reply ≡ replied_in (λ t. held self.now.table t proc) issue (suc last)) }
     {
-        if self.has_issued(proc, issue, last) {
+        if self.has_issued(proc, issue, last)? {
             self.first_reply(proc, issue, last)
         } else {
-            None
+            Ok(None)
         }
     }
 
@@ -87,10 +105,15 @@ impl Bench {
         ensures { TellsAs (version_of self.now) (found_in (held self.now.table) (project_of self.now) (ReplyTo proc issue)) result }
     {
         let horizon = self.project().horizon();
-        if !self.has_issued(proc, issue, horizon) {
-            return Asked::BadQuery(4);
+        match self.has_issued(proc, issue, horizon) {
+            Ok(true) => {}
+            Ok(false) => return Asked::BadQuery(4),
+            Err(NoMemory) => return Asked::Memory,
         }
-        self.answered(Body::Reply(self.first_reply(proc, issue, horizon)))
+        match self.first_reply(proc, issue, horizon) {
+            Ok(reply) => self.answered(Body::Reply(reply)),
+            Err(NoMemory) => Asked::Memory,
+        }
     }
 
     /// What the state held says to a query of a state, which is there.
@@ -110,7 +133,9 @@ impl Bench {
         requires { address < address_count }
         ensures { TellsAs (version_of self.now) (found_in (held self.now.table) (project_of self.now) (MemoryAt address cycle)) result }
     {
-        let state = self.table.state(self.module_cell(address, cycle));
-        self.answered(Body::Word(word_in(state, self.place(address).row)))
+        match self.table.shared(self.module_cell(address, cycle)) {
+            Ok(held) => self.answered(Body::Word(word_in(lent(&held), self.place(address).row))),
+            Err(NoMemory) => Asked::Memory,
+        }
     }
 }

@@ -5,6 +5,7 @@ ghost use Rattle.bench_core.specs.Shown.{project_of, held};
 
 use super::Bench;
 use cell_table::{Cell, Table};
+use grid_law::NoMemory;
 use machine_cells::Rp3;
 use omega_net::{Net, Request, Tag};
 use serial_order::{Ordered, States, order, order_in, second_of, served_by};
@@ -18,12 +19,23 @@ pub(super) struct Cells<'a> {
 impl<'a> States for Cells<'a> {
     ghost at = { λ s t c. held s.table.now t c };
 
-    fn served(&self, cycle: u32, component: u32, depth: u32) -> Option<(Net, Request)> {
-        served_by(self.table.state(Cell { cycle, component }), depth)
+    fn served(
+        &self,
+        cycle: u32,
+        component: u32,
+        depth: u32,
+    ) -> Result<Option<(Net, Request)>, NoMemory> {
+        match self.table.shared(Cell { cycle, component })? {
+            Some(state) => Ok(served_by(Some(&*state), depth)),
+            None => Ok(served_by(None, depth)),
+        }
     }
 
-    fn second(&self, cycle: u32, component: u32, tag: Tag) -> Option<Tag> {
-        second_of(self.table.state(Cell { cycle, component }), tag)
+    fn second(&self, cycle: u32, component: u32, tag: Tag) -> Result<Option<Tag>, NoMemory> {
+        match self.table.shared(Cell { cycle, component })? {
+            Some(state) => Ok(second_of(Some(&*state), tag)),
+            None => Ok(second_of(None, tag)),
+        }
     }
 }
 

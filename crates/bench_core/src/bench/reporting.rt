@@ -1,5 +1,6 @@
 //! Counters and reports.
 ghost use Rattle.std.specs.Prelude.{◌≡◌, ◌<◌, ◌≤◌, IfOk, map, Some, slice_get};
+ghost use Rattle.std.specs.Arc.{arc_value};
 ghost use Rattle.std.specs.Option.{ForSome};
 ghost use Rattle.omega_net.specs.Numbers.{lines, components};
 ghost use Rattle.machine_cells.specs.Run.{run};
@@ -11,6 +12,7 @@ ghost use Rattle.bench_core.specs.Asks.{TellsRun, HoldsRunTo};
 
 use super::Bench;
 use crate::Asked;
+use crate::lent::{lend, lend_all};
 use cell_table::Cell;
 use grid_law::{Grid, NoMemory};
 use machine_cells::{MachineState, Rp3};
@@ -18,6 +20,7 @@ use monitor_sums::Counter;
 use omega_net::Net;
 use run_queries::Body;
 use saturation::{level, tree};
+use std::sync::Arc;
 use std::thread::Threads;
 
 impl Bench {
@@ -59,15 +62,15 @@ impl Bench {
         Ok(self.counters.sums().profile(net, stage))
     }
 
-    /// The states of a cycle, by component.
-    fn row(&self, cycle: u32) -> Result<Vec<&MachineState>, NoMemory>
+    /// Shares of the states of a cycle, by component.
+    fn row(&self, cycle: u32) -> Result<Vec<Arc<MachineState>>, NoMemory>
         requires within { cycle ≤ (project_of self.now).horizon }
         requires there { HoldsRunTo self.now cycle }
-        ensures { IfOk result (λ row. slice_get (run (project_of self.now)) cycle ≡ Some (map (λ r. r.now) row.items)) }
+        ensures { IfOk result (λ row. slice_get (run (project_of self.now)) cycle ≡ Some (map arc_value row.items)) }
     {
         let mut row = Vec::new(*self.journal.allocator());
         for component in 0..Rp3::components(self.project()) {
-            match self.table.state(Cell { cycle, component }) {
+            match self.table.shared(Cell { cycle, component })? {
                 Some(state) => row.push(state)?,
                 None => unreachable!(),
             }
@@ -75,10 +78,10 @@ impl Bench {
         Ok(row)
     }
 
-    /// The states of each cycle, by component.
-    fn rows(&self) -> Result<Vec<Vec<&MachineState>>, NoMemory>
+    /// Shares of the states of each cycle, by component.
+    fn rows(&self) -> Result<Vec<Vec<Arc<MachineState>>>, NoMemory>
         requires { HoldsRunTo self.now (project_of self.now).horizon }
-        ensures { IfOk result (λ rows. map (λ row. map (λ r. r.now) row.items) rows.items ≡ run (project_of self.now)) }
+        ensures { IfOk result (λ rows. map (λ row. map arc_value row.items) rows.items ≡ run (project_of self.now)) }
     {
         let mut rows = Vec::new(*self.journal.allocator());
         for cycle in 0..self.project().horizon() + 1 {
@@ -93,9 +96,13 @@ impl Bench {
         requires there { HoldsRunTo self.now cycle }
         ensures { TellsRun self.now (LevelOf net «module» cycle) result }
     {
-        match self.row(cycle) {
-            Ok(row) => {
-                let level = level(self.project(), row.as_slice(), net, module);
+        let row = match self.row(cycle) {
+            Ok(row) => row,
+            Err(NoMemory) => return Asked::Memory,
+        };
+        match lend(*self.journal.allocator(), row.as_slice()) {
+            Ok(lent) => {
+                let level = level(self.project(), lent.as_slice(), net, module);
                 self.answered(Body::Level(level))
             }
             Err(NoMemory) => Asked::Memory,
@@ -112,7 +119,11 @@ impl Bench {
             Err(NoMemory) => return Asked::Memory,
         };
         let alloc = *self.journal.allocator();
-        match tree(rt, alloc, self.project(), rows.as_slice(), net, module) {
+        let lent = match lend_all(alloc, rows.as_slice()) {
+            Ok(lent) => lent,
+            Err(NoMemory) => return Asked::Memory,
+        };
+        match tree(rt, alloc, self.project(), lent.as_slice(), net, module) {
             Ok(tree) => self.answered(Body::Tree(tree)),
             Err(NoMemory) => Asked::Memory,
         }

@@ -89,7 +89,7 @@ impl Bench {
         ensures clock { self.old.table.clock ≡ 2 ^ 64 - 1 → self.new.table.clock ≡ 2 ^ 64 - 1 }
     {
         let table = &mut self.table;
-        table.settle_rows::<MachineRow, _>(&mut self.counters)
+        table.settle_rows::<MachineRow, _>(&mut self.rows, &mut self.counters)
     }
 
     /// Settles the cells up to a cycle as `settle` settles all. The cells stored are exactly those of that cycle or an
@@ -115,6 +115,6 @@ impl Bench {
         ensures clock { self.old.table.clock ≡ 2 ^ 64 - 1 → self.new.table.clock ≡ 2 ^ 64 - 1 }
     {
         let (table, counters) = (&mut self.table, &mut self.counters);
-        table.settle_rows_to::<MachineRow, _>(last, counters)
+        table.settle_rows_to::<MachineRow, _>(last, &mut self.rows, counters)
     }
 }

@@ -7,12 +7,12 @@ ghost use Rattle.cell_table.specs.Filling.{is_awake};
 ghost use Rattle.cell_table.specs.Settling.{NoneDueBefore, IsAt, IsFurther};
 ghost use Rattle.cell_table.specs.Passing.{HoldsBut};
 ghost use Rattle.cell_table.specs.Repeating.{any_changes, BeginsAlike, StaysBefore, StaysAlike, IsAlike, StaysAlikeTo};
+ghost use Rattle.cell_table.specs.Spares.{IsSpare, IsWide};
 
 use super::Table;
-use super::filling::has_room;
 use crate::cells::repeat_cells;
 use crate::ranges::ranges_of;
-use crate::rows::{clock_filled, mark_changed};
+use crate::rows::{clock_filled, has_room, mark_changed, reach_in};
 use crate::watcher::Watcher;
 use crate::{Cell, CellRange};
 use cell_marks::Row;
@@ -26,6 +26,12 @@ pub(super) struct Spare {
     pub changes: Row,
     pub reached: Row,
     pub ranges: Vec<CellRange>,
+    /// The components that got other words, those whose cells are settled by what is near them, and the cells of a cycle that are due and
+    /// hold the run already.
+    pub worded: Row,
+    pub left: Row,
+    pub known: Row,
+    pub known_at: u32,
     /// How many cycles in a row were tried in vain, and how many are to be let by before the next try.
     failed: u32,
     wait: u32,
@@ -37,13 +43,17 @@ const LONGEST_WAIT: u32 = 16;
 impl Spare {
     /// For so many components.
     pub(super) fn new(alloc: Global, count: u32) -> Result<Spare, NoMemory>
-        ensures changes { IfOk result (λ s. length s.changes ≡ count) }
-        ensures reached { IfOk result (λ s. length s.reached ≡ count) }
+        ensures wide { IfOk result (IsWide count) }
+        ensures none { IfOk result (λ s. s.known_at ≡ 0) }
     {
         Ok(Spare {
             changes: Row::new(alloc, count, false)?,
             reached: Row::new(alloc, count, false)?,
             ranges: Vec::new(alloc),
+            worded: Row::new(alloc, count, false)?,
+            left: Row::new(alloc, count, false)?,
+            known: Row::new(alloc, count, false)?,
+            known_at: 0,
             failed: 0,
             wait: 0,
         })
@@ -88,6 +98,24 @@ impl<G: Grid> Table<G> {
         true
     }
 
+    /// Whether near each due cell of a cycle all stayed a cycle before. No state is looked at.
+    fn all_wait(&self, cycle: u32, count: u32) -> bool
+        requires there { cycle ≤ self.now.horizon }
+        requires later { 0 < cycle }
+        requires width { count ≡ G.rules.components self.now.slots }
+    {
+        // The number of a component is below this one, so that of the next fits.
+        let _count = count;
+        let mut from = 0;
+        while let Some(component) = self.cells.next_due(cycle, from) {
+            if !self.cells.all_stay(cycle - 1, self.near(component)) {
+                return false;
+            }
+            from = component + 1;
+        }
+        true
+    }
+
     /// Whether each due cell of a cycle gets the state of the cell before, known without a step. The components of those that
     /// hold another one are marked.
     fn begins_alike(&self, cycle: u32, changes: &mut Row) -> bool
@@ -98,7 +126,7 @@ impl<G: Grid> Table<G> {
         ensures len { length changes.new ≡ length changes.old }
         ensures alike { result ≡ true → BeginsAlike G.rules self.now cycle changes.new }
     {
-        if cycle < 2 {
+        if cycle < 2 || !self.all_wait(cycle, changes.len()) {
             return false;
         }
         // The number of a component is below this one, so that of the next fits.
@@ -125,13 +153,17 @@ impl<G: Grid> Table<G> {
         if changes.has(component) {
             return end;
         }
+        if end <= cycle {
+            return end;
+        }
         let cycle = cycle - 1;
-        let last = self.cells.standing(Cell { cycle, component }, 0).end;
-        if last < end { last + 1 } else { end }
+        self.cells.stands_before(Cell { cycle, component }, end - 1) + 1
     }
 
     /// To before which cycle, `end` at most, a due cell's component holds the state that it holds here, and those near it
-    /// that don't change what they held a cycle earlier.
+    /// that don't change what they held a cycle earlier. No further cycle is looked at once fewer than two are left, since nothing is
+    /// gained then.
+    #[tactic(auto, using(crate::proofs::Alike::stays_few))]
     fn alike_to(&self, cell: Cell, changes: &Row, end: u32) -> u32
         requires there { IsThere G.rules self.now cell.cycle cell.component }
         requires later { 2 ≤ cell.cycle }
@@ -139,14 +171,21 @@ impl<G: Grid> Table<G> {
         ensures before { result ≤ end }
         ensures stays { StaysAlikeTo G.rules self.now cell.cycle changes.now cell.component result }
     {
-        let mut to = end.min(self.cells.standing(cell, 0).end);
+        if end.saturating_sub(cell.cycle) < 2 {
+            return end;
+        }
+        let mut to = self.cells.stands_before(cell, end);
         for component in self.near(cell.component) {
+            if to.saturating_sub(cell.cycle) < 2 {
+                return to;
+            }
             to = self.alike_near(*component, cell.cycle, changes, to);
         }
         to
     }
 
     /// The same of all due cells of a cycle.
+    #[tactic(auto, using(crate::proofs::Alike::stays_few))]
     fn alike_end(&self, cycle: u32, changes: &Row, end: u32) -> u32
         requires there { cycle ≤ self.now.horizon }
         requires later { 2 ≤ cycle }
@@ -160,6 +199,9 @@ impl<G: Grid> Table<G> {
         let mut from = 0;
         while let Some(component) = self.cells.next_due(cycle, from) {
             to = self.alike_to(Cell { cycle, component }, changes, to);
+            if to.saturating_sub(cycle) < 2 {
+                return to;
+            }
             from = component + 1;
         }
         to
@@ -173,7 +215,7 @@ impl<G: Grid> Table<G> {
         ensures reached { (c : ℕ) → c < G.rules.components self.now.slots
             → is_awake reached.new c ≡ any_changes changes.now (G.rules.near self.now.slots c) (G.rules.components self.now.slots) }
     {
-        self.readers.gather(changes, reached);
+        reach_in::<G>(&self.slots, &self.readers, changes, reached);
     }
 
     /// To before which cycle, `end` at most, the components due, or among those, are those due at a cycle.
@@ -201,10 +243,8 @@ impl<G: Grid> Table<G> {
         requires there { cycle < end }
         requires within { end ≤ self.old.horizon + 1 }
         requires none { NoneDueBefore G.rules self.old cycle 0 }
-        requires changes { length spare.old.changes ≡ G.rules.components self.old.slots }
-        requires reached { length spare.old.reached ≡ G.rules.components self.old.slots }
-        ensures changes { length spare.new.changes ≡ length spare.old.changes }
-        ensures reached { length spare.new.reached ≡ length spare.old.reached }
+        requires spare { IsSpare G.rules self.old spare.old }
+        ensures spare { IsSpare G.rules self.new spare.new }
         ensures none { IfNone result (self.new ≡ self.old) }
         ensures on { IfSome result (λ a. (first : Seen G.State G.Slots) (n : ℕ) → IsAt G.rules first self.old cycle 0 n → IsAt G.rules first self.new (cycle + a.cycles) 0 (n + a.computed)) }
         ensures slots { self.new.slots ≡ self.old.slots }
@@ -249,6 +289,7 @@ impl<G: Grid> Table<G> {
         );
         let clock = clock_filled(self.clock, cycles, changed);
         self.clock = clock;
+        spare.known_at = 0;
         Some(Alike {
             cycles,
             computed: u64::from(cycles) * u64::from(due),
@@ -287,11 +328,9 @@ impl<G: Grid> Table<G> {
     ) -> Option<Passed>
         requires within { end ≤ self.old.horizon + 1 }
         requires none { NoneDueBefore G.rules self.old from.cycle from.component }
-        requires changes { length spare.old.changes ≡ G.rules.components self.old.slots }
-        requires reached { length spare.old.reached ≡ G.rules.components self.old.slots }
+        requires spare { IsSpare G.rules self.old spare.old }
         requires watched { W.keeps watcher.old self.old }
-        ensures changes { length spare.new.changes ≡ length spare.old.changes }
-        ensures reached { length spare.new.reached ≡ length spare.old.reached }
+        ensures spare { IsSpare G.rules self.new spare.new }
         ensures slots { self.new.slots ≡ self.old.slots }
         ensures watched { W.keeps watcher.new self.new }
         ensures none { IfNone result (self.new ≡ self.old) }

@@ -45,10 +45,7 @@ impl<G: Grid> Table<G> {
     pub(super) fn holds(&self, cell: Cell, state: &G::State) -> bool
         ensures { IsTrue result ↔ ((held_at self.now.rows cell.cycle cell.component).state ≡ Some state.now) }
     {
-        match self.state(cell) {
-            Some(held) => G::same(held, state),
-            None => false,
-        }
+        self.cells.holds(cell, state)
     }
 
     /// Stores a state that was computed from what is there now. Where memory is wanting, nothing is

@@ -9,14 +9,14 @@ ghost use Rattle.cell_table.specs.Gives.{IsAfterStore, IsStored, HoldsSame};
 ghost use Rattle.cell_table.specs.Events.{Event, Start};
 ghost use Rattle.cell_table.specs.Stands.{Stands};
 ghost use Rattle.cell_table.specs.Settling.{IsAsBefore, IsNextDueInRow, NoneDueBefore, NoneDueFrom, HoldsRunBefore, IsNextDue, IsSettled, IsSettledTo, SettlesNext, IsSpent, IsSpentBefore, IsAt, StopsBefore, IsFurther, computed_of, IsClockSpent};
-ghost use Rattle.cell_table.specs.WholeRows.{HoldsRow};
+ghost use Rattle.cell_table.specs.Spares.{GoesAlong, IsSpare};
+ghost use Rattle.cell_table.specs.NextWords.{AreBeside};
 ghost use Rattle.cell_table.specs.Cost.{Settles, SettlesTo, SettlesFirst, SettlesFirstTo};
 
 use super::Table;
 use super::alike::{Passed, Spare};
-use super::wide::Wide;
-use crate::fill::no_news;
-use crate::near::{first, five_lent};
+use crate::along::{Along, keep_idle};
+use crate::beside::{Beside, resume_all};
 use crate::watcher::{Nobody, Watcher};
 use crate::whole_row::NoRow;
 use crate::{Cell, SettleFault, Settled, StoreFault, WholeRow};
@@ -95,28 +95,38 @@ impl<G: Grid> Table<G> {
         !self.due(before) && self.cells.all_stay(before.cycle, near)
     }
 
-    /// The state that the present slots and near states give a cell, or none where it is that of
-    /// the cell before.
-    fn stepped(&self, cell: Cell) -> Result<Option<Arc<G::State>>, NoMemory>
+    /// The state that the present slots and near states give a cell.
+    fn stepped(&self, cell: Cell) -> Result<Arc<G::State>, NoMemory>
         requires there { IsThere G.rules self.now cell.cycle cell.component }
         requires ready { is_some (inputs_of G.rules self.now.slots self.now.rows cell.cycle cell.component) ≡ true }
         requires later { 0 < cell.cycle }
-        ensures { IfOk result (λ o. MatchOption o (IsAsBefore G.rules self.now cell.cycle cell.component)
-            (λ x. arc_value x ≡ current_of G.rules self.now.slots self.now.rows cell.cycle cell.component)) }
+        ensures { IfOk result (λ x. arc_value x ≡ current_of G.rules self.now.slots self.now.rows cell.cycle cell.component) }
     {
         let alloc = self.cells.allocator();
-        let near = self.near(cell.component);
+        let mut near = Vec::new(alloc);
+        let all = self.inputs(cell, &mut near)?;
+        if all {
+            G::step(alloc, &self.slots, near.as_slice(), cell.component)
+        } else {
+            unreachable!()
+        }
+    }
+
+    /// A state that was computed for a cell, or none where the cell before holds it.
+    fn other_than_before(&self, cell: Cell, state: Arc<G::State>) -> Option<Arc<G::State>>
+        requires later { 0 < cell.cycle }
+        requires computed { arc_value state ≡ current_of G.rules self.now.slots self.now.rows cell.cycle cell.component }
+        ensures { MatchOption result (IsAsBefore G.rules self.now cell.cycle cell.component)
+            (λ x. arc_value x ≡ current_of G.rules self.now.slots self.now.rows cell.cycle cell.component) }
+    {
         let before = Cell {
             cycle: cell.cycle - 1,
             component: cell.component,
         };
-        match self.cells.state(before) {
-            Some(own) => {
-                let five = five_lent(&self.cells, before.cycle, near, own);
-                let lent = first(&five, near.len());
-                G::next(alloc, &self.slots, lent, cell.component)
-            }
-            None => unreachable!(),
+        if self.holds(before, &state) {
+            None
+        } else {
+            Some(state)
         }
     }
 
@@ -135,7 +145,8 @@ impl<G: Grid> Table<G> {
         if self.is_as_before(cell) {
             return Ok(None);
         }
-        self.stepped(cell)
+        let state = self.stepped(cell)?;
+        Ok(self.other_than_before(cell, state))
     }
 
     /// Whether a cell holds the state of the cell before it, where it may be known that it does.
@@ -149,14 +160,7 @@ impl<G: Grid> Table<G> {
         if stays {
             return true;
         }
-        let before = Cell {
-            cycle: cell.cycle - 1,
-            component: cell.component,
-        };
-        match self.state(before) {
-            Some(state) => self.holds(cell, state),
-            None => false,
-        }
+        self.cells.is_as_before(cell)
     }
 
     /// Stores what was computed, as `settle_cell` does.
@@ -210,17 +214,6 @@ impl<G: Grid> Table<G> {
         }
     }
 
-    /// Gets the components near a cell ready for a look at them: their states a cycle earlier are found at once then. To move a
-    /// line along costs a step for each stretch that it is moved over, but mostly it is there, from the cycle before or from the
-    /// edit before.
-    fn bring_near(&mut self, cell: Cell)
-        requires { IsThere G.rules self.old cell.cycle cell.component }
-        ensures { self.new ≡ self.old }
-    {
-        self.cells
-            .bring_to(cell.cycle, self.neighbours.of(cell.component));
-    }
-
     /// Computes the cell and stores its state; tells whether the cell held no state or another one.
     pub(super) fn settle_cell(&mut self, cell: Cell) -> Result<bool, StoreFault>
         requires there { IsThere G.rules self.old cell.cycle cell.component }
@@ -232,7 +225,6 @@ impl<G: Grid> Table<G> {
         ensures spent { result ≡ Err StoreFault.ClockSpent → (self.old.clock ≡ 2 ^ 64 - 1)
             × ((held_at self.old.rows cell.cycle cell.component).state ≢ Some (current_of G.rules self.old.slots self.old.rows cell.cycle cell.component)) }
     {
-        self.bring_near(cell);
         match self.computed(cell) {
             Ok(Some(state)) => self.settle_state(cell, state),
             Ok(None) => self.settle_again(cell),
@@ -284,20 +276,19 @@ impl<G: Grid> Table<G> {
         from: Cell,
         end: u32,
         spare: &mut Spare,
-        wide: &mut Wide<G::State, M>,
+        along: &mut Option<Along<M>>,
+        beside: &mut Beside<M>,
         watcher: &mut W,
     ) -> Result<Option<Passed>, StoreFault>
         requires within { end ≤ self.old.horizon + 1 }
         requires none { NoneDueBefore G.rules self.old from.cycle from.component }
-        requires changes { length spare.old.changes ≡ G.rules.components self.old.slots }
-        requires reached { length spare.old.reached ≡ G.rules.components self.old.slots }
-        requires news { length wide.old.news.items ≡ G.rules.components self.old.slots }
-        requires along { IfSome wide.old.along (λ a. HoldsRow G.rules M.stands M.holds self.old.slots a.row a.cycle) }
+        requires spare { IsSpare G.rules self.old spare.old }
+        requires along { IfSome along.old (GoesAlong G.rules M.stands M.state self.old.slots) }
         requires watched { W.keeps watcher.old self.old }
-        ensures changes { length spare.new.changes ≡ length spare.old.changes }
-        ensures reached { length spare.new.reached ≡ length spare.old.reached }
-        ensures news { length wide.new.news.items ≡ length wide.old.news.items }
-        ensures along { IfSome wide.new.along (λ a. HoldsRow G.rules M.stands M.holds self.new.slots a.row a.cycle) }
+        requires beside { AreBeside G.rules G.codec M.stands M.state self.old.slots beside.old }
+        ensures spare { IsSpare G.rules self.new spare.new }
+        ensures beside { AreBeside G.rules G.codec M.stands M.state self.new.slots beside.new }
+        ensures along { IfSome along.new (GoesAlong G.rules M.stands M.state self.new.slots) }
         ensures watched { W.keeps watcher.new self.new }
         ensures none { IfOk result (λ o. IfNone o (NoneDueBefore G.rules self.old end 0 × HoldsRunBefore G.rules self.old end 0 × (self.new ≡ self.old))) }
         ensures on { IfOk result (λ o. IfSome o (λ p. (first : Seen G.State G.Slots) (n : ℕ) → IsAt G.rules first self.old from.cycle from.component n → IsAt G.rules first self.new p.to.cycle p.to.component (n + p.computed))) }
@@ -306,12 +297,13 @@ impl<G: Grid> Table<G> {
         ensures err { OnErr result (self.new ≡ self.old) }
         ensures spent { result ≡ Err StoreFault.ClockSpent → IsSpentBefore G.rules end self.old from.cycle from.component }
     {
-        match self.settle_at_once(from, end, spare, wide, watcher) {
+        match self.settle_at_once(from, end, spare, along, beside, watcher) {
             Some(passed) => return Ok(Some(passed)),
             None => {}
         }
         match self.settle_next(from, end) {
             Ok(Some(settled)) => {
+                spare.known_at = 0;
                 self.tell(watcher, settled);
                 let to = Cell {
                     cycle: settled.cell.cycle,
@@ -324,10 +316,50 @@ impl<G: Grid> Table<G> {
         }
     }
 
+    /// As `settle_each`, where there is what settling takes beside the table.
+    fn settle_all<M: WholeRow<G>, W: Watcher<G>>(
+        &mut self,
+        end: u32,
+        spare: &mut Spare,
+        along: &mut Option<Along<M>>,
+        beside: &mut Beside<M>,
+        watcher: &mut W,
+    ) -> Result<Settled, SettleFault>
+        requires within { end ≤ self.old.horizon + 1 }
+        requires spare { IsSpare G.rules self.old spare.old }
+        requires along { IfSome along.old (GoesAlong G.rules M.stands M.state self.old.slots) }
+        requires beside { AreBeside G.rules G.codec M.stands M.state self.old.slots beside.old }
+        requires watched { W.keeps watcher.old self.old }
+        ensures along { IfSome along.new (GoesAlong G.rules M.stands M.state self.new.slots) }
+        ensures beside { AreBeside G.rules G.codec M.stands M.state self.new.slots beside.new }
+        ensures watched { W.keeps watcher.new self.new }
+        ensures all { IfOk result (λ s. IsAt G.rules self.old self.new end 0 s.computed) }
+        ensures stops { IfErr result (λ f. StopsBefore G.rules end self.old self.new (computed_of f)) }
+        ensures spent { IfErr result (λ f. IsClockSpent f → IsSpentBefore G.rules end self.new 0 0) }
+    {
+        let mut computed: u64 = 0;
+        let mut from = Cell {
+            cycle: 0,
+            component: 0,
+        };
+        loop {
+            match self.settle_more(from, end, spare, along, beside, watcher) {
+                Ok(Some(passed)) => {
+                    computed += passed.computed;
+                    from = passed.to;
+                }
+                Ok(None) => return Ok(Settled { computed }),
+                Err(StoreFault::ClockSpent) => return Err(SettleFault::ClockSpent { computed }),
+                Err(StoreFault::Memory) => return Err(SettleFault::Memory { computed }),
+            }
+        }
+    }
+
     /// As `settle_before`, one cell after another, and cycles at once where the same happens as in the one before.
     fn settle_each<M: WholeRow<G>, W: Watcher<G>>(
         &mut self,
         end: u32,
+        beside: &mut Beside<M>,
         watcher: &mut W,
     ) -> Result<Settled, SettleFault>
         requires within { end ≤ self.old.horizon + 1 }
@@ -337,8 +369,8 @@ impl<G: Grid> Table<G> {
         ensures stops { IfErr result (λ f. StopsBefore G.rules end self.old self.new (computed_of f)) }
         ensures spent { IfErr result (λ f. IsClockSpent f → IsSpentBefore G.rules end self.new 0 0) }
     {
-        let mut computed: u64 = 0;
-        let mut from = Cell {
+        let computed: u64 = 0;
+        let from = Cell {
             cycle: 0,
             component: 0,
         };
@@ -351,22 +383,11 @@ impl<G: Grid> Table<G> {
             Ok(spare) => spare,
             Err(_) => return Err(SettleFault::Memory { computed }),
         };
-        let news = match no_news(self.cells.allocator(), count as usize) {
-            Ok(news) => news,
-            Err(_) => return Err(SettleFault::Memory { computed }),
-        };
-        let mut wide: Wide<G::State, M> = Wide { along: None, news };
-        loop {
-            match self.settle_more(from, end, &mut spare, &mut wide, watcher) {
-                Ok(Some(passed)) => {
-                    computed += passed.computed;
-                    from = passed.to;
-                }
-                Ok(None) => return Ok(Settled { computed }),
-                Err(StoreFault::ClockSpent) => return Err(SettleFault::ClockSpent { computed }),
-                Err(StoreFault::Memory) => return Err(SettleFault::Memory { computed }),
-            }
-        }
+        resume_all::<G, M>(beside, &self.slots);
+        let mut along: Option<Along<M>> = None;
+        let settled = self.settle_all(end, &mut spare, &mut along, beside, watcher);
+        keep_idle::<G, M>(&self.slots, along, beside);
+        settled
     }
 
     /// The cycle behind one, at most that behind the horizon.
@@ -395,6 +416,7 @@ impl<G: Grid> Table<G> {
     fn settle_before<M: WholeRow<G>, W: Watcher<G>>(
         &mut self,
         end: u32,
+        beside: &mut Beside<M>,
         watcher: &mut W,
     ) -> Result<Settled, SettleFault>
         requires within { end ≤ self.old.horizon + 1 }
@@ -404,32 +426,13 @@ impl<G: Grid> Table<G> {
         ensures stops { IfErr result (λ f. StopsBefore G.rules end self.old self.new (computed_of f)) }
         ensures spent { IfErr result (λ f. IsClockSpent f → IsSpentBefore G.rules end self.new 0 0) }
     {
-        let settled = self.settle_due::<M, W>(end, watcher)?;
+        let settled = self.settle_each::<M, W>(end, beside, watcher)?;
         self.note_held(end);
         Ok(settled)
     }
 
-    /// As `settle_before`.
-    fn settle_due<M: WholeRow<G>, W: Watcher<G>>(
-        &mut self,
-        end: u32,
-        watcher: &mut W,
-    ) -> Result<Settled, SettleFault>
-        requires within { end ≤ self.old.horizon + 1 }
-        requires watched { W.keeps watcher.old self.old }
-        ensures watched { W.keeps watcher.new self.new }
-        ensures all { IfOk result (λ s. IsAt G.rules self.old self.new end 0 s.computed) }
-        ensures stops { IfErr result (λ f. StopsBefore G.rules end self.old self.new (computed_of f)) }
-        ensures spent { IfErr result (λ f. IsClockSpent f → IsSpentBefore G.rules end self.new 0 0) }
-    {
-        match self.first_new(end) {
-            Some(from) => self.settle_new(from, end, watcher),
-            None => self.settle_each::<M, W>(end, watcher),
-        }
-    }
-
-    /// `settle_to`, where `watcher` is told of what is stored as soon as it is, and cycles of which many cells are due are settled by a
-    /// row of all components.
+    /// `settle_to`, where `watcher` is told of what is stored as soon as it is, and cycles are settled by rows of all components, which
+    /// are kept.
     ///
     /// # Errors
     ///
@@ -437,6 +440,7 @@ impl<G: Grid> Table<G> {
     pub fn settle_rows_to<M: WholeRow<G>, W: Watcher<G>>(
         &mut self,
         last: u32,
+        beside: &mut Beside<M>,
         watcher: &mut W,
     ) -> Result<Settled, SettleFault>
         requires { W.keeps watcher.old self.old }
@@ -454,7 +458,7 @@ impl<G: Grid> Table<G> {
         ensures differs { IfErr result (λ f. IsClockSpent f → (spent : IsSpent G.rules self.new 0 0) × (spent.cell.cycle ≤ last)) }
     {
         let end = self.end_of(last);
-        self.settle_before::<M, W>(end, watcher)
+        self.settle_before::<M, W>(end, beside, watcher)
     }
 
     /// `settle_to`, where `watcher` is told of what is stored as soon as it is.
@@ -481,7 +485,7 @@ impl<G: Grid> Table<G> {
         ensures spent { IfErr result (λ f. IsClockSpent f → self.new.clock ≡ 2 ^ 64 - 1) }
         ensures differs { IfErr result (λ f. IsClockSpent f → (spent : IsSpent G.rules self.new 0 0) × (spent.cell.cycle ≤ last)) }
     {
-        self.settle_rows_to::<NoRow, W>(last, watcher)
+        self.settle_rows_to::<NoRow, W>(last, &mut Beside::none(), watcher)
     }
 
     /// `settle`, where `watcher` is told of what is stored as soon as it is, and cycles of which many cells are due are settled by a row of
@@ -492,6 +496,7 @@ impl<G: Grid> Table<G> {
     /// As `settle`. The watcher was told of just those cells that stay stored.
     pub fn settle_rows<M: WholeRow<G>, W: Watcher<G>>(
         &mut self,
+        beside: &mut Beside<M>,
         watcher: &mut W,
     ) -> Result<Settled, SettleFault>
         requires { W.keeps watcher.old self.old }
@@ -509,7 +514,7 @@ impl<G: Grid> Table<G> {
         ensures differs { IfErr result (λ f. IsClockSpent f → IsSpent G.rules self.new 0 0) }
     {
         let last = self.horizon();
-        self.settle_rows_to::<M, W>(last, watcher)
+        self.settle_rows_to::<M, W>(last, beside, watcher)
     }
 
     /// `settle`, where `watcher` is told of what is stored as soon as it is.
@@ -532,7 +537,7 @@ impl<G: Grid> Table<G> {
         ensures spent { IfErr result (λ f. IsClockSpent f → self.new.clock ≡ 2 ^ 64 - 1) }
         ensures differs { IfErr result (λ f. IsClockSpent f → IsSpent G.rules self.new 0 0) }
     {
-        self.settle_rows::<NoRow, W>(watcher)
+        self.settle_rows::<NoRow, W>(&mut Beside::none(), watcher)
     }
 
     /// Settles the cells up to a cycle as `settle` settles all. The cells stored are exactly those of that cycle or an

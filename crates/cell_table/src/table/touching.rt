@@ -1,20 +1,21 @@
 //! Following an edit.
-ghost use Rattle.std.specs.Prelude.{◌≡◌, ℕ, is_some, ◌+◌, ◌<◌, ◌≤◌, ◌-◌, ◌^◌, ◌↔◌, IfOk, OnOk, OnErr, unwrap_or, true, false, ◌||◌, ◌&&◌, ◌==◌, nat_le, nat_lt, All, List, ◌∷◌};
-ghost use Rattle.std.specs.Option.{option_copied};
+ghost use Rattle.std.specs.Prelude.{◌≡◌, ℕ, is_some, ◌+◌, ◌<◌, ◌≤◌, ◌-◌, ◌^◌, ◌↔◌, IfOk, OnOk, OnErr, unwrap_or, Some, true, false, ◌||◌, ◌&&◌, ◌==◌, nat_le, nat_lt, All, List, ◌∷◌};
 ghost use Rattle.grid_law.specs.Rules.{Differ, reader_at};
 ghost use Rattle.cell_table.specs.Cells.{IsThere};
 ghost use Rattle.cell_table.specs.Inputs.{inputs_of};
 ghost use Rattle.cell_table.specs.Reads.{reads_by, is_reader};
+ghost use Rattle.cell_table.specs.Seen.{held_at};
 ghost use Rattle.cell_table.specs.Touches.{covers, is_marked, IsWithin, AreReady, cell_reads, cell_reads_one, IsAfterTouch};
 ghost use Rattle.cell_table.specs.Events.{Event, Start, Edits};
 ghost use Rattle.cell_table.specs.Stands.{Stands};
 ghost use Rattle.cell_table.specs.Settling.{IsSettled};
+ghost use Rattle.grid_law.specs.Run.{run};
 ghost use Rattle.cell_table.specs.Cost.{Costs, CostsAnEdit};
 
 use super::Table;
 use crate::marks::{add_where, retouch};
 use crate::{Cell, CellRange, TouchFault};
-use grid_law::{Changed, Grid, NoMemory, Reader};
+use grid_law::{Changed, Grid, NoMemory, Reader, Turn};
 use std::alloc::Global;
 use std::sync::Arc;
 
@@ -28,16 +29,13 @@ impl<G: Grid> Table<G> {
         G::reads(&self.slots, near.as_slice(), component, slot)
     }
 
-    /// Whether a component reads the slot after cycle 0, where its own state one cycle earlier was this
-    /// and the other near states are there.
-    fn reads_by(&self, own: Option<&G::State>, component: u32, slot: &G::Slot) -> bool
-        requires { component < G.rules.components self.now.slots }
-        ensures { result ≡ reads_by G.rules self.now.slots component slot.now (option_copied own.entry) }
+    /// Whether a component reads the slot after cycle 0, where its own state one cycle earlier is this cell's and the other near
+    /// states are there.
+    fn reads_by(&self, own: Cell, slot: &G::Slot) -> bool
+        requires { own.component < G.rules.components self.now.slots }
+        ensures { result ≡ reads_by G.rules self.now.slots own.component slot.now (held_at self.now.rows own.cycle own.component).state }
     {
-        match own {
-            Some(state) => G::reads_later(&self.slots, state, component, slot),
-            None => false,
-        }
+        self.cells.reads(&self.slots, own, slot)
     }
 
     /// Before which cycle each cell's near states are known to be there, as far as `end`; no cell is looked at.
@@ -116,6 +114,74 @@ impl<G: Grid> Table<G> {
         Ok(to)
     }
 
+    /// Whether it can be told where along the run a component reads the slot: where all cells hold the run.
+    fn has_turns(&self, slot: &G::Slot) -> bool
+        ensures { result ≡ true → (t c : ℕ) → IsThere G.rules self.now t c → (held_at self.now.rows t c).state ≡ Some (run G.rules self.now.slots t c) }
+    {
+        self.due_to(self.horizon) == 0 && G::has_turns(slot)
+    }
+
+    /// From which cycle on a component may read the slot, where no earlier one from `from` on does, up to the last.
+    fn turn_from(&self, component: u32, slot: &G::Slot, from: u32, last: u32) -> u32
+        requires there { component < G.rules.components self.now.slots }
+        requires held { (t c : ℕ) → IsThere G.rules self.now t c → (held_at self.now.rows t c).state ≡ Some (run G.rules self.now.slots t c) }
+        requires later { 0 < from }
+        requires order { from ≤ last + 1 }
+        requires last { last ≤ self.now.horizon }
+        ensures from { from ≤ result }
+        ensures to { result ≤ last + 1 }
+        ensures none { (t : ℕ) → from ≤ t → t < result → cell_reads_one G.rules self.now.slots self.now.rows slot.now t component ≡ false }
+    {
+        // The cycles are at most this many, so the next cycle's number fits.
+        let _cycles = self.cells.cycles();
+        let mut low = from;
+        let mut high = last + 1;
+        while low < high {
+            let cycle = low + (high - low) / 2;
+            let own = Cell {
+                cycle: cycle - 1,
+                component,
+            };
+            match self.cells.turn(&self.slots, own, slot) {
+                Turn::Ahead => low = cycle + 1,
+                Turn::Here | Turn::Passed => high = cycle,
+            }
+        }
+        low
+    }
+
+    /// From which cycle on a component is asked whether it reads the slot: where all cells hold the run, from the first one at which it may.
+    fn asked_from(&self, turns: bool, component: u32, slot: &G::Slot, from: u32, last: u32) -> u32
+        requires there { component < G.rules.components self.now.slots }
+        requires held { turns ≡ true → (t c : ℕ) → IsThere G.rules self.now t c → (held_at self.now.rows t c).state ≡ Some (run G.rules self.now.slots t c) }
+        requires later { 0 < from }
+        requires order { from ≤ last + 1 }
+        requires last { last ≤ self.now.horizon }
+        ensures from { from ≤ result }
+        ensures to { result ≤ last + 1 }
+        ensures none { (t : ℕ) → from ≤ t → t < result → cell_reads_one G.rules self.now.slots self.now.rows slot.now t component ≡ false }
+    {
+        if turns {
+            return self.turn_from(component, slot, from, last);
+        }
+        from
+    }
+
+    /// Whether it is known that a component reads the slot at no cycle any more behind that of a cell of its own, where all cells hold the run.
+    fn has_passed(&self, turns: bool, own: Cell, slot: &G::Slot) -> bool
+        requires there { own.component < G.rules.components self.now.slots }
+        requires held { turns ≡ true → (t c : ℕ) → IsThere G.rules self.now t c → (held_at self.now.rows t c).state ≡ Some (run G.rules self.now.slots t c) }
+        ensures { result ≡ true → (t : ℕ) → own.cycle < t → t ≤ self.now.horizon → cell_reads_one G.rules self.now.slots self.now.rows slot.now t own.component ≡ false }
+    {
+        if !turns {
+            return false;
+        }
+        match self.cells.turn(&self.slots, own, slot) {
+            Turn::Passed => true,
+            Turn::Ahead | Turn::Here => false,
+        }
+    }
+
     /// Adds the cells of later cycles, up to the last, at which a component reads the slot. One that is sure to read it isn't
     /// asked; another one is, once for each stretch of its own states.
     #[inline(never)]
@@ -137,13 +203,18 @@ impl<G: Grid> Table<G> {
     {
         // The cycles are at most this many, so the next cycle's number fits.
         let _cycles = self.cells.cycles();
-        let mut from = self.add_always(component, slot, last, ready, ranges)?;
-        let mut hint = 0;
+        let begun = self.add_always(component, slot, last, ready, ranges)?;
+        let turns = self.has_turns(slot);
+        let mut from = self.asked_from(turns, component, slot, begun, last);
         while from <= last {
             let cycle = from - 1;
-            let own = self.standing(Cell { cycle, component }, hint);
-            let to = own.end.min(last) + 1;
-            let reads = self.reads_by(own.state, component, slot);
+            let own = Cell { cycle, component };
+            if self.has_passed(turns, own, slot) {
+                return Ok(());
+            }
+            let end = self.stands_to(own);
+            let to = end.min(last) + 1;
+            let reads = self.reads_by(own, slot);
             let range = CellRange {
                 component,
                 from,
@@ -151,7 +222,6 @@ impl<G: Grid> Table<G> {
             };
             self.add_ready(range, reads, ready, ranges)?;
             from = to;
-            hint = own.stretch.saturating_add(1);
         }
         Ok(())
     }

@@ -1,13 +1,14 @@
 //! The messages of a queue one cycle later, which nobody moves.
-ghost use Rattle.std.specs.Prelude.{◌≡◌, ℕ, ◌+◌, ◌*◌, ◌^◌, ◌<◌, ◌≤◌, ◌++◌, [], nat_lt, if◌then◌else◌, List, length, vec_len, vec_capacity, is_some, None, OnOk, OnErr, option_to_list};
+ghost use Rattle.std.specs.Prelude.{◌≡◌, ℕ, ◌+◌, ◌*◌, ◌^◌, ◌<◌, ◌≤◌, ◌++◌, [], All, nat_lt, if◌then◌else◌, List, length, vec_len, vec_capacity, is_some, None, OnOk, OnErr, option_to_list};
 ghost use Rattle.omega_net.specs.Limits.{queue_places};
 ghost use Rattle.omega_net.specs.Queues.{queue_after, without_head};
+ghost use Rattle.state_words.specs.Fits.{IfThere};
 ghost use Rattle.state_words.specs.Messages.{message_words};
 ghost use Rattle.flat_row.specs.Next.{waiting};
 ghost use Rattle.flat_row.specs.Parts.{parts_body, parts_words};
 
 use omega_net::{QUEUE_PLACES, Reply, Request};
-use state_words::{TwoWords, queues_head, write_messages};
+use state_words::{TwoWords, all_fit, queues_head, write_messages};
 use std::alloc::AllocError;
 
 /// A queue one cycle later: the messages that stay, and those that join it.
@@ -75,6 +76,16 @@ fn count<T>(message: &Option<T>) -> usize
 }
 
 impl<T: TwoWords> After<'_, T> {
+    /// The numbers of the messages fit their types. Nothing is done when it runs.
+    #[tactic(auto, using(crate::proofs::Waiting::waiting_fit))]
+    pub(crate) fn fits(&self)
+        ensures { All T.fits (waiting self.now) }
+    {
+        all_fit(self.stay);
+        one_fits(&self.first);
+        one_fits(&self.second);
+    }
+
     /// How many messages wait.
     fn len(&self) -> usize
         requires { length (waiting self.now) ≤ queue_places }
@@ -96,6 +107,16 @@ impl<T: TwoWords> After<'_, T> {
         write_messages(words, self.stay);
         write_one(words, &self.first);
         write_one(words, &self.second);
+    }
+}
+
+/// The numbers of a message fit their types, where one is there. Nothing is done when it runs.
+fn one_fits<T: TwoWords>(message: &Option<T>)
+    ensures { IfThere T.fits message.now }
+{
+    match message {
+        Some(message) => message.fits(),
+        None => {}
     }
 }
 

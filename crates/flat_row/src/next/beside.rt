@@ -4,6 +4,7 @@ ghost use Rattle.omega_net.specs.Limits.{queue_places};
 ghost use Rattle.omega_net.specs.Ports.{message_at, queue_at};
 ghost use Rattle.omega_net.specs.Wires.{bit};
 ghost use Rattle.comb_switch.specs.CombSwitch.{arrives, returns_to};
+ghost use Rattle.state_words.specs.Fits.{IsQueue, IsReply, IsRequest, IsWaiting};
 ghost use Rattle.flat_row.specs.Combining.{meeting, splitting};
 ghost use Rattle.flat_row.specs.Labels.{port};
 ghost use Rattle.flat_row.specs.Next.{nothing_aside, plain_rule};
@@ -18,6 +19,7 @@ use crate::marks::{Rule, with_mark};
 use crate::waits::Waits;
 use comb_switch::{CombSettings, Waiting};
 use omega_net::{Reply, Request};
+use state_words::all_fit;
 use std::alloc::{AllocError, Global};
 use std::marker::Model;
 
@@ -152,6 +154,23 @@ impl Beside {
         ensures { result ≡ combined_of self.now.waits x }
     {
         bit_in(self.waits.once, x) + bit_in(self.waits.twice, x)
+    }
+
+    /// The numbers of the messages in the queues at two labels, and in the wait buffer at the first, fit their types. Nothing is done when
+    /// it runs.
+    pub(crate) fn fit(&self, x: u32, y: u32)
+        requires { (x < 64) × (y < 64) }
+        ensures first { IsQueue IsRequest (queue_at self.now.requests.queues x) }
+        ensures second { IsQueue IsRequest (queue_at self.now.requests.queues y) }
+        ensures first_back { IsQueue IsReply (queue_at self.now.replies.queues x) }
+        ensures second_back { IsQueue IsReply (queue_at self.now.replies.queues y) }
+        ensures waits { IsQueue IsWaiting (wait_of self.now.waits x) }
+    {
+        all_fit(self.requests.messages(x));
+        all_fit(self.requests.messages(y));
+        all_fit(self.replies.messages(x));
+        all_fit(self.replies.messages(y));
+        all_fit(self.waits.entries[x as usize].as_slice());
     }
 
     /// Appends the words of the switch with ports at two labels, and with what is small.

@@ -14,7 +14,7 @@ use Rattle.omega_net.proofs.Neighbours.{near_within}
 use Rattle.mem_module.specs.MemModule.{module_start}
 use Rattle.grid_law.specs.Rules.{Laws, Agrees, result_of}
 use Rattle.machine_cells.specs.declared.state.MachineState.{MachineState}
-use Rattle.machine_cells.specs.declared.state.MachineState.TheVariants.{Proc, Module, Low, Comb}
+use Rattle.machine_cells.specs.declared.state.MachineState.TheVariants.{Proc, Module}
 use Rattle.project_book.specs.Project.{Project, entry_at}
 use Rattle.project_book.specs.declared.slot.Slot.{Slot}
 use Rattle.project_book.specs.declared.slot.Slot.TheVariants.{Shape, Entry, Word, Page as PageAt, Depth, Wait, Combine, Window}

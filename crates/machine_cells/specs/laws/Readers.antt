@@ -19,7 +19,7 @@ use Rattle.ref_proc.specs.declared.state.Outgoing.{Outgoing}
 use Rattle.grid_law.specs.declared.reader.Reader.{Reader}
 use Rattle.grid_law.specs.Rules.{is_first, reader_at, IsBefore, IsAscending}
 use Rattle.machine_cells.specs.declared.state.MachineState.{MachineState}
-use Rattle.machine_cells.specs.declared.state.MachineState.TheVariants.{Proc, Module, Low, Comb}
+use Rattle.machine_cells.specs.declared.state.MachineState.TheVariants.{Proc}
 use Rattle.project_book.specs.Project.{Project, entry_at}
 use Rattle.project_book.specs.Queues.{forward_queue}
 use Rattle.project_book.specs.Limits.{script_entries}

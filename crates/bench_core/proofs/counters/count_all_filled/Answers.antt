@@ -17,7 +17,7 @@ loop-component-preserved c =
     let inv = c.loop-component.invariant in
     record {
       shape = c.count_filled.ensures.shape ∙ inv.shape;
-      stands = λ at s. stands_component c.loop-component.sums c.count_filled.new.sums at (held c.args.table.now) c.loop-component.component c.args.from c.args.to (inv.stands at s) c.count_filled.ensures.stands;
+      stands = λ at s. stands_component c.loop-component.sums c.count_filled.new.sums at (held c.args.table.now) c.loop-component.component c.args.from c.args.to (inv.stands at s) c.in_ok-count_filled.ensures.stands;
     }
 
 pub count_filled-requires-clause-same : goal.count_filled-requires-clause-same

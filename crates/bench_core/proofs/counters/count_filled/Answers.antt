@@ -15,27 +15,44 @@ loop-cycle-init c = record {
   stands = λ at s. stands_none c.args.sums.now at (held c.args.table.now) c.args.component c.args.from s;
 }
 
-pub standing-part-requires : goal.standing-part-requires
-standing-part-requires c = record {
+pub stands_to-last-requires : goal.stands_to-last-requires
+stands_to-last-requires c = record {
   cycle = omega (arith, c.loop-cycle-test.true, c.requires.there);
   component = subst (λ k. c.args.component < components k) c.requires.same c.requires.component;
 }
+
+pub loop-cycle-preserved-in_ok-state : goal.loop-cycle-preserved-in_ok-state
+loop-cycle-preserved-in_ok-state c =
+    let inv = c.loop-cycle.invariant in
+    let t = c.loop-cycle.cycle in
+    let d = c.args.component in
+    let at_most : c.min-end.result ≤ c.stands_to-last.result = omega (arith, c.min-end.ensures) in
+    let within : c.min-end.result ≤ c.args.to = omega (arith, c.min-end.ensures) in
+    let on : t < c.min-end.result = omega (arith, c.min-end.ensures, c.stands_to-last.ensures.after, c.loop-cycle-test.true) in
+    let same : (u : ℕ) → t ≤ u → u < c.min-end.result → held c.args.table.now u d ≡ option_copied c.lent.result =
+    λ u p q. c.stands_to-last.ensures.same u p (omega (arith, q, at_most)) ∙ sym c.in_ok-state.ensures ∙ sym c.lent.ensures in
+    record {
+      began = omega (arith, inv.began, on);
+      ended = within;
+      shape = c.fill.ensures.shape ∙ inv.shape;
+      stands = λ at s. stands_more c.loop-cycle.sums c.fill.new.self at (held c.args.table.now) d c.args.from t c.min-end.result (option_copied c.lent.result) inv.began (omega (arith, on)) (inv.stands at s) same c.fill.ensures.stands;
+    }
 
 pub loop-cycle-preserved : goal.loop-cycle-preserved
 loop-cycle-preserved c =
     let inv = c.loop-cycle.invariant in
     let t = c.loop-cycle.cycle in
     let d = c.args.component in
-    let at_most : c.min-end.result ≤ c.standing-part.result.end = omega (arith, c.min-end.ensures) in
+    let at_most : c.min-end.result ≤ c.stands_to-last.result = omega (arith, c.min-end.ensures) in
     let within : c.min-end.result ≤ c.args.to = omega (arith, c.min-end.ensures) in
-    let on : t < c.min-end.result = omega (arith, c.min-end.ensures, c.standing-part.ensures.after, c.loop-cycle-test.true) in
-    let same : (u : ℕ) → t ≤ u → u < c.min-end.result → held c.args.table.now u d ≡ option_copied c.standing-part.result.state =
-    λ u p q. c.standing-part.ensures.same u p (omega (arith, q, at_most)) ∙ sym c.standing-part.ensures.state in
+    let on : t < c.min-end.result = omega (arith, c.min-end.ensures, c.stands_to-last.ensures.after, c.loop-cycle-test.true) in
+    let same : (u : ℕ) → t ≤ u → u < c.min-end.result → held c.args.table.now u d ≡ option_copied c.lent.result =
+    λ u p q. c.stands_to-last.ensures.same u p (omega (arith, q, at_most)) ∙ sym c.in_ok-state.ensures ∙ sym c.lent.ensures in
     record {
       began = omega (arith, inv.began, on);
       ended = within;
       shape = c.fill.ensures.shape ∙ inv.shape;
-      stands = λ at s. stands_more c.loop-cycle.sums c.fill.new.self at (held c.args.table.now) d c.args.from t c.min-end.result (option_copied c.standing-part.result.state) inv.began (omega (arith, on)) (inv.stands at s) same c.fill.ensures.stands;
+      stands = λ at s. stands_more c.loop-cycle.sums c.fill.new.self at (held c.args.table.now) d c.args.from t c.min-end.result (option_copied c.lent.result) inv.began (omega (arith, on)) (inv.stands at s) same c.fill.ensures.stands;
     }
 
 pub returns-clause-stands : goal.returns-clause-stands

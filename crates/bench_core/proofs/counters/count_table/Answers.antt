@@ -9,4 +9,4 @@ returns c =
     let none = c.in_ok-sums.sums in
     let count = c.count_all_filled.ensures in
     let shape : none.k ≡ table.slots.k = search rules in
-    counted_whole c.count_all_filled.new.sums table (components none.k) (c.horizon.result + 1) (count.shape ∙ shape) (ap components shape) (ap (λ h. h + 1) c.horizon.ensures) (count.stands (λ t c. None) c.in_ok-sums.ensures.stands)
+    counted_whole c.count_all_filled.new.sums table (components none.k) (c.horizon.result + 1) (count.shape ∙ shape) (ap components shape) (ap (λ h. h + 1) c.horizon.ensures) (c.in_ok-count_all_filled.ensures.stands (λ t c. None) c.in_ok-sums.ensures.stands)

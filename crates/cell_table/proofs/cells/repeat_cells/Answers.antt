@@ -1,87 +1,71 @@
-use Rattle.std.proofs.Common.{ℕ, ◌-◌, ◌<◌, ◌∙◌, sym, ap, arith, cond, length}
-use Rattle.cell_table.specs.Layout.{cleared}
+use Rattle.std.proofs.Common.{◌-◌, ◌<◌, ◌∙◌, sym, ap, arith, cond, length, refl}
+use Rattle.cell_table.specs.Layout.{state_at, cleared}
 use Rattle.cell_table.specs.Filling.{is_awake}
 use Rattle.cell_table.proofs.Keeping.{seen_cycles, seen_state, seen_due, seen_no_version, length_row}
-use Rattle.cell_table.proofs.FilledRows.{lines_each, marks_filled, same_cell, cleared_cell, earlier_state, later_state, repeated_state}
+use Rattle.cell_table.proofs.FilledRows.{marks_filled, same_cell, cleared_cell}
+use Rattle.cell_table.proofs.Stated.{bounded_by, stated_along, width_each}
 use Rattle.cell_table.proofs.cells.repeat_cells.Goals as goal
 
-pub reserve_changed-requires-clause-width : goal.reserve_changed-requires-clause-width
-reserve_changed-requires-clause-width g c =
+pub repeat_changed-requires-clause-within : goal.repeat_changed-requires-clause-within
+repeat_changed-requires-clause-within g c =
+    let i = c.cells.inside in
+    omega (arith, c.cells.invariant.0.cycles, seen_cycles (state_at i.states) i.due i.versions.items c.args.cells.now c.cells.view_is, c.requires.within)
+
+pub repeat_changed-requires-clause-width : goal.repeat_changed-requires-clause-width
+repeat_changed-requires-clause-width g c =
     let i = c.cells.inside in
     let some : 0 < length c.args.cells.now = omega (arith, c.requires.later, c.requires.after, c.requires.within) in
-    sym (lines_each i.lines.items i.due i.versions.items c.args.cells.now (length c.args.changes.now) c.cells.invariant c.cells.view_is some c.requires.width)
-
-pub reserve_changed-requires-clause-within : goal.reserve_changed-requires-clause-within
-reserve_changed-requires-clause-within g c = λ d h.
-    let i = c.cells.inside in
-    omega (arith, c.cells.invariant.cycles d (omega (arith, h, c.cells.invariant.components)), seen_cycles i.lines.items i.due i.versions.items c.args.cells.now c.cells.view_is, c.requires.after, c.requires.within)
-
-pub extend_changed-requires-clause-width : goal.extend_changed-requires-clause-width
-extend_changed-requires-clause-width g c =
-    let i = c.cells.inside in
-    let some : 0 < length c.args.cells.now = omega (arith, c.requires.later, c.requires.after, c.requires.within) in
-    sym (c.reserve_changed.ensures.same.len ∙ lines_each i.lines.items i.due i.versions.items c.args.cells.now (length c.args.changes.now) c.cells.invariant c.cells.view_is some c.requires.width)
-
-pub extend_changed-requires-clause-within : goal.extend_changed-requires-clause-within
-extend_changed-requires-clause-within g c = λ d h.
-    let i = c.cells.inside in
-    let s = c.reserve_changed.ensures.same in
-    omega (arith, ap length (s.same d), c.cells.invariant.cycles d (omega (arith, h, s.len, c.cells.invariant.components)), seen_cycles i.lines.items i.due i.versions.items c.args.cells.now c.cells.view_is, c.requires.within)
+    sym (width_each i.states i.due i.versions.items c.args.cells.now (length c.args.changes.now) c.cells.invariant.0 c.cells.view_is some c.requires.width)
 
 pub clear_rows-requires-clause-end : goal.clear_rows-requires-clause-end
 clear_rows-requires-clause-end g c =
     let i = c.cells.inside in
-    omega (arith, c.requires.within, seen_cycles i.lines.items i.due i.versions.items c.args.cells.now c.cells.view_is)
+    omega (arith, c.requires.within, seen_cycles (state_at i.states) i.due i.versions.items c.args.cells.now c.cells.view_is)
 
 pub returns-in-Err-clause-versions : goal.returns-in-Err-clause-versions
 returns-in-Err-clause-versions g c = λ t d e.
     let i = c.cells.inside in
-    seen_no_version i.lines.items i.due i.versions.items c.args.cells.now c.cells.view_is c.cells.invariant t d (sym (seen_due i.lines.items i.due i.versions.items c.args.cells.now c.cells.view_is c.cells.invariant t d) ∙ e)
+    seen_no_version (state_at i.states) i.due i.versions.items c.args.cells.now c.cells.view_is (bounded_by i.states i.due c.cells.invariant.0) c.cells.invariant.1 t d (sym (seen_due (state_at i.states) i.due i.versions.items c.args.cells.now c.cells.view_is (bounded_by i.states i.due c.cells.invariant.0) c.cells.invariant.1 t d) ∙ e)
 
 pub returns-clause-versions : goal.returns-clause-versions
 returns-clause-versions g c = λ t d e.
     let i = c.cells.inside in
-    seen_no_version i.lines.items i.due i.versions.items c.args.cells.now c.cells.view_is c.cells.invariant t d (sym (seen_due i.lines.items i.due i.versions.items c.args.cells.now c.cells.view_is c.cells.invariant t d) ∙ e)
+    seen_no_version (state_at i.states) i.due i.versions.items c.args.cells.now c.cells.view_is (bounded_by i.states i.due c.cells.invariant.0) c.cells.invariant.1 t d (sym (seen_due (state_at i.states) i.due i.versions.items c.args.cells.now c.cells.view_is (bounded_by i.states i.due c.cells.invariant.0) c.cells.invariant.1 t d) ∙ e)
 
 pub returns-clause-lens : goal.returns-clause-lens
 returns-clause-lens g c = λ t h.
     let i = c.cells.inside in
     let some : 0 < length c.args.cells.now = omega (arith, c.requires.later, c.requires.after, c.requires.within) in
-    length_row c.extend_changed.new.lines.items c.clear_rows.new.due i.versions.items t (omega (arith, h, seen_cycles i.lines.items i.due i.versions.items c.args.cells.now c.cells.view_is, c.clear_rows.ensures.len))
-    ∙ c.clear_rows.ensures.width ∙ sym c.cells.invariant.components ∙ lines_each i.lines.items i.due i.versions.items c.args.cells.now (length c.args.changes.now) c.cells.invariant c.cells.view_is some c.requires.width
+    length_row (state_at c.repeat_changed.new.self) c.clear_rows.new.due i.versions.items t (omega (arith, h, seen_cycles (state_at i.states) i.due i.versions.items c.args.cells.now c.cells.view_is, c.clear_rows.ensures.len))
+    ∙ c.clear_rows.ensures.width ∙ sym c.cells.invariant.0.width ∙ width_each i.states i.due i.versions.items c.args.cells.now (length c.args.changes.now) c.cells.invariant.0 c.cells.view_is some c.requires.width
 
 pub returns-clause-earlier : goal.returns-clause-earlier
 returns-clause-earlier g c = λ t d h.
     let i = c.cells.inside in
-    let s = c.reserve_changed.ensures.same in
-    let f = c.extend_changed.ensures in
     let r = c.clear_rows.ensures in
-    let lens = λ (d : ℕ). f.lens d ∙ ap length (s.same d) in
-    let marks = marks_filled i.due c.clear_rows.new.due c.args.from c.args.to c.cells.invariant.marks r.cleared r.earlier r.later in
-    same_cell i.lines.items c.extend_changed.new.lines.items i.due c.clear_rows.new.due i.versions.items c.args.cells.now c.cells.invariant c.cells.view_is (f.len ∙ s.len) lens r.width r.len marks t d
-    (earlier_state i.lines.items c.reserve_changed.new.lines.items c.extend_changed.new.lines.items c.args.changes.now c.args.from c.args.to s c.in-Ok.ensures.place f.extended f.others t d h) (r.earlier t h)
+    let states1 = c.repeat_changed.new.self in
+    let marks = marks_filled i.due c.clear_rows.new.due c.args.from c.args.to c.cells.invariant.1.marks r.cleared r.earlier r.later in
+    let bounded1 = bounded_by states1 i.due (stated_along i.states states1 i.due i.due c.cells.invariant.0 c.repeat_changed.ensures.many refl refl) in
+    same_cell (state_at i.states) (state_at states1) i.due c.clear_rows.new.due i.versions.items c.args.cells.now (bounded_by i.states i.due c.cells.invariant.0) c.cells.invariant.1 c.cells.view_is bounded1 r.width r.len marks t d (c.in-Ok.ensures.earlier t d h) (r.earlier t h)
 
 pub returns-clause-later : goal.returns-clause-later
 returns-clause-later g c = λ t d h.
     let i = c.cells.inside in
-    let s = c.reserve_changed.ensures.same in
-    let f = c.extend_changed.ensures in
     let r = c.clear_rows.ensures in
-    let lens = λ (d : ℕ). f.lens d ∙ ap length (s.same d) in
-    let marks = marks_filled i.due c.clear_rows.new.due c.args.from c.args.to c.cells.invariant.marks r.cleared r.earlier r.later in
-    same_cell i.lines.items c.extend_changed.new.lines.items i.due c.clear_rows.new.due i.versions.items c.args.cells.now c.cells.invariant c.cells.view_is (f.len ∙ s.len) lens r.width r.len marks t d
-    (later_state i.lines.items c.reserve_changed.new.lines.items c.extend_changed.new.lines.items c.args.changes.now c.args.from c.args.to s c.in-Ok.ensures.place f.extended f.others t d h) (r.later t h)
+    let states1 = c.repeat_changed.new.self in
+    let marks = marks_filled i.due c.clear_rows.new.due c.args.from c.args.to c.cells.invariant.1.marks r.cleared r.earlier r.later in
+    let bounded1 = bounded_by states1 i.due (stated_along i.states states1 i.due i.due c.cells.invariant.0 c.repeat_changed.ensures.many refl refl) in
+    same_cell (state_at i.states) (state_at states1) i.due c.clear_rows.new.due i.versions.items c.args.cells.now (bounded_by i.states i.due c.cells.invariant.0) c.cells.invariant.1 c.cells.view_is bounded1 r.width r.len marks t d (c.in-Ok.ensures.later t d h) (r.later t h)
 
 pub returns-clause-repeated : goal.returns-clause-repeated
 returns-clause-repeated g c = λ t d h k l.
     let i = c.cells.inside in
-    let s = c.reserve_changed.ensures.same in
-    let f = c.extend_changed.ensures in
     let r = c.clear_rows.ensures in
-    let lens = λ (d : ℕ). f.lens d ∙ ap length (s.same d) in
-    let marks = marks_filled i.due c.clear_rows.new.due c.args.from c.args.to c.cells.invariant.marks r.cleared r.earlier r.later in
+    let states1 = c.repeat_changed.new.self in
+    let marks = marks_filled i.due c.clear_rows.new.due c.args.from c.args.to c.cells.invariant.1.marks r.cleared r.earlier r.later in
+    let bounded1 = bounded_by states1 i.due (stated_along i.states states1 i.due i.due c.cells.invariant.0 c.repeat_changed.ensures.many refl refl) in
     let some : 0 < length c.args.cells.now = omega (arith, c.requires.later, c.requires.after, c.requires.within) in
     let at = cond (is_awake c.args.changes.now d) (c.args.from - 1) t in
-    cleared_cell i.lines.items c.extend_changed.new.lines.items i.due c.clear_rows.new.due i.versions.items c.args.cells.now c.cells.invariant c.cells.view_is (f.len ∙ s.len) lens r.width r.len marks t d _ (omega (arith, h, lines_each i.lines.items i.due i.versions.items c.args.cells.now (length c.args.changes.now) c.cells.invariant c.cells.view_is some c.requires.width, c.cells.invariant.components)) (r.cleared t k l)
-    (repeated_state i.lines.items c.reserve_changed.new.lines.items c.extend_changed.new.lines.items c.args.changes.now c.args.from c.args.to s c.in-Ok.ensures.place f.extended f.others t d k l)
-    ∙ ap cleared (sym (seen_state i.lines.items i.due i.versions.items c.args.cells.now c.cells.view_is c.cells.invariant at d))
+    let wide : d < i.due.width = omega (arith, h, width_each i.states i.due i.versions.items c.args.cells.now (length c.args.changes.now) c.cells.invariant.0 c.cells.view_is some c.requires.width, c.cells.invariant.0.width) in
+    cleared_cell (state_at i.states) (state_at states1) i.due c.clear_rows.new.due i.versions.items c.args.cells.now (bounded_by i.states i.due c.cells.invariant.0) c.cells.invariant.1 c.cells.view_is bounded1 r.width r.len marks t d _ wide (r.cleared t k l) (c.in-Ok.ensures.repeated t d k l)
+    ∙ ap cleared (sym (seen_state (state_at i.states) i.due i.versions.items c.args.cells.now c.cells.view_is (bounded_by i.states i.due c.cells.invariant.0) c.cells.invariant.1 at d))

@@ -1,9 +1,12 @@
-use Rattle.std.proofs.Common.{◌≡◌, ◌≤◌, ◌+◌, ◌++◌, map, slice_range, vec_len, vec_capacity}
+use Rattle.std.proofs.Common.{◌≡◌, ℕ, ◌<◌, ◌≤◌, length, slice_index_or}
+use Rattle.change_rows.specs.declared.cells.Head.{Head}
 use Rattle.change_rows.specs.Packed.{moved}
 use Rattle.change_rows.proofs.cells.push_heads.Given as goal
 
 abbrev pub invariant-loop-i : goal.invariant-loop-i
 invariant-loop-i l = record {
-  items : l.heads.items ≡ l.initial.heads.items ++ map (moved l.start l.base) (slice_range l.others l.from l.i);
-  room : vec_len l.heads + l.to ≤ vec_capacity l.heads + l.i;
+  len : length l.heads.items ≡ length l.initial.heads.items;
+  before : (k : ℕ) (d : Head) → k < l.at → slice_index_or l.heads.items k d ≡ slice_index_or l.initial.heads.items k d;
+  done : (k : ℕ) (d : Head) → l.at ≤ k → k < l.i → slice_index_or l.heads.items k d ≡ moved l.start l.base (slice_index_or l.initial.heads.items k d);
+  rest : (k : ℕ) (d : Head) → l.i ≤ k → slice_index_or l.heads.items k d ≡ slice_index_or l.initial.heads.items k d;
 }

@@ -1,4 +1,4 @@
-use Rattle.std.proofs.Common.{◌≡◌, ◌∙◌, ◌<◌, sym, ap, arith, length}
+use Rattle.std.proofs.Common.{◌∙◌, ◌<◌, sym, ap, arith, length}
 use Rattle.std.proofs.lemmas.Bool.{false≢true}
 use Rattle.change_rows.specs.Marks.{is_in}
 use Rattle.change_rows.proofs.Members.{none_more}

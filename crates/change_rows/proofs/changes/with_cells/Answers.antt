@@ -1,5 +1,4 @@
-use Rattle.std.proofs.Common.{◌≡◌, ◌∙◌, ◌<◌, ◌/◌, ◌%◌, ℕ, sym, ap, subst, arith, length, take, false, None}
-use Rattle.change_rows.specs.Cells.{found}
+use Rattle.std.proofs.Common.{◌≡◌, ◌∙◌, ◌<◌, ◌/◌, ◌%◌, ℕ, sym, ap, arith, length}
 use Rattle.change_rows.specs.Marks.{is_one}
 use Rattle.change_rows.proofs.Members.{none_more, bit_kept, bit_cells}
 use Rattle.change_rows.proofs.changes.with_cells.Goals as goal

@@ -1,4 +1,4 @@
-use Rattle.std.proofs.Common.{◌≡◌, ◌<◌, ◌∙◌, sym, refl, arith, length}
+use Rattle.std.proofs.Common.{◌<◌, ◌∙◌, sym, refl, arith, length}
 use Rattle.change_rows.specs.Changes.{begins_at}
 use Rattle.change_rows.proofs.Putting.{alike, alike_before}
 use Rattle.change_rows.proofs.Filling.{filled_kept, blank_kept}

@@ -1,5 +1,8 @@
-use Rattle.std.proofs.Common.{◌≡◌, ℕ, ◌+◌, ◌-◌, ◌<◌, ◌≤◌, None, unwrap_or, length, take, slice_index_or}
+use Rattle.std.proofs.Common.{◌≡◌, ℕ, ◌<◌, ◌≤◌, unwrap_or, length}
+use Rattle.std.specs.Prelude.{All}
+use Rattle.change_rows.specs.Cells.{end_of}
 use Rattle.change_rows.specs.Changes.{row_at, IsChanges}
+use Rattle.change_rows.specs.Left.{left_in}
 use Rattle.change_rows.proofs.run.put_rows.Given as goal
 
 abbrev pub invariant-loop-left : goal.invariant-loop-left
@@ -8,11 +11,9 @@ invariant-loop-left l = record {
   width : l.s.width ≡ l.initial.s.width;
   seam : l.s.seam ≡ l.initial.s.seam;
   len : length l.s.rows.items ≡ length l.initial.s.rows.items;
-  few : length l.rest.items ≤ length l.initial.rest.items;
-  rest : l.rest.items ≡ take (length l.rest.items) l.initial.rest.items;
-  inside : (u : ℕ) → l.before + length l.rest.items < u → u ≤ l.before + length l.initial.rest.items → row_at l.s.rows.items u ≡ unwrap_or (slice_index_or l.initial.rest.items (u - (l.before + 1)) None) (row_at l.initial.s.rows.items u);
-  low : (u : ℕ) → u ≤ l.before + length l.rest.items → row_at l.s.rows.items u ≡ row_at l.initial.s.rows.items u;
-  behind : (u : ℕ) → l.before + length l.initial.rest.items < u → row_at l.s.rows.items u ≡ row_at l.initial.s.rows.items u;
+  rows : All (λ left. left.row < length l.initial.s.rows.items) l.rest.items;
+  wide : All (λ left. end_of left.cells ≤ l.initial.s.width) l.rest.items;
+  same : (u : ℕ) → unwrap_or (left_in l.rest.items u) (row_at l.s.rows.items u) ≡ unwrap_or (left_in l.initial.rest.items u) (row_at l.initial.s.rows.items u);
 }
 
 abbrev pub decreases-loop-left : goal.decreases-loop-left

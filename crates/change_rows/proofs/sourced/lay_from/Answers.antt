@@ -1,4 +1,4 @@
-use Rattle.std.proofs.Common.{◌≡◌, ◌<◌, ◌≤◌, ◌+◌, ◌∙◌, ap, arith, List}
+use Rattle.std.proofs.Common.{◌≡◌, ◌≤◌, ◌∙◌, ap, arith, List}
 use Rattle.std.specs.Option.{option_or}
 use Rattle.change_rows.specs.Cells.{Held, found}
 use Rattle.change_rows.proofs.Sourcing.{laid_all, told_on, told_more}

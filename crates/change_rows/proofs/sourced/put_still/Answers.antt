@@ -1,6 +1,5 @@
-use Rattle.std.proofs.Common.{◌≡◌, ◌∙◌, sym, ap}
+use Rattle.std.proofs.Common.{◌∙◌, sym, ap}
 use Rattle.std.specs.Option.{option_copied}
-use Rattle.change_rows.specs.Standing.{standing}
 use Rattle.change_rows.specs.Changes.{begins_at}
 use Rattle.change_rows.proofs.Editing.{absent}
 use Rattle.change_rows.proofs.Standing.{at_once}

@@ -1,7 +1,6 @@
-use Rattle.std.proofs.Common.{◌≡◌, ◌∙◌, sym, ap, arith, refl, cond, Bool, List, ◌++◌, ◌∷◌, []}
+use Rattle.std.proofs.Common.{◌≡◌, ◌∙◌, sym, ap, arith, refl, cond, Bool, ◌++◌, ◌∷◌, []}
 use Rattle.std.proofs.lemmas.Bool.{false≢true}
 use Rattle.std.specs.Option.{option_copied}
-use Rattle.change_rows.specs.Cells.{Held}
 use Rattle.change_rows.specs.Standing.{standing}
 use Rattle.change_rows.specs.Changes.{begins_at}
 use Rattle.change_rows.proofs.Standing.{at_once}

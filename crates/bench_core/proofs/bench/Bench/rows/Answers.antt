@@ -1,4 +1,5 @@
 use Rattle.std.proofs.Common.{◌≡◌, ◌∙◌, ap, arith, map}
+use Rattle.std.specs.Arc.{arc_value}
 use Rattle.std.proofs.lemmas.List.{take_all}
 use Rattle.machine_cells.specs.Run.{run, first_states}
 use Rattle.machine_cells.proofs.Rows.{length-run}
@@ -8,8 +9,8 @@ use Rattle.bench_core.proofs.bench.Bench.rows.Goals as goal
 
 pub loop-cycle-preserved : goal.loop-cycle-preserved
 loop-cycle-preserved c =
-    ap (map (λ row. map (λ r. r.now) row.items)) c.in_ok-push.ensures.items
-    ∙ one_more (λ row. map (λ r. r.now) row.items) c.loop-cycle.rows.items c.in_ok-row.field-0 (run (project_of c.args.self.now)) c.loop-cycle.cycle c.loop-cycle.invariant c.in_ok-row.ensures
+    ap (map (λ row. map arc_value row.items)) c.in_ok-push.ensures.items
+    ∙ one_more (λ row. map arc_value row.items) c.loop-cycle.rows.items c.in_ok-row.field-0 (run (project_of c.args.self.now)) c.loop-cycle.cycle c.loop-cycle.invariant c.in_ok-row.ensures
 
 pub returns : goal.returns
 returns c =

@@ -1,8 +1,10 @@
 use Rattle.std.proofs.Common.{◌∙◌}
+use Rattle.cell_table.specs.Layout.{state_at}
 use Rattle.cell_table.proofs.Keeping.{count_all}
+use Rattle.cell_table.proofs.Stated.{bounded_by}
 use Rattle.cell_table.proofs.cells.Cells.due_total.Goals as goal
 
 pub returns : goal.returns
 returns g c =
     let i = c.self.inside in
-    c.total.ensures ∙ count_all i.lines.items i.due i.versions.items c.self.invariant c.args.self.now c.self.view_is
+    c.total.ensures ∙ count_all (state_at i.states) i.due i.versions.items (bounded_by i.states i.due c.self.invariant.0) c.self.invariant.1 c.args.self.now c.self.view_is

@@ -1,7 +1,10 @@
+use Rattle.std.proofs.Common.{◌∙◌, ap}
+use Rattle.cell_table.specs.Layout.{state_at}
 use Rattle.cell_table.proofs.Keeping.{rows_cut}
+use Rattle.cell_table.proofs.Stated.{bounded_by, same_cut}
 use Rattle.cell_table.proofs.cells.Cells.truncate.Goals as goal
 
 pub returns : goal.returns
 returns g c =
     let i = c.self.inside in
-    rows_cut i.lines.items c.cut_ends.new.lines.items i.due c.truncate.new.self i.versions.items c.truncate-2.new.self.items c.args.self.now c.args.n c.self.invariant c.self.view_is c.truncate.ensures c.truncate-2.ensures.items c.cut_ends.ensures.states
+    rows_cut (state_at i.states) (state_at c.truncate.new.self) i.due c.truncate-2.new.self i.versions.items c.truncate-3.new.self.items c.args.self.now c.args.n (bounded_by i.states i.due c.self.invariant.0) c.self.invariant.1 c.self.view_is c.truncate-2.ensures c.truncate-3.ensures.items (λ t d h. ap (λ s. state_at s t d) c.truncate.ensures ∙ same_cut i.states c.args.n t d h)

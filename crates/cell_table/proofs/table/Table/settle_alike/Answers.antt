@@ -8,11 +8,10 @@ use Rattle.cell_table.specs.Filling.{is_awake}
 use Rattle.cell_table.specs.Passing.{woken}
 use Rattle.cell_table.specs.Settling.{NoneDueBefore, IsAt}
 use Rattle.cell_table.specs.Repeating.{any_changes, BeginsAlike, StaysAlike, AreDueAlike}
-use Rattle.cell_table.proofs.Filled.{room_changed}
 use Rattle.cell_table.proofs.Held.{kept_alike, kept_behind}
 use Rattle.cell_table.proofs.Passing.{woken_state}
 use Rattle.cell_table.proofs.Passes.{begins_at}
-use Rattle.cell_table.proofs.Repeated.{stays_less, goes_on_to, stays_table, holds_but, ranges_within}
+use Rattle.cell_table.proofs.Repeated.{room_changed, stays_less, goes_on_to, stays_table, holds_but, ranges_within}
 use Rattle.cell_table.proofs.table.Table.settle_alike.Goals as goal
 
 pub mark_changed-requires-clause-room : goal.mark_changed-requires-clause-room
@@ -23,7 +22,7 @@ mark_changed-requires-clause-room g c =
     let e = c.due_alike_to-end.result in
     let m = e - c.args.cycle in
     let changes = c.begins_alike.new.changes in
-    let wide : length c.args.spare.now.changes ≡ R.components i.slots = rw (← c.self.view_is) at c.requires.changes in
+    let wide : length c.args.spare.now.changes ≡ R.components i.slots = (rw (← c.self.view_is) at c.requires.spare).wide.changes in
     let width : length changes ≡ n = c.begins_alike.ensures.len ∙ ap length c.clear_all.ensures ∙ length-replicate (length c.args.spare.now.changes) false ∙ wide ∙ sym c.components-count.ensures in
     let few : count_in changes ≤ n = omega (arith, count_by-le-length (λ b. b) changes, width) in
     let room : i.clock + m * n < 2 ^ 64 = c.has_room.ensures c.if-not-has_room.false in
@@ -33,7 +32,7 @@ mark_changed-requires-clause-room g c =
 
 pub mark_changed-requires-clause-reached_width : goal.mark_changed-requires-clause-reached_width
 mark_changed-requires-clause-reached_width g c =
-    let wide : length c.args.spare.now.reached ≡ g.G.Grid.rules.components c.self.inside.slots = rw (← c.self.view_is) at c.requires.reached in
+    let wide : length c.args.spare.now.reached ≡ g.G.Grid.rules.components c.self.inside.slots = (rw (← c.self.view_is) at c.requires.spare).wide.reached in
     c.reach.ensures.len ∙ wide
 
 pub mark_changed-requires-clause-reached : goal.mark_changed-requires-clause-reached
@@ -56,7 +55,7 @@ invariant_of-self-2 g c =
     let within : c.args.end ≤ i.horizon + 1 = rw (← c.self.view_is) at c.requires.within in
     let there : s ≤ i.horizon = omega (arith, c.requires.there, within) in
     let none : NoneDueBefore R v s 0 = rw (← c.self.view_is) at c.requires.none in
-    let wide : length c.args.spare.now.changes ≡ n = rw (← c.self.view_is) at c.requires.changes in
+    let wide : length c.args.spare.now.changes ≡ n = (rw (← c.self.view_is) at c.requires.spare).wide.changes in
     let width : length changes ≡ n = c.begins_alike.ensures.len ∙ ap length c.clear_all.ensures ∙ length-replicate (length c.args.spare.now.changes) false ∙ wide in
     let begins : BeginsAlike R v s changes = rw (← c.self.view_is) at (c.begins_alike.ensures.alike c.if-not-begins_alike.false) in
     let last : c.alike_end-end.result ≤ i.horizon + 1 = omega (arith, c.alike_end-end.ensures.before, within) in
@@ -113,7 +112,7 @@ returns-clause-on g c =
     let within : c.args.end ≤ i.horizon + 1 = rw (← c.self.view_is) at c.requires.within in
     let there : s ≤ i.horizon = omega (arith, c.requires.there, within) in
     let none : NoneDueBefore R v s 0 = rw (← c.self.view_is) at c.requires.none in
-    let wide : length c.args.spare.now.changes ≡ n = rw (← c.self.view_is) at c.requires.changes in
+    let wide : length c.args.spare.now.changes ≡ n = (rw (← c.self.view_is) at c.requires.spare).wide.changes in
     let width : length changes ≡ n = c.begins_alike.ensures.len ∙ ap length c.clear_all.ensures ∙ length-replicate (length c.args.spare.now.changes) false ∙ wide in
     let begins : BeginsAlike R v s changes = rw (← c.self.view_is) at (c.begins_alike.ensures.alike c.if-not-begins_alike.false) in
     let last : c.alike_end-end.result ≤ i.horizon + 1 = omega (arith, c.alike_end-end.ensures.before, within) in
@@ -159,7 +158,7 @@ returns-clause-but g c =
     let within : c.args.end ≤ i.horizon + 1 = rw (← c.self.view_is) at c.requires.within in
     let there : s ≤ i.horizon = omega (arith, c.requires.there, within) in
     let none : NoneDueBefore R v s 0 = rw (← c.self.view_is) at c.requires.none in
-    let wide : length c.args.spare.now.changes ≡ n = rw (← c.self.view_is) at c.requires.changes in
+    let wide : length c.args.spare.now.changes ≡ n = (rw (← c.self.view_is) at c.requires.spare).wide.changes in
     let width : length changes ≡ n = c.begins_alike.ensures.len ∙ ap length c.clear_all.ensures ∙ length-replicate (length c.args.spare.now.changes) false ∙ wide in
     let begins : BeginsAlike R v s changes = rw (← c.self.view_is) at (c.begins_alike.ensures.alike c.if-not-begins_alike.false) in
     let last : c.alike_end-end.result ≤ i.horizon + 1 = omega (arith, c.alike_end-end.ensures.before, within) in

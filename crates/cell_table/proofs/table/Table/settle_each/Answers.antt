@@ -1,8 +1,7 @@
-use Rattle.std.proofs.Common.{◌≡◌, ℕ, ◌+◌, ◌<◌, ◌-◌, ◌*◌, ◌∙◌, Err, ap, sym, subst, arith}
+use Rattle.std.proofs.Common.{◌≡◌, arith}
 use Rattle.cell_table.specs.Seen.{Seen}
-use Rattle.cell_table.specs.Cells.{AtOrAfter}
-use Rattle.cell_table.specs.Settling.{NoneDueBefore, HoldsRunBefore, IsSpentBefore, IsAt, IsFurther}
-use Rattle.cell_table.proofs.Passes.{begins, runs_here, spent_before, nearer, of_some, of_none}
+use Rattle.cell_table.proofs.Passes.{begins, runs_here}
+use Rattle.cell_table.proofs.LeftOut.{new_spare}
 use Rattle.cell_table.proofs.Cuts.{comes_to, none_to}
 use Rattle.cell_table.proofs.table.Table.settle_each.Goals as goal
 
@@ -22,93 +21,7 @@ returns-in-Err-clause-stops g c = record {
   before = (omega arith, λ e. omega arith);
 }
 
-pub loop-passed-init : goal.loop-passed-init
-loop-passed-init g c =
+pub settle_all-settled-requires-clause-spare : goal.settle_all-settled-requires-clause-spare
+settle_all-settled-requires-clause-spare g c =
     let count : c.components-count.result ≡ g.G.Grid.rules.components c.args.self.now.slots = rw (← c.self.view_is) c.components-count.ensures in
-    record {
-      at = begins g.G.Grid.rules c.args.self.now;
-      before = (omega arith, λ e. omega arith);
-      within = c.requires.within;
-      changes = c.in-Ok.ensures.changes ∙ count;
-      reached = c.in-Ok.ensures.reached ∙ count;
-      news = c.in-Ok-no_news.ensures.len ∙ count;
-      along = tt;
-      watched = c.requires.watched;
-    }
-
-pub overflow_add-computed : goal.overflow_add-computed
-overflow_add-computed g c =
-    let R = g.G.Grid.rules in
-    let inv = c.loop-passed.invariant in
-    let passed = c.in-Ok-Some.passed in
-    let on = of_some (λ p. (first : Seen g.row.G-State.Denot g.row.G-Slots.Denot) (n : ℕ) → IsAt R first c.loop-passed.self c.loop-passed.from.cycle c.loop-passed.from.component n → IsAt R first c.settle_more.new.self p.to.cycle p.to.component (n + p.computed)) c.in-Ok-Some.field-0 passed c.in-Ok-Some.field-0-is c.in-Ok-Some.ensures.on in
-    let at = on c.args.self.now c.loop-passed.computed inv.at in
-    let before = of_some (λ p. AtOrAfter p.to.cycle p.to.component c.args.end 0) c.in-Ok-Some.field-0 passed c.in-Ok-Some.field-0-is c.in-Ok-Some.ensures.before in
-    omega (arith, at.few, at.fits, before.0)
-
-pub loop-passed-preserved : goal.loop-passed-preserved
-loop-passed-preserved g c =
-    let R = g.G.Grid.rules in
-    let inv = c.loop-passed.invariant in
-    let passed = c.in-Ok-Some.passed in
-    let on = of_some (λ p. (first : Seen g.row.G-State.Denot g.row.G-Slots.Denot) (n : ℕ) → IsAt R first c.loop-passed.self c.loop-passed.from.cycle c.loop-passed.from.component n → IsAt R first c.settle_more.new.self p.to.cycle p.to.component (n + p.computed)) c.in-Ok-Some.field-0 passed c.in-Ok-Some.field-0-is c.in-Ok-Some.ensures.on in
-    let at = on c.args.self.now c.loop-passed.computed inv.at in
-    let same : g.G.Grid.rules.components c.loop-passed.self.slots ≡ g.G.Grid.rules.components c.settle_more.new.self.slots = ap R.components (inv.at.slots ∙ sym at.slots) in
-    record {
-      at = at;
-      before = of_some (λ p. AtOrAfter p.to.cycle p.to.component c.args.end 0) c.in-Ok-Some.field-0 passed c.in-Ok-Some.field-0-is c.in-Ok-Some.ensures.before;
-      within = omega (arith, c.requires.within, at.horizon);
-      changes = c.settle_more.ensures.changes ∙ inv.changes ∙ same;
-      reached = c.settle_more.ensures.reached ∙ inv.reached ∙ same;
-      news = c.settle_more.ensures.news ∙ inv.news ∙ same;
-      along = c.settle_more.ensures.along;
-      watched = c.settle_more.ensures.watched;
-    }
-
-pub loop-passed-smaller : goal.loop-passed-smaller
-loop-passed-smaller g c =
-    let R = g.G.Grid.rules in
-    let inv = c.loop-passed.invariant in
-    let passed = c.in-Ok-Some.passed in
-    let on = of_some (λ p. (first : Seen g.row.G-State.Denot g.row.G-Slots.Denot) (n : ℕ) → IsAt R first c.loop-passed.self c.loop-passed.from.cycle c.loop-passed.from.component n → IsAt R first c.settle_more.new.self p.to.cycle p.to.component (n + p.computed)) c.in-Ok-Some.field-0 passed c.in-Ok-Some.field-0-is c.in-Ok-Some.ensures.on in
-    let at = on c.args.self.now c.loop-passed.computed inv.at in
-    let further = of_some (λ p. IsFurther c.loop-passed.self.horizon c.loop-passed.from.cycle c.loop-passed.from.component p.to.cycle p.to.component) c.in-Ok-Some.field-0 passed c.in-Ok-Some.field-0-is c.in-Ok-Some.ensures.further in
-    let same : c.loop-passed.self.horizon ≡ c.settle_more.new.self.horizon = inv.at.horizon ∙ sym at.horizon in
-    subst (λ h. 4294967296 * (h + 1 - passed.to.cycle) + (4294967296 - passed.to.component) < 4294967296 * (c.loop-passed.self.horizon + 1 - c.loop-passed.from.cycle) + (4294967296 - c.loop-passed.from.component)) same (nearer c.loop-passed.self.horizon c.loop-passed.from.cycle c.loop-passed.from.component passed.to.cycle passed.to.component further inv.at.fits)
-
-pub returns-in-Ok-None-clause-all : goal.returns-in-Ok-None-clause-all
-returns-in-Ok-None-clause-all g c =
-    let R = g.G.Grid.rules in
-    let v = c.loop-passed.self in
-    let end = c.args.end in
-    let inv = c.loop-passed.invariant in
-    let none = of_none (NoneDueBefore R v end 0 × HoldsRunBefore R v end 0 × (c.settle_more.new.self ≡ v)) c.in-Ok-None.field-0 c.in-Ok-None.field-0-is c.in-Ok-None.ensures.none in
-    subst (λ w. IsAt R c.args.self.now w end 0 c.loop-passed.computed) (sym none.2) (comes_to R c.args.self.now v c.loop-passed.from.cycle c.loop-passed.from.component c.loop-passed.computed end inv.at none.0 none.1 inv.before)
-
-pub returns-in-Err-ClockSpent-clause-stops : goal.returns-in-Err-ClockSpent-clause-stops
-returns-in-Err-ClockSpent-clause-stops g c = record {
-  cycle = c.loop-passed.from.cycle;
-  component = c.loop-passed.from.component;
-  at = subst (λ v. IsAt g.G.Grid.rules c.args.self.now v c.loop-passed.from.cycle c.loop-passed.from.component c.loop-passed.computed) (sym c.in-Err-ClockSpent.ensures.err) c.loop-passed.invariant.at;
-  before = c.loop-passed.invariant.before;
-}
-
-pub returns-in-Err-Memory-clause-stops : goal.returns-in-Err-Memory-clause-stops
-returns-in-Err-Memory-clause-stops g c = record {
-  cycle = c.loop-passed.from.cycle;
-  component = c.loop-passed.from.component;
-  at = subst (λ v. IsAt g.G.Grid.rules c.args.self.now v c.loop-passed.from.cycle c.loop-passed.from.component c.loop-passed.computed) (sym c.in-Err-Memory.ensures.err) c.loop-passed.invariant.at;
-  before = c.loop-passed.invariant.before;
-}
-
-pub returns-in-Err-ClockSpent-clause-spent : goal.returns-in-Err-ClockSpent-clause-spent
-returns-in-Err-ClockSpent-clause-spent g c =
-    λ _. subst (λ v. IsSpentBefore g.G.Grid.rules c.args.end v 0 0) (sym c.in-Err-ClockSpent.ensures.err) (spent_before g.G.Grid.rules c.loop-passed.self c.loop-passed.from.cycle c.loop-passed.from.component c.args.end c.loop-passed.invariant.at.none_before (c.in-Err-ClockSpent.ensures.spent (ap Err c.in-Err-ClockSpent.field-0-is)))
-
-pub returns-in-Err-no_news-clause-stops : goal.returns-in-Err-no_news-clause-stops
-returns-in-Err-no_news-clause-stops g c = record {
-  cycle = 0;
-  component = 0;
-  at = begins g.G.Grid.rules c.args.self.now;
-  before = (omega arith, λ e. omega arith);
-}
+    new_spare g.G.Grid.rules c.args.self.now c.components-count.result c.in-Ok.spare c.in-Ok.ensures.wide count c.in-Ok.ensures.none

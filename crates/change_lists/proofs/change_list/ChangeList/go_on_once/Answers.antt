@@ -1,6 +1,8 @@
 use Rattle.std.proofs.Common.{◌^◌, ◌∙◌, ap, sym, subst, drop, List}
 use Rattle.change_lists.specs.declared.begun.Begun.{Begun}
 use Rattle.change_lists.specs.Changes.{IsPlace, starts}
+use Rattle.std.proofs.lemmas.Bool.{false≢true}
+use Rattle.change_lists.proofs.Standing.{starts_of_none}
 use Rattle.change_lists.proofs.Writing.{go_on_done, go_on_none}
 use Rattle.change_lists.proofs.change_list.ChangeList.go_on_once.Goals as goal
 
@@ -51,3 +53,9 @@ returns-clause-begins g c =
     c.requires.some c.self.invariant c.ranges.to.fits c.place-i.ensures (rw (← c.self.view_is) at c.requires.none)
     (sym c.is_at.ensures ∙ c.if-not-is_at.false) c.goes_on-again.ensures.yes c.goes_on-again.ensures.no c.begin_later_if.ensures in
     done.2
+
+pub returns-clause-nothing : goal.returns-clause-nothing
+returns-clause-nothing g c = λ none.
+    let xs : List (Begun g.row.V.Denot) = c.self.inside.begun.items in
+    let e = rw (← c.self.view_is) at none in
+    absurd (false≢true (sym (starts_of_none c.as_slice-2.result.now c.place-i.result c.args.from (c.as_slice-2.ensures.value ∙ e)) ∙ sym c.is_at.ensures ∙ c.if-not-is_at.false))

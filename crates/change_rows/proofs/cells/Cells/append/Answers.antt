@@ -11,20 +11,20 @@ words_between-more-requires-clause-there c =
     let o = c.others.inside in
     omega (arith, c.requires.there, length_cells o.heads.items o.words.items, ap length c.others.view_is, ap length c.as_slice-heads.ensures.value)
 
-pub push_heads-requires-clause-there : goal.push_heads-requires-clause-there
-push_heads-requires-clause-there c =
+pub copy_heads-requires-clause-there : goal.copy_heads-requires-clause-there
+copy_heads-requires-clause-there c =
     let o = c.others.inside in
     omega (arith, c.requires.there, length_cells o.heads.items o.words.items, ap length c.others.view_is, ap length c.as_slice-heads.ensures.value)
 
-pub push_heads-requires-clause-climbs : goal.push_heads-requires-clause-climbs
-push_heads-requires-clause-climbs c =
+pub copy_heads-requires-clause-climbs : goal.copy_heads-requires-clause-climbs
+copy_heads-requires-clause-climbs c =
     let i = c.self.inside in
     let o = c.others.inside in
     run_climbs i.heads.items o.heads.items c.as_slice-heads.result.now i.words.items o.words.items c.as_slice-words.result.now c.words_between-more.result.now c.args.from c.args.to c.start_in-start.result c.len-base.result _ c.self.invariant c.others.invariant c.requires.order
     (omega (arith, c.requires.there, length_cells o.heads.items o.words.items, ap length c.others.view_is)) c.as_slice-heads.ensures.value c.as_slice-words.ensures.value c.start_in-start.ensures (ap length c.as_slice-words.ensures.value) (omega (arith, c.len-base.ensures, i.words.ok.0)) c.words_between-more.ensures
 
-pub push_heads-requires-clause-small : goal.push_heads-requires-clause-small
-push_heads-requires-clause-small c =
+pub copy_heads-requires-clause-small : goal.copy_heads-requires-clause-small
+copy_heads-requires-clause-small c =
     let i = c.self.inside in
     let o = c.others.inside in
     run_small i.heads.items o.heads.items c.as_slice-heads.result.now i.words.items o.words.items c.as_slice-words.result.now c.words_between-more.result.now c.args.from c.args.to c.start_in-start.result c.len-base.result _ c.self.invariant c.others.invariant c.requires.order
@@ -36,9 +36,9 @@ invariant_of-self-in-Ok c =
     let o = c.others.inside in
     appended_packed i.heads.items o.heads.items c.as_slice-heads.result.now i.words.items o.words.items c.as_slice-words.result.now c.words_between-more.result.now c.args.from c.args.to c.start_in-start.result c.len-base.result _ c.self.invariant c.others.invariant c.requires.order
     (omega (arith, c.requires.there, length_cells o.heads.items o.words.items, ap length c.others.view_is)) c.as_slice-heads.ensures.value c.as_slice-words.ensures.value c.start_in-start.ensures (ap length c.as_slice-words.ensures.value) (omega (arith, c.len-base.ensures, i.words.ok.0)) c.words_between-more.ensures
-    c.push_heads.new.heads.items c.extend_from_slice.new.self.items
+    c.copy_heads.new.heads.items c.extend_from_slice.new.self.items
     (λ l. omega (arith, c.requires.above l, ap end_of c.self.view_is, ap (λ (v : List Held). component_at v c.args.from) c.others.view_is))
-    (c.push_heads.ensures ∙ ap (λ (v : List Head). v ++ map (moved c.start_in-start.result c.len-base.result) (slice_range c.as_slice-heads.result.now c.args.from c.args.to)) c.in_ok-reserve.ensures.items) c.in-Ok.ensures.items (omega (arith, c.if-more-base.false, c.len-base.ensures, i.words.ok.0))
+    (c.copy_heads.ensures ∙ ap (λ (v : List Head). v ++ map (moved c.start_in-start.result c.len-base.result) (slice_range c.as_slice-heads.result.now c.args.from c.args.to)) c.in_ok-reserve.ensures.items) c.in-Ok.ensures.items (omega (arith, c.if-more-base.false, c.len-base.ensures, i.words.ok.0))
 
 pub returns-in-Ok : goal.returns-in-Ok
 returns-in-Ok c =
@@ -46,8 +46,8 @@ returns-in-Ok c =
     let o = c.others.inside in
     appended_cells i.heads.items o.heads.items c.as_slice-heads.result.now i.words.items o.words.items c.as_slice-words.result.now c.words_between-more.result.now c.args.from c.args.to c.start_in-start.result c.len-base.result _ c.self.invariant c.others.invariant c.requires.order
     (omega (arith, c.requires.there, length_cells o.heads.items o.words.items, ap length c.others.view_is)) c.as_slice-heads.ensures.value c.as_slice-words.ensures.value c.start_in-start.ensures (ap length c.as_slice-words.ensures.value) (omega (arith, c.len-base.ensures, i.words.ok.0)) c.words_between-more.ensures
-    c.push_heads.new.heads.items c.extend_from_slice.new.self.items
+    c.copy_heads.new.heads.items c.extend_from_slice.new.self.items
     (λ l. omega (arith, c.requires.above l, ap end_of c.self.view_is, ap (λ (v : List Held). component_at v c.args.from) c.others.view_is))
-    (c.push_heads.ensures ∙ ap (λ (v : List Head). v ++ map (moved c.start_in-start.result c.len-base.result) (slice_range c.as_slice-heads.result.now c.args.from c.args.to)) c.in_ok-reserve.ensures.items) c.in-Ok.ensures.items (omega (arith, c.if-more-base.false, c.len-base.ensures, i.words.ok.0))
+    (c.copy_heads.ensures ∙ ap (λ (v : List Head). v ++ map (moved c.start_in-start.result c.len-base.result) (slice_range c.as_slice-heads.result.now c.args.from c.args.to)) c.in_ok-reserve.ensures.items) c.in-Ok.ensures.items (omega (arith, c.if-more-base.false, c.len-base.ensures, i.words.ok.0))
     ∙ ap (λ (v : List Held). v ++ slice_range (Rattle.change_rows.specs.Packed.cells_of o.heads.items o.words.items) c.args.from c.args.to) c.self.view_is
     ∙ ap (λ (v : List Held). c.args.self.now ++ slice_range v c.args.from c.args.to) c.others.view_is

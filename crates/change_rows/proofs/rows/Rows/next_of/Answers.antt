@@ -1,4 +1,4 @@
-use Rattle.std.proofs.Common.{◌<◌, ◌≤◌, ap, arith, length}
+use Rattle.std.proofs.Common.{◌<◌, arith, length}
 use Rattle.change_rows.proofs.Viewing.{view_steady, steady_row}
 use Rattle.change_rows.proofs.rows.Rows.next_of.Goals as goal
 

@@ -1,6 +1,6 @@
-use Rattle.std.proofs.Common.{◌≡◌, ◌<◌, ◌≤◌, ◌-◌, ◌∙◌, sym, ap, arith, length}
+use Rattle.std.proofs.Common.{◌≡◌, ◌<◌, ◌∙◌, sym, ap, arith, length}
 use Rattle.std.proofs.lemmas.Result.{err_from_is_err_and}
-use Rattle.change_rows.specs.Rows.{Table, words_at}
+use Rattle.change_rows.specs.Rows.{Table}
 use Rattle.change_rows.proofs.Tables.{length_table}
 use Rattle.change_rows.proofs.Viewing.{cells, view_replaced, view_same, view_words, view_before}
 use Rattle.change_rows.proofs.rows.Rows.put_from.Goals as goal

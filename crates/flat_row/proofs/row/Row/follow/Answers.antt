@@ -1,4 +1,4 @@
-use Rattle.std.proofs.Common.{◌∙◌, ap, subst, Some}
+use Rattle.std.proofs.Common.{◌∙◌, ap, Some}
 use Rattle.flat_row.specs.Row.{Arrays, state_of, states_of}
 use Rattle.flat_row.proofs.Following.{following_each, following_states}
 use Rattle.flat_row.proofs.row.Row.follow.Goals as goal

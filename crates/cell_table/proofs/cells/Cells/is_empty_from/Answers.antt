@@ -1,8 +1,0 @@
-use Rattle.std.proofs.Common.{◌∙◌}
-use Rattle.cell_table.proofs.Keeping.{seen_state}
-use Rattle.cell_table.proofs.cells.Cells.is_empty_from.Goals as goal
-
-pub returns : goal.returns
-returns g c = λ e t d h.
-    let i = c.self.inside in
-    seen_state i.lines.items i.due i.versions.items c.args.self.now c.self.view_is c.self.invariant t d ∙ c.are_empty_from.ensures e t d h

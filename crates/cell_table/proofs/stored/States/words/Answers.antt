@@ -1,0 +1,14 @@
+use Rattle.std.proofs.Common.{◌∙◌, sym}
+use Rattle.cell_table.proofs.Coded.{seen_at}
+use Rattle.cell_table.proofs.Whole.{is_told_by}
+use Rattle.cell_table.proofs.stored.States.words.Goals as goal
+
+pub returns : goal.returns
+returns g c = λ x e.
+    let i = c.self.inside in
+    let C = g.G.Grid.codec in
+    let t = c.args.cell.cycle in
+    let d = c.args.cell.component in
+    let seen = seen_at C i.words i.memories c.args.self.now c.self.view_is c.self.invariant.0.whole t d in
+    let q = is_told_by C g.G.Grid.codec_laws _ _ (c.self.invariant.0.codes t d) x (sym seen ∙ e) in
+    (q.0, q.1 ∙ sym c.words.ensures)
