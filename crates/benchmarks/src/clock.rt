@@ -5,14 +5,6 @@ use std::io::Read;
 use std::time::Instant;
 use std::{fmt, fs};
 
-/// Writes a row: how long it took since then, for each of that many.
-pub fn row(rt: &HostRuntime, what: &str, since: Instant, times: u64) -> Result<()> {
-    let nanoseconds = since.elapsed(rt)?.as_nanos();
-    let each = nanoseconds.checked_div(u128::from(times)).unwrap_or(0);
-    eprintln!(rt; "{what}: {each} ns each, {nanoseconds} ns for {times}")?;
-    Ok(())
-}
-
 /// How many nanoseconds it took since then.
 pub fn taken(rt: &HostRuntime, since: Instant) -> Result<u64> {
     let nanoseconds = since.elapsed(rt)?.as_nanos();
@@ -152,25 +144,20 @@ pub fn bytes_beside(
     Ok(())
 }
 
-/// The number that stands at this place, from 0 on, of a line of the system's about this process.
-fn number_in(rt: &HostRuntime, path: &str, place: usize) -> Option<u64> {
-    let mut bytes = Vec::new(rt.alloc());
-    let file = fs::open(rt, path).ok()?;
-    file.take(64).read_to_end(&mut bytes).ok()?;
-    let text = std::str::from_utf8(&bytes).ok()?;
-    text.split(' ').nth(place)?.parse::<u64>().ok()
-}
-
-/// How many nanoseconds of processor time this thread has used so far, where the system tells.
-pub fn processor_time(rt: &HostRuntime) -> Option<u64> {
-    number_in(rt, "/proc/thread-self/schedstat", 0)
-}
-
 /// The bytes of a page of memory.
 const PAGE: u64 = 4096;
 
 /// How many bytes of memory this process has.
 pub fn resident(rt: &HostRuntime) -> Result<u64> {
-    let pages = number_in(rt, "/proc/self/statm", 1).context("no /proc/self/statm")?;
+    let pages = pages(rt).context("no /proc/self/statm")?;
     Ok(pages.saturating_mul(PAGE))
+}
+
+/// How many pages of memory the system says that this process has.
+fn pages(rt: &HostRuntime) -> Option<u64> {
+    let mut bytes = Vec::new(rt.alloc());
+    let file = fs::open(rt, "/proc/self/statm").ok()?;
+    file.take(64).read_to_end(&mut bytes).ok()?;
+    let text = std::str::from_utf8(&bytes).ok()?;
+    text.split(' ').nth(1)?.parse::<u64>().ok()
 }

@@ -1,25 +1,19 @@
 //! What the parts of the workbench cost.
 //!
-//! `benchmarks` measures every group of rows, small enough for a test; `benchmarks from-scratch K H`
-//! the plain simulation of 2^K processors up to horizon H; `benchmarks parts N` N steps of each
-//! component by itself; `benchmarks bench K H` a bench that is settled and edited; `benchmarks words N`
-//! N edits of one word, each with a question after it; `benchmarks turns N` N questions in turns of a shared bench, and a
-//! thread that waits for its turn; `benchmarks loads K H` what a fresh settling, the first counter of a settled bench, edits,
-//! answers and memory cost on four loads, each row beside the plain simulation; `benchmarks workers K H` the cells that
-//! workers and waves compute, and edits beside workers. Standard output gets one line of what was computed, which hangs on
-//! nothing but the words given; standard error gets the figures, a row each.
+//! `benchmarks` measures every group of rows, small enough for a test; `benchmarks loads K H` what a fresh settling, the first
+//! counter of a settled bench, edits, answers and memory cost on four loads, each row beside the plain simulation;
+//! `benchmarks workers K H` the cells that workers and waves compute, and edits beside workers. Standard output gets one line of
+//! what was computed, which hangs on nothing but the words given; standard error gets the figures, a row each.
 //!
 //! A further group of rows is a module with a call that takes the runtime and the group's numbers,
 //! writes its rows, and returns its part of the line; [`Asked`] gets its word.
 #![tactic(auto)]
 
+mod benches;
 mod clock;
-mod edits;
 mod load;
 mod loads;
-mod parts;
 mod scratch;
-mod turns;
 mod waves;
 mod workers;
 
@@ -41,11 +35,6 @@ const FAILED: u8 = 1;
 /// What is to be measured.
 enum Asked {
     Everything,
-    FromScratch { k: u32, horizon: u32 },
-    Parts { steps: u32 },
-    Edits { k: u32, horizon: u32 },
-    Words { edits: u32 },
-    Turns { turns: u32 },
     Loads { k: u32, horizon: u32 },
     Workers { k: u32, horizon: u32 },
 }
@@ -55,7 +44,7 @@ fn main(rt: HostRuntime) -> ExitCode {
         Ok(Some(asked)) => asked,
         Ok(None) => {
             let _ = eprintln!(rt;
-                "usage: benchmarks [from-scratch K H | parts N | bench K H | words N | turns N | loads K H | workers K H], K from 0 to {MAX_K}, H to {MAX_HORIZON}, N of words to 65535"
+                "usage: benchmarks [loads K H | workers K H], K from 0 to {MAX_K}, H to {MAX_HORIZON}"
             );
             return ExitCode::from(WRONG_WORDS);
         }
@@ -87,20 +76,9 @@ fn words(rt: &HostRuntime) -> Result<Option<Asked>> {
         }
     }
     Ok(match numbers.as_slice() {
-        [number] => of_number(what.as_str(), *number),
         [k, horizon] => of_size(what.as_str(), *k, *horizon),
         _ => None,
     })
-}
-
-/// What is asked for with one number.
-fn of_number(what: &str, number: u32) -> Option<Asked> {
-    match what {
-        "parts" => Some(Asked::Parts { steps: number }),
-        "words" => Some(Asked::Words { edits: number }),
-        "turns" => Some(Asked::Turns { turns: number }),
-        _ => None,
-    }
 }
 
 /// What is asked for with a machine's k and horizon.
@@ -109,8 +87,6 @@ fn of_size(what: &str, k: u32, horizon: u32) -> Option<Asked> {
         return None;
     }
     match what {
-        "from-scratch" => Some(Asked::FromScratch { k, horizon }),
-        "bench" => Some(Asked::Edits { k, horizon }),
         "loads" => Some(Asked::Loads { k, horizon }),
         "workers" => Some(Asked::Workers { k, horizon }),
         _ => None,
@@ -127,11 +103,6 @@ fn told<D: Display + Drop>(rt: &HostRuntime, came: Result<D>) -> Result<()> {
 fn measure<H: Hall>(rt: &HostRuntime, host: &H, asked: Asked) -> Result<()> {
     match asked {
         Asked::Everything => everything(rt, host),
-        Asked::FromScratch { k, horizon } => told(rt, scratch::measure(rt, k, horizon)),
-        Asked::Parts { steps } => told(rt, parts::measure(rt, steps)),
-        Asked::Edits { k, horizon } => told(rt, edits::measure(rt, host, k, horizon)),
-        Asked::Words { edits } => told(rt, edits::words(rt, host, edits)),
-        Asked::Turns { turns } => told(rt, turns::measure(rt, host, turns, 5, 1000)),
         Asked::Loads { k, horizon } => told(rt, loads::measure(rt, host, k, horizon)),
         Asked::Workers { k, horizon } => told(rt, workers::measure(rt, host, k, horizon)),
     }
@@ -139,13 +110,8 @@ fn measure<H: Hall>(rt: &HostRuntime, host: &H, asked: Asked) -> Result<()> {
 
 /// Every group of rows, small enough for a test.
 fn everything<H: Hall>(rt: &HostRuntime, host: &H) -> Result<()> {
-    let run = scratch::measure(rt, 0, 8)?;
-    let sums = parts::measure(rt, 1000)?;
-    let told = edits::measure(rt, host, 0, 8)?;
-    let words = edits::words(rt, host, 10)?;
-    let turns = turns::measure(rt, host, 10, 0, 8)?;
     let loads = loads::measure(rt, host, 1, 8)?;
     let workers = workers::measure(rt, host, 0, 8)?;
-    println!(rt; "{run}; {sums}; {told}; {words}; {turns}; {loads}; {workers}")?;
+    println!(rt; "{loads}; {workers}")?;
     Ok(())
 }

@@ -1,76 +1,10 @@
-//! The plain simulation: nanoseconds for a cell, and the bytes of a run.
-use crate::clock::row;
-use crate::load::hot_spot;
-use anyhow::Result;
+//! The bytes of a plain simulation's run.
 use comb_switch::Waiting;
-use machine_cells::{MachineState, from_scratch};
+use machine_cells::MachineState;
 use mem_module::Stored;
 use omega_net::{Queue, Reply, Request};
-use std::fmt;
 use std::mem::size_of;
 use std::sync::Arc;
-use std::time::Instant;
-
-/// A run that was simulated: its size, its cells, and the word of address 0 at the horizon.
-#[derive(Clone, Copy)]
-pub struct Run {
-    k: u32,
-    horizon: u32,
-    cells: u64,
-    word: u32,
-}
-
-impl fmt::Display for Run {
-    fn fmt<W: fmt::Write>(&self, f: &mut fmt::Formatter<W>) -> fmt::Result {
-        let Run {
-            k,
-            horizon,
-            cells,
-            word,
-        } = *self;
-        write!(f, "from-scratch k {k} horizon {horizon}: {cells} cells, ")?;
-        write!(f, "word 0 is {word} at the end")
-    }
-}
-
-/// Simulates the hot spot of 2^k processors from cycle 0 up to the horizon.
-pub fn measure(rt: &HostRuntime, k: u32, horizon: u32) -> Result<Run> {
-    let project = hot_spot(rt.alloc(), k, horizon)?;
-    let since = Instant::now(rt)?;
-    let rows = from_scratch(rt.alloc(), &project)?;
-    let cells = cells_of(&rows);
-    row(rt, "from_scratch, a cell", since, cells)?;
-    let bytes = bytes_of(&rows);
-    let each = bytes.checked_div(cells).unwrap_or(0);
-    eprintln!(rt; "from_scratch, memory: {each} bytes each, {bytes} bytes for {cells}")?;
-    let word = rows.last().map_or(0, |row| word_of(row, k));
-    Ok(Run {
-        k,
-        horizon,
-        cells,
-        word,
-    })
-}
-
-pub fn cells_of(rows: &[Vec<Arc<MachineState>>]) -> u64 {
-    let mut cells: u64 = 0;
-    for row in rows {
-        cells = cells.saturating_add(row.len() as u64);
-    }
-    cells
-}
-
-/// The word of address 0, which stands in row 0 of the first module.
-fn word_of(row: &[Arc<MachineState>], k: u32) -> u32 {
-    let first = 1usize.checked_shl(k).unwrap_or(0);
-    match row.get(first) {
-        Some(state) => match &**state {
-            MachineState::Module(module) => module.word(0),
-            _ => 0,
-        },
-        None => 0,
-    }
-}
 
 /// The bytes that a run holds: cells × the size of an owner, and for each state that isn't that of the cycle before its own
 /// size, and for a module that of its words. What the allocator takes beside isn't counted.

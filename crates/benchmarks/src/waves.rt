@@ -2,7 +2,7 @@
 ghost use Rattle.std.specs.Prelude.{◌≤◌, ◌<◌};
 
 use crate::clock::{Beside, Times, row_beside, taken};
-use crate::edits::{opened, settled};
+use crate::benches::{opened, settled};
 use crate::load::{Load, loaded};
 use anyhow::{Error, Result};
 use bench_core::Bench;

@@ -1,9 +1,8 @@
 //! Workers: the cells that they compute in a second, and what an edit costs beside them.
 use crate::clock::{Beside, Times, row_beside, taken};
-use crate::edits::opened;
+use crate::benches::{opened, second, shared};
 use crate::load::{Load, loaded};
 use crate::loads::What;
-use crate::turns::{second, shared};
 use crate::waves;
 use anyhow::{Error, Result};
 use bench_core::{Asked, Told as Answered};

@@ -2,11 +2,13 @@
 //! lost, doubled, late or foreign.
 //!
 //! Each line names what was tried, and how often, and says `held` where each answer was the one that was worked out, and what
-//! stood afterwards answered on. `tests/hostile` does the same to the program from outside.
+//! stood afterwards answered on; behind them stand the statuses with which the program ends for other causes than its input's
+//! end, and the last of these is this program's own. `tests/hostile` does the same to the program from outside.
 #![tactic(auto)]
 
 mod benches;
 mod claims;
+mod ends;
 mod files;
 mod gates;
 mod reading;
@@ -93,7 +95,8 @@ fn main(rt: HostRuntime) -> ExitCode {
         "14.3: workers that a gate holds",
         gates::held(&rt, alloc),
     );
-    ExitCode::from(u8::from(!held))
+    let end = ends::played(&rt);
+    if held { end } else { ExitCode::from(1) }
 }
 
 /// Says how often something was tried, where it held, and gives whether it did.

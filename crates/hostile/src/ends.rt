@@ -1,7 +1,5 @@
 //! The ends of the program other than the input's: words that it refuses, a file that isn't there, a file that is no project,
-//! and a reader that fails. Each prints the exit status; the last one's is this program's own.
-#![tactic(auto)]
-
+//! and a reader that fails. Each prints the exit status.
 use bench_shell::{Reading, Writing};
 use command_line::{Disk, Host, program_of};
 use std::io::{self, Error, ErrorKind, Read, Result, Write};
@@ -36,11 +34,12 @@ fn play<H: Host, R: Read, W: Write>(
     end
 }
 
-fn main(rt: HostRuntime) -> ExitCode {
-    let writer = &mut io::writer(&rt);
-    play(&rt, &["--workers", "17"], &mut rt.reader(), writer);
-    play(&rt, &["no such file.toml"], &mut rt.reader(), writer);
-    play(&rt, &["cut.toml"], &mut rt.reader(), writer);
+/// Plays the four ends, and gives the last one's status.
+pub(crate) fn played(rt: &HostRuntime) -> ExitCode {
+    let writer = &mut io::writer(rt);
+    play(rt, &["--workers", "17"], &mut rt.reader(), writer);
+    play(rt, &["no such file.toml"], &mut rt.reader(), writer);
+    play(rt, &["cut.toml"], &mut rt.reader(), writer);
     let mut reader = OneLine { line: b"place 5\n" };
-    play(&rt, &[], &mut reader, writer)
+    play(rt, &[], &mut reader, writer)
 }
