@@ -12,10 +12,13 @@
 #![tactic(auto)]
 
 mod depths;
+mod entry_fault;
 mod fault;
 mod fields;
 mod format;
 mod items;
+mod lines;
+mod nearest;
 mod pages;
 mod place;
 mod reading;
