@@ -348,41 +348,93 @@ const PLACES: &[(&str, &str)] = &[
         "k = 3",
         "TOML parse error at line 4, column 1: duplicate key",
     ),
-    ("colour = 1", "colour: no such key"),
-    ("window = 9", "window: 9 is not 1 to 8"),
-    ("combine = [true]", "combine: 1 stages where k is 0"),
     (
-        "depths = 4",
-        "depths: of type integer where a table belongs",
+        "colour = 1",
+        "line 4, colour: no such key; there is format, k, horizon, window, combine, depths, page, word or script",
+    ),
+    ("widow = 1", "line 4, widow: no such key; is it window?"),
+    ("window = 9", "line 4, window: 9 is not 1 to 8"),
+    ("combine = [true]", "line 4, combine: 1 stages where k is 0"),
+    (
+        "combine = [4]",
+        "line 4, combine: stage 0 is of type integer where true or false belongs",
     ),
     (
-        "[depths]\ncomb_reverse = 3",
-        "depths, comb_reverse: 3 is not 4 to 16",
+        "depths = 4",
+        "line 4, depths: of type integer where a table belongs",
+    ),
+    (
+        "[depths]\nmodule = 4\ncomb_reverse = 3",
+        "line 6, depths, comb_reverse: 3 is not 4 to 16",
     ),
     (
         "page = [1]",
-        "page 0: of type integer where a table belongs",
+        "line 4, page: the first is of type integer where a table belongs",
     ),
     (
         "[[page]]\nnumber = 1\namount = 0\nbase = 0\n[[page]]\nnumber = 1",
-        "page 1, number: page 1 is given twice",
+        "line 9, page of number 1 (the second), number: 1 is given twice",
     ),
     (
         "[[page]]\nnumber = 0\namount = 2\nbase = 0",
-        "page 0, amount: 2 with base 0 is no interleaving of 1 modules",
+        "line 6, page of number 0 (the first), amount: 2 with base 0 is no interleaving of 1 modules",
     ),
-    ("[[word]]\naddress = 0", "word 0, value: missing"),
+    ("word = [{ value = 1 }]", "the first word, address: missing"),
     (
-        "[[script]]\nprocessor = 0\nentries = [\"fence\", \"jump\\u0007 3\"]",
-        "script 0, entries 1: no script entry: \"jump? 3\"",
+        "[[word]]\naddress = 7",
+        "line 4, word of address 7 (the first), value: missing",
+    ),
+    (
+        "[[script]]\nprocessor = 0\nentries = [\n\"fence\",\n\"jump\\u0007 3\"]",
+        "line 6, script of processor 0 (the first), entry 1, \"jump? 3\": no entry begins with \"jump?\"; there is sync, plain, until, fence or idle",
+    ),
+    (
+        "[[script]]\nprocessor = 0\nentries = [\n\"fence\",\n\"snyc add 0 1\"]",
+        "line 8, script of processor 0 (the first), entry 1, \"snyc add 0 1\": no entry begins with \"snyc\"; is it sync?",
     ),
     (
         "[[script]]\nprocessor = 0\nentries = [\"until sync load 0 0 1\"]",
-        "script 0, entries 0: format 1 has no such entry: \"until sync load 0 0 1\"",
+        "line 6, script of processor 0 (the first), entry 0, \"until sync load 0 0 1\": format 1 has no such entry; format 2 has",
     ),
     (
         "[[script]]\nprocessor = 0\nentries = [\"idle 0\"]",
-        "script 0, entries 0: a number is outside its limits: \"idle 0\"",
+        "line 6, script of processor 0 (the first), entry 0, \"idle 0\": the number of turns 0 is not 1 to 1000",
+    ),
+];
+
+/// Texts that are no entries within the limits, and what is said of each.
+const ENTRIES: &[(&str, &str)] = &[
+    ("", "no words"),
+    ("sync ad 0 1", "\"ad\" is no operation; is it add?"),
+    (
+        "sync subtract 0 1",
+        "\"subtract\" is no operation; there is load, add, and, or, min, max, store or store-if-zero",
+    ),
+    (
+        "until both load 0 0 1",
+        "\"both\" is no network; there is sync or plain",
+    ),
+    (
+        "plain load x 0",
+        "the address \"x\" is no whole number up to 4294967295",
+    ),
+    (
+        "plain load 0",
+        "a word is missing; it is plain OPERATION ADDRESS OPERAND [TIMES]",
+    ),
+    (
+        "plain load 0 0 -1",
+        "the number of times \"-1\" is no whole number up to 4294967295",
+    ),
+    (
+        "plain load 0 0 1 1",
+        "\"1\" is a word too many; it is plain OPERATION ADDRESS OPERAND [TIMES]",
+    ),
+    ("fence 3", "\"3\" is a word too many; it is fence"),
+    ("sync load 16384 0", "the address 16384 is not 0 to 16383"),
+    (
+        "sync load 0 0 1001",
+        "the number of times 1001 is not 1 to 1000",
     ),
 ];
 
@@ -408,5 +460,39 @@ fn places(rt: HostRuntime) -> Result<(), Fail> {
             )
         );
     }
+    Ok(())
+}
+
+/// Which word or number of an entry is wrong.
+#[test]
+fn entries(rt: HostRuntime) -> Result<(), Fail> {
+    let alloc = rt.alloc();
+    for (entry, fault) in ENTRIES {
+        let text = format!(in alloc; "{SMALL}[[script]]\nprocessor = 0\nentries = [\"{entry}\"]")?;
+        let told = format!(in alloc;
+            "line 6, script of processor 0 (the first), entry 0, \"{entry}\": {fault}"
+        )?;
+        assert!(rt;
+            equal(
+                &rt,
+                place_of(alloc, text.as_str().as_bytes())?.as_str(),
+                told.as_str()
+            )
+        );
+    }
+    Ok(())
+}
+
+/// What the other format allows.
+#[test]
+fn sizes(rt: HostRuntime) -> Result<(), Fail> {
+    let text = "format = 1\nk = 6\nhorizon = 0\n";
+    assert!(rt;
+        equal(
+            &rt,
+            place_of(rt.alloc(), text.as_bytes())?.as_str(),
+            "line 2, k: 6 is not 0 to 5; format 2 allows 0 to 6"
+        )
+    );
     Ok(())
 }

@@ -37,6 +37,10 @@ processor = 0
 entries = [\"fence\", \"jump 3\"]
 ";
 
+/// What is told of that entry.
+const TOLD: &str =
+    "line 6, script of processor 0 (the first), entry 1, \"jump 3\": no entry begins with \"jump\"; there is sync, plain, until, fence or idle";
+
 /// The project of the file.
 pub(crate) fn project(alloc: Global) -> Option<Project> {
     project_of(alloc, FILE)
@@ -165,7 +169,7 @@ fn is_file_of(alloc: Global, bytes: &[u8], project: &Project) -> bool {
 
 pub(crate) fn placed(alloc: Global) -> bool {
     match again!(fault_place(alloc, WRONG.as_bytes())) {
-        Some(Some(line)) => line.as_str() == "script 0, entries 1: no script entry: \"jump 3\"",
+        Some(Some(line)) => line.as_str() == TOLD,
         _ => false,
     }
 }
