@@ -34,12 +34,12 @@ fn play<H: Host, R: Read, W: Write>(
     end
 }
 
-/// Plays the four ends, and gives the last one's status.
-pub(crate) fn played(rt: &HostRuntime) -> ExitCode {
+/// Plays the four ends over this input, of which none is read, and gives the last one's status.
+pub(crate) fn played<H: Host, R: Read>(rt: &H, input: &mut R) -> ExitCode {
     let writer = &mut io::writer(rt);
-    play(rt, &["--workers", "17"], &mut rt.reader(), writer);
-    play(rt, &["no such file.toml"], &mut rt.reader(), writer);
-    play(rt, &["cut.toml"], &mut rt.reader(), writer);
+    play(rt, &["--workers", "17"], input, writer);
+    play(rt, &["no such file.toml"], input, writer);
+    play(rt, &["cut.toml"], input, writer);
     let mut reader = OneLine { line: b"place 5\n" };
     play(rt, &[], &mut reader, writer)
 }

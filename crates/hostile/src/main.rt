@@ -95,7 +95,7 @@ fn main(rt: HostRuntime) -> ExitCode {
         "14.3: workers that a gate holds",
         gates::held(&rt, alloc),
     );
-    let end = ends::played(&rt);
+    let end = ends::played(&rt, &mut rt.reader());
     if held { end } else { ExitCode::from(1) }
 }
 
