@@ -270,9 +270,10 @@ impl<G: Grid> States<G> {
         Ok(())
     }
 
-    /// The words of a cell's state.
+    /// The words of a cell's state; none where it has no state.
     pub(crate) fn words(&self, cell: Cell) -> &[u64]
-        ensures { (x : G.State) → state_at self.now cell.cycle cell.component ≡ Some x → IsTold G.codec x × (G.codec.words x ≡ result.now) }
+        ensures none { result.now ≡ [] ↔ (state_at self.now cell.cycle cell.component ≡ None) }
+        ensures told { (x : G.State) → state_at self.now cell.cycle cell.component ≡ Some x → IsTold G.codec x × (G.codec.words x ≡ result.now) }
     {
         self.words.words(cell.cycle, cell.component)
     }

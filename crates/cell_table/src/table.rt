@@ -1,5 +1,5 @@
 //! The table.
-ghost use Rattle.std.specs.Prelude.{◌≡◌, ℕ, ◌+◌, ◌<◌, ◌≤◌, IfOk, IfErr, List, replicate, Some, ◌↔◌, IsTrue, [], option_map};
+ghost use Rattle.std.specs.Prelude.{◌≡◌, ℕ, ◌+◌, ◌<◌, ◌≤◌, IfOk, IfErr, List, replicate, None, Some, ◌↔◌, IsTrue, [], option_map};
 ghost use Rattle.std.specs.Arc.{arc_value};
 ghost use Rattle.cell_table.specs.Seen.{held_at, due_at, fresh};
 ghost use Rattle.cell_table.specs.Cells.{IsThere};
@@ -9,6 +9,7 @@ ghost use Rattle.cell_table.specs.Cones.{count_to};
 ghost use Rattle.cell_table.specs.Due.{due};
 ghost use Rattle.cell_table.specs.Events.{Event, Start, slots_of, horizon_of};
 ghost use Rattle.cell_table.specs.Stands.{Stands};
+ghost use Rattle.grid_law.specs.Codec.{IsTold};
 ghost use Rattle.grid_law.specs.Run.{run};
 
 mod alike;
@@ -153,6 +154,15 @@ impl<G: Grid> Table<G> {
         ensures { IfOk result (λ o. option_map arc_value o ≡ (held_at self.now.rows cell.cycle cell.component).state) }
     {
         self.cells.shared(cell)
+    }
+
+    /// The words of the state that the cell holds, up to date or not; none where it holds no state, as
+    /// for a cell that isn't there. They are lent, so no memory is taken.
+    pub fn words(&self, cell: Cell) -> &[u64]
+        ensures none { result.now ≡ [] ↔ ((held_at self.now.rows cell.cycle cell.component).state ≡ None) }
+        ensures told { (x : G.State) → (held_at self.now.rows cell.cycle cell.component).state ≡ Some x → IsTold G.codec x × (G.codec.words x ≡ result.now) }
+    {
+        self.cells.words(cell)
     }
 
     /// Whether the cell is due; one that isn't there isn't.

@@ -1,5 +1,5 @@
 //! What cells hold as a row of all components takes it, and gives it.
-ghost use Rattle.std.specs.Prelude.{true, ◌≡◌, ℕ, ◌-◌, ◌<◌, ◌≤◌, OnOk, OnErr, Some, false, length};
+ghost use Rattle.std.specs.Prelude.{true, ◌≡◌, ◌↔◌, ℕ, ◌-◌, ◌<◌, ◌≤◌, OnOk, OnErr, None, Some, [], false, length};
 ghost use Rattle.cell_table.specs.Filling.{is_awake};
 ghost use Rattle.std.specs.Option.{option_copied};
 ghost use Rattle.grid_law.specs.Codec.{IsTold};
@@ -17,9 +17,10 @@ use cell_marks::Row;
 use grid_law::{Grid, NoMemory};
 
 impl<G: Grid> Cells<G> {
-    /// The words of the state that a cell holds.
+    /// The words of the state that a cell holds; none where it holds none.
     pub(crate) fn words(&self, cell: Cell) -> &[u64]
-        ensures { (x : G.State) → (held_at self.now cell.cycle cell.component).state ≡ Some x → IsTold G.codec x × (G.codec.words x ≡ result.now) }
+        ensures none { result.now ≡ [] ↔ ((held_at self.now cell.cycle cell.component).state ≡ None) }
+        ensures told { (x : G.State) → (held_at self.now cell.cycle cell.component).state ≡ Some x → IsTold G.codec x × (G.codec.words x ≡ result.now) }
     {
         self.states.words(cell)
     }
