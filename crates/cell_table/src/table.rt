@@ -1,6 +1,7 @@
 //! The table.
 ghost use Rattle.std.specs.Prelude.{◌≡◌, ℕ, ◌+◌, ◌<◌, ◌≤◌, IfOk, IfErr, List, replicate, None, Some, ◌↔◌, IsTrue, [], option_map};
 ghost use Rattle.std.specs.Arc.{arc_value};
+ghost use Rattle.std.specs.Option.{option_copied};
 ghost use Rattle.cell_table.specs.Seen.{held_at, due_at, fresh};
 ghost use Rattle.cell_table.specs.Cells.{IsThere};
 ghost use Rattle.cell_table.specs.Consistent.{IsWhole, IsConsistent};
@@ -163,6 +164,14 @@ impl<G: Grid> Table<G> {
         ensures told { (x : G.State) → (held_at self.now.rows cell.cycle cell.component).state ≡ Some x → IsTold G.codec x × (G.codec.words x ≡ result.now) }
     {
         self.cells.words(cell)
+    }
+
+    /// What of that state isn't in its words, where there is anything; lent, too. Where the cell holds no
+    /// state, it means nothing.
+    pub fn memory(&self, cell: Cell) -> Option<&G::Memory>
+        ensures { (x : G.State) → (held_at self.now.rows cell.cycle cell.component).state ≡ Some x → G.codec.memory x ≡ option_copied result }
+    {
+        self.cells.memory(cell)
     }
 
     /// Whether the cell is due; one that isn't there isn't.
