@@ -16,8 +16,8 @@ use Rattle.bench_core.specs.Told.{TellsAt, TellsAsked, told_at_fault}
 use Rattle.bench_core.specs.Settled.{cycle_unless, SettlesToAs, SettlesOnceAs}
 use Rattle.bench_core.specs.Seeking.{begins_at, SeeksAs}
 use Rattle.bench_core.specs.Answering.{SettlesReplyAs, SettlesAs}
-use Rattle.bench_core.proofs.Settled.{refused_settles, unsettled}
-use Rattle.bench_core.proofs.Seeking.{begins_within, seeks_none, seeks_fault, told_is_answer}
+use Rattle.bench_core.proofs.Settled.{refused_settles}
+use Rattle.bench_core.proofs.Seeking.{seeks_none, seeks_fault, told_is_answer}
 
 -- a query that its own numbers refuse
 pub refused_as : (d : Shown) (q : Query) (n : ℕ) → bad_query (project_of d) q ≡ Some n → SettlesAs q (told.BadQuery n) d d
@@ -46,16 +46,6 @@ other_as d next (Place a) r other s = s
 -- a reply that its numbers don't refuse
 pub reply_as : (d next : Shown) (p n : ℕ) (r : Told) → bad_query (project_of d) (Reply p n) ≡ None → SettlesReplyAs p n r d next → SettlesAs (Reply p n) r d next
 reply_as d next p n r good s = rw good s
-
--- where the states held couldn't be looked at nothing was settled
-pub unsought : (d : Shown) (p n : ℕ) → SettlesReplyAs p n told.Memory d d
-unsought d p n = record {
-  begin = begins_at d p n;
-  sought = Err (settle.Memory 0);
-  begins = inl refl;
-  seeks = seeks_fault p n (begins_at d p n) d d (begins_within d p n) (settle.Memory 0) (unsettled (begins_at d p n) d) (λ spent. absurd spent);
-  comes = refl;
-}
 
 module _ (d next : Shown) (p n : ℕ) where
   -- where no cell is due, the run is settled at once

@@ -1,22 +1,18 @@
 -- Looking up what a query asks for.
-use Rattle.std.proofs.Common.{◌≡◌, ℕ, suc, ◌<◌, ◌≤◌, ◌∙◌, sym, subst, refl, arith, Bool, true, false, nat_lt, Option, None}
-use Rattle.std.specs.Prelude.{if◌then◌else◌, Ok, Err}
+use Rattle.std.proofs.Common.{◌≡◌, ℕ, suc, ◌<◌, ◌≤◌, ◌∙◌, sym, subst, refl, arith, None}
 use Rattle.omega_net.specs.Numbers.{components}
-use Rattle.machine_cells.specs.declared.state.MachineState.{MachineState}
 use Rattle.machine_cells.specs.Run.{run}
 use Rattle.machine_cells.specs.Runs.{state_in}
 use Rattle.machine_cells.proofs.Runs.{runs_are_one}
-use Rattle.project_book.specs.Project.{Project}
 use Rattle.run_queries.specs.declared.query.Query.{Query}
 use Rattle.run_queries.specs.declared.query.Query.TheVariants.{Reply, State, Memory}
-use Rattle.run_queries.specs.declared.body.Body.TheVariants.{Reply as Replied}
 use Rattle.run_queries.specs.Bad.{bad_query}
-use Rattle.run_queries.specs.Answers.{issued, first_reply, found_in}
+use Rattle.run_queries.specs.Answers.{found_in}
 use Rattle.run_queries.proofs.Good.{good_reply, good_state, good_memory}
 use Rattle.run_queries.proofs.Stretches.{same_issued, same_reply}
 use Rattle.bench_core.specs.declared.asked.Asked.{Asked}
 use Rattle.bench_core.specs.Shown.{Shown, project_of, version_of, held}
-use Rattle.bench_core.specs.Asks.{module_of, told, MayWant, TellsAs, TellsRun, HoldsRunTo, IsUpToDate}
+use Rattle.bench_core.specs.Asks.{module_of, TellsAs, TellsRun, HoldsRunTo, IsUpToDate}
 
 module _ (b : Shown) where
   -- what is up to date is what the run has
@@ -45,11 +41,3 @@ module _ (b : Shown) where
   word_told a t result good ready =
       let ok = good_memory (project_of b) a t good in
       says (Memory a t) result (rw (ready.1 ∙ sym (runs_are_one (project_of b) t (module_of (project_of b) a) ok.cycle ready.0)) refl)
-
--- where the states of a processor couldn't be looked at, it isn't known whether it issued the reference
-pub may_want_reply : (v : ℕ) (at : ℕ → ℕ → Option MachineState) (P : Project) (p n : ℕ) → MayWant (told v (found_in at P (Reply p n)))
-may_want_reply v at P p n = by_issued (nat_lt n (issued (λ t. at t p) (suc P.horizon)))
-  where
-    by_issued : (b : Bool) → MayWant (told v (if b then Ok (Replied (first_reply (λ t. at t p) n (suc P.horizon))) else Err 4))
-    by_issued true = tt
-    by_issued false = refl

@@ -1,6 +1,5 @@
 -- A bench that is settled for a query, and what it tells.
-use Rattle.std.proofs.Common.{◌≡◌, ℕ, ◌<◌, ◌≤◌, ◌∙◌, sym, ap, subst, refl, arith, inr, List, [], length, Option, None, Some}
-use Rattle.std.proofs.lemmas.Bool.{false≢true}
+use Rattle.std.proofs.Common.{◌≡◌, ℕ, ◌<◌, ◌≤◌, ◌∙◌, sym, ap, subst, refl, arith, List, length, Option, None, Some}
 use Rattle.page_map.specs.Pages.{IsPageMap}
 use Rattle.omega_net.specs.Numbers.{lines, components}
 use Rattle.cell_table.specs.Events.{Event as TableEvent}
@@ -110,29 +109,9 @@ refused_told b q n is = rw is refl
 pub refused_settles : (d : Shown) (q : Query) (n : ℕ) → bad_query (project_of d) q ≡ Some n → SettlesOnceAs q (told.BadQuery n) d d
 refused_settles d q n is = rw is refl
 
-pub partly : (last : Option ℕ) (d next : Shown) → IsSettledFrom last d next → IsPartlySettledFrom last d next
+partly : (last : Option ℕ) (d next : Shown) → IsSettledFrom last d next → IsPartlySettledFrom last d next
 partly None d next s = s
 partly (Some last) d next s = (s.0, s.1, λ o h stands. let all = s.2 o h stands in record { stands = all.stands; table = all.table.firsts })
-
--- one that wasn't settled at all was settled in part
-pub unsettled : (last : ℕ) (d : Shown) → IsPartlySettledFrom (Some last) d d
-unsettled last d = (
-  [],
-  0,
-  λ o h stands. record {
-    stands = stands;
-    table = record {
-      firsts = record {
-        stands = stands.table;
-        in_order = tt;
-        number = refl;
-        only = λ t c e. absurd (false≢true e);
-        first = λ t c there costs. inr (λ t1 c1 e. absurd (false≢true e));
-      };
-      up_to = λ t c e. absurd (false≢true e);
-    };
-  },
-)
 
 -- after a settling that ended well
 pub told_settles : (d next left : Shown) (q : Query) (r : Told) → left ≡ next → (r ≡ told.ClockSpent → ⊥) → IsSettledFrom (settled_for (project_of d) q) d next → SettlesOnceAs q r d left

@@ -79,6 +79,6 @@ abbrev pub pending_after : Opening → List Event → Query → ℕ
 pending_after o h q = waits (project_after o h) (due rp3_rules (table_start o) (on_table o h)) q
 
 -- the same for every answer: a reason against the query, a number of due cells, or what the run says, each by the events
--- alone; want of memory only in the place of the last two, issue numbers that weren't reached included
+-- alone; want of memory only in the place of the last two
 abbrev pub AsksRun : Opening → List Event → Query → Asked → Type 0
 AsksRun o h q result = IsOrWants (asked_at (project_after o h) (version_after h) (pending_after o h q) q) result

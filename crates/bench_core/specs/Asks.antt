@@ -77,12 +77,11 @@ asked_at P version waiting q = asked_unless (bad_query P q) (told_unless waiting
 abbrev pub asked : Shown → Query → Asked
 asked b q = asked_at (project_of b) (version_of b) (pending b q) q
 
--- want of memory stands in the place of an answer, of a number of due cells or of an issue number that wasn't reached, which
--- only the states tell, and of nothing else
+-- want of memory stands in the place of an answer or of a number of due cells, and of nothing else
 abbrev pub MayWant : Asked → Type 0
 MayWant (Answer version body) = Unit {0}
 MayWant (Pending n) = Unit {0}
-MayWant (BadQuery n) = n ≡ 4
+MayWant (BadQuery n) = ⊥
 MayWant Memory = ⊥
 
 abbrev pub IsOrWants : Asked → Asked → Type 0

@@ -11,3 +11,4 @@ pub mod Seeking
 pub mod Answering
 pub mod Recent
 pub mod Filling
+pub mod Worded

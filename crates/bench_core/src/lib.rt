@@ -20,6 +20,7 @@ mod limits;
 mod noted;
 mod recent;
 mod told;
+mod words;
 
 pub use asked::Asked;
 pub use bench::Bench;

@@ -15,7 +15,6 @@ ghost use Rattle.bench_core.specs.Answering.{SettlesReplyAs, SettlesAs};
 use super::Bench;
 use crate::{Asked, Told};
 use cell_table::SettleFault;
-use grid_law::NoMemory;
 use run_queries::{Body, Query};
 use std::thread::Threads;
 
@@ -123,10 +122,7 @@ impl Bench {
         if self.pending_to(self.project().horizon()) == 0 {
             return self.answer_at_once(rt, query);
         }
-        let begin = match self.begins_at(proc, issue) {
-            Ok(begin) => begin,
-            Err(NoMemory) => return Told::Memory,
-        };
+        let begin = self.begins_at(proc, issue);
         match self.seek(proc, issue, begin) {
             Ok(Some(received)) => Told::Answer {
                 version: self.version(),

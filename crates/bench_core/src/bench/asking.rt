@@ -195,7 +195,7 @@ impl Bench {
     /// Answers a query of the project as it stands, without computing anything; nothing is changed. The first that
     /// applies: BadQuery 1, 2, 3, 5 or 6 by the query's numbers; Pending where cells are due that the answer rests on,
     /// with their number; BadQuery 4 where the processor issued no such reference by the horizon; the answer. Memory
-    /// only in the place of an answer, of Pending or of BadQuery 4.
+    /// only in the place of an answer or of Pending.
     ///
     /// A state or a word waits for the cells that it rests on alone, a counter or a level for the cycles up to its last
     /// one, a reply, a profile or a tree for the whole run. The first counter or profile that a bench is asked counts all

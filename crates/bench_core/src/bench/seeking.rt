@@ -9,7 +9,6 @@ ghost use Rattle.bench_core.specs.Seeking.{begins_at, SeeksAs};
 
 use super::Bench;
 use cell_table::SettleFault;
-use grid_law::NoMemory;
 use run_queries::Received;
 
 /// How far a reply is sought first that no state held tells.
@@ -18,19 +17,15 @@ const FIRST_SLICE: u32 = 15;
 impl Bench {
     /// How far to look first for a reply: to the cycle at which the states held tell it, which need not be those of the run,
     /// else to `FIRST_SLICE`, or to the horizon.
-    ///
-    /// # Errors
-    ///
-    /// Where a state couldn't be shared.
-    pub(super) fn begins_at(&self, proc: u32, issue: u32) -> Result<u32, NoMemory>
+    pub(super) fn begins_at(&self, proc: u32, issue: u32) -> u32
         requires proc { proc < components (project_of self.now).k }
-        ensures is { IfOk result (λ begin. begin ≡ begins_at self.now proc issue) }
-        ensures within { IfOk result (λ begin. begin ≤ (project_of self.now).horizon) }
+        ensures is { result ≡ begins_at self.now proc issue }
+        ensures within { result ≤ (project_of self.now).horizon }
     {
         let horizon = self.project().horizon();
-        match self.replied_by(proc, issue, horizon)? {
-            Some(received) => Ok(received.cycle),
-            None => Ok(FIRST_SLICE.min(horizon)),
+        match self.replied_by(proc, issue, horizon) {
+            Some(received) => received.cycle,
+            None => FIRST_SLICE.min(horizon),
         }
     }
 
@@ -39,7 +34,7 @@ impl Bench {
     ///
     /// # Errors
     ///
-    /// As `settle_to`; Memory also where a state couldn't be shared, and then the last slice is settled as a whole.
+    /// As `settle_to`.
     pub(super) fn seek(
         &mut self,
         proc: u32,
@@ -57,15 +52,13 @@ impl Bench {
         ensures rises { self.old.table.clock ≤ self.new.table.clock }
         ensures clock { self.old.table.clock ≡ 2 ^ 64 - 1 → self.new.table.clock ≡ 2 ^ 64 - 1 }
     {
-        let computed = match self.settle_to(last) {
-            Ok(settled) => settled.computed,
+        match self.settle_to(last) {
+            Ok(_) => {}
             Err(fault) => return Err(fault),
-        };
+        }
         self.is_bench();
-        match self.replied_by(proc, issue, last) {
-            Ok(Some(received)) => return Ok(Some(received)),
-            Ok(None) => {}
-            Err(NoMemory) => return Err(SettleFault::Memory { computed }),
+        if let Some(received) = self.replied_by(proc, issue, last) {
+            return Ok(Some(received));
         }
         let horizon = self.project().horizon();
         if last == horizon {

@@ -9,6 +9,6 @@ returns-in-Some-clause-within c =
     let b = c.args.self.now in
     let end : c.horizon-horizon.result ≡ (project_of b).horizon = rw c.project.ensures at c.horizon-horizon.ensures.horizon in
     let told : replied_in (λ t. held b.table t c.args.proc) c.args.issue (suc (project_of b).horizon) ≡ Some c.in-Some.received =
-    subst (λ n. replied_in (λ t. held b.table t c.args.proc) c.args.issue (suc n) ≡ Some c.in-Some.received) end (sym c.in_ok-received.ensures ∙ c.in-Some.is) in
+    subst (λ n. replied_in (λ t. held b.table t c.args.proc) c.args.issue (suc n) ≡ Some c.in-Some.received) end (sym c.replied_by.ensures ∙ c.in-Some.is) in
     let before = told_within (λ t. held b.table t c.args.proc) c.args.issue (suc (project_of b).horizon) c.in-Some.received told in
     omega (arith, before)
