@@ -128,6 +128,13 @@ impl<G: Grid> Cells<G> {
         self.due.total()
     }
 
+    /// Whether no cell of another cycle is due; two numbers tell it.
+    pub(crate) fn is_due_alone(&self, cycle: u32) -> bool
+        ensures { result ≡ true → (t c : ℕ) → (t ≡ cycle → ⊥) → (held_at self.now t c).is_due ≡ false }
+    {
+        self.due_total() == u64::from(self.due_count(cycle))
+    }
+
     /// How many cells are due at the cycles up to t.
     pub(crate) fn due_to(&self, t: u32) -> u64
         ensures { result ≡ due_up_to self.now (t + 1) }
@@ -411,6 +418,7 @@ fn begin_idle(versions: &mut Vec<Versions>, due: &Marks, t: u32, version: u64)
 /// Takes the marks of these rows away.
 fn clear_rows(due: &mut Marks, from: u32, to: u32)
     requires after { from ≤ to }
+    requires whole { (t : ℕ) → t < length due.old.rows → length (slice_index_or due.old.rows t []) ≡ due.old.width }
     requires end { to ≤ length due.old.rows }
     ensures width { due.new.width ≡ due.old.width }
     ensures len { length due.new.rows ≡ length due.old.rows }
@@ -419,6 +427,9 @@ fn clear_rows(due: &mut Marks, from: u32, to: u32)
     ensures later { (t : ℕ) → to ≤ t → slice_index_or due.new.rows t [] ≡ slice_index_or due.old.rows t [] }
 {
     for t in from..to {
+        if due.total() == 0 {
+            return;
+        }
         due.clear_row(t);
     }
 }

@@ -228,6 +228,12 @@ impl<G: Grid> Table<G> {
         ensures alike { (c u : ℕ) → c < G.rules.components self.now.slots → cycle < u → u < result
             → ((held_at self.now.rows u c).is_due || is_awake reached.now c) ≡ (held_at self.now.rows cycle c).is_due }
     {
+        if cycle + 1 < end
+            && self.cells.is_due_alone(cycle)
+            && self.cells.is_due_alike(cycle + 1, reached, cycle)
+        {
+            return end;
+        }
         for to in cycle + 1..end {
             if !self.cells.is_due_alike(to, reached, cycle) {
                 return to;

@@ -316,15 +316,18 @@ impl<G: Grid> Table<G> {
         }
     }
 
-    /// As `settle_each`, where there is what settling takes beside the table.
+    /// As `settle_each`, where there is what settling takes beside the table, and no cell before a cycle is due.
     fn settle_all<M: WholeRow<G>, W: Watcher<G>>(
         &mut self,
+        start: u32,
         end: u32,
         spare: &mut Spare,
         along: &mut Option<Along<M>>,
         beside: &mut Beside<M>,
         watcher: &mut W,
     ) -> Result<Settled, SettleFault>
+        requires start { start ≤ end }
+        requires at { IsAt G.rules self.old self.old start 0 0 }
         requires within { end ≤ self.old.horizon + 1 }
         requires spare { IsSpare G.rules self.old spare.old }
         requires along { IfSome along.old (GoesAlong G.rules M.stands M.state self.old.slots) }
@@ -339,7 +342,7 @@ impl<G: Grid> Table<G> {
     {
         let mut computed: u64 = 0;
         let mut from = Cell {
-            cycle: 0,
+            cycle: start,
             component: 0,
         };
         loop {
@@ -374,10 +377,10 @@ impl<G: Grid> Table<G> {
             cycle: 0,
             component: 0,
         };
-        match self.next_due_before(from, end) {
-            Some(_) => {}
+        let start = match self.next_due_before(from, end) {
+            Some(cell) => cell.cycle,
             None => return Ok(Settled { computed }),
-        }
+        };
         let count = G::components(&self.slots);
         let mut spare = match Spare::new(self.cells.allocator(), count) {
             Ok(spare) => spare,
@@ -385,7 +388,7 @@ impl<G: Grid> Table<G> {
         };
         resume_all::<G, M>(beside, &self.slots);
         let mut along: Option<Along<M>> = None;
-        let settled = self.settle_all(end, &mut spare, &mut along, beside, watcher);
+        let settled = self.settle_all(start, end, &mut spare, &mut along, beside, watcher);
         keep_idle::<G, M>(&self.slots, along, beside);
         settled
     }

@@ -2,14 +2,14 @@ use Rattle.std.proofs.Common.{◌≡◌, ℕ, ◌+◌, ◌<◌, ◌-◌, ◌*◌
 use Rattle.cell_table.specs.Seen.{Seen}
 use Rattle.cell_table.specs.Cells.{AtOrAfter}
 use Rattle.cell_table.specs.Settling.{NoneDueBefore, HoldsRunBefore, IsSpentBefore, IsAt, IsFurther}
-use Rattle.cell_table.proofs.Passes.{begins, spent_before, nearer, of_some, of_none}
+use Rattle.cell_table.proofs.Passes.{spent_before, nearer, of_some, of_none}
 use Rattle.cell_table.proofs.Cuts.{comes_to}
 use Rattle.cell_table.proofs.table.Table.settle_all.Goals as goal
 
 pub loop-passed-init : goal.loop-passed-init
 loop-passed-init g c = record {
-  at = begins g.G.Grid.rules c.args.self.now;
-  before = (omega arith, λ e. omega arith);
+  at = c.requires.at;
+  before = (c.requires.start, λ e. omega arith);
   within = c.requires.within;
   spare = c.requires.spare;
   along = c.requires.along;

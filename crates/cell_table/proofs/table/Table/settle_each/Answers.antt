@@ -1,9 +1,15 @@
-use Rattle.std.proofs.Common.{◌≡◌, arith}
+use Rattle.std.proofs.Common.{◌≡◌, ℕ, zero, suc, ◌<◌, ◌≤◌, refl, arith, ◌⊎◌, inl, inr}
 use Rattle.cell_table.specs.Seen.{Seen}
-use Rattle.cell_table.proofs.Passes.{begins, runs_here}
+use Rattle.cell_table.specs.Settling.{IsNextDue}
+use Rattle.cell_table.proofs.Passes.{begins, comes_ahead, runs_here}
 use Rattle.cell_table.proofs.LeftOut.{new_spare}
 use Rattle.cell_table.proofs.Cuts.{comes_to, none_to}
 use Rattle.cell_table.proofs.table.Table.settle_each.Goals as goal
+
+-- a cycle is the first one, or stands behind it
+at_start : (t c : ℕ) → c ≡ 0 → (0 < t) ⊎ ((t ≤ 0) × (c ≡ 0))
+at_start zero c e = inr (omega arith, e)
+at_start (suc t) c e = inl (omega arith)
 
 pub returns-in-None-clause-all : goal.returns-in-None-clause-all
 returns-in-None-clause-all g c =
@@ -25,3 +31,12 @@ pub settle_all-settled-requires-clause-spare : goal.settle_all-settled-requires-
 settle_all-settled-requires-clause-spare g c =
     let count : c.components-count.result ≡ g.G.Grid.rules.components c.args.self.now.slots = rw (← c.self.view_is) c.components-count.ensures in
     new_spare g.G.Grid.rules c.args.self.now c.components-count.result c.in-Ok.spare c.in-Ok.ensures.wide count c.in-Ok.ensures.none
+
+pub settle_all-settled-requires-clause-at : goal.settle_all-settled-requires-clause-at
+settle_all-settled-requires-clause-at g c =
+    let R = g.G.Grid.rules in
+    let i = c.self.inside in
+    let v : Seen g.row.G-State.Denot g.row.G-Slots.Denot = record { slots = i.slots; horizon = i.horizon; clock = i.clock; rows = i.cells } in
+    let cell = c.in-Some.cell in
+    let next : IsNextDue R v 0 0 cell = rw (← c.self.view_is) at c.in-Some.ensures.0 in
+    rw (← c.self.view_is) (comes_ahead R g.G.Grid.laws v c.self.invariant.table 0 0 cell (begins R v).none_before next (at_start cell.cycle 0 refl) v 0 (begins R v))
