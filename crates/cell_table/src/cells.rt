@@ -415,7 +415,7 @@ fn begin_idle(versions: &mut Vec<Versions>, due: &Marks, t: u32, version: u64)
     begin_in(versions, t, version);
 }
 
-/// Takes the marks of these rows away.
+/// Takes the marks of these rows away. Where none is left anywhere, no further row is looked at.
 fn clear_rows(due: &mut Marks, from: u32, to: u32)
     requires after { from ≤ to }
     requires whole { (t : ℕ) → t < length due.old.rows → length (slice_index_or due.old.rows t []) ≡ due.old.width }

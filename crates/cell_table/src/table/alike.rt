@@ -218,7 +218,8 @@ impl<G: Grid> Table<G> {
         reach_in::<G>(&self.slots, &self.readers, changes, reached);
     }
 
-    /// To before which cycle, `end` at most, the components due, or among those, are those due at a cycle.
+    /// To before which cycle, `end` at most, the components due, or among those, are those due at a cycle. Where no other cell is due,
+    /// one of the cycles behind tells it of all.
     fn due_alike_to(&self, cycle: u32, end: u32, reached: &Row) -> u32
         requires before { cycle < end }
         requires within { end ≤ self.now.horizon + 1 }

@@ -316,7 +316,7 @@ impl<G: Grid> Table<G> {
         }
     }
 
-    /// As `settle_each`, where there is what settling takes beside the table, and no cell before a cycle is due.
+    /// As `settle_each`, from a cycle on before which no cell is due, where there is what settling takes beside the table.
     fn settle_all<M: WholeRow<G>, W: Watcher<G>>(
         &mut self,
         start: u32,
