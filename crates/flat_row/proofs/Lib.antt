@@ -46,3 +46,4 @@ pub mod Handing
 pub mod Laters
 pub mod Aside
 pub mod Blank
+pub mod Idling

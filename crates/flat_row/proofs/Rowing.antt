@@ -257,14 +257,14 @@ module _ (P : Project) (S : List MachineState) (net : Net) (s l : ℕ) (le : s �
 
 -- so it is the head of the queue at the wire's label, where the label is in the set of those that leave
 module _ (P : Project) (S : List MachineState) (net : Net) (n : Network) (holds : Holds P.k net n S) (s l : ℕ) (le : s ≤ P.k) (within : l < lines P.k) (leaves : Bool) where
-  request_moves : leaves ≡ is_some (moved_request (moves P S) (on_line net s l))
+  pub request_moves : leaves ≡ is_some (moved_request (moves P S) (on_line net s l))
       → moved_request (moves P S) (on_line net s l) ≡ if_leaves leaves (queue_of n.requests s (label P.k (on_line net s l)))
   request_moves e =
       let u = upper_shown P S net n holds s l le within in
       shown_request P S net s l le within u.0 u.1
       ∙ ap (λ t. cond t (request_on (on_line net s l) u.0) None) (sym e) ∙ ap (λ m. cond leaves m None) (sym u.2)
 
-  reply_moves : leaves ≡ is_some (moved_reply (moves P S) (on_line net s l))
+  pub reply_moves : leaves ≡ is_some (moved_reply (moves P S) (on_line net s l))
       → moved_reply (moves P S) (on_line net s l) ≡ if_leaves leaves (queue_of n.replies s (label P.k (on_line net s l)))
   reply_moves e =
       let u = lower_shown P S net n holds s l le within in
@@ -272,7 +272,7 @@ module _ (P : Project) (S : List MachineState) (net : Net) (n : Network) (holds 
       ∙ ap (λ t. cond t (reply_on P.k (on_line net s l) u.0) None) (sym e) ∙ ap (λ m. cond leaves m None) (sym u.2)
 
 -- both networks of a row
-network_holds : (P : Project) (R : Arrays) → IsRow R → IsRowOf P R → (net : Net) → Holds P.k net (network R net) (states_of R)
+pub network_holds : (P : Project) (R : Arrays) → IsRow R → IsRowOf P R → (net : Net) → Holds P.k net (network R net) (states_of R)
 network_holds P R row of LowNet = subst (λ k. Holds k LowNet R.low (states_of R)) of.size (low_holds R)
 network_holds P R row of CombNet = subst (λ k. Holds k CombNet R.comb (states_of R)) of.size (comb_holds R row)
 

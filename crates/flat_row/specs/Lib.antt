@@ -17,3 +17,4 @@ pub mod Parts
 pub mod Loading
 pub mod Follow
 pub mod Next
+pub mod Idle

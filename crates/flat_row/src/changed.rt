@@ -27,6 +27,19 @@ pub struct Changed {
 }
 
 impl Changed {
+    /// No components.
+    pub(crate) fn none() -> Changed
+        ensures { result.wrote ≡ 0 }
+    {
+        Changed {
+            procs: 0,
+            modules: 0,
+            low: [0; 6],
+            comb: [0; 6],
+            wrote: 0,
+        }
+    }
+
     /// Whether a component of the machine is in the sets.
     pub fn has(&self, shape: Shape, component: Component) -> bool
         requires { Exists shape component }

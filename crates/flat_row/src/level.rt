@@ -60,6 +60,13 @@ impl<T: Routed> Level<T> {
         self.marks
     }
 
+    /// Whether no message waits in any queue.
+    pub(crate) fn is_blank(&self) -> bool
+        ensures { result ≡ true → (x : ℕ) → queue_at self.now.queues x ≡ empty }
+    {
+        self.marks.any == 0
+    }
+
     /// The messages of a queue, the first of which has waited longest.
     pub fn messages(&self, x: u32) -> &[T]
         requires { x < length self.now.queues }

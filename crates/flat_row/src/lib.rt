@@ -40,6 +40,7 @@ mod decide;
 mod encode;
 mod follow;
 mod heads;
+mod idle;
 mod labels;
 mod laws;
 mod leaving;

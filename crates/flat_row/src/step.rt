@@ -19,13 +19,30 @@ impl Row {
 
     /// The row one cycle later: all that moves is decided on the row as it is; then modules serve, requests move, processors
     /// receive and act, replies move, and modules answer. The answer tells which components may be other ones than before, and which
-    /// modules have other words of memory; where it is empty the machine stands still, in this cycle and in every later one.
+    /// modules have other words of memory; where it is empty the machine stands still, in this cycle and in every later one. A row in
+    /// which nothing waits and all processors rest is looked at, and no more.
     ///
     /// # Errors
     ///
     /// Where a module had to keep a word more and the growth was refused. Then the row is one of the project still, but no state of
     /// its machine: it is to be let go.
     pub fn step(&mut self, project: &Project) -> Result<Changed, NoMemory>
+        requires { IsRowOf project.now self.old }
+        ensures states { OnOk result (states_of self.new ≡ cycle project.now (states_of self.old)) }
+        ensures of { IsRowOf project.now self.new }
+        ensures outside { IfOk result (λ changed. SameOutside project.now.k changed self.old self.new) }
+        ensures wrote { IfOk result (λ changed. TellsMemory project.now.k changed self.old self.new) }
+        ensures still { IfOk result (λ changed. none_changed changed ≡ true → states_of self.new ≡ states_of self.old) }
+    {
+        if self.is_idle() {
+            self.stands_still(project);
+            return Ok(Changed::none());
+        }
+        self.move_on(project)
+    }
+
+    /// The row one cycle later, where something may happen.
+    fn move_on(&mut self, project: &Project) -> Result<Changed, NoMemory>
         requires { IsRowOf project.now self.old }
         ensures states { OnOk result (states_of self.new ≡ cycle project.now (states_of self.old)) }
         ensures of { IsRowOf project.now self.new }

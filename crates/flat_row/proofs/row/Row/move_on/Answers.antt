@@ -7,7 +7,7 @@ use Rattle.flat_row.specs.Row.{Arrays, IsRowOf, module_of, state_of, states_of}
 use Rattle.flat_row.specs.Changed.{AreTouched}
 use Rattle.flat_row.specs.Step.{Serves, IsPlan}
 use Rattle.flat_row.proofs.Stepped.{need_low, need_comb, need_words, low_wide, comb_wide_of, serve_apart, has_buffers, low_there, serving_is_row, serving_is_of, depart_low, depart_comb, comes_low, comes_comb, comb_requests_of, comb_replies_of, act_procs, act_low, act_comb, act_one, act_others, back_low, back_comb, back_low_levels, back_comb_levels, back_buffers, new_is_row, new_is_of, new_states, outside, memory, still}
-use Rattle.flat_row.proofs.row.Row.step.Goals as goal
+use Rattle.flat_row.proofs.row.Row.move_on.Goals as goal
 
 pub serve_both-requires-clause-low : goal.serve_both-requires-clause-low
 serve_both-requires-clause-low c = c.self.invariant.low.requests
