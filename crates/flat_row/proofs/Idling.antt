@@ -1,7 +1,7 @@
 -- A row in which nothing waits and all processors rest is its own successor.
-use Rattle.std.proofs.Common.{◌≡◌, ℕ, zero, suc, ◌+◌, ◌-◌, ◌*◌, ◌<◌, ◌≤◌, Bool, true, false, cond, List, [], ◌∷◌, length, refl, ap, sym, ◌∙◌, subst, inl, inr, ◌⊎◌, Option, None, Some, arith}
-use Rattle.std.specs.Prelude.{◌==◌, ◌||◌, is_some, slice_get, slice_index_or}
-use Rattle.std.proofs.lemmas.Bool.{cases_lt, eqb-true}
+use Rattle.std.proofs.Common.{◌≡◌, ℕ, suc, ◌+◌, ◌-◌, ◌*◌, ◌<◌, ◌≤◌, Bool, true, false, List, [], ◌∷◌, refl, ap, sym, ◌∙◌, inl, inr, ◌⊎◌, Option, None, Some, arith}
+use Rattle.std.specs.Prelude.{◌||◌, is_some, slice_get}
+use Rattle.std.proofs.lemmas.Bool.{cases_lt}
 use Rattle.std.proofs.lemmas.List.{get_or_past}
 use Rattle.std.proofs.lemmas.Nat.Bits.{bit_at-zero}
 use Rattle.arrayvec.specs.ArrayVec.{ArrayVec}
@@ -13,7 +13,6 @@ use Rattle.omega_net.specs.declared.message.Request.{Request}
 use Rattle.omega_net.specs.declared.message.Reply.{Reply}
 use Rattle.omega_net.specs.Numbers.{lines, half, Exists}
 use Rattle.omega_net.specs.Wires.{bit, wire_into, wire_out, wire_of_module, wire_of_proc}
-use Rattle.omega_net.specs.Queues.{head}
 use Rattle.omega_net.specs.Ports.{empty, queue_at}
 use Rattle.ref_proc.specs.declared.step.ProcTraffic.{ProcTraffic}
 use Rattle.ref_proc.specs.RefProc.{proc_after}
@@ -32,12 +31,11 @@ use Rattle.machine_cells.proofs.Resting.{module_rests}
 use Rattle.flat_row.specs.declared.marks.Marks.{Marks}
 use Rattle.flat_row.specs.declared.marks.Rule.{Rule}
 use Rattle.flat_row.specs.Labels.{label, switch_label}
-use Rattle.flat_row.specs.Masks.{has}
-use Rattle.flat_row.specs.Queues.{Queues, AreMarked, shown_of, shown_at}
+use Rattle.flat_row.specs.Queues.{AreMarked}
 use Rattle.flat_row.specs.Shows.{on_line}
-use Rattle.flat_row.specs.Row.{Network, Arrays, IsRow, IsRowOf, queue_of, level_at, state_of, states_of, proc_of, module_of, low_of, comb_of, buffers_at, wait_of, combined_of}
+use Rattle.flat_row.specs.Row.{Arrays, IsRow, IsRowOf, queue_of, state_of, states_of, proc_of, module_of, low_of, comb_of, buffers_at, wait_of, combined_of}
 use Rattle.flat_row.specs.Rows.{if_leaves, network}
-use Rattle.flat_row.specs.Idle.{AllBlank, NoneCombined, IsIdle}
+use Rattle.flat_row.specs.Idle.{IsIdle}
 use Rattle.flat_row.proofs.Rowing.{request_moves, reply_moves, network_holds}
 use Rattle.flat_row.proofs.Turning.{line_in, line_out}
 use Rattle.flat_row.proofs.Processing.{label_small}

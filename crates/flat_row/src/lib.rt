@@ -27,6 +27,7 @@
 //! - [`Row::next_words`] appends the words of one component a cycle later, and the row stays: only what it holds of the components near
 //!   that one matters (`next_state`, `specs/Next.antt`).
 //! - A step passes over the processors that rest: those that stay as they are until a reply comes or what they show leaves (`Rests`).
+//!   Where all rest and nothing waits the row is its own successor (`IsIdle`, `specs/Idle.antt`), and a step does nothing.
 //!
 //! A step takes no memory but where a module keeps a word more. Where that was refused the row is no state of its machine any more.
 #![tactic(auto)]
