@@ -457,3 +457,106 @@ senders_are b leave first second p q x small =
     by_test : (u v w : Bool) → ((u && v) || (u && w)) ≡ (u && (v || w))
     by_test true v w = refl
     by_test false v w = refl
+
+-- a message that comes alone
+module _ {T : Type 0} (view : (ℕ → ArrayVec T) → Buffers → ℕ → CombState) (effect : Option T → CombState → CombState) (none : (a : CombState) → effect None a ≡ a)
+    (b from to leave x : ℕ) (few : b < 6) (small : x < 64) (first : bit b x ≡ 0) (old new : List (Queues T)) (waits next : Buffers) where
+  pub met_alone : (side : ℕ) → side < 2 → has leave (port b (1 - side) x) ≡ false → Met view effect b from to x (port b side x) (has leave (port b side x)) old new waits next
+      → MetBoth view effect b from to leave x old new waits next
+  met_alone zero h out met = met_both view effect b from to leave x few small first old new waits next met new next (none_met view effect none b from to x (port b 1 x) new next (has leave (port b 1 x)) out)
+  met_alone (suc zero) h out met = met_both view effect b from to leave x few small first old old waits waits (none_met view effect none b from to x (port b 0 x) old waits (has leave (port b 0 x)) out) new next met
+  met_alone (suc (suc s)) h out met = absurd (omega (arith, h))
+
+-- the labels of a set at port 0, and those at port 1
+pub first_only : (b leave first : ℕ) → b < 6 → IsSetOf (λ x. (bit b x == 0) && has leave x) first → (x : ℕ) → x < 64 → has first (port b 1 x) ≡ false
+first_only b leave first few p x xs = p (port b 1 x) (port_small b x 1 few xs (omega arith)) ∙ ap (λ n. (n == 0) && has leave (port b 1 x)) (port_bit b x 1 few xs (omega arith))
+
+module _ (b leave first second : ℕ) (few : b < 6) (p : IsSetOf (λ x. (bit b x == 0) && has leave x) first) (q : IsSetOf (λ x. (bit b x == 1) && has leave x) second) where
+  both_true : (a c : Bool) → (a && c) ≡ true → (a ≡ true) × (c ≡ true)
+  both_true true true e = (refl, refl)
+  both_true true false e = absurd (false_true e)
+  both_true false c e = absurd (false_true e)
+
+  first_at : (z : ℕ) → z < 64 → bit b z ≡ 0 → has first z ≡ has leave z
+  first_at z zs e = p z zs ∙ ap (λ n. (n == 0) && has leave z) e
+
+  first_not : (z : ℕ) → z < 64 → bit b z ≡ 1 → has first z ≡ false
+  first_not z zs e = p z zs ∙ ap (λ n. (n == 0) && has leave z) e
+
+  second_at : (z : ℕ) → z < 64 → bit b z ≡ 1 → has second z ≡ has leave z
+  second_at z zs e = q z zs ∙ ap (λ n. (n == 1) && has leave z) e
+
+  second_not : (z : ℕ) → z < 64 → bit b z ≡ 0 → has second z ≡ false
+  second_not z zs e = q z zs ∙ ap (λ n. (n == 1) && has leave z) e
+
+  first_apart : (x : ℕ) → x < 64 → has first (port b 1 x) ≡ false
+  first_apart x xs = first_not (port b 1 x) (port_small b x 1 few xs (omega arith)) (port_bit b x 1 few xs (omega arith))
+
+  pub second_apart : (x : ℕ) → x < 64 → has second (port b 0 x) ≡ false
+  second_apart x xs = second_not (port b 0 x) (port_small b x 0 few xs (omega arith)) (port_bit b x 0 few xs (omega arith))
+
+  pub in_first : (z : ℕ) → z < 64 → has first z ≡ true → has leave z ≡ true
+  in_first z zs h = (both_true (bit b z == 0) (has leave z) (sym (p z zs) ∙ h)).1
+
+  in_second : (z : ℕ) → z < 64 → has second z ≡ true → (bit b z ≡ 1) × (has leave z ≡ true)
+  in_second z zs h = let both = both_true (bit b z == 1) (has leave z) (sym (q z zs) ∙ h) in (eqb-true (bit b z) 1 both.0, both.1)
+
+  module _ {T : Type 0} (view : (ℕ → ArrayVec T) → Buffers → ℕ → CombState) (effect : Option T → CombState → CombState) (none : (a : CombState) → effect None a ≡ a)
+      (from to : ℕ) (old mid : List (Queues T)) (waits among : Buffers) (one : AllMet view effect b from to first old mid waits among) where
+    -- those at port 1 are still there
+    mid_at : (z : ℕ) → z < 64 → bit b z ≡ 1 → queue_of mid from z ≡ queue_of old from z
+    mid_at z zs e = one.source z zs ∙ ap (λ t. without_head t (queue_of old from z)) (first_not z zs e)
+
+    pub still_some : ((y : ℕ) → y < 64 → has leave y ≡ true → IsSome (head (queue_of old from y))) → (y : ℕ) → y < 64 → has second y ≡ true → IsSome (head (queue_of mid from y))
+    still_some some y ys h =
+        let is = in_second y ys h in
+        subst (λ q. IsSome (head q)) (sym (mid_at y ys is.0)) (some y ys is.1)
+
+    pub one_switch : (x : ℕ) → x < 64 → bit b x ≡ 0 → view (queue_of mid to) among x ≡ effect (if_leaves (has first (port b 0 x)) (queue_of old from (port b 0 x))) (view (queue_of old to) waits x)
+    one_switch x xs e =
+        let a = effect (if_leaves (has first (port b 0 x)) (queue_of old from (port b 0 x))) (view (queue_of old to) waits x) in
+        one.switches x xs e ∙ ap (λ t. effect (if_leaves t (queue_of old from (port b 1 x))) a) (first_apart x xs) ∙ none a
+
+    -- once both have come
+    pub met_twice : (new : List (Queues T)) (next : Buffers) → AllMet view effect b from to second mid new among next → AllMet view effect b from to leave old new waits next
+    met_twice new next two = record {
+      shape = shape_twice old mid new one.shape two.shape;
+      entries = two.entries ∙ one.entries;
+      source = λ z zs. two.source z zs ∙ by_bit z zs (bit b z) refl (bit_at-lt z b);
+      switches = switch_so;
+      rest = λ l z f g. two.rest l z f g ∙ one.rest l z f g;
+    }
+      where
+        by_bit : (z : ℕ) → z < 64 → (i : ℕ) → bit b z ≡ i → i < 2 → without_head (has second z) (queue_of mid from z) ≡ without_head (has leave z) (queue_of old from z)
+        by_bit z zs zero e h =
+            ap (λ t. without_head t (queue_of mid from z)) (second_not z zs e) ∙ one.source z zs ∙ ap (λ t. without_head t (queue_of old from z)) (first_at z zs e)
+        by_bit z zs (suc zero) e h =
+            ap (λ t. without_head t (queue_of mid from z)) (second_at z zs e) ∙ ap (without_head (has leave z)) (mid_at z zs e)
+        by_bit z zs (suc (suc i)) e h = absurd (omega (arith, h))
+
+        switch_so : (x : ℕ) → x < 64 → bit b x ≡ 0 → view (queue_of new to) next x ≡ both_come effect b (has leave) (queue_of old from) x (view (queue_of old to) waits x)
+        switch_so x xs e =
+            let p0 = port b 0 x in
+            let p1 = port b 1 x in
+            let w = view (queue_of mid to) among x in
+            let s0 = port_small b x 0 few xs (omega arith) in
+            let s1 = port_small b x 1 few xs (omega arith) in
+            let b0 = port_bit b x 0 few xs (omega arith) in
+            let b1 = port_bit b x 1 few xs (omega arith) in
+            two.switches x xs e
+            ∙ ap (λ t. effect (if_leaves (has second p1) (queue_of mid from p1)) (effect (if_leaves t (queue_of mid from p0)) w)) (second_apart x xs)
+            ∙ ap (effect (if_leaves (has second p1) (queue_of mid from p1))) (none w)
+            ∙ ap (λ t. effect (if_leaves t (queue_of mid from p1)) w) (second_at p1 s1 b1)
+            ∙ ap (λ m. effect (if_leaves (has leave p1) m) w) (mid_at p1 s1 b1)
+            ∙ ap (effect (if_leaves (has leave p1) (queue_of old from p1)))
+            (one_switch x xs e ∙ ap (λ t. effect (if_leaves t (queue_of old from p0)) (view (queue_of old to) waits x)) (first_at p0 s0 b0))
+
+  -- after the first no switch has combined two
+  pub few_left : (settings : CombSettings) (from to : ℕ) (old mid : List (Queues Request)) (waits among : Buffers)
+      → AllMet (meeting b) (arrives settings) b from to first old mid waits among → ((x : ℕ) → combined_of waits x ≡ 0)
+      → (x : ℕ) → x < 64 → bit b x ≡ 0 → combined_of among x < 2
+  few_left settings from to old mid waits among one none x xs e =
+      let m = if_leaves (has first (port b 0 x)) (queue_of old from (port b 0 x)) in
+      let is : combined_of among x ≡ (arrives settings m (meeting b (queue_of old to) waits x)).combined =
+      ap (λ s. s.combined) (one_switch (meeting b) (arrives settings) (λ a. refl) from to old mid waits among one x xs e) in
+      omega (arith, is, arrives_count settings m (meeting b (queue_of old to) waits x), none x)

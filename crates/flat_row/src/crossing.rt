@@ -1,18 +1,19 @@
-//! Messages that cross a stage of combining switches, one switch after another.
-ghost use Rattle.std.specs.Prelude.{◌≡◌, ℕ, ◌<◌, ◌==◌, ◌&&◌, ◌||◌, IsSome, length, true};
+//! Messages that cross a stage of combining switches, one switch after another: first those that leave by port 0, then those that leave
+//! by port 1, so that no step asks whether a message comes.
+ghost use Rattle.std.specs.Prelude.{◌≡◌, ℕ, ◌-◌, ◌<◌, ◌==◌, ◌&&◌, ◌||◌, IsSome, length, true, false};
 ghost use Rattle.omega_net.specs.Queues.{head};
 ghost use Rattle.omega_net.specs.Wires.{bit};
 ghost use Rattle.comb_switch.specs.CombSwitch.{arrives, returns_to};
 ghost use Rattle.flat_row.specs.Labels.{port};
 ghost use Rattle.flat_row.specs.Masks.{has, IsSetOf};
 ghost use Rattle.flat_row.specs.Row.{queue_of, combined_of};
-ghost use Rattle.flat_row.specs.Combining.{CanCross, Met, MetBoth, AllMet, meeting, splitting};
+ghost use Rattle.flat_row.specs.Combining.{CanCross, Met, AllMet, meeting, splitting};
 
 use crate::bits::has;
 use crate::combining::{arrives, returns_to};
 use crate::level::Level;
 use crate::moving::{first_from, port_of};
-use crate::pairs::{at_first, to_first};
+use crate::pairs::{at_first, at_second, to_first};
 use crate::waits::Waits;
 use comb_switch::CombSettings;
 use omega_net::{Reply, Request};
@@ -36,10 +37,34 @@ pub(crate) fn cross_forth(levels: &mut Vec<Level<Request>>, waits: &mut Waits, c
     requires none { (x : ℕ) → combined_of waits.old x ≡ 0 }
     ensures { AllMet (meeting crossing.now.settings.bit) (arrives crossing.now.settings) crossing.now.settings.bit crossing.now.from crossing.now.to crossing.now.leave levels.old.items levels.new.items waits.old waits.new }
 {
+    let by = crossing.settings.bit;
+    let first = Crossing {
+        leave: at_first(by, crossing.leave),
+        ..*crossing
+    };
+    meet_side(levels, waits, &first, 0);
+    let second = Crossing {
+        leave: at_second(by, crossing.leave),
+        ..*crossing
+    };
+    meet_side(levels, waits, &second, 1);
+}
+
+/// All requests that leave a level by one port of their switches arrive there.
+fn meet_side(levels: &mut Vec<Level<Request>>, waits: &mut Waits, crossing: &Crossing, side: u8)
+    requires can { CanCross crossing.now.settings.bit crossing.now.from crossing.now.to levels.old.items waits.old }
+    requires from { crossing.now.from < length levels.old.items }
+    requires to { crossing.now.to < length levels.old.items }
+    requires side { side < 2 }
+    requires apart { (x : ℕ) → x < 64 → has crossing.now.leave (port crossing.now.settings.bit (1 - side) x) ≡ false }
+    requires some { (y : ℕ) → y < 64 → has crossing.now.leave y ≡ true → IsSome (head (queue_of levels.old.items crossing.now.from y)) }
+    requires few { (x : ℕ) → x < 64 → bit crossing.now.settings.bit x ≡ 0 → combined_of waits.old x < 2 }
+    ensures { AllMet (meeting crossing.now.settings.bit) (arrives crossing.now.settings) crossing.now.settings.bit crossing.now.from crossing.now.to crossing.now.leave levels.old.items levels.new.items waits.old waits.new }
+{
     let switches = senders(crossing);
     let mut next = 0;
     while let Some(x) = first_from(switches, next) {
-        meet_both(levels, waits, crossing, x);
+        meet(levels, waits, crossing, x, side);
         next = x + 1;
     }
 }
@@ -52,10 +77,33 @@ pub(crate) fn cross_back(levels: &mut Vec<Level<Reply>>, waits: &mut Waits, cros
     requires some { (y : ℕ) → y < 64 → has crossing.now.leave y ≡ true → IsSome (head (queue_of levels.old.items crossing.now.from y)) }
     ensures { AllMet (splitting crossing.now.settings.bit) (returns_to crossing.now.settings) crossing.now.settings.bit crossing.now.from crossing.now.to crossing.now.leave levels.old.items levels.new.items waits.old waits.new }
 {
+    let by = crossing.settings.bit;
+    let first = Crossing {
+        leave: at_first(by, crossing.leave),
+        ..*crossing
+    };
+    return_side(levels, waits, &first, 0);
+    let second = Crossing {
+        leave: at_second(by, crossing.leave),
+        ..*crossing
+    };
+    return_side(levels, waits, &second, 1);
+}
+
+/// All replies that leave a level by one port of their switches return to them.
+fn return_side(levels: &mut Vec<Level<Reply>>, waits: &mut Waits, crossing: &Crossing, side: u8)
+    requires can { CanCross crossing.now.settings.bit crossing.now.from crossing.now.to levels.old.items waits.old }
+    requires from { crossing.now.from < length levels.old.items }
+    requires to { crossing.now.to < length levels.old.items }
+    requires side { side < 2 }
+    requires apart { (x : ℕ) → x < 64 → has crossing.now.leave (port crossing.now.settings.bit (1 - side) x) ≡ false }
+    requires some { (y : ℕ) → y < 64 → has crossing.now.leave y ≡ true → IsSome (head (queue_of levels.old.items crossing.now.from y)) }
+    ensures { AllMet (splitting crossing.now.settings.bit) (returns_to crossing.now.settings) crossing.now.settings.bit crossing.now.from crossing.now.to crossing.now.leave levels.old.items levels.new.items waits.old waits.new }
+{
     let switches = senders(crossing);
     let mut next = 0;
     while let Some(x) = first_from(switches, next) {
-        return_both(levels, waits, crossing, x);
+        return_one(levels, waits, crossing, x, side);
         next = x + 1;
     }
 }
@@ -67,21 +115,6 @@ fn senders(crossing: &Crossing) -> u64
 {
     let by = crossing.settings.bit;
     at_first(by, crossing.leave) | to_first(by, crossing.leave)
-}
-
-/// Both requests that leave for a switch arrive there, that of port 0 first.
-fn meet_both(levels: &mut Vec<Level<Request>>, waits: &mut Waits, crossing: &Crossing, x: u32)
-    requires can { CanCross crossing.now.settings.bit crossing.now.from crossing.now.to levels.old.items waits.old }
-    requires from { crossing.now.from < length levels.old.items }
-    requires to { crossing.now.to < length levels.old.items }
-    requires there { x < 64 }
-    requires first { bit crossing.now.settings.bit x ≡ 0 }
-    requires some { (y : ℕ) → y < 64 → port crossing.now.settings.bit 0 y ≡ x → has crossing.now.leave y ≡ true → IsSome (head (queue_of levels.old.items crossing.now.from y)) }
-    requires none { combined_of waits.old x ≡ 0 }
-    ensures { MetBoth (meeting crossing.now.settings.bit) (arrives crossing.now.settings) crossing.now.settings.bit crossing.now.from crossing.now.to crossing.now.leave x levels.old.items levels.new.items waits.old waits.new }
-{
-    meet(levels, waits, crossing, x, 0);
-    meet(levels, waits, crossing, x, 1);
 }
 
 /// The request at a port of a switch arrives there, if it leaves.
@@ -103,20 +136,6 @@ fn meet(levels: &mut Vec<Level<Request>>, waits: &mut Waits, crossing: &Crossing
         let behind = &mut levels[crossing.to];
         arrives(behind, waits, &crossing.settings, x, request);
     }
-}
-
-/// Both replies that leave for a switch return to it, that of port 0 first.
-fn return_both(levels: &mut Vec<Level<Reply>>, waits: &mut Waits, crossing: &Crossing, x: u32)
-    requires can { CanCross crossing.now.settings.bit crossing.now.from crossing.now.to levels.old.items waits.old }
-    requires from { crossing.now.from < length levels.old.items }
-    requires to { crossing.now.to < length levels.old.items }
-    requires there { x < 64 }
-    requires first { bit crossing.now.settings.bit x ≡ 0 }
-    requires some { (y : ℕ) → y < 64 → port crossing.now.settings.bit 0 y ≡ x → has crossing.now.leave y ≡ true → IsSome (head (queue_of levels.old.items crossing.now.from y)) }
-    ensures { MetBoth (splitting crossing.now.settings.bit) (returns_to crossing.now.settings) crossing.now.settings.bit crossing.now.from crossing.now.to crossing.now.leave x levels.old.items levels.new.items waits.old waits.new }
-{
-    return_one(levels, waits, crossing, x, 0);
-    return_one(levels, waits, crossing, x, 1);
 }
 
 /// The reply at a port of a switch returns to it, if it leaves.

@@ -2,7 +2,7 @@ use Rattle.std.proofs.Common.{◌-◌, ◌≤◌}
 use Rattle.comb_switch.specs.CombSwitch.{returns_to}
 use Rattle.flat_row.specs.Combining.{splitting}
 use Rattle.flat_row.proofs.Crossed.{PartlyMet}
-use Rattle.flat_row.proofs.crossing.cross_back.Given as goal
+use Rattle.flat_row.proofs.crossing.return_side.Given as goal
 
 abbrev pub invariant-loop-x : goal.invariant-loop-x
 invariant-loop-x l = record {
