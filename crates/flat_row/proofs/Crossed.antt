@@ -22,6 +22,7 @@ use Rattle.flat_row.specs.Moving.{SameShape}
 use Rattle.flat_row.specs.Combining.{core, at_ports, meeting, splitting, OnlyAt, SameLevel, Met, both_come, MetBoth, AllMet, CanCross}
 use Rattle.flat_row.proofs.Masking.{ports_of, ArePorts, same_first, has_or}
 use Rattle.flat_row.proofs.Carrying.{false_true, own_port, port_again, port_bit, port_small}
+use Rattle.flat_row.proofs.Still.{none_has}
 use Rattle.flat_row.proofs.Passing.{shape_twice, shape_same, shape_with, level_found, level_within}
 
 -- what is seen of a switch is its own
@@ -457,6 +458,22 @@ senders_are b leave first second p q x small =
     by_test : (u v w : Bool) → ((u && v) || (u && w)) ≡ (u && (v || w))
     by_test true v w = refl
     by_test false v w = refl
+
+-- where nothing leaves nothing comes
+pub none_all : {T : Type 0} (view : (ℕ → ArrayVec T) → Buffers → ℕ → CombState) (effect : Option T → CombState → CombState) → ((a : CombState) → effect None a ≡ a)
+    → (b from to leave : ℕ) (old : List (Queues T)) (waits : Buffers) → leave ≡ 0 → AllMet view effect b from to leave old old waits waits
+none_all view effect none b from to leave old waits e = record {
+  shape = shape_same old;
+  entries = refl;
+  source = λ z zs. sym (ap (λ t. without_head t (queue_of old from z)) (none_has leave z e));
+  switches = λ x xs f. sym (
+  ap (λ t. effect (if_leaves t (queue_of old from (port b 1 x))) (effect (if_leaves (has leave (port b 0 x)) (queue_of old from (port b 0 x))) (view (queue_of old to) waits x))) (none_has leave (port b 1 x) e)
+  ∙ none (effect (if_leaves (has leave (port b 0 x)) (queue_of old from (port b 0 x))) (view (queue_of old to) waits x))
+  ∙ ap (λ t. effect (if_leaves t (queue_of old from (port b 0 x))) (view (queue_of old to) waits x)) (none_has leave (port b 0 x) e)
+  ∙ none (view (queue_of old to) waits x)
+  );
+  rest = λ l z p q. refl;
+}
 
 -- a message that comes alone
 module _ {T : Type 0} (view : (ℕ → ArrayVec T) → Buffers → ℕ → CombState) (effect : Option T → CombState → CombState) (none : (a : CombState) → effect None a ≡ a)

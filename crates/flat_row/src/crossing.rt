@@ -37,6 +37,9 @@ pub(crate) fn cross_forth(levels: &mut Vec<Level<Request>>, waits: &mut Waits, c
     requires none { (x : ℕ) → combined_of waits.old x ≡ 0 }
     ensures { AllMet (meeting crossing.now.settings.bit) (arrives crossing.now.settings) crossing.now.settings.bit crossing.now.from crossing.now.to crossing.now.leave levels.old.items levels.new.items waits.old waits.new }
 {
+    if crossing.leave == 0 {
+        return;
+    }
     let by = crossing.settings.bit;
     let first = Crossing {
         leave: at_first(by, crossing.leave),
@@ -77,6 +80,9 @@ pub(crate) fn cross_back(levels: &mut Vec<Level<Reply>>, waits: &mut Waits, cros
     requires some { (y : ℕ) → y < 64 → has crossing.now.leave y ≡ true → IsSome (head (queue_of levels.old.items crossing.now.from y)) }
     ensures { AllMet (splitting crossing.now.settings.bit) (returns_to crossing.now.settings) crossing.now.settings.bit crossing.now.from crossing.now.to crossing.now.leave levels.old.items levels.new.items waits.old waits.new }
 {
+    if crossing.leave == 0 {
+        return;
+    }
     let by = crossing.settings.bit;
     let first = Crossing {
         leave: at_first(by, crossing.leave),
