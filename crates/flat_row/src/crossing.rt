@@ -54,6 +54,7 @@ pub(crate) fn cross_forth(levels: &mut Vec<Level<Request>>, waits: &mut Waits, c
 }
 
 /// All requests that leave a level by one port of their switches arrive there.
+#[inline(always)]
 fn meet_side(levels: &mut Vec<Level<Request>>, waits: &mut Waits, crossing: &Crossing, side: u8)
     requires can { CanCross crossing.now.settings.bit crossing.now.from crossing.now.to levels.old.items waits.old }
     requires from { crossing.now.from < length levels.old.items }
@@ -64,7 +65,7 @@ fn meet_side(levels: &mut Vec<Level<Request>>, waits: &mut Waits, crossing: &Cro
     requires few { (x : ℕ) → x < 64 → bit crossing.now.settings.bit x ≡ 0 → combined_of waits.old x < 2 }
     ensures { AllMet (meeting crossing.now.settings.bit) (arrives crossing.now.settings) crossing.now.settings.bit crossing.now.from crossing.now.to crossing.now.leave levels.old.items levels.new.items waits.old waits.new }
 {
-    let switches = senders(crossing);
+    let switches = senders(crossing, side);
     let mut next = 0;
     while let Some(x) = first_from(switches, next) {
         meet(levels, waits, crossing, x, side);
@@ -97,6 +98,7 @@ pub(crate) fn cross_back(levels: &mut Vec<Level<Reply>>, waits: &mut Waits, cros
 }
 
 /// All replies that leave a level by one port of their switches return to them.
+#[inline(always)]
 fn return_side(levels: &mut Vec<Level<Reply>>, waits: &mut Waits, crossing: &Crossing, side: u8)
     requires can { CanCross crossing.now.settings.bit crossing.now.from crossing.now.to levels.old.items waits.old }
     requires from { crossing.now.from < length levels.old.items }
@@ -106,7 +108,7 @@ fn return_side(levels: &mut Vec<Level<Reply>>, waits: &mut Waits, crossing: &Cro
     requires some { (y : ℕ) → y < 64 → has crossing.now.leave y ≡ true → IsSome (head (queue_of levels.old.items crossing.now.from y)) }
     ensures { AllMet (splitting crossing.now.settings.bit) (returns_to crossing.now.settings) crossing.now.settings.bit crossing.now.from crossing.now.to crossing.now.leave levels.old.items levels.new.items waits.old waits.new }
 {
-    let switches = senders(crossing);
+    let switches = senders(crossing, side);
     let mut next = 0;
     while let Some(x) = first_from(switches, next) {
         return_one(levels, waits, crossing, x, side);
@@ -114,13 +116,19 @@ fn return_side(levels: &mut Vec<Level<Reply>>, waits: &mut Waits, crossing: &Cro
     }
 }
 
-/// The switches to which something comes, by the label of port 0.
-fn senders(crossing: &Crossing) -> u64
-    requires { crossing.now.settings.bit < 6 }
+/// The switches to which something comes, by the label of port 0, where all of it comes by one port.
+fn senders(crossing: &Crossing, side: u8) -> u64
+    requires by { crossing.now.settings.bit < 6 }
+    requires side { side < 2 }
+    requires apart { (x : ℕ) → x < 64 → has crossing.now.leave (port crossing.now.settings.bit (1 - side) x) ≡ false }
     ensures { IsSetOf (λ x. (bit crossing.now.settings.bit x == 0) && (has crossing.now.leave x || has crossing.now.leave (port crossing.now.settings.bit 1 x))) result }
 {
     let by = crossing.settings.bit;
-    at_first(by, crossing.leave) | to_first(by, crossing.leave)
+    if side == 0 {
+        at_first(by, crossing.leave)
+    } else {
+        to_first(by, crossing.leave)
+    }
 }
 
 /// The request at a port of a switch arrives there, if it leaves.

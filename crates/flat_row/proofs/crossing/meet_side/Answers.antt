@@ -7,8 +7,8 @@ use Rattle.flat_row.specs.Combining.{meeting}
 use Rattle.flat_row.proofs.Crossed.{meeting_local, still_can, none_yet, is_first, some_there, one_met, all_met, met_alone}
 use Rattle.flat_row.proofs.crossing.meet_side.Goals as goal
 
-pub senders-switches-requires : goal.senders-switches-requires
-senders-switches-requires c = c.requires.can.by
+pub senders-switches-requires-clause-by : goal.senders-switches-requires-clause-by
+senders-switches-requires-clause-by c = c.requires.can.by
 
 pub loop-x-init : goal.loop-x-init
 loop-x-init c = record { within = omega arith; partly = none_yet (meeting c.args.crossing.now.settings.bit) (arrives c.args.crossing.now.settings) (λ a. refl) c.args.crossing.now.settings.bit c.args.crossing.now.from c.args.crossing.now.to c.args.crossing.now.leave c.senders-switches.result c.requires.can.by (meeting_local c.args.crossing.now.settings.bit) c.senders-switches.ensures c.args.levels.now.items c.args.waits.now }
