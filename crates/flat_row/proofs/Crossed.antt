@@ -1,6 +1,6 @@
 -- Messages that cross a stage of combining switches, switch by switch in the order of their labels.
 use Rattle.std.proofs.Common.{◌≡◌, ℕ, zero, suc, ◌+◌, ◌-◌, ◌*◌, ◌^◌, ◌<◌, ◌≤◌, Bool, true, false, cond, List, [], ◌∷◌, length, get_or, refl, ap, sym, ◌∙◌, subst, ◌⊎◌, inl, inr, Option, None, Some, arith}
-use Rattle.std.specs.Prelude.{◌==◌, ◌&&◌, ◌||◌, nat_lt, IsSome}
+use Rattle.std.specs.Prelude.{◌==◌, ◌&&◌, ◌||◌, nat_lt, IsSome, bit_or}
 use Rattle.std.proofs.Math.ListN.{set, length-set}
 use Rattle.std.proofs.lemmas.List.{get_or-set_same, get_or-set_other}
 use Rattle.std.proofs.lemmas.Bool.{cases_lt, eqb-true, eq-eqb, lt-ltb, le-ltb}
@@ -20,7 +20,7 @@ use Rattle.flat_row.specs.Row.{Buffers, no_queues, level_at, queue_of, wait_of, 
 use Rattle.flat_row.specs.Rows.{if_leaves}
 use Rattle.flat_row.specs.Moving.{SameShape}
 use Rattle.flat_row.specs.Combining.{core, at_ports, meeting, splitting, OnlyAt, SameLevel, Met, both_come, MetBoth, AllMet, CanCross}
-use Rattle.flat_row.proofs.Masking.{ports_of, ArePorts, same_first}
+use Rattle.flat_row.proofs.Masking.{ports_of, ArePorts, same_first, has_or}
 use Rattle.flat_row.proofs.Carrying.{false_true, own_port, port_again, port_bit, port_small}
 use Rattle.flat_row.proofs.Passing.{shape_twice, shape_same, shape_with, level_found, level_within}
 
@@ -446,6 +446,17 @@ module _ {T : Type 0} (view : (ℕ → ArrayVec T) → Buffers → ℕ → CombS
                     smaller : (y < x) ⊎ (x ≤ y) → y < x
                     smaller (inl s) = s
                     smaller (inr s) = absurd (false_true (sym g ∙ eq-eqb y x (omega (arith, s, h))))
+
+-- the switches to which something comes
+pub senders_are : (b leave first second : ℕ) → IsSetOf (λ x. (bit b x == 0) && has leave x) first → IsSetOf (λ x. (bit b x == 0) && has leave (port b 1 x)) second
+    → IsSetOf (λ x. (bit b x == 0) && (has leave x || has leave (port b 1 x))) (bit_or first second)
+senders_are b leave first second p q x small =
+    has_or first second x ∙ ap (λ t. t || has second x) (p x small) ∙ ap (λ t. ((bit b x == 0) && has leave x) || t) (q x small)
+    ∙ by_test (bit b x == 0) (has leave x) (has leave (port b 1 x))
+  where
+    by_test : (u v w : Bool) → ((u && v) || (u && w)) ≡ (u && (v || w))
+    by_test true v w = refl
+    by_test false v w = refl
 
 -- a message that comes alone
 module _ {T : Type 0} (view : (ℕ → ArrayVec T) → Buffers → ℕ → CombState) (effect : Option T → CombState → CombState) (none : (a : CombState) → effect None a ≡ a)
