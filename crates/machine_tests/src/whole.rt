@@ -1,5 +1,7 @@
 //! The machine's row as the whole row of a table, beside the plain simulation, and each call of it that takes memory.
+ghost use Rattle.std.specs.Prelude.{◌<◌};
 ghost use Rattle.flat_row.specs.Row.{IsRowOf};
+ghost use Rattle.omega_net.specs.Numbers.{components};
 
 use crate::rows::four;
 use cell_marks::Row;
@@ -13,7 +15,31 @@ use std::sync::Arc;
 use std::test::Fail;
 use whole_rows::MachineRow;
 
-/// Puts these states, by their words and their memories.
+/// Puts a state, by its words and its memory.
+fn put_one(
+    alloc: Global,
+    project: &Project,
+    row: &mut MachineRow,
+    c: u32,
+    state: &MachineState,
+) -> Result<bool, Fail>
+    requires row { IsRowOf project.now row.old }
+    requires there { c < components project.now.k }
+    ensures { IsRowOf project.now row.new }
+{
+    let mut words = Vec::new(alloc);
+    Rp3::encode(state, &mut words)?;
+    let memory = Rp3::memory(state)?;
+    if !row.load(project, c, words.as_slice()) {
+        return Ok(false);
+    }
+    match memory {
+        Some(memory) => Ok(row.load_memory(alloc, project, c, &memory)),
+        None => Ok(true),
+    }
+}
+
+/// Puts these states.
 fn put(
     alloc: Global,
     project: &Project,
@@ -23,21 +49,10 @@ fn put(
     requires { IsRowOf project.now row.old }
     ensures { IsRowOf project.now row.new }
 {
-    let mut words = Vec::new(alloc);
     for c in 0..project.shape().components() {
         let state = states.get(c as usize).ok_or("no such state")?;
-        words.clear();
-        Rp3::encode(state, &mut words)?;
-        if !row.load(project, c, words.as_slice()) {
+        if !put_one(alloc, project, row, c, state)? {
             return Ok(false);
-        }
-        match Rp3::memory(state)? {
-            Some(memory) => {
-                if !row.load_memory(alloc, project, c, &memory) {
-                    return Ok(false);
-                }
-            }
-            None => {}
         }
     }
     Ok(true)
