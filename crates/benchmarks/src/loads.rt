@@ -1,6 +1,6 @@
 //! The loads, each with the plain simulation beside it.
-use crate::clock::{Beside, Times, bytes_beside, resident, row_beside, taken};
 use crate::benches::{edited, opened, replied, settled};
+use crate::clock::{Beside, Times, bytes_beside, resident, row_beside, taken};
 use crate::load::{LOADS, Load, loaded};
 use crate::scratch::bytes_of;
 use anyhow::{Error, Result};

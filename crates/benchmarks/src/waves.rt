@@ -1,8 +1,8 @@
 //! Waves: the cells that one thread settles by itself, and by waves of several pieces.
 ghost use Rattle.std.specs.Prelude.{◌≤◌, ◌<◌};
 
-use crate::clock::{Beside, Times, row_beside, taken};
 use crate::benches::{opened, settled};
+use crate::clock::{Beside, Times, row_beside, taken};
 use crate::load::{Load, loaded};
 use anyhow::{Error, Result};
 use bench_core::Bench;

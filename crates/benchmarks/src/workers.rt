@@ -1,6 +1,6 @@
 //! Workers: the cells that they compute in a second, and what an edit costs beside them.
-use crate::clock::{Beside, Times, row_beside, taken};
 use crate::benches::{opened, second, shared};
+use crate::clock::{Beside, Times, row_beside, taken};
 use crate::load::{Load, loaded};
 use crate::loads::What;
 use crate::waves;
