@@ -55,9 +55,11 @@ impl Write for Failing {
     }
 }
 
-fn bench(alloc: Global, clock: u64) -> std::result::Result<Bench, Fail> {
+/// A bench of the built-in project, in a box: a test that holds a large value costs the prover several times as much.
+fn bench(alloc: Global, clock: u64) -> std::result::Result<Box<Bench>, Fail> {
     let project = Project::built_in(alloc)?;
-    Ok(Bench::new(alloc, project, clock).ok().ok_or("no memory")?)
+    let bench = Bench::new(alloc, project, clock).ok().ok_or("no memory")?;
+    Ok(Box::new(alloc, bench)?)
 }
 
 // The built-in machine's first reference is answered at cycle 4; the edited word is answered at once.
@@ -76,7 +78,7 @@ fn sessions_in_any_pieces(rt: HostRuntime) -> std::result::Result<(), Fail> {
             most,
         };
         let mut writer = Vec::new(rt.alloc());
-        assert!(rt; run(&rt, rt.alloc(), &mut reader, &mut writer, &mut desk).is_ok());
+        assert!(rt; run(&rt, rt.alloc(), &mut reader, &mut writer, &mut *desk).is_ok());
         assert!(rt; equal(&rt, writer.as_slice(), ANSWERS));
     }
     Ok(())
@@ -88,7 +90,7 @@ fn what_is_behind_a_question_stays_due(rt: HostRuntime) -> std::result::Result<(
     let mut desk = bench(rt.alloc(), 0)?;
     let mut reader = b"memory 0 0\n".as_slice();
     let mut writer = Vec::new(rt.alloc());
-    assert!(rt; run(&rt, rt.alloc(), &mut reader, &mut writer, &mut desk).is_ok());
+    assert!(rt; run(&rt, rt.alloc(), &mut reader, &mut writer, &mut *desk).is_ok());
     assert!(rt; equal(&rt, writer.as_slice(), b"ok 0 0\n".as_slice()));
     assert!(rt; equal(&rt, desk.cells().due_to(8), 16));
     Ok(())
@@ -107,7 +109,7 @@ fn reads_are_counted(rt: HostRuntime) -> std::result::Result<(), Fail> {
         assert!(rt;
             equal(
                 &rt,
-                run_within(&rt, rt.alloc(), &mut reader, &mut writer, &mut desk, reads),
+                run_within(&rt, rt.alloc(), &mut reader, &mut writer, &mut *desk, reads),
                 want
             )
         );
@@ -127,7 +129,7 @@ fn long_lines_are_skipped(rt: HostRuntime) -> std::result::Result<(), Fail> {
     let mut desk = bench(rt.alloc(), 0)?;
     let mut reader = input.as_slice();
     let mut writer = Vec::new(rt.alloc());
-    assert!(rt; run(&rt, rt.alloc(), &mut reader, &mut writer, &mut desk).is_ok());
+    assert!(rt; run(&rt, rt.alloc(), &mut reader, &mut writer, &mut *desk).is_ok());
     assert!(rt;
         equal(
             &rt,
@@ -148,7 +150,7 @@ fn a_writer_fails_at_each_call(rt: HostRuntime) -> std::result::Result<(), Fail>
             bytes: Vec::new(rt.alloc()),
             calls,
         };
-        let ended = run(&rt, rt.alloc(), &mut reader, &mut writer, &mut desk);
+        let ended = run(&rt, rt.alloc(), &mut reader, &mut writer, &mut *desk);
         let written = writer.bytes;
         let want = if calls >= 14 {
             Ok(())
@@ -176,7 +178,7 @@ fn a_spent_clock_ends_the_run(rt: HostRuntime) -> std::result::Result<(), Fail> 
         let mut desk = bench(rt.alloc(), u64::MAX)?;
         let mut reader = input;
         let mut writer = Vec::new(rt.alloc());
-        let ended = run(&rt, rt.alloc(), &mut reader, &mut writer, &mut desk);
+        let ended = run(&rt, rt.alloc(), &mut reader, &mut writer, &mut *desk);
         assert!(rt; equal(&rt, ended, Err(RunFault::Clock)));
         assert!(rt; equal(&rt, writer.as_slice(), output));
     }
@@ -247,7 +249,7 @@ fn answers_are_flushed_before_the_next_read(rt: HostRuntime) -> std::result::Res
             waits: &waits,
             flushes,
         };
-        let ended = run(&rt, rt.alloc(), &mut reader, &mut writer, &mut desk);
+        let ended = run(&rt, rt.alloc(), &mut reader, &mut writer, &mut *desk);
         assert!(rt; equal(&rt, ended, want));
     }
     Ok(())

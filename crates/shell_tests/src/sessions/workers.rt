@@ -186,7 +186,7 @@ fn two_passes(alloc: Global) -> std::result::Result<(Pass, Pass), Fail>
     ensures seen { IfOk result (λ p. StartsWith p.0.seen p.0.opened) }
 {
     let bench = bench(alloc, 0)?;
-    let Ok(mut pass) = open(alloc, bench, 2) else {
+    let Ok(mut pass) = open(alloc, Box::into_inner(bench), 2) else {
         return Err(Fail::from("no memory"));
     };
     match pass.split() {
