@@ -5,11 +5,13 @@ use crate::load::{LOADS, Load, loaded};
 use crate::scratch::bytes_of;
 use anyhow::{Error, Result};
 use bench_core::{Asked, Bench};
+use flat_row::Row;
 use machine_cells::from_scratch;
 use monitor_sums::Counter;
 use omega_net::ScriptEntry;
 use project_book::{Depths, Edit, Project};
 use run_queries::{Body, Query, Received};
+use serial_order::Ordered;
 use std::fmt;
 use std::thread::Threads;
 use std::time::Instant;
@@ -179,6 +181,37 @@ fn simulated(rt: &HostRuntime, project: &Project) -> Result<Plain> {
     })
 }
 
+/// What keeps no cells: a run of flat rows, and the order of the references to word 0 by such a run.
+fn not_kept(rt: &HostRuntime, load: Load, project: &Project, plain: Plain) -> Result<()> {
+    let (mut runs, mut orders) = (Times::none(), Times::none());
+    for _ in 0..TIMES {
+        runs = runs.and(run_once(rt, project)?);
+        orders = orders.and(ordered_once(rt, project)?);
+    }
+    row_beside(rt, load, "a run that keeps nothing", runs, 1, plain.of(1))?;
+    row_beside(rt, load, "an order, unsettled", orders, 1, plain.of(1))
+}
+
+/// How long a run takes of which only the present row is held.
+fn run_once(rt: &HostRuntime, project: &Project) -> Result<u64> {
+    let since = Instant::now(rt)?;
+    let mut row = Row::start(rt.alloc(), project)?;
+    for _ in 0..project.horizon() {
+        row.step(project)?;
+    }
+    taken(rt, since)
+}
+
+/// How long a bench of which all cells are due takes for the order of the references to word 0.
+fn ordered_once(rt: &HostRuntime, project: &Project) -> Result<u64> {
+    let bench = opened(rt.alloc(), project.share()?)?;
+    let since = Instant::now(rt)?;
+    match bench.order(0) {
+        Ordered::Order(_) => taken(rt, since),
+        _ => Err(Error::msg("no order")),
+    }
+}
+
 /// Measures a load.
 fn one_load<T: Threads + Sync>(
     rt: &HostRuntime,
@@ -189,6 +222,7 @@ fn one_load<T: Threads + Sync>(
 ) -> Result<Told> {
     let project = loaded(rt.alloc(), load, k, horizon)?;
     let plain = simulated(rt, &project)?;
+    not_kept(rt, load, &project, plain)?;
     let fresh = opened_often(rt, load, &project, plain)?;
     first_counters(rt, threads, load, &project, plain)?;
     let mut bench = opened(rt.alloc(), project)?;

@@ -12,6 +12,7 @@ pub mod Passing
 pub mod Encoding
 pub mod Loading
 pub mod Loaded
+pub mod Shifting
 pub mod Placing
 pub mod Remembering
 pub mod Following

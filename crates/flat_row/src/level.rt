@@ -178,12 +178,12 @@ impl<T: Routed + TwoWords> Level<T> {
 /// So many queues in which nothing waits.
 pub(crate) fn empty_queues<T>(alloc: Global, lines: u32) -> Result<Vec<Places<T>>, AllocError>
 where
-    T: Drop,
+    T: Copy + Default,
     ensures { IfOk result (λ queues. queues.items ≡ replicate lines empty) }
 {
     let mut queues = Vec::with_capacity(alloc, lines as usize)?;
     for _x in 0..lines {
-        match queues.push(Places::new(alloc)?) {
+        match queues.push(Places::new()) {
             Ok(()) => {}
             Err(_) => return Err(AllocError),
         }

@@ -62,7 +62,7 @@ fn low(word: u64) -> u32
 }
 
 /// Puts the messages that so many pairs of words are in the place of those that wait, and gives the words after them.
-pub(crate) fn fill<'a, T: TwoWords>(
+pub(crate) fn fill<'a, T: TwoWords + Copy + Default>(
     queue: &mut Places<T>,
     words: &'a [u64],
     count: usize,

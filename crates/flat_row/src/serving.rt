@@ -53,17 +53,12 @@ fn serve_request(words: &mut Words, request: Request) -> Result<(Reply, bool), N
     ensures same { IfOk result (λ done. done.1 ≡ false → words.new ≡ words.old) }
     ensures other { IfOk result (λ done. done.1 ≡ true → words.new ≢ words.old) }
 {
-    let row = request.place.row;
-    let old = words.word(row);
-    let new = request.op.apply(old);
-    if new != old {
-        words.put(row, new)?;
-    }
+    let old = words.fetch_and_op(request.place.row, request.op)?;
     let reply = Reply {
         tag: request.tag,
         word: old,
     };
-    Ok((reply, new != old))
+    Ok((reply, request.op.apply(old) != old))
 }
 
 /// The answers of modules go last into their replies on a network.

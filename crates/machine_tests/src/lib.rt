@@ -6,6 +6,8 @@
 #[cfg(test)]
 mod cells;
 #[cfg(test)]
+mod drawn;
+#[cfg(test)]
 mod row_words;
 #[cfg(test)]
 mod rows;

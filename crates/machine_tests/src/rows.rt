@@ -62,7 +62,7 @@ pub(crate) fn has(
 }
 
 /// Whether a row that steps has the states of the run, cycle for cycle.
-fn is_run(alloc: Global, project: &Project) -> Result<bool, Fail> {
+pub(crate) fn is_run(alloc: Global, project: &Project) -> Result<bool, Fail> {
     let mut row = Row::start(alloc, project)?;
     for states in &from_scratch(alloc, project)? {
         if !has(alloc, project, &row, states)? {

@@ -1,9 +1,6 @@
 -- What a search finds among ascending rows, and what an edit at that place leaves.
-use Rattle.std.proofs.Common.{◌≡◌, ℕ, zero, suc, ◌+◌, ◌-◌, ◌<◌, ◌≤◌, ◌==◌, true, false, List, [], ◌∷◌, ◌++◌, length, take, drop, find, get_or, slice_get, nat_lt, set, Some, None, Result, Ok, Err, IfOk, IfErr, sym, ap, refl, arith, append-nil, append_assoc, Bool, inl, inr, ◌⊎◌, subst}
+use Rattle.std.proofs.Common.{◌≡◌, ℕ, zero, suc, ◌+◌, ◌-◌, ◌*◌, ◌<◌, ◌≤◌, ◌==◌, true, false, List, [], ◌∷◌, ◌++◌, length, take, drop, find, get_or, slice_get, nat_lt, set, Some, None, Result, Ok, Err, IfOk, IfErr, sym, ap, refl, arith, append-nil, append_assoc, Bool, inl, inr, ◌⊎◌, subst}
 use Rattle.std.specs.List.{insert, remove}
-use Rattle.std.specs.List.Sorted.{IsSearchInRange, IsBinarySearchResult, IsNonDecreasingBy}
-use Rattle.std.specs.Ordering.{nat_cmp, ordering_index}
-use Rattle.std.proofs.lemmas.Cmp.{ranked}
 use Rattle.std.proofs.lemmas.List.{take-append-drop}
 use Rattle.std.proofs.lemmas.List.Sorted.{IsNonDecreasingBy-from_default}
 use Rattle.std.proofs.lemmas.Option.{get_or_from_slice_get}
@@ -170,25 +167,6 @@ module _ (row : ℕ) where
     | inr (inr over) ↦ rw (below_none row w.row (w ∷ ws) (omega arith, rise.1, rise.2) over, above_all row w.row (w ∷ ws) (omega arith, rise.1, rise.2) over, absent_below row w.row (w ∷ ws) (omega arith, rise.1, rise.2) over) refl
   ]
 
-module _ (ws : List Stored) (rise : IsAscending ws) (row : ℕ) where
-  -- the comparisons with the row rise along the list, as a binary search asks
-  comparisons_rise : IsNonDecreasingBy (λ w. ordering_index (nat_cmp w.row row)) ws
-  comparisons_rise = IsNonDecreasingBy-from_default (λ w. ordering_index (nat_cmp w.row row)) ws blank (λ i j le in_range.
-      let rows : row_at ws i ≤ row_at ws j = grind (arith, rows_rise 0 ws i j rise, λ (same : i ≡ j). ap (row_at ws) same) in
-      grind (arith, nat_tests))
-
-  -- a binary search by row ends at the row, or at the gap for it
-  pub searched : (r : Result ℕ ℕ) → IsSearchInRange r (length ws) → IsBinarySearchResult (λ w. nat_cmp w.row row) ws r → record { found : IfOk r (IsAt ws row); absent : IfErr r (IsGapFor ws row) }
-  searched (Ok at) in_range equal = record { found = record { in_range = in_range; has_row = ranked _ row _ (sym (equal blank)) }; absent = tt }
-  searched (Err at) in_range parted = record {
-    found = tt;
-    absent = record {
-      in_range = in_range;
-      lower_before = λ j lt. ranked _ row _ (sym ((parted comparisons_rise).0 j blank (omega arith) lt));
-      higher_after = λ j le lt. ranked _ row _ (sym ((parted comparisons_rise).1 j blank le lt));
-    };
-  }
-
 -- a row above the last one goes behind all of them
 pub past_last : (ws : List Stored) (row : ℕ) → IsAscending ws → (0 < length ws → row_at ws (length ws - 1) < row) → IsGapFor ws row (length ws)
 past_last ws row rise over = record {
@@ -204,3 +182,53 @@ past_last ws row rise over = record {
 pub past_last_read : (ws : List Stored) (row : ℕ) (last : Stored) → IsAscending ws → Some last ≡ slice_get ws (length ws - 1) → nat_lt last.row row ≡ true → IsGapFor ws row (length ws)
 past_last_read ws row last rise read over =
     past_last ws row rise (λ some. let e : get_or ws (length ws - 1) blank ≡ last = get_or_from_slice_get ws (length ws - 1) last blank (sym read) in let r : row_at ws (length ws - 1) ≡ last.row = ap (λ (w : Stored). w.row) e in let l = ltb-true last.row row over in omega (arith, r, l))
+
+-- a search among ascending rows: which places are left of them
+pub record Searching (ws : List Stored) (row base size : ℕ) : Type 0 where
+  pub some : 0 < size
+  pub fits : base + size ≤ length ws
+  pub up_to : 0 < base → row_at ws base ≤ row
+  pub above : (j : ℕ) → base + size ≤ j → j < length ws → row < row_at ws j
+
+module _ (ws : List Stored) (row base size half : ℕ) (s : Searching ws row base size) (within : 0 < half) (less : half + half ≤ size) where
+  -- the middle row isn't above: the upper half is left
+  pub upper_half : row_at ws (base + half) ≤ row → Searching ws row (base + half) (size - half)
+  upper_half under = record {
+    some = omega (arith, within, less, s.some);
+    fits = omega (arith, within, less, s.fits);
+    up_to = λ _. under;
+    above = λ j from last. s.above j (omega (arith, from, less)) last;
+  }
+
+  -- it is: the lower half is
+  pub lower_half : IsAscending ws → row < row_at ws (base + half) → Searching ws row base (size - half)
+  lower_half rise over = record {
+    some = omega (arith, within, less, s.some);
+    fits = omega (arith, within, less, s.fits);
+    up_to = s.up_to;
+    above = λ j from last. by_place j last (cases_order (base + half) j) from;
+  }
+    where
+      by_place : (j : ℕ) → j < length ws → (base + half ≡ j) ⊎ ((base + half < j) ⊎ (j < base + half)) → base + (size - half) ≤ j → row < row_at ws j
+      by_place j last (inl e) from = subst (λ i. row < row_at ws i) e over
+      by_place j last (inr (inl lt)) from = let x = rows_rise 0 ws (base + half) j rise lt last in omega (arith, x, over)
+      by_place j last (inr (inr gt)) from = absurd (omega (arith, gt, from, less))
+
+  -- whichever it is, a number that says so leads there
+  pub narrower : IsAscending ws → (bit : ℕ) → (row_at ws (base + half) ≤ row → bit ≡ 1) → (row < row_at ws (base + half) → bit ≡ 0) → Searching ws row (base + half * bit) (size - half)
+  narrower rise bit one none = elim (cases_lt row (row_at ws (base + half))) [
+    | inl over ↦ let e : base ≡ base + half * bit = rw (none over) (omega arith) in subst (λ b. Searching ws row b (size - half)) e (lower_half rise over)
+    | inr under ↦ let e : base + half ≡ base + half * bit = rw (one under) (omega arith) in subst (λ b. Searching ws row b (size - half)) e (upper_half under)
+  ]
+
+-- the gap for a row behind the last place that is below it
+pub gap_behind : (ws : List Stored) (row at : ℕ) → IsAscending ws → at < length ws → row_at ws at < row → ((j : ℕ) → at < j → j < length ws → row < row_at ws j) → IsGapFor ws row (at + 1)
+gap_behind ws row at rise within under above = record {
+  in_range = omega (arith, within);
+  lower_before = λ j before. by_place j (cases_lt j at) before;
+  higher_after = λ j from last. above j (omega (arith, from)) last;
+}
+  where
+    by_place : (j : ℕ) → (j < at) ⊎ (at ≤ j) → j < at + 1 → row_at ws j < row
+    by_place j (inl lt) before = let x = rows_rise 0 ws j at rise lt within in omega (arith, x, under)
+    by_place j (inr ge) before = let e : at ≡ j = omega (arith, before, ge) in subst (λ i. row_at ws i < row) e under
