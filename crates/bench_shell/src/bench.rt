@@ -10,6 +10,17 @@ use std::thread::Threads;
 /// The author of the edits of a run on a bench.
 const AUTHOR: u32 = 0;
 
+/// A cell that is settled costs about as much as so many cells of a run that keeps none.
+const RUN_CELLS: u64 = 6;
+
+/// Whether so few cells are due that settling them costs no more than a run of the whole project.
+fn has_few_due(bench: &Bench) -> bool {
+    let horizon = bench.project().horizon();
+    let cycles = u64::from(horizon) + 1;
+    let cells = cycles * u64::from(bench.project().shape().components());
+    bench.cells().due_to(horizon) <= cells / RUN_CELLS
+}
+
 impl Desk for Bench {
     ghost use Rattle.std.specs.Prelude.{◌≡◌, ◌-◌, ◌^◌};
     ghost use Rattle.bench_core.specs.Shown.{version_of};
@@ -37,9 +48,12 @@ impl Desk for Bench {
         self.answer(rt, query)
     }
 
-    /// Settles the bench as far as it can, and reads the order from the cells held; where some stay due, from a simulation.
+    /// Settles the bench where few cells are due, and reads the order from the cells held; where many are, they stay due, and it is
+    /// read from a run that keeps no cells.
     fn order(&mut self, address: u32) -> Result<(u32, Ordered), NoMemory> {
-        let _ = self.settle();
+        if has_few_due(self) {
+            let _ = self.settle();
+        }
         Ok((self.version(), Bench::order(self, address)))
     }
 }

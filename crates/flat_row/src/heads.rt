@@ -1,5 +1,7 @@
 //! The first words of components, by which most states that differ are told apart.
 ghost use Rattle.std.specs.Prelude.{◌≡◌, ◌<◌, ◌≤◌, length, Some};
+ghost use Rattle.std.specs.Mem.{FitsInMemory};
+ghost use Rattle.flat_row.specs.contracts.queue.Places.{the_row};
 ghost use Rattle.omega_net.specs.Limits.{queue_places};
 ghost use Rattle.omega_net.specs.Numbers.{lines, half, Exists};
 ghost use Rattle.omega_net.specs.declared.component.Component.TheVariants.{Module as ModuleAt, Switch};
@@ -87,6 +89,7 @@ fn sizes_at<T: Routed>(levels: &[Level<T>], level: usize, x: u32, y: u32) -> (us
     requires there { level < length levels.now }
     requires first { x < length (level_at levels.now level).queues }
     requires second { y < length (level_at levels.now level).queues }
+    requires fits { FitsInMemory (the_row T.row) }
     ensures first { result.0 ≡ length (queue_of levels.now level x).items }
     ensures second { result.1 ≡ length (queue_of levels.now level y).items }
     ensures fits { (result.0 ≤ queue_places) × (result.1 ≤ queue_places) }

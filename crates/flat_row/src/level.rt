@@ -1,5 +1,7 @@
 //! The queues of a level of a network: one for each label.
 ghost use Rattle.std.specs.Prelude.{◌≡◌, ℕ, ◌<◌, ◌≤◌, length, option_to_list, replicate, slice_set, IfOk, IsSome, Some, true, []};
+ghost use Rattle.std.specs.Mem.{FitsInMemory};
+ghost use Rattle.flat_row.specs.contracts.queue.Places.{the_row};
 ghost use Rattle.omega_net.specs.Ports.{queue_at, empty};
 ghost use Rattle.omega_net.specs.Limits.{queue_places};
 ghost use Rattle.omega_net.specs.Queues.{head, without_head, joined};
@@ -41,7 +43,8 @@ impl<T: Routed> Level<T> {
     ///
     /// Where a growth was refused. What was taken is given back.
     pub fn new(alloc: Global, lines: u32, rule: Rule) -> Result<Level<T>, AllocError>
-        requires { lines ≤ 64 }
+        requires there { lines ≤ 64 }
+        requires fits { FitsInMemory (the_row T.row) }
         ensures { IfOk result (λ l. l ≡ record { queues = replicate lines empty; rule = rule }) }
     {
         let queues = empty_queues(alloc, lines)?;
@@ -69,7 +72,8 @@ impl<T: Routed> Level<T> {
 
     /// The messages of a queue, the first of which has waited longest.
     pub fn messages(&self, x: u32) -> &[T]
-        requires { x < length self.now.queues }
+        requires there { x < length self.now.queues }
+        requires fits { FitsInMemory (the_row T.row) }
         ensures value { result.now ≡ (queue_at self.now.queues x).items }
         ensures fits { length result.now ≤ queue_places }
     {
@@ -80,6 +84,7 @@ impl<T: Routed> Level<T> {
     pub fn take(&mut self, x: u32) -> T
         requires there { x < length self.old.queues }
         requires some { IsSome (head (queue_at self.old.queues x)) }
+        requires fits { FitsInMemory (the_row T.row) }
         ensures value { head (queue_at self.old.queues x) ≡ Some result }
         ensures after { self.new ≡ with_queue self.old x (without_head true (queue_at self.old.queues x)) }
     {
@@ -92,7 +97,8 @@ impl<T: Routed> Level<T> {
 
     /// Puts a message last into a queue, where there is a place.
     pub fn give(&mut self, x: u32, message: T)
-        requires { x < length self.old.queues }
+        requires there { x < length self.old.queues }
+        requires fits { FitsInMemory (the_row T.row) }
         ensures { self.new ≡ with_queue self.old x (joined (queue_at self.old.queues x) (Some message)) }
     {
         let queue = &mut self.queues[x as usize];
@@ -103,7 +109,8 @@ impl<T: Routed> Level<T> {
 
     /// Puts one message, or none, in the place of a queue's.
     pub fn hold(&mut self, x: u32, message: Option<T>)
-        requires { x < length self.old.queues }
+        requires there { x < length self.old.queues }
+        requires fits { FitsInMemory (the_row T.row) }
         ensures { self.new ≡ with_queue self.old x (record { items = option_to_list message }) }
     {
         let queue = &mut self.queues[x as usize];
@@ -118,6 +125,7 @@ impl<T: Routed> Level<T> {
 
     /// Asks the same queues by another rule.
     pub fn follow(&mut self, rule: Rule)
+        requires fits { FitsInMemory (the_row T.row) }
         ensures { self.new ≡ record self.old { rule = rule } }
     {
         if rule != self.rule {
@@ -130,6 +138,7 @@ impl<T: Routed> Level<T> {
     pub fn copy(&mut self, x: u32, messages: &[T])
         requires there { x < length self.old.queues }
         requires few { length messages.now ≤ queue_places }
+        requires fits { FitsInMemory (the_row T.row) }
         ensures { self.new ≡ with_queue self.old x (record { items = messages.now }) }
     {
         let queue = &mut self.queues[x as usize];
@@ -146,6 +155,7 @@ impl<T: Routed> Level<T> {
     pub fn set(&mut self, x: u32, index: usize, message: T)
         requires there { x < length self.old.queues }
         requires index { index < length (queue_at self.old.queues x).items }
+        requires fits { FitsInMemory (the_row T.row) }
         ensures { self.new ≡ with_queue self.old x (record { items = slice_set (queue_at self.old.queues x).items index message }) }
     {
         let queue = &mut self.queues[x as usize];
@@ -160,6 +170,7 @@ impl<T: Routed + TwoWords> Level<T> {
     pub fn put<'a>(&mut self, x: u32, words: &'a [u64], count: usize) -> &'a [u64]
         requires there { x < length self.old.queues }
         requires few { count ≤ queue_places }
+        requires fits { FitsInMemory (the_row T.row) }
         ensures after { self.new ≡ with_queue self.old x (queue_from T.from count words.now) }
         ensures rest { result.now ≡ after count words.now }
     {

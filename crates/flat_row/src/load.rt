@@ -1,5 +1,7 @@
 //! A component's state put into the row, out of its words. Nothing here takes memory but where a module gets other words of memory.
 ghost use Rattle.std.specs.Prelude.{◌≡◌, ◌≢◌, ℕ, suc, ◌+◌, ◌<◌, ◌≤◌, ◌/◌, ◌%◌, ◌^◌, length, Option, Some, OnOk, OnErr, IfOk, option_to_list, slice_set};
+ghost use Rattle.std.specs.Mem.{FitsInMemory};
+ghost use Rattle.flat_row.specs.contracts.queue.Places.{the_row};
 ghost use Rattle.omega_net.specs.Limits.{queue_places};
 ghost use Rattle.omega_net.specs.Numbers.{lines, half, number_of, Exists};
 ghost use Rattle.omega_net.specs.declared.component.Component.TheVariants.{Proc as ProcAt, Module as ModuleAt, Switch};
@@ -301,6 +303,7 @@ fn put<'a, T: Routed + TwoWords>(
     requires level { level < length levels.old.items }
     requires label { x < length (level_at levels.old.items level).queues }
     requires few { count ≤ queue_places }
+    requires fits { FitsInMemory (the_row T.row) }
     ensures shape { SameShape levels.old.items levels.new.items }
     ensures queues { (l z : ℕ) → queue_of levels.new.items l z ≡ with_at levels.old.items level x (queue_from T.from count words.now) l z }
     ensures rest { result.now ≡ after count words.now }

@@ -1,5 +1,7 @@
 //! Messages that move from one level to another.
 ghost use Rattle.std.specs.Prelude.{◌≡◌, ◌≢◌, ℕ, ◌+◌, ◌<◌, ◌≤◌, length, IsSome, true, false, unwrap_or, IfSome, suc};
+ghost use Rattle.std.specs.Mem.{FitsInMemory};
+ghost use Rattle.flat_row.specs.contracts.queue.Places.{the_row};
 ghost use Rattle.omega_net.specs.Numbers.{lines};
 ghost use Rattle.omega_net.specs.Queues.{head};
 ghost use Rattle.omega_net.specs.Wires.{bit};
@@ -50,6 +52,7 @@ fn pass<T: Routed>(levels: &mut Vec<Level<T>>, from: usize, to: usize, by: u32, 
     requires queues { x < length (level_at levels.old.items from).queues }
     requires ports { (i : ℕ) → i < 2 → port by i x < length (level_at levels.old.items to).queues }
     requires some { IsSome (head (queue_of levels.old.items from x)) }
+    requires fits { FitsInMemory (the_row T.row) }
     ensures shape { SameShape levels.old.items levels.new.items }
     ensures queues { (l z : ℕ) → queue_of levels.new.items l z ≡ passed T.route by from to x levels.old.items l z }
 {
@@ -74,6 +77,7 @@ pub(crate) fn move_heads<T: Routed>(
     requires by { by < 6 }
     requires some { (x : ℕ) → x < 64 → has leave x ≡ true → IsSome (head (queue_of levels.old.items from x)) }
     requires ports { (x i : ℕ) → x < length (level_at levels.old.items from).queues → i < 2 → port by i x < length (level_at levels.old.items to).queues }
+    requires fits { FitsInMemory (the_row T.row) }
     ensures shape { SameShape levels.old.items levels.new.items }
     ensures queues { (l z : ℕ) → z < 64 → queue_of levels.new.items l z ≡ moved T.route by (has leave) from to levels.old.items l z }
 {
@@ -92,6 +96,7 @@ fn pass_straight<T: Routed>(levels: &mut Vec<Level<T>>, from: usize, to: usize, 
     requires queues { x < length (level_at levels.old.items from).queues }
     requires there { x < length (level_at levels.old.items to).queues }
     requires some { IsSome (head (queue_of levels.old.items from x)) }
+    requires fits { FitsInMemory (the_row T.row) }
     ensures shape { SameShape levels.old.items levels.new.items }
     ensures queues { (l z : ℕ) → queue_of levels.new.items l z ≡ passed_straight from to x levels.old.items l z }
 {
@@ -113,6 +118,7 @@ pub(crate) fn move_straight<T: Routed>(
     requires apart { from ≢ to }
     requires some { (x : ℕ) → x < 64 → has leave x ≡ true → IsSome (head (queue_of levels.old.items from x)) }
     requires there { length (level_at levels.old.items from).queues ≤ length (level_at levels.old.items to).queues }
+    requires fits { FitsInMemory (the_row T.row) }
     ensures shape { SameShape levels.old.items levels.new.items }
     ensures queues { (l z : ℕ) → z < 64 → queue_of levels.new.items l z ≡ moved_straight (has leave) from to levels.old.items l z }
 {
@@ -133,6 +139,7 @@ pub(crate) fn move_forth<T: Routed>(
 )
     requires levels { HasLevels (shape + 2) (lines shape) levels.old.items }
     requires some { AllWait shape leave.now enter levels.old.items }
+    requires fits { FitsInMemory (the_row T.row) }
     ensures shape { SameShape levels.old.items levels.new.items }
     ensures queues { (l z : ℕ) → l < shape + 2 → z < 64 → queue_of levels.new.items l z ≡ forth_after T.route shape leave.now enter levels.old.items l z }
 {
@@ -150,6 +157,7 @@ pub(crate) fn move_forth<T: Routed>(
 pub(crate) fn move_back<T: Routed>(levels: &mut Vec<Level<T>>, shape: Shape, leave: &[u64; 6])
     requires levels { HasLevels (shape + 1) (lines shape) levels.old.items }
     requires some { AllWaitBack shape leave.now levels.old.items }
+    requires fits { FitsInMemory (the_row T.row) }
     ensures shape { SameShape levels.old.items levels.new.items }
     ensures queues { (l z : ℕ) → l < shape + 1 → z < 64 → queue_of levels.new.items l z ≡ back_after T.route shape leave.now levels.old.items l z }
 {

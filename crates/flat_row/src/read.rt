@@ -1,5 +1,7 @@
 //! The states of components, read out of the row.
 ghost use Rattle.std.specs.Prelude.{◌≡◌, ◌<◌, ◌≤◌, ◌+◌, length, IfOk, Some};
+ghost use Rattle.std.specs.Mem.{FitsInMemory};
+ghost use Rattle.flat_row.specs.contracts.queue.Places.{the_row};
 ghost use Rattle.machine_cells.specs.Codec.{memory_in};
 ghost use Rattle.omega_net.specs.declared.component.Component.TheVariants.{Module as ModuleAt};
 ghost use Rattle.std.specs.Option.{option_copied};
@@ -197,6 +199,7 @@ pub(crate) fn net_for(comb: bool) -> Net
 pub(crate) fn messages_at<T: Routed>(levels: &[Level<T>], level: usize, x: u32) -> &[T]
     requires there { level < length levels.now }
     requires label { x < length (level_at levels.now level).queues }
+    requires fits { FitsInMemory (the_row T.row) }
     ensures value { result.now ≡ (queue_of levels.now level x).items }
     ensures fits { length result.now ≤ queue_places }
 {
@@ -212,6 +215,7 @@ fn held<T: Routed>(
 ) -> Result<Queue<T>, AllocError>
     requires there { level < length levels.now }
     requires label { x < length (level_at levels.now level).queues }
+    requires fits { FitsInMemory (the_row T.row) }
     ensures { IfOk result (λ queue. queue ≡ queue_of levels.now level x) }
 {
     let queue = Queue::holding(alloc, messages_at(levels, level, x), 0)?;

@@ -1,5 +1,7 @@
 //! The states of the row are told by their words. Nothing of it is done when it runs.
 ghost use Rattle.std.specs.Prelude.{◌≡◌, ◌<◌, ◌^◌, length, Some};
+ghost use Rattle.std.specs.Mem.{FitsInMemory};
+ghost use Rattle.flat_row.specs.contracts.queue.Places.{the_row};
 ghost use Rattle.omega_net.specs.Numbers.{lines, half, Exists};
 ghost use Rattle.grid_law.specs.Codec.{IsTold};
 ghost use Rattle.state_words.specs.Fits.{IsQueue, IsProc, IsModule, IsLow, IsComb};
@@ -92,6 +94,7 @@ impl Row {
 fn queue_fits<T: Routed + TwoWords>(levels: &[Level<T>], level: usize, x: u32)
     requires there { level < length levels.now }
     requires label { x < length (level_at levels.now level).queues }
+    requires fits { FitsInMemory (the_row T.row) }
     ensures { IsQueue T.fits (queue_of levels.now level x) }
 {
     all_fit(messages_at(levels, level, x));

@@ -62,6 +62,7 @@ impl Words {
     pub fn fetch_and_op(&mut self, row: u16, op: Op) -> Result<u32, NoMemory>
         ensures fetched { IfOk result (λ word. word ≡ word_at self.old row) }
         ensures left { OnOk result (self.new ≡ with_word self.old row (word_after op (word_at self.old row))) }
+        ensures same { word_after op (word_at self.old row) ≡ word_at self.old row → self.new ≡ self.old }
         ensures err { OnErr result (self.new ≡ self.old) }
         ensures kept_row { word_at self.old row ≢ 0 → IsOk result }
     {

@@ -1,5 +1,7 @@
 //! What a component is handed in a cycle, read off the sets of labels that leave.
 ghost use Rattle.std.specs.Prelude.{◌≡◌, ◌<◌, ◌≤◌, ◌||◌, length, is_some};
+ghost use Rattle.std.specs.Mem.{FitsInMemory};
+ghost use Rattle.flat_row.specs.contracts.queue.Places.{the_row};
 ghost use Rattle.omega_net.specs.Numbers.{lines, half};
 ghost use Rattle.machine_cells.specs.Moves.{moves};
 ghost use Rattle.machine_cells.specs.Cycle.{proc_traffic, module_traffic, switch_traffic};
@@ -142,6 +144,7 @@ fn leaving<T: Routed>(levels: &[Level<T>], level: usize, x: u32, set: u64) -> Op
     requires there { level < length levels.now }
     requires label { x < length (level_at levels.now level).queues }
     requires small { x < 64 }
+    requires fits { FitsInMemory (the_row T.row) }
     ensures { result ≡ if_leaves (has set x) (queue_of levels.now level x) }
 {
     let messages = messages_at(levels, level, x);
@@ -157,6 +160,7 @@ fn leaves<T: Routed>(levels: &[Level<T>], level: usize, x: u32, set: u64) -> boo
     requires there { level < length levels.now }
     requires label { x < length (level_at levels.now level).queues }
     requires small { x < 64 }
+    requires fits { FitsInMemory (the_row T.row) }
     ensures { result ≡ is_some (if_leaves (has set x) (queue_of levels.now level x)) }
 {
     leaving(levels, level, x, set).is_some()

@@ -8,8 +8,8 @@ use Rattle.flat_row.proofs.combining.arrives.Goals as goal
 pub port_of-y-requires-clause-bit : goal.port_of-y-requires-clause-bit
 port_of-y-requires-clause-bit c = subst (λ n. n < 2) (sym c.bit_of-output.ensures) (bit_at-lt c.args.request.place.«module» c.args.settings.now.bit)
 
-pub messages-requires : goal.messages-requires
-messages-requires c = subst (λ n. n < length c.args.level.now.queues) (sym c.port_of-y.ensures) (c.requires.ports c.bit_of-output.result (subst (λ n. n < 2) (sym c.bit_of-output.ensures) (bit_at-lt c.args.request.place.«module» c.args.settings.now.bit)))
+pub messages-requires-clause-there : goal.messages-requires-clause-there
+messages-requires-clause-there c = subst (λ n. n < length c.args.level.now.queues) (sym c.port_of-y.ensures) (c.requires.ports c.bit_of-output.result (subst (λ n. n < 2) (sym c.bit_of-output.ensures) (bit_at-lt c.args.request.place.«module» c.args.settings.now.bit)))
 
 pub meets-requires-clause-output : goal.meets-requires-clause-output
 meets-requires-clause-output c = subst (λ n. n < 2) (sym c.bit_of-output.ensures) (bit_at-lt c.args.request.place.«module» c.args.settings.now.bit)

@@ -3,8 +3,8 @@ use Rattle.omega_net.specs.Ports.{queue_at}
 use Rattle.flat_row.proofs.Meeting.{meets_does, meets_some, meets_none}
 use Rattle.flat_row.proofs.combining.meets.Goals as goal
 
-pub messages-requires : goal.messages-requires
-messages-requires c = subst (λ n. n < length c.args.level.now.queues) (sym c.port_of-y.ensures) (c.requires.ports c.args.output c.requires.output)
+pub messages-requires-clause-there : goal.messages-requires-clause-there
+messages-requires-clause-there c = subst (λ n. n < length c.args.level.now.queues) (sym c.port_of-y.ensures) (c.requires.ports c.args.output c.requires.output)
 
 pub bounds-messages-index : goal.bounds-messages-index
 bounds-messages-index c = subst (λ n. c.args.index < n) (ap length (ap (λ n. (queue_at c.args.level.now.queues n).items) (sym c.port_of-y.ensures) ∙ sym c.messages.ensures.value)) c.requires.index

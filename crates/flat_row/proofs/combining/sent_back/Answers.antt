@@ -6,8 +6,8 @@ use Rattle.flat_row.proofs.combining.sent_back.Goals as goal
 pub port_of-y-requires-clause-bit : goal.port_of-y-requires-clause-bit
 port_of-y-requires-clause-bit c = subst (λ n. n < 2) (sym c.bit_of-input.ensures) (bit_at-lt c.args.reply.tag.proc c.args.settings.now.bit)
 
-pub give-requires : goal.give-requires
-give-requires c = subst (λ n. n < length c.args.level.now.queues) (sym c.port_of-y.ensures) (c.requires.ports c.bit_of-input.result (subst (λ n. n < 2) (sym c.bit_of-input.ensures) (bit_at-lt c.args.reply.tag.proc c.args.settings.now.bit)))
+pub give-requires-clause-there : goal.give-requires-clause-there
+give-requires-clause-there c = subst (λ n. n < length c.args.level.now.queues) (sym c.port_of-y.ensures) (c.requires.ports c.bit_of-input.result (subst (λ n. n < 2) (sym c.bit_of-input.ensures) (bit_at-lt c.args.reply.tag.proc c.args.settings.now.bit)))
 
 pub returns-clause-shape : goal.returns-clause-shape
 returns-clause-shape c = level_same c.args.settings.now.bit c.args.x c.requires.by c.requires.there c.requires.first c.args.level.now c.give.new.self c.port_of-y.result c.bit_of-input.result c.port_of-y.ensures (subst (λ n. n < 2) (sym c.bit_of-input.ensures) (bit_at-lt c.args.reply.tag.proc c.args.settings.now.bit)) (subst (λ n. n < length c.args.level.now.queues) (sym c.port_of-y.ensures) (c.requires.ports c.bit_of-input.result (subst (λ n. n < 2) (sym c.bit_of-input.ensures) (bit_at-lt c.args.reply.tag.proc c.args.settings.now.bit)))) _ c.give.ensures

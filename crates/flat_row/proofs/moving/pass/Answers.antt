@@ -18,8 +18,8 @@ take-message-requires-clause-some g c = subst (λ v. IsSome (head (queue_at v.qu
 pub port_of-y-requires-clause-bit : goal.port_of-y-requires-clause-bit
 port_of-y-requires-clause-bit g c = subst (λ n. n < 2) (sym c.bit_of.ensures) (bit_at-lt c.route.result c.args.by)
 
-pub give-requires : goal.give-requires
-give-requires g c =
+pub give-requires-clause-there : goal.give-requires-clause-there
+give-requires-clause-there g c =
     let behind = found_behind c.args.levels.now.items c.args.from c.args.to c.index_mut-before.result.now c.take-message.new.self c.index_mut-behind.result.now c.index_mut-behind.result.now c.requires.from c.requires.to c.requires.apart c.index_mut-before.ensures.value c.index_mut-behind.ensures.value in
     subst (λ v. c.port_of-y.result < length v.queues) (sym behind)
     (subst (λ n. n < length (level_at c.args.levels.now.items c.args.to).queues) (sym c.port_of-y.ensures) (c.requires.ports c.bit_of.result (subst (λ n. n < 2) (sym c.bit_of.ensures) (bit_at-lt c.route.result c.args.by))))

@@ -11,8 +11,8 @@ take-message-requires-clause-there g c = subst (λ v. c.args.x < length v.queues
 pub take-message-requires-clause-some : goal.take-message-requires-clause-some
 take-message-requires-clause-some g c = subst (λ v. IsSome (head (queue_at v.queues c.args.x))) (sym (level_found c.args.levels.now.items c.args.from c.index_mut-before.result.now c.index_mut-before.ensures.value c.requires.from)) c.requires.some
 
-pub give-requires : goal.give-requires
-give-requires g c =
+pub give-requires-clause-there : goal.give-requires-clause-there
+give-requires-clause-there g c =
     let behind = found_behind c.args.levels.now.items c.args.from c.args.to c.index_mut-before.result.now c.take-message.new.self c.index_mut-behind.result.now c.index_mut-behind.result.now c.requires.from c.requires.to c.requires.apart c.index_mut-before.ensures.value c.index_mut-behind.ensures.value in
     subst (λ v. c.args.x < length v.queues) (sym behind) c.requires.there
 

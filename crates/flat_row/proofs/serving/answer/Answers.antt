@@ -5,8 +5,8 @@ use Rattle.flat_row.proofs.serving.answer.Goals as goal
 pub loop-m-init : goal.loop-m-init
 loop-m-init c = record { within = omega arith; partly = none_answered c.args.modules c.args.answers.now c.args.level.now }
 
-pub give-requires : goal.give-requires
-give-requires c = subst (λ n. c.in-Some.m < n) (sym c.loop-m.invariant.partly.same.many) (c.requires c.in-Some.m c.in-Some.ensures.there.1 c.in-Some.ensures.there.2)
+pub give-requires-clause-there : goal.give-requires-clause-there
+give-requires-clause-there c = subst (λ n. c.in-Some.m < n) (sym c.loop-m.invariant.partly.same.many) (c.requires c.in-Some.m c.in-Some.ensures.there.1 c.in-Some.ensures.there.2)
 
 pub loop-m-smaller : goal.loop-m-smaller
 loop-m-smaller c = omega (arith, c.in-Some.ensures.there.0, c.in-Some.ensures.there.1)

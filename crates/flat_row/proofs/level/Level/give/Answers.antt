@@ -5,6 +5,6 @@ use Rattle.flat_row.proofs.level.Level.give.Goals as goal
 pub invariant_of-self : goal.invariant_of-self
 invariant_of-self g c =
     let i = c.self.inside in
-    let there : c.args.x < length i.queues.items = rw (← c.self.view_is) at c.requires in
+    let there : c.args.x < length i.queues.items = rw (← c.self.view_is) at c.requires.there in
     marks_kept g.T.Routed.route i.rule i.queues.items i.marks _ c.args.x c.join.new.self c.as_slice.result.now c.shown_by-shown.result c.self.invariant there
     c.as_slice.ensures.value c.shown_by-shown.ensures c.with_shown-self-inside.ensures

@@ -8,7 +8,7 @@ set-requires g c =
     let i = c.self.inside in
     let there : c.args.x < length i.queues.items = rw (← c.self.view_is) at c.requires.there in
     let long : c.args.index < length (queue_at i.queues.items c.args.x).items = rw (← c.self.view_is) at c.requires.index in
-    found_long i.queues.items c.args.x c.args.index _ c.index_mut-queue.ensures.value there long
+    (c.requires.fits, found_long i.queues.items c.args.x c.args.index _ c.index_mut-queue.ensures.value there long)
 
 pub invariant_of-self : goal.invariant_of-self
 invariant_of-self g c =

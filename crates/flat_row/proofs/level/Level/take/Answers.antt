@@ -9,7 +9,7 @@ take_head-message-requires g c =
     let i = c.self.inside in
     let there : c.args.x < length i.queues.items = rw (← c.self.view_is) at c.requires.there in
     let some : IsSome (head (queue_at i.queues.items c.args.x)) = rw (← c.self.view_is) at c.requires.some in
-    found_some i.queues.items c.args.x _ c.index_mut-queue.ensures.value there some
+    (c.requires.fits, found_some i.queues.items c.args.x _ c.index_mut-queue.ensures.value there some)
 
 pub invariant_of-self : goal.invariant_of-self
 invariant_of-self g c =
