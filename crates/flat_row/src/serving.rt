@@ -53,12 +53,9 @@ fn serve_request(words: &mut Words, request: Request) -> Result<(Reply, bool), N
     ensures same { IfOk result (λ done. done.1 ≡ false → words.new ≡ words.old) }
     ensures other { IfOk result (λ done. done.1 ≡ true → words.new ≢ words.old) }
 {
-    let old = words.fetch_and_op(request.place.row, request.op)?;
-    let reply = Reply {
-        tag: request.tag,
-        word: old,
-    };
-    Ok((reply, request.op.apply(old) != old))
+    let (word, other) = words.fetch_and_op(request.place.row, request.op)?;
+    let tag = request.tag;
+    Ok((Reply { tag, word }, other))
 }
 
 /// The answers of modules go last into their replies on a network.

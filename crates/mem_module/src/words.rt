@@ -1,5 +1,5 @@
 //! The words of a module that aren't 0, by rows.
-ghost use Rattle.std.specs.Prelude.{◌≡◌, ◌≢◌, ◌<◌, ◌≤◌, ℕ, [], false, IsTrue, IsOk, IfOk, IfErr, OnOk, OnErr, length};
+ghost use Rattle.std.specs.Prelude.{◌≡◌, ◌≢◌, ◌==◌, ◌<◌, ◌≤◌, not, ℕ, [], false, IsTrue, IsOk, IfOk, IfErr, OnOk, OnErr, length};
 ghost use Rattle.word_ops.specs.Words.{word_after};
 ghost use Rattle.std.specs.Option.{option_to_list};
 ghost use Rattle.mem_module.specs.Memory.{word_at, stored, with_word, row_at, IsAscending, IsAt, IsGapFor};
@@ -53,14 +53,15 @@ impl Words {
         self.word_in(row, self.place_of(row))
     }
 
-    /// Does a fetch-and-op on a row, with one search: the word before. It takes memory only where that is 0 and the word after
-    /// isn't.
+    /// Does a fetch-and-op on a row, with one search: the word before, and whether the one after is another. It takes memory only where
+    /// the word before is 0 and the one after isn't.
     ///
     /// # Errors
     ///
     /// Where a growth was refused. Then nothing is changed.
-    pub fn fetch_and_op(&mut self, row: u16, op: Op) -> Result<u32, NoMemory>
-        ensures fetched { IfOk result (λ word. word ≡ word_at self.old row) }
+    pub fn fetch_and_op(&mut self, row: u16, op: Op) -> Result<(u32, bool), NoMemory>
+        ensures fetched { IfOk result (λ done. done.0 ≡ word_at self.old row) }
+        ensures other { IfOk result (λ done. done.1 ≡ not (word_after op (word_at self.old row) == word_at self.old row)) }
         ensures left { OnOk result (self.new ≡ with_word self.old row (word_after op (word_at self.old row))) }
         ensures same { word_after op (word_at self.old row) ≡ word_at self.old row → self.new ≡ self.old }
         ensures err { OnErr result (self.new ≡ self.old) }
@@ -69,10 +70,11 @@ impl Words {
         let place = self.place_of(row);
         let old = self.word_in(row, place);
         let new = op.apply(old);
-        if new != old {
+        let other = new != old;
+        if other {
             self.put_in(row, place, new)?;
         }
-        Ok(old)
+        Ok((old, other))
     }
 
     /// Leaves a word in a row, above all others without a search. It takes memory only where the row had the word 0 and gets another.

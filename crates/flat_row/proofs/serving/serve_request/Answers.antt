@@ -1,14 +1,13 @@
 use Rattle.std.proofs.Common.{ap, sym, ◌∙◌, eq-eqb}
 use Rattle.std.specs.Prelude.{not}
 use Rattle.std.proofs.lemmas.Bool.{false≢true}
-use Rattle.word_ops.specs.Words.{word_after}
 use Rattle.flat_row.proofs.Writing.{other_words}
 use Rattle.flat_row.proofs.serving.serve_request.Goals as goal
 
 -- the word after isn't the one before, so the words aren't
 pub returns-clause-other : goal.returns-clause-other
 returns-clause-other c = λ told alike.
-    let fetched = c.in_ok-old.ensures.fetched in
+    let done = c.in_ok-word.ensures in
     other_words c.args.words.now c.args.request.place.row _
-    (λ e. false≢true (sym (ap not (eq-eqb c.apply.result c.in_ok-old.old (c.apply.ensures ∙ ap (word_after c.args.request.op) fetched ∙ e ∙ sym fetched))) ∙ told))
-    (sym c.in_ok-old.ensures.left ∙ alike)
+    (λ e. false≢true (sym (ap not (eq-eqb _ _ e)) ∙ sym done.other ∙ told))
+    (sym done.left ∙ alike)
