@@ -8,6 +8,7 @@ pub mod LevelFirsts
 pub mod Lines
 pub mod Logging
 pub mod Numbered
+pub mod Offering
 pub mod Places
 pub mod Refusals
 pub mod Rows

@@ -5,6 +5,8 @@ pub mod Lengths
 pub mod Loads
 pub mod Logs
 pub mod Maps
+pub mod Offers
 pub mod Orders
 pub mod Steady
 pub mod Told
+pub mod Traffic

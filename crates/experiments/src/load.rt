@@ -72,7 +72,7 @@ pub fn drawn(sync: bool, hot: u32, first: u32, second: u32) -> ScriptEntry
 
 /// A processor's script: 256 references, drawn from the load's seed by the stream of the processor's number. Each processor
 /// draws the same numbers whatever the share of the hot ones.
-fn script(alloc: Global, load: Load, proc: u32) -> Result<Vec<ScriptEntry>, AllocError>
+pub(crate) fn script(alloc: Global, load: Load, proc: u32) -> Result<Vec<ScriptEntry>, AllocError>
     ensures script { IfOk result (λ es. IsScript es.items) }
     ensures drawn { IfOk result (λ es. es.items ≡ script_drawn load proc) }
 {
@@ -114,6 +114,20 @@ pub fn project_of(alloc: Global, load: Load) -> Result<Project, NoMemory>
     ensures { IfOk result (λ project. project ≡ loaded load) }
 {
     let scripts = scripts(alloc, load)?;
+    project_with(alloc, load, scripts)
+}
+
+/// The project of a load, but for its scripts, which are these.
+pub(crate) fn project_with(
+    alloc: Global,
+    load: Load,
+    scripts: Scripts,
+) -> Result<Project, NoMemory>
+    requires k { load.k ≤ max_k }
+    requires cycles { load.cycles ≤ max_horizon }
+    requires count { length scripts ≡ 2 ^ load.k }
+    ensures { IfOk result (λ project. project ≡ record (loaded load) { scripts = scripts }) }
+{
     let pages = PageMap::new(load.k);
     pages.is_page_map();
     let parts = Parts {

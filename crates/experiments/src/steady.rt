@@ -36,7 +36,7 @@ fn number_at(flow: &[u16], place: usize) -> u64
 
 /// The sum of the numbers at the places from one to another.
 #[tactic(auto, using(crate::proofs::Adding::sum_next))]
-fn sum_between(flow: &[u16], from: u32, to: u32) -> u64
+pub(crate) fn sum_between(flow: &[u16], from: u32, to: u32) -> u64
     ensures sum { result ≡ sum_between flow.now from to }
     ensures few { result ≤ 65535 * (to + 1) }
 {
@@ -72,7 +72,7 @@ fn is_steady(flow: &[u16], cycles: u32, left: u32) -> bool
 
 /// How many cycles are left out, so that the rate is steady behind them: 16, 32, .., less than half of them; else half.
 #[tactic(auto, using(crate::proofs::Steadying::steady_next, crate::proofs::Steadying::steady_here, crate::proofs::Steadying::steady_never))]
-fn left_out(flow: &[u16], cycles: u32) -> u32
+pub(crate) fn left_out(flow: &[u16], cycles: u32) -> u32
     requires short { cycles < 1000000 }
     ensures left { result ≡ left_out flow.now cycles }
     ensures within { result ≤ cycles / 2 }
