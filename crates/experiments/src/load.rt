@@ -118,11 +118,7 @@ pub fn project_of(alloc: Global, load: Load) -> Result<Project, NoMemory>
 }
 
 /// The project of a load, but for its scripts, which are these.
-pub(crate) fn project_with(
-    alloc: Global,
-    load: Load,
-    scripts: Scripts,
-) -> Result<Project, NoMemory>
+pub(crate) fn project_with(alloc: Global, load: Load, scripts: Scripts) -> Result<Project, NoMemory>
     requires k { load.k ≤ max_k }
     requires cycles { load.cycles ≤ max_horizon }
     requires count { length scripts ≡ 2 ^ load.k }
