@@ -1,9 +1,9 @@
 -- Sums and lists over the numbers below one more.
 use Rattle.std.proofs.Common.{◌≡◌, ◌||◌, ℕ, ◌+◌, Bool, true, false, List, [], ◌∷◌, ◌++◌, sum_by, refl, sym, ap, ◌∙◌, add-one, arith, append_assoc}
-use Rattle.std.specs.Prelude.{Result, Ok, Err, OnOk, if◌then◌else◌}
+use Rattle.std.specs.Prelude.{Result, Ok, Err, OnOk, if◌then◌else◌, map}
 use Rattle.std.specs.Result.{is_ok}
 use Rattle.std.specs.List.{flat_map, list_any}
-use Rattle.std.proofs.lemmas.List.{append-nil}
+use Rattle.std.proofs.lemmas.List.{append-nil, map-append}
 use Rattle.std.proofs.lemmas.List.Folds.{list_any-append}
 use Rattle.std.proofs.lemmas.List.Sums.{sum_by-append}
 use Rattle.std.proofs.lemmas.Grind.{flat_map-append}
@@ -46,3 +46,11 @@ pub five_pieces : (t a b c d e m p q s h : List ℕ) → t ≡ [] → a ≡ t ++
 five_pieces t a b c d e m p q s h none one two three four five =
     after t a e m (p ++ (q ++ (s ++ h))) one (after a b e p (q ++ (s ++ h)) two (after b c e q (s ++ h) three (after c d e s h four five)))
     ∙ ap (λ (u : List ℕ). u ++ (m ++ (p ++ (q ++ (s ++ h))))) none
+
+-- one element more, behind others
+pub map_after : {X : Type 0} (f : ℕ → X) (n : ℕ) (a b d : List X) (x : X) → b ≡ a ++ map f (below n) → d ≡ b ++ x ∷ [] → x ≡ f n
+    → d ≡ a ++ map f (below (n + 1))
+map_after {X} f n a b d x before pushed is =
+    let next : map f (below (n + 1)) ≡ map f (below n) ++ f n ∷ [] = rw add-one (map-append f (below n) (n ∷ [])) in
+    pushed ∙ (ap (λ (xs : List X). xs ++ x ∷ []) before ∙ (append_assoc a (map f (below n)) (x ∷ [])
+    ∙ (ap (λ (y : X). a ++ (map f (below n) ++ y ∷ [])) is ∙ ap (λ (xs : List X). a ++ xs) (sym next))))

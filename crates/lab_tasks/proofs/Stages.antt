@@ -6,8 +6,10 @@ use Rattle.project_book.specs.Project.{Project}
 use Rattle.project_book.specs.declared.edit.Edit.TheVariants.{Combine}
 use Rattle.project_book.specs.Edits.{edited}
 use Rattle.experiments.specs.declared.load.Load.{Load}
+use Rattle.experiments.specs.declared.offer.Offer.{Offer}
 use Rattle.experiments.specs.Loads.{loaded}
-use Rattle.lab_tasks.specs.Kept.{kept_of}
+use Rattle.experiments.specs.Offers.{project_offered}
+use Rattle.lab_tasks.specs.Kept.{kept_of, kept_offer}
 
 -- the first value behind some is set to be as they are
 set_behind : (s : ℕ) (x y : Bool) (ys : List Bool) → slice_set (replicate s x ++ y ∷ ys) s x ≡ replicate (suc s) x ++ ys
@@ -46,3 +48,19 @@ pub stage_kept : (load : Load) (before after : Project) (stage : ℕ) → stage 
 stage_kept load before after stage lt at set =
     set ∙ ap (λ P. edited P (Combine stage true)) at
     ∙ ap (λ (flags : List Bool). record (loaded load) { combine = flags }) (stage_next max_k stage lt)
+
+-- the same of an offered load
+pub none_offered : (o : Offer) → o.load.k ≤ max_k → o.load.combine ≡ false
+    → project_offered (record o { load = record o.load { combine = false } }) ≡ kept_offer o
+none_offered o le off =
+    ap (λ (flags : List Bool). record (project_offered o) { combine = flags })
+    (no_stage max_k o.load.k le ∙ ap (λ on. replicate o.load.k on ++ replicate (max_k - o.load.k) false) (sym off))
+
+abbrev pub offered_stages : Offer → ℕ → Project
+offered_stages o n = record (project_offered o) { combine = replicate n true ++ replicate (max_k - n) false }
+
+pub stage_offered : (o : Offer) (before after : Project) (stage : ℕ) → stage < max_k → before ≡ offered_stages o stage
+    → after ≡ edited before (Combine stage true) → after ≡ offered_stages o (stage + 1)
+stage_offered o before after stage lt at set =
+    set ∙ ap (λ P. edited P (Combine stage true)) at
+    ∙ ap (λ (flags : List Bool). record (project_offered o) { combine = flags }) (stage_next max_k stage lt)

@@ -67,6 +67,9 @@ rates_task = task (codes "rates") (measured_rules ++ (map option_rule (codes "se
 abbrev pub delays_task : Shape
 delays_task = task (codes "delays") (measured_rules ++ kept_rules)
 
+abbrev pub load_task : Shape
+load_task = task (codes "load") (measured_rules ++ (map option_rule (codes "seeds" ∷ codes "rate" ∷ codes "step" ∷ []) ++ kept_rules))
+
 abbrev pub sweep_task : Shape
 sweep_task =
     task (codes "sweep")
@@ -81,7 +84,7 @@ convert_task = task (codes "convert") (file_rule ∷ option_rule (codes "out") �
 
 -- the tasks
 abbrev pub tasks : List Shape
-tasks = map_task ∷ order_task ∷ latency_task ∷ done_task ∷ trace_task ∷ full_task ∷ series_task ∷ rates_task ∷ delays_task ∷ sweep_task ∷ check_task ∷ convert_task ∷ []
+tasks = map_task ∷ order_task ∷ latency_task ∷ done_task ∷ trace_task ∷ full_task ∷ series_task ∷ rates_task ∷ delays_task ∷ load_task ∷ sweep_task ∷ check_task ∷ convert_task ∷ []
 
 -- none of these tasks has this name; and no task at all
 abbrev pub IsNoneOf : List Shape → Text → Type 0
@@ -95,7 +98,7 @@ abbrev pub reports : List Shape
 reports = latency_task ∷ done_task ∷ trace_task ∷ full_task ∷ series_task ∷ []
 
 abbrev pub other_tasks : List Shape
-other_tasks = map_task ∷ order_task ∷ rates_task ∷ delays_task ∷ sweep_task ∷ check_task ∷ convert_task ∷ []
+other_tasks = map_task ∷ order_task ∷ rates_task ∷ delays_task ∷ load_task ∷ sweep_task ∷ check_task ∷ convert_task ∷ []
 
 -- `lab TASK ..`, with a version; the words are those behind the program's name
 abbrev pub bare : App

@@ -12,10 +12,13 @@ use Rattle.lab_tasks.specs.declared.plan.MapPlan.{MapPlan}
 use Rattle.lab_tasks.specs.declared.plan.CurvePlan.{CurvePlan}
 use Rattle.lab_tasks.specs.declared.tables.RatePoint.{RatePoint}
 use Rattle.lab_tasks.specs.declared.tables.DelayPoint.{DelayPoint}
+use Rattle.lab_tasks.specs.declared.load_plan.LoadPlan.{LoadPlan}
+use Rattle.lab_tasks.specs.declared.load_table.LoadPoint.{LoadPoint}
 use Rattle.lab_tasks.specs.declared.words.Asked.{Asked}
-use Rattle.lab_tasks.specs.declared.words.Asked.TheVariants.{Map, Order, Latency, Done as Completed, Trace, Full, Series, Rates, Delays, Sweep, Check, Convert}
+use Rattle.lab_tasks.specs.declared.words.Asked.TheVariants.{Map, Order, Latency, Done as Completed, Trace, Full, Series, Rates, Delays, Load as Loaded, Sweep, Check, Convert}
 use Rattle.lab_tasks.specs.declared.words.MapWords.{MapWords}
 use Rattle.lab_tasks.specs.declared.words.CurveWords.{CurveWords}
+use Rattle.lab_tasks.specs.declared.words.LoadWords.{LoadWords}
 use Rattle.lab_tasks.specs.declared.words.SweepWords.{SweepWords}
 use Rattle.lab_tasks.specs.declared.convert.ConvertWords.{ConvertWords}
 use Rattle.lab_tasks.specs.Words.{text_of, texts_of}
@@ -32,7 +35,10 @@ use Rattle.lab_tasks.specs.Plans.{IsMap, IsNoMap, IsCurves, IsNoCurve}
 use Rattle.lab_tasks.specs.Points.{rate_loads, delay_loads, IsRate, IsDelay}
 use Rattle.lab_tasks.specs.Tables.{table_text, rate_row, delay_row}
 use Rattle.lab_tasks.specs.Outcomes.{IsGiven, AreGiven}
-use Rattle.lab_tasks.specs.Kept.{IsWithKept}
+use Rattle.lab_tasks.specs.Kept.{IsWithKept, IsWithOffers}
+use Rattle.lab_tasks.specs.LoadPictures.{IsLoadPicture}
+use Rattle.lab_tasks.specs.LoadPlans.{offers_of, IsLoadPlan, IsNoLoadPlan}
+use Rattle.lab_tasks.specs.LoadTables.{load_header, load_row, IsLoadPoint}
 use Rattle.lab_tasks.specs.SetUps.{IsSetUp, IsNoSetUp}
 use Rattle.lab_tasks.specs.SweepTables.{IsTable, IsNoTable, OrStop}
 use Rattle.lab_tasks.specs.EditSweeps.{IsEditTable, IsNoEditTable}
@@ -79,6 +85,13 @@ abbrev pub AreDelays : CurveWords → Outcome → Type 0
 AreDelays words outcome =
     (plan : CurvePlan) × (points : List DelayPoint) × IsCurves words plan × AllZip (IsDelay plan) (delay_loads plan) points
     × IsTableWithKept words (delay_loads plan) (IsDelayPicture plan points) (table_text delay_header delay_row points) outcome
+
+-- the points of a plan's offered loads, measured and drawn, and behind them the files of these loads
+abbrev pub AreLoads : LoadWords → Outcome → Type 0
+AreLoads words outcome =
+    (plan : LoadPlan) × (points : List LoadPoint) × (drawn : Outcome) × IsLoadPlan words plan × AllZip IsLoadPoint (offers_of plan) points
+    × IsTableGiven words.curves (IsLoadPicture plan points) (table_text load_header load_row points) drawn
+    × IsWithOffers (text_of words.curves.keep) (offers_of plan) drawn outcome
 
 -- the table that the words of a sweep ask for of the project that they set up: of depths alone, or of depths and edits
 abbrev pub IsSweptText : SweepWords → List (List ℕ) → Project → List ℕ → Type 0
@@ -128,6 +141,7 @@ IsDone (Full file) bytes outcome = IsMadeOf bytes None IsFullText outcome
 IsDone (Series words) bytes outcome = IsMadeOf bytes (text_of words.csv) (IsSeriesText words) outcome
 IsDone (Rates words) bytes outcome = AreRates words outcome
 IsDone (Delays words) bytes outcome = AreDelays words outcome
+IsDone (Loaded words) bytes outcome = AreLoads words outcome
 IsDone (Sweep words) bytes outcome = IsMadeOf bytes (text_of words.csv) (IsSweepText words) outcome
 IsDone (Check file) bytes outcome = IsMadeOf bytes None IsSummary outcome
 IsDone (Convert words) bytes outcome = (is_over words ≡ false) × IsMadeOf bytes (text_of words.out) IsConverted outcome
@@ -151,6 +165,7 @@ IsNotDone (Full file) bytes e = IsNotMade bytes (λ P. ⊥) e
 IsNotDone (Series words) bytes e = IsNotMade bytes (IsNoSeries words e) e
 IsNotDone (Rates words) bytes e = (e ≡ end.Memory) ⊎ IsNoCurve words e
 IsNotDone (Delays words) bytes e = (e ≡ end.Memory) ⊎ IsNoCurve words e
+IsNotDone (Loaded words) bytes e = (e ≡ end.Memory) ⊎ IsNoLoadPlan words e
 IsNotDone (Sweep words) bytes e = IsNotMade bytes (IsNoSweep words e) e
 IsNotDone (Check file) bytes e = IsNotMade bytes (λ P. ⊥) e
 IsNotDone (Convert words) bytes e = IsOver words e ⊎ ((is_over words ≡ false) × IsNotMade bytes (λ P. ⊥) e)

@@ -14,6 +14,9 @@ pub mod Gauged
 pub mod Heats
 pub mod Kept
 pub mod Latencies
+pub mod LoadPictures
+pub mod LoadPlans
+pub mod LoadTables
 pub mod MapPictures
 pub mod Numbers
 pub mod OrderPictures

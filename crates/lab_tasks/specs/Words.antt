@@ -4,7 +4,7 @@ use Rattle.std.specs.Option.{option_map_or}
 use Rattle.std.specs.Borrow.{Bor}
 use Rattle.clap.specs.Words.{Row, Text, all_of, first_of}
 use Rattle.lab_tasks.specs.declared.words.Asked.{Asked}
-use Rattle.lab_tasks.specs.declared.words.Asked.TheVariants.{Map, Order, Latency, Done, Trace, Full, Series, Rates, Delays, Sweep, Check, Convert}
+use Rattle.lab_tasks.specs.declared.words.Asked.TheVariants.{Map, Order, Latency, Done, Trace, Full, Series, Rates, Delays, Load, Sweep, Check, Convert}
 use Rattle.lab_tasks.specs.declared.words.MapWords.{MapWords}
 use Rattle.lab_tasks.specs.declared.convert.ConvertWords.{ConvertWords}
 use Rattle.lab_tasks.specs.declared.latency.LatencyWords.{LatencyWords}
@@ -12,6 +12,7 @@ use Rattle.lab_tasks.specs.declared.order.OrderWords.{OrderWords}
 use Rattle.lab_tasks.specs.declared.series.SeriesWords.{SeriesWords}
 use Rattle.lab_tasks.specs.declared.trace.TraceWords.{TraceWords}
 use Rattle.lab_tasks.specs.declared.words.CurveWords.{CurveWords}
+use Rattle.lab_tasks.specs.declared.words.LoadWords.{LoadWords}
 use Rattle.lab_tasks.specs.declared.words.SweepWords.{SweepWords}
 
 -- a word as its text, if there is one, and several words as theirs
@@ -77,6 +78,11 @@ pub record AreCurveWords (rows : List Row) (words : CurveWords) : Type 0 where
   pub out : text_of words.out ≡ first_of (codes "out") rows
   pub keep : text_of words.keep ≡ first_of (codes "keep") rows
 
+pub record AreLoadWords (rows : List Row) (words : LoadWords) : Type 0 where
+  pub curves : AreCurveWords rows words.curves
+  pub rate : text_of words.rate ≡ first_of (codes "rate") rows
+  pub step : text_of words.step ≡ first_of (codes "step") rows
+
 pub record AreSweepWords (rows : List Row) (words : SweepWords) : Type 0 where
   pub file : words.file.now ≡ file_at rows
   pub setups : texts_of words.setups.items ≡ texts_at rows (codes "setup")
@@ -106,6 +112,7 @@ AsksFor said (Full file) = IsNamed said (codes "full") (λ rows. file.now ≡ fi
 AsksFor said (Series words) = IsNamed said (codes "series") (λ rows. AreSeriesWords rows words)
 AsksFor said (Rates words) = IsNamed said (codes "rates") (λ rows. AreCurveWords rows words)
 AsksFor said (Delays words) = IsNamed said (codes "delays") (λ rows. AreCurveWords rows words)
+AsksFor said (Load words) = IsNamed said (codes "load") (λ rows. AreLoadWords rows words)
 AsksFor said (Sweep words) = IsNamed said (codes "sweep") (λ rows. AreSweepWords rows words)
 AsksFor said (Check file) = IsNamed said (codes "check") (λ rows. file.now ≡ file_at rows)
 AsksFor said (Convert words) = IsNamed said (codes "convert") (λ rows. AreConvertWords rows words)
@@ -120,6 +127,7 @@ file_of (Full file) = Some file.now
 file_of (Series words) = Some words.file.now
 file_of (Rates words) = None
 file_of (Delays words) = None
+file_of (Load words) = None
 file_of (Sweep words) = Some words.file.now
 file_of (Check file) = Some file.now
 file_of (Convert words) = Some words.file.now

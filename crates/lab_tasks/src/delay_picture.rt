@@ -110,7 +110,7 @@ fn longest_of(points: &[DelayPoint]) -> u32
     ((most_tenths(points) + 9) / 10).max(1)
 }
 
-fn network_label(network: usize) -> &'static str
+pub(crate) fn network_label(network: usize) -> &'static str
     ensures { result.now ≡ network_label network }
 {
     match network {

@@ -286,6 +286,7 @@ fn refuse_over<'a, R: Files + AllocGlobal>(rt: &R, asked: &Asked<'a>) -> Result<
         Asked::Series(words) => refuse_file(rt, words.file, "--csv", words.csv, source),
         Asked::Sweep(words) => refuse_file(rt, words.file, "--csv", words.csv, source),
         Asked::Rates(words) | Asked::Delays(words) => refuse_table(rt, words),
+        Asked::Load(words) => refuse_table(rt, &words.curves),
         Asked::Convert(words) => {
             if words.force {
                 return Ok(());

@@ -14,8 +14,9 @@
 //! (`specs/Tables.antt`), the table of a sweep (`specs/SweepTables.antt`, `specs/EditSweeps.antt`), how a project is set up for it
 //! (`specs/SetUps.antt`), what a summary counts and says
 //! (`specs/Counts.antt`, `specs/Summaries.antt`), the text of a converted file (`specs/ProjectTexts.antt`), which project
-//! files are kept (`specs/Kept.antt`), the statuses and lines (`specs/Ends.antt`), the pictures of `rates` and `delays`
-//! (`specs/RatePictures.antt`, `specs/DelayPictures.antt`), and when it is told that a map draws the network where no reference
+//! files are kept (`specs/Kept.antt`), the statuses and lines (`specs/Ends.antt`), the pictures of `rates`, `delays` and
+//! `load` (`specs/RatePictures.antt`, `specs/DelayPictures.antt`, `specs/LoadPictures.antt`), which offered loads those are and
+//! what is measured of them (`specs/LoadPlans.antt`, `specs/LoadTables.antt`), and when it is told that a map draws the network where no reference
 //! is (`specs/Elsewhere.antt`). What the pictures look like is shown by examples.
 #![tactic(auto)]
 
@@ -32,6 +33,11 @@ mod full;
 mod host;
 mod hot;
 mod latency;
+mod load;
+mod load_picture;
+mod load_plan;
+mod load_points;
+mod load_table;
 mod map;
 mod numbers;
 mod order;
@@ -62,4 +68,4 @@ pub use progress::{Progress, Silent};
 pub use series::SeriesWords;
 pub use task::perform;
 pub use trace::TraceWords;
-pub use words::{Asked, CurveWords, MapWords, SweepWords, read_words};
+pub use words::{Asked, CurveWords, LoadWords, MapWords, SweepWords, read_words};

@@ -140,8 +140,8 @@ pub(crate) struct CurvePlan {
 /// The shares that are measured where none are given.
 const USUAL_SHARES: [u32; 7] = [0, 1, 2, 4, 8, 16, 32];
 
-/// How many seeds `rates` may measure with.
-const MOST_SEEDS: u32 = 20;
+/// How many seeds `rates` and `load` may measure with.
+pub(crate) const MOST_SEEDS: u32 = 20;
 
 /// Whether no share is more than the whole.
 fn are_hundredths(shares: &[u32]) -> bool
@@ -151,7 +151,7 @@ fn are_hundredths(shares: &[u32]) -> bool
 }
 
 /// The shares at `--hot`.
-fn shares_at<'a>(alloc: Global, word: Option<&'a str>) -> Result<Vec<u32>, End<'a>>
+pub(crate) fn shares_at<'a>(alloc: Global, word: Option<&'a str>) -> Result<Vec<u32>, End<'a>>
     ensures shares { IfOk result (λ v. AreShares (text_of word.entry) v.items) }
     ensures few { IfOk result (λ v. length v.items ≤ 7) }
     ensures none { IfErr result (AreNoShares (text_of word.entry)) }

@@ -104,7 +104,7 @@ impl RatePoint {
 
 /// The machine of a load: how many processors, whether combining is on, how many of a hundred references are hot.
 #[derive(Clone, Copy)]
-struct Machine(Load);
+pub(crate) struct Machine(pub Load);
 
 impl fmt::Display for Machine {
     ghost output = { λ m. Some (machine_text m.0) };
@@ -247,7 +247,7 @@ impl fmt::Display for Mean {
     }
 }
 
-fn network(sync: bool) -> &'static str
+pub(crate) fn network(sync: bool) -> &'static str
     ensures { result.now ≡ network_text sync }
 {
     if sync { "combining" } else { "low" }

@@ -28,6 +28,7 @@ use crate::edit_sweep::edit_table;
 use crate::end::End;
 use crate::full::full_report;
 use crate::latency::{LatencyWords, condition, report};
+use crate::load::load;
 use crate::map::map_picture;
 use crate::order::{OrderWords, order_text, order_window};
 use crate::other_net::elsewhere;
@@ -185,7 +186,7 @@ fn series<'a>(alloc: Global, words: &SeriesWords<'a>, bytes: &[u8]) -> Result<Ou
 }
 
 /// The network of a load, in the name of its project file.
-fn net_name(load: Load) -> &'static str
+pub(crate) fn net_name(load: Load) -> &'static str
     ensures { result.now ≡ net_text load.sync load.combine }
 {
     match (load.sync, load.combine) {
@@ -266,7 +267,7 @@ fn keep<'a>(
 }
 
 /// The table and the picture where they are wanted; the table on standard output where neither is.
-fn curves<'a>(
+pub(crate) fn curves<'a>(
     alloc: Global,
     words: &CurveWords<'a>,
     table: String,
@@ -454,6 +455,7 @@ pub fn perform<'a, T: Threads + Sync, P: Progress>(
         Asked::Series(words) => series(alloc, words, bytes),
         Asked::Rates(words) => rates(rt, alloc, words, progress),
         Asked::Delays(words) => delays(rt, alloc, words, progress),
+        Asked::Load(words) => load(rt, alloc, words, progress),
         Asked::Sweep(words) => sweep(rt, alloc, words, bytes),
         Asked::Check { .. } => {
             let outcome = check(alloc, bytes)?;

@@ -4,8 +4,8 @@ ghost use Rattle.std.specs.Option.{option_map_or};
 ghost use Rattle.clap.specs.Matches.{matched_of, raw_values};
 ghost use Rattle.clap.specs.Walk.{texts};
 ghost use Rattle.clap.specs.Words.{FailsBy, fault_of, first_of, found_of, new_app, rows_of, rule_of, subcommand_of};
-ghost use Rattle.lab_tasks.specs.CommandLine.{any_number_rule, bare, check_task, convert_task, delays_task, done_task, file_rule, flag_rule, full_task, kept_rules, lab, map_task, latency_task, measured_task, option_rule, order_task, other_tasks, position_rule, rates_task, reports, series_task, several_rule, sweep_task, trace_task, HasAll, HasMore, HasTask, IsApp, IsLab, IsNoneOf, IsNoTask, IsTask};
-ghost use Rattle.lab_tasks.specs.Words.{file_at, is_given, text_of, texts_at, AreConvertWords, AreCurveWords, AreLatencyWords, AreMapWords, AreOrderWords, AreSeriesWords, AreSweepWords, AreTraceWords, AsksFor};
+ghost use Rattle.lab_tasks.specs.CommandLine.{any_number_rule, bare, check_task, convert_task, delays_task, done_task, file_rule, flag_rule, full_task, kept_rules, lab, load_task, map_task, latency_task, measured_task, option_rule, order_task, other_tasks, position_rule, rates_task, reports, series_task, several_rule, sweep_task, trace_task, HasAll, HasMore, HasTask, IsApp, IsLab, IsNoneOf, IsNoTask, IsTask};
+ghost use Rattle.lab_tasks.specs.Words.{file_at, is_given, text_of, texts_at, AreConvertWords, AreCurveWords, AreLatencyWords, AreLoadWords, AreMapWords, AreOrderWords, AreSeriesWords, AreSweepWords, AreTraceWords, AsksFor};
 
 use crate::convert::ConvertWords;
 use crate::latency::LatencyWords;
@@ -41,6 +41,15 @@ pub struct CurveWords<'a> {
     pub keep: Option<&'a str>,
 }
 
+/// What `load` is told.
+#[derive(Clone, Copy)]
+pub struct LoadWords<'a> {
+    /// What `rates` is told too, but for what is drawn.
+    pub curves: CurveWords<'a>,
+    pub rate: Option<&'a str>,
+    pub step: Option<&'a str>,
+}
+
 /// What `sweep` is told.
 #[derive(Drop)]
 pub struct SweepWords<'a> {
@@ -65,6 +74,7 @@ pub enum Asked<'a> {
     Series(SeriesWords<'a>),
     Rates(CurveWords<'a>),
     Delays(CurveWords<'a>),
+    Load(LoadWords<'a>),
     Sweep(SweepWords<'a>),
     Check { file: &'a str },
     Convert(ConvertWords<'a>),
@@ -85,7 +95,7 @@ impl<'a> Asked<'a> {
             Asked::Trace(words) => Some(words.file),
             Asked::Full { file } => Some(*file),
             Asked::Series(words) => Some(words.file),
-            Asked::Rates(_) | Asked::Delays(_) => None,
+            Asked::Rates(_) | Asked::Delays(_) | Asked::Load(_) => None,
             Asked::Sweep(words) => Some(words.file),
             Asked::Check { file } => Some(*file),
             Asked::Convert(words) => Some(words.file),
@@ -121,6 +131,9 @@ const RATES_ABOUT: &str =
 const DELAYS_ABOUT: &str =
     "Measures how long references that aren't hot wait for their replies, against the share of hot ones";
 
+const LOAD_ABOUT: &str =
+    "Measures latency and accepted traffic against offered load, for the low network and the combining one without and with combining";
+
 const SWEEP_ABOUT: &str =
     "Asks a project the same for each depth of some queues, and after each of some edits";
 
@@ -128,6 +141,16 @@ const CHECK_ABOUT: &str = "Says in words what a project file is, or where it is 
 
 const CONVERT_ABOUT: &str =
     "Writes a project as a file of format 2, without what is as usual: comments aren't kept";
+
+const SIZES_HELP: &str = "2^K processors at most, from 1 to 6; without it 6";
+
+const SIZE_HELP: &str = "2^K processors, from 1 to 6; without it 6";
+
+const SHARES_HELP: &str =
+    "How many of a hundred references are hot, up to seven numbers; without it 0,1,2,4,8,16,32";
+
+const HOT_HELP: &str =
+    "How many of a hundred references are hot, up to seven numbers, each with curves of its own; without it 0";
 
 const RATES_MEASURED: &str = "\
 Each processor issues 256 references, at most 8 of them unanswered: of a hundred as many as --hot says add 1 to word 0, the
@@ -138,6 +161,12 @@ const DELAYS_MEASURED: &str = "\
 Each processor issues 256 references, at most 8 of them unanswered: of a hundred as many as --hot says add 1 to word 0, the
 others load a word of page 1, which is spread over all modules. They are drawn from --seed. The second half of the cycles is
 measured. Without --csv and --out the table goes to standard output.";
+
+const LOAD_MEASURED: &str = "\
+In as many of a hundred cycles as the rate says a processor offers a reference, in the others none, as a seed draws them; it issues
+it once it can, with at most 8 unanswered. Of a hundred references as many as --hot says add 1 to word 0, the others load a word of
+page 1, which is spread over all modules. The start is left out, until the rate of answers is steady. Without --csv and --out the
+table goes to standard output.";
 
 const GAUGED: &str = "\
 A GAUGE is a counter, which is issued, answered, served, combined or waiting, of the whole machine, or of one component, as
@@ -459,24 +488,14 @@ fn measured_command<'a>(
     name: &'a str,
     about: &'a str,
     behind: &'a str,
+    size: &'a str,
+    shares: &'a str,
 ) -> Result<Command<'a>, AllocError>
     ensures { IfOk result (IsTask (measured_task name.entry.now)) }
 {
     let task = named(alloc, name, about, behind);
-    let task = with_option(
-        alloc,
-        task,
-        "k",
-        "K",
-        "2^K processors at most, from 1 to 6; without it 6",
-    )?;
-    let task = with_option(
-        alloc,
-        task,
-        "hot",
-        "PERCENT,..",
-        "How many of a hundred references are hot, up to seven numbers; without it 0,1,2,4,8,16,32",
-    )?;
+    let task = with_option(alloc, task, "k", "K", size)?;
+    let task = with_option(alloc, task, "hot", "PERCENT,..", shares)?;
     let task = with_option(
         alloc,
         task,
@@ -513,7 +532,14 @@ fn kept_command<'a>(alloc: Global, task: Command<'a>) -> Result<Command<'a>, All
 fn rates_command<'a>(alloc: Global) -> Result<Command<'a>, AllocError>
     ensures { IfOk result (IsTask rates_task) }
 {
-    let task = measured_command(alloc, "rates", RATES_ABOUT, RATES_MEASURED)?;
+    let task = measured_command(
+        alloc,
+        "rates",
+        RATES_ABOUT,
+        RATES_MEASURED,
+        SIZES_HELP,
+        SHARES_HELP,
+    )?;
     let task = with_option(
         alloc,
         task,
@@ -535,7 +561,50 @@ fn rates_command<'a>(alloc: Global) -> Result<Command<'a>, AllocError>
 fn delays_command<'a>(alloc: Global) -> Result<Command<'a>, AllocError>
     ensures { IfOk result (IsTask delays_task) }
 {
-    let task = measured_command(alloc, "delays", DELAYS_ABOUT, DELAYS_MEASURED)?;
+    let task = measured_command(
+        alloc,
+        "delays",
+        DELAYS_ABOUT,
+        DELAYS_MEASURED,
+        SIZE_HELP,
+        SHARES_HELP,
+    )?;
+    let task = kept_command(alloc, task)?;
+    Ok(task)
+}
+
+fn load_command<'a>(alloc: Global) -> Result<Command<'a>, AllocError>
+    ensures { IfOk result (IsTask load_task) }
+{
+    let task = measured_command(
+        alloc,
+        "load",
+        LOAD_ABOUT,
+        LOAD_MEASURED,
+        SIZE_HELP,
+        HOT_HELP,
+    )?;
+    let task = with_option(
+        alloc,
+        task,
+        "seeds",
+        "N",
+        "How many seeds, from --seed on, from 1 to 20; without it 5",
+    )?;
+    let task = with_option(
+        alloc,
+        task,
+        "rate",
+        "FROM..TO",
+        "In how many of a hundred cycles a reference is offered, from 1 to 100; without it 5..100",
+    )?;
+    let task = with_option(
+        alloc,
+        task,
+        "step",
+        "N",
+        "From one rate to the next, from 1 to 100; without it 5",
+    )?;
     let task = kept_command(alloc, task)?;
     Ok(task)
 }
@@ -653,6 +722,7 @@ fn lab_command<'a>(alloc: Global) -> Result<Command<'a>, AllocError>
     let command = with_task(command, series_command(alloc)?)?;
     let command = with_task(command, rates_command(alloc)?)?;
     let command = with_task(command, delays_command(alloc)?)?;
+    let command = with_task(command, load_command(alloc)?)?;
     let command = with_task(command, sweep_command(alloc)?)?;
     let command = with_task(command, check_command(alloc)?)?;
     let command = with_task(command, convert_command(alloc)?)?;
@@ -761,6 +831,16 @@ fn curve_words<'a>(matches: &ArgMatches<'a>) -> CurveWords<'a>
     }
 }
 
+fn load_words<'a>(matches: &ArgMatches<'a>) -> LoadWords<'a>
+    ensures { AreLoadWords (rows_of (found_of matches.now)) result }
+{
+    LoadWords {
+        curves: curve_words(matches),
+        rate: text_in(matches, "rate"),
+        step: text_in(matches, "step"),
+    }
+}
+
 fn sweep_words<'a>(alloc: Global, matches: &ArgMatches<'a>) -> Result<SweepWords<'a>, AllocError>
     ensures { IfOk result (AreSweepWords (rows_of (found_of matches.now))) }
 {
@@ -840,6 +920,7 @@ fn other_asked<'a>(
         "order" => Some(Asked::Order(order_words(matches))),
         "rates" => Some(Asked::Rates(curve_words(matches))),
         "delays" => Some(Asked::Delays(curve_words(matches))),
+        "load" => Some(Asked::Load(load_words(matches))),
         "sweep" => Some(Asked::Sweep(sweep_words(alloc, matches)?)),
         "check" => Some(Asked::Check {
             file: file_in(matches),

@@ -522,3 +522,38 @@ fn rates_are_tabled(rt: HostRuntime) -> Result<(), Fail> {
     );
     Ok(())
 }
+
+const OFFERED: &str = "\
+network,processors,combining,hot_percent,offered,seed,first_cycle,cycles,answered,accepted,issued_to,replies,unanswered,mean_latency
+low,2,off,0,0.050,24,17,16,2,0.062,24,1,0,5.00
+combining,2,off,0,0.050,24,17,16,2,0.062,24,1,0,5.00
+combining,2,on,0,0.050,24,17,16,2,0.062,24,1,0,5.00
+";
+
+// By PCG's reference algorithm the streams 64 and 65 of seed 24 draw numbers below 5 of a hundred for the cycles 15 and 22 alone,
+// up to 32. Each of these two references is alone, so that it takes the 5 cycles of one stage; both are answered in the second
+// half, and the second one is issued in its first half.
+#[test]
+fn offered_loads_are_tabled(rt: HostRuntime) -> Result<(), Fail> {
+    let words = [
+        "load", "--k", "1", "--rate", "5..9", "--cycles", "32", "--seed", "24", "--seeds", "1",
+        "--csv", "a.csv", "--out", "a.svg", "--keep", "kept",
+    ];
+    let outcome = made(&rt, &words, b"")?;
+    assert!(rt; equal(&rt, outcome.folder.ok_or("a folder")?.as_str(), "kept"));
+    let mut names = Vec::new(rt.alloc());
+    for file in &outcome.files {
+        names.push(file.name.as_str())?;
+    }
+    let all = [
+        "a.svg",
+        "a.csv",
+        "kept/k1-hot0-rate5-low-seed24.toml",
+        "kept/k1-hot0-rate5-off-seed24.toml",
+        "kept/k1-hot0-rate5-on-seed24.toml",
+    ];
+    assert!(rt; equal(&rt, names.as_slice(), all.as_slice()));
+    let table = outcome.files.get(1).ok_or("a table")?;
+    assert!(rt; equal(&rt, table.bytes.as_slice(), OFFERED.as_bytes()));
+    Ok(())
+}
