@@ -1,0 +1,4 @@
+pub mod Limits
+pub mod Machines
+pub mod Pages
+pub mod States
