@@ -82,9 +82,12 @@ check_task = task (codes "check") (file_rule ∷ [])
 abbrev pub convert_task : Shape
 convert_task = task (codes "convert") (file_rule ∷ option_rule (codes "out") ∷ flag_rule (codes "force") ∷ [])
 
+abbrev pub page_task : Shape
+page_task = task (codes "page") (file_rule ∷ map option_rule (codes "from" ∷ codes "to" ∷ codes "out" ∷ []))
+
 -- the tasks
 abbrev pub tasks : List Shape
-tasks = map_task ∷ order_task ∷ latency_task ∷ done_task ∷ trace_task ∷ full_task ∷ series_task ∷ rates_task ∷ delays_task ∷ load_task ∷ sweep_task ∷ check_task ∷ convert_task ∷ []
+tasks = map_task ∷ order_task ∷ latency_task ∷ done_task ∷ trace_task ∷ full_task ∷ series_task ∷ rates_task ∷ delays_task ∷ load_task ∷ sweep_task ∷ check_task ∷ convert_task ∷ page_task ∷ []
 
 -- none of these tasks has this name; and no task at all
 abbrev pub IsNoneOf : List Shape → Text → Type 0
@@ -98,7 +101,7 @@ abbrev pub reports : List Shape
 reports = latency_task ∷ done_task ∷ trace_task ∷ full_task ∷ series_task ∷ []
 
 abbrev pub other_tasks : List Shape
-other_tasks = map_task ∷ order_task ∷ rates_task ∷ delays_task ∷ load_task ∷ sweep_task ∷ check_task ∷ convert_task ∷ []
+other_tasks = map_task ∷ order_task ∷ rates_task ∷ delays_task ∷ load_task ∷ sweep_task ∷ check_task ∷ convert_task ∷ page_task ∷ []
 
 -- `lab TASK ..`, with a version; the words are those behind the program's name
 abbrev pub bare : App

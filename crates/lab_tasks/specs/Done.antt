@@ -15,7 +15,7 @@ use Rattle.lab_tasks.specs.declared.tables.DelayPoint.{DelayPoint}
 use Rattle.lab_tasks.specs.declared.load_plan.LoadPlan.{LoadPlan}
 use Rattle.lab_tasks.specs.declared.load_table.LoadPoint.{LoadPoint}
 use Rattle.lab_tasks.specs.declared.words.Asked.{Asked}
-use Rattle.lab_tasks.specs.declared.words.Asked.TheVariants.{Map, Order, Latency, Done as Completed, Trace, Full, Series, Rates, Delays, Load as Loaded, Sweep, Check, Convert}
+use Rattle.lab_tasks.specs.declared.words.Asked.TheVariants.{Map, Order, Latency, Done as Completed, Trace, Full, Series, Rates, Delays, Load as Loaded, Sweep, Check, Convert, Page}
 use Rattle.lab_tasks.specs.declared.words.MapWords.{MapWords}
 use Rattle.lab_tasks.specs.declared.words.CurveWords.{CurveWords}
 use Rattle.lab_tasks.specs.declared.words.LoadWords.{LoadWords}
@@ -27,6 +27,7 @@ use Rattle.lab_tasks.specs.Fullness.{IsFullText}
 use Rattle.lab_tasks.specs.Gauged.{IsSeriesText, IsNoSeries}
 use Rattle.lab_tasks.specs.Latencies.{IsLatencyText, IsNoCondition}
 use Rattle.lab_tasks.specs.Orders.{IsOrderText, IsNoOrder}
+use Rattle.lab_tasks.specs.MachinePages.{IsNoPage, IsPageText}
 use Rattle.lab_tasks.specs.MapPictures.{IsMapDrawn}
 use Rattle.lab_tasks.specs.Elsewhere.{elsewhere}
 use Rattle.lab_tasks.specs.DelayPictures.{IsDelayPicture}
@@ -145,6 +146,7 @@ IsDone (Loaded words) bytes outcome = AreLoads words outcome
 IsDone (Sweep words) bytes outcome = IsMadeOf bytes (text_of words.csv) (IsSweepText words) outcome
 IsDone (Check file) bytes outcome = IsMadeOf bytes None IsSummary outcome
 IsDone (Convert words) bytes outcome = (is_over words ≡ false) × IsMadeOf bytes (text_of words.out) IsConverted outcome
+IsDone (Page words) bytes outcome = IsMadeOf bytes (text_of words.out) (IsPageText words) outcome
 
 -- the bytes are refused as a project, by their fault
 abbrev pub IsNoProject : List ℕ → End → Type 0
@@ -169,3 +171,4 @@ IsNotDone (Loaded words) bytes e = (e ≡ end.Memory) ⊎ IsNoLoadPlan words e
 IsNotDone (Sweep words) bytes e = IsNotMade bytes (IsNoSweep words e) e
 IsNotDone (Check file) bytes e = IsNotMade bytes (λ P. ⊥) e
 IsNotDone (Convert words) bytes e = IsOver words e ⊎ ((is_over words ≡ false) × IsNotMade bytes (λ P. ⊥) e)
+IsNotDone (Page words) bytes e = IsNotMade bytes (λ P. IsNoPage P words e) e

@@ -17,6 +17,7 @@ pub mod Latencies
 pub mod LoadPictures
 pub mod LoadPlans
 pub mod LoadTables
+pub mod MachinePages
 pub mod MapPictures
 pub mod Numbers
 pub mod OrderPictures

@@ -4,7 +4,7 @@ use Rattle.std.specs.Option.{option_map_or}
 use Rattle.std.specs.Borrow.{Bor}
 use Rattle.clap.specs.Words.{Row, Text, all_of, first_of}
 use Rattle.lab_tasks.specs.declared.words.Asked.{Asked}
-use Rattle.lab_tasks.specs.declared.words.Asked.TheVariants.{Map, Order, Latency, Done, Trace, Full, Series, Rates, Delays, Load, Sweep, Check, Convert}
+use Rattle.lab_tasks.specs.declared.words.Asked.TheVariants.{Map, Order, Latency, Done, Trace, Full, Series, Rates, Delays, Load, Sweep, Check, Convert, Page}
 use Rattle.lab_tasks.specs.declared.words.MapWords.{MapWords}
 use Rattle.lab_tasks.specs.declared.convert.ConvertWords.{ConvertWords}
 use Rattle.lab_tasks.specs.declared.latency.LatencyWords.{LatencyWords}
@@ -116,6 +116,7 @@ AsksFor said (Load words) = IsNamed said (codes "load") (λ rows. AreLoadWords r
 AsksFor said (Sweep words) = IsNamed said (codes "sweep") (λ rows. AreSweepWords rows words)
 AsksFor said (Check file) = IsNamed said (codes "check") (λ rows. file.now ≡ file_at rows)
 AsksFor said (Convert words) = IsNamed said (codes "convert") (λ rows. AreConvertWords rows words)
+AsksFor said (Page words) = IsNamed said (codes "page") (λ rows. AreOrderWords rows words)
 
 abbrev pub file_of : Asked → Option (List ℕ)
 file_of (Map words) = Some words.file.now
@@ -131,3 +132,4 @@ file_of (Load words) = None
 file_of (Sweep words) = Some words.file.now
 file_of (Check file) = Some file.now
 file_of (Convert words) = Some words.file.now
+file_of (Page words) = Some words.file.now

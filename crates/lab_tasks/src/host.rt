@@ -282,7 +282,9 @@ fn refuse_over<'a, R: Files + AllocGlobal>(rt: &R, asked: &Asked<'a>) -> Result<
     let source = Reason::Form(NOT_SOURCE);
     match asked {
         Asked::Map(words) => refuse_file(rt, words.file, "--out", words.out, source),
-        Asked::Order(words) => refuse_file(rt, words.file, "--out", words.out, source),
+        Asked::Order(words) | Asked::Page(words) => {
+            refuse_file(rt, words.file, "--out", words.out, source)
+        }
         Asked::Series(words) => refuse_file(rt, words.file, "--csv", words.csv, source),
         Asked::Sweep(words) => refuse_file(rt, words.file, "--csv", words.csv, source),
         Asked::Rates(words) | Asked::Delays(words) => refuse_table(rt, words),

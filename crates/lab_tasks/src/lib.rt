@@ -16,7 +16,7 @@
 //! (`specs/Counts.antt`, `specs/Summaries.antt`), the text of a converted file (`specs/ProjectTexts.antt`), which project
 //! files are kept (`specs/Kept.antt`), the statuses and lines (`specs/Ends.antt`), the pictures of `rates`, `delays` and
 //! `load` (`specs/RatePictures.antt`, `specs/DelayPictures.antt`, `specs/LoadPictures.antt`), which offered loads those are and
-//! what is measured of them (`specs/LoadPlans.antt`, `specs/LoadTables.antt`), and when it is told that a map draws the network where no reference
+//! what is measured of them (`specs/LoadPlans.antt`, `specs/LoadTables.antt`), which page a run is (`specs/MachinePages.antt`), and when it is told that a map draws the network where no reference
 //! is (`specs/Elsewhere.antt`). What the pictures look like is shown by examples.
 #![tactic(auto)]
 
@@ -44,6 +44,7 @@ mod order;
 mod order_picture;
 mod other_net;
 mod outcome;
+mod page;
 mod plan;
 mod points;
 mod progress;

@@ -14,7 +14,7 @@ use std::alloc::{AllocError, Global};
 use std::fmt;
 use std::fmt::Write;
 
-/// What `order` is told.
+/// What `order` and `page` are told.
 #[derive(Clone, Copy)]
 pub struct OrderWords<'a> {
     pub file: &'a str,

@@ -10,6 +10,7 @@ ghost use Rattle.lab_tasks.specs.Fullness.{IsFullText};
 ghost use Rattle.lab_tasks.specs.Gauged.{IsNoSeries, IsSeriesText};
 ghost use Rattle.lab_tasks.specs.Kept.{kept_of, load_name, name_text, net_text, IsKept, IsWithKept};
 ghost use Rattle.lab_tasks.specs.Latencies.{IsLatencyText, IsNoCondition};
+ghost use Rattle.lab_tasks.specs.MachinePages.{IsNoPage, IsPageText};
 ghost use Rattle.lab_tasks.specs.Orders.{IsNoOrder, IsOrderText};
 ghost use Rattle.lab_tasks.specs.Outcomes.{files_of, folder_of, AreGiven, IsGiven};
 ghost use Rattle.lab_tasks.specs.Plans.{IsNoCurve, IsNoMap};
@@ -33,6 +34,7 @@ use crate::map::map_picture;
 use crate::order::{OrderWords, order_text, order_window};
 use crate::other_net::elsewhere;
 use crate::outcome::{OutFile, Outcome};
+use crate::page::{page_of, page_window};
 use crate::plan::{CurvePlan, curve_plan, map_plan};
 use crate::points::{delay_loads, rate_loads};
 use crate::progress::Progress;
@@ -424,6 +426,16 @@ fn convert<'a>(alloc: Global, words: &ConvertWords<'a>, bytes: &[u8]) -> Result<
     Ok(to_file_or_output(alloc, words.out, text)?)
 }
 
+fn page<'a>(alloc: Global, words: &OrderWords<'a>, bytes: &[u8]) -> Result<Outcome, End<'a>>
+    ensures done { IfOk result (IsMadeOf bytes.now (text_of words.now.out) (IsPageText words.now)) }
+    ensures refused { IfErr result (λ end. IsNotMade bytes.now (λ P. IsNoPage P words.now end) end) }
+{
+    let project = project_in(alloc, bytes)?;
+    let window = page_window(words, &project)?;
+    let text = page_of(alloc, &project, window)?;
+    Ok(to_file_or_output(alloc, words.out, text.into_bytes())?)
+}
+
 /// Does what is asked for, over the bytes of its FILE where it has one.
 ///
 /// # Errors
@@ -462,5 +474,6 @@ pub fn perform<'a, T: Threads + Sync, P: Progress>(
             Ok(outcome)
         }
         Asked::Convert(words) => convert(alloc, words, bytes),
+        Asked::Page(words) => page(alloc, words, bytes),
     }
 }

@@ -4,7 +4,7 @@ ghost use Rattle.std.specs.Option.{option_map_or};
 ghost use Rattle.clap.specs.Matches.{matched_of, raw_values};
 ghost use Rattle.clap.specs.Walk.{texts};
 ghost use Rattle.clap.specs.Words.{FailsBy, fault_of, first_of, found_of, new_app, rows_of, rule_of, subcommand_of};
-ghost use Rattle.lab_tasks.specs.CommandLine.{any_number_rule, bare, check_task, convert_task, delays_task, done_task, file_rule, flag_rule, full_task, kept_rules, lab, load_task, map_task, latency_task, measured_task, option_rule, order_task, other_tasks, position_rule, rates_task, reports, series_task, several_rule, sweep_task, trace_task, HasAll, HasMore, HasTask, IsApp, IsLab, IsNoneOf, IsNoTask, IsTask};
+ghost use Rattle.lab_tasks.specs.CommandLine.{any_number_rule, bare, check_task, convert_task, delays_task, done_task, file_rule, flag_rule, full_task, kept_rules, lab, load_task, map_task, latency_task, measured_task, option_rule, order_task, other_tasks, page_task, position_rule, rates_task, reports, series_task, several_rule, sweep_task, trace_task, HasAll, HasMore, HasTask, IsApp, IsLab, IsNoneOf, IsNoTask, IsTask};
 ghost use Rattle.lab_tasks.specs.Words.{file_at, is_given, text_of, texts_at, AreConvertWords, AreCurveWords, AreLatencyWords, AreLoadWords, AreMapWords, AreOrderWords, AreSeriesWords, AreSweepWords, AreTraceWords, AsksFor};
 
 use crate::convert::ConvertWords;
@@ -78,6 +78,7 @@ pub enum Asked<'a> {
     Sweep(SweepWords<'a>),
     Check { file: &'a str },
     Convert(ConvertWords<'a>),
+    Page(OrderWords<'a>),
 }
 
 impl<'a> Asked<'a> {
@@ -99,6 +100,7 @@ impl<'a> Asked<'a> {
             Asked::Sweep(words) => Some(words.file),
             Asked::Check { file } => Some(*file),
             Asked::Convert(words) => Some(words.file),
+            Asked::Page(words) => Some(words.file),
         }
     }
 }
@@ -141,6 +143,9 @@ const CHECK_ABOUT: &str = "Says in words what a project file is, or where it is 
 
 const CONVERT_ABOUT: &str =
     "Writes a project as a file of format 2, without what is as usual: comments aren't kept";
+
+const PAGE_ABOUT: &str =
+    "Makes a page for a browser: the machine as a drawing, stepped cycle by cycle";
 
 const SIZES_HELP: &str = "2^K processors at most, from 1 to 6; without it 6";
 
@@ -684,6 +689,28 @@ fn convert_command<'a>(alloc: Global) -> Result<Command<'a>, AllocError>
     Ok(task)
 }
 
+fn page_command<'a>(alloc: Global) -> Result<Command<'a>, AllocError>
+    ensures { IfOk result (IsTask page_task) }
+{
+    let task = with_file(alloc, named(alloc, "page", PAGE_ABOUT, ENDS))?;
+    let task = with_option(alloc, task, "from", "T", "The first cycle; without it 0")?;
+    let task = with_option(
+        alloc,
+        task,
+        "to",
+        "T",
+        "The last cycle; without it the horizon",
+    )?;
+    let task = with_option(
+        alloc,
+        task,
+        "out",
+        "PAGE.html",
+        "Where the page goes; without it to standard output",
+    )?;
+    Ok(task)
+}
+
 /// The program's command without its tasks.
 fn bare_command<'a>(alloc: Global) -> Result<Command<'a>, AllocError>
     ensures { IfOk result (IsApp bare) }
@@ -726,6 +753,7 @@ fn lab_command<'a>(alloc: Global) -> Result<Command<'a>, AllocError>
     let command = with_task(command, sweep_command(alloc)?)?;
     let command = with_task(command, check_command(alloc)?)?;
     let command = with_task(command, convert_command(alloc)?)?;
+    let command = with_task(command, page_command(alloc)?)?;
     Ok(command)
 }
 
@@ -926,6 +954,7 @@ fn other_asked<'a>(
             file: file_in(matches),
         }),
         "convert" => Some(Asked::Convert(convert_words(matches))),
+        "page" => Some(Asked::Page(order_words(matches))),
         _ => None,
     })
 }

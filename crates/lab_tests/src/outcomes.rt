@@ -1,6 +1,7 @@
 //! What tasks print, and which files they write.
 use expect::equal;
 use lab_tasks::{Outcome, Silent, perform, read_words};
+use machine_page::{HEAD, TAIL};
 use omega_net::Net;
 use std::test::Fail;
 use std::thread::Threads;
@@ -555,5 +556,62 @@ fn offered_loads_are_tabled(rt: HostRuntime) -> Result<(), Fail> {
     assert!(rt; equal(&rt, names.as_slice(), all.as_slice()));
     let table = outcome.files.get(1).ok_or("a table")?;
     assert!(rt; equal(&rt, table.bytes.as_slice(), OFFERED.as_bytes()));
+    Ok(())
+}
+
+/// The example of `docs/MACHINE.md`: four requests for word 0 set out together over the combining network, and become two at the
+/// first stage and one at the second. Each wait buffer has one place.
+const FOUR: &[u8] = b"format = 2
+k = 2
+horizon = 8
+combine = [true, true]
+depths = { wait = 1 }
+
+[[page]]
+number = 0
+amount = 0
+base = 0
+
+[[script]]
+processor = 0
+entries = [\"sync add 0 1\"]
+
+[[script]]
+processor = 1
+entries = [\"sync add 0 2\"]
+
+[[script]]
+processor = 2
+entries = [\"sync add 0 4\"]
+
+[[script]]
+processor = 3
+entries = [\"sync add 0 8\"]
+";
+
+/// What its page says of the cycles 2 and 3.
+const FOUR_DATA: &str = "\
+run 2 8 2 3
+places 4 4 4 8 4 1
+combining on on
+components p0 p1 p2 p3 m0 m1 m2 m3 l0.0 l0.1 l1.0 l1.1 c0.0 c0.1 c1.0 c1.1
+wires l,p0,0,l0.0,0 l,p1,1,l0.1,0 l,p2,0,l0.0,1 l,p3,1,l0.1,1 \
+l,l0.0,0,l1.0,0 l,l0.0,1,l1.1,0 l,l0.1,0,l1.0,1 l,l0.1,1,l1.1,1 \
+l,l1.0,0,m0,0 l,l1.0,1,m1,0 l,l1.1,0,m2,1 l,l1.1,1,m3,1 \
+c,p0,0,c0.0,0 c,p1,1,c0.1,0 c,p2,0,c0.0,1 c,p3,1,c0.1,1 \
+c,c0.0,0,c1.0,0 c,c0.0,1,c1.1,0 c,c0.1,0,c1.0,1 c,c0.1,1,c1.1,1 \
+c,c1.0,0,m0,0 c,c1.0,1,m1,0 c,c1.1,0,m2,1 c,c1.1,1,m3,1
+2;1,1,,,;1,1,,,;1,1,,,;1,1,,,;0,,,,;0,,,,;0,,,,;0,,,,;,,,;,,,;,,,;,,,; 0.0,,,, 2.0>0.0!; 1.0,,,, 3.0>1.0!;,,,,;,,,,
+3;1,1,,,;1,1,,,;1,1,,,;1,1,,,;0,,,,;0,,,,;0,,,,;0,,,,;,,,;,,,;,,,;,,,;,,,, 2.0>0.0!;,,,, 3.0>1.0!; 0.0,,,, 1.0>0.0!;,,,,
+";
+
+#[test]
+fn a_run_is_a_page(rt: HostRuntime) -> Result<(), Fail> {
+    let words = ["page", "four.toml", "--from", "2", "--to", "3"];
+    let outcome = made(&rt, &words, FOUR)?;
+    let mut page = String::from_str(rt.alloc(), HEAD)?;
+    page.push_str(FOUR_DATA)?;
+    page.push_str(TAIL)?;
+    assert!(rt; equal(&rt, outcome.printed.as_slice(), page.as_bytes()));
     Ok(())
 }

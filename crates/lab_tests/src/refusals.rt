@@ -1,6 +1,8 @@
 //! Words that no task takes: how the program ends, and what it says.
 use expect::equal;
 use lab_tasks::{Silent, perform, read_words, status};
+use machine_page::is_short;
+use omega_net::Shape;
 use std::test::Fail;
 use std::thread::Threads;
 
@@ -286,5 +288,23 @@ fn projects_are_refused(rt: HostRuntime) -> Result<(), Fail> {
         assert!(rt; equal(&rt, told, 4));
         assert!(rt; equal(&rt, text.as_str(), "lab: project refused: 5"));
     }
+    Ok(())
+}
+
+// 512 components: 390 cycles have 199,680 states, and one more has too many.
+#[test]
+fn a_page_may_be_too_long(rt: HostRuntime) -> Result<(), Fail> {
+    let shape = Shape::new(6).ok_or("a machine")?;
+    assert!(rt; is_short(shape, 0, 389));
+    let words = ["page", "a.toml", "--to", "390"];
+    let (told, text) = ending(&rt, &words, b"format = 2\nk = 6\nhorizon = 400\n")?;
+    assert!(rt; equal(&rt, told, 2));
+    assert!(rt;
+        equal(
+            &rt,
+            text.as_str(),
+            "lab: FILE: a.toml is not within the 200000 states of components that a page shows; --from and --to take fewer cycles"
+        )
+    );
     Ok(())
 }

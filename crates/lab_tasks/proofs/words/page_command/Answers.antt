@@ -1,0 +1,10 @@
+use Rattle.std.proofs.Common.{codes}
+use Rattle.clap.specs.Words.{new_app}
+use Rattle.lab_tasks.proofs.words.page_command.Goals as goal
+
+pub returns : goal.returns
+returns c =
+    let one = c.in_ok-task.ensures (new_app (codes "page")) c.named.ensures in
+    let two = c.in_ok-task-2.ensures _ one in
+    let three = c.in_ok-task-3.ensures _ two in
+    c.in_ok-task-4.ensures _ three
