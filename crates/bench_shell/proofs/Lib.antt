@@ -1,6 +1,6 @@
 mod Benches
-mod Lines
+pub mod Lines
 mod Own
-mod Printing
+pub mod Printing
 mod Steps
-mod Writes
+pub mod Writes

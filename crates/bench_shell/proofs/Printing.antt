@@ -28,7 +28,7 @@ some : (t : List ℕ) → Shows (Some t)
 some t = (t, refl)
 
 -- two texts in a row
-both : (a b : Option (List ℕ)) → Shows a → Shows b → Shows (a ++? b)
+pub both : (a b : Option (List ℕ)) → Shows a → Shows b → Shows (a ++? b)
 both (Some x) (Some y) p q = (x ++ y, refl)
 both (Some x) None p q = let e = q.1 in cc
 both None b p q = let e = p.1 in cc

@@ -24,4 +24,4 @@ pub use answer::Answer;
 pub use desk::Desk;
 pub use ends::{Reading, Sink, Source, Writing};
 pub use fault::RunFault;
-pub use session::{run, run_watched, run_within};
+pub use session::{answer_line, hand_on, run, run_watched, run_within, write_bytes};

@@ -31,7 +31,11 @@ use std::thread::Threads;
 const NO_ADDRESS: u8 = 3;
 
 /// Writes all of the bytes.
-fn write_bytes<W: Sink>(writer: &mut W, bytes: &[u8]) -> Result<(), RunFault>
+///
+/// # Errors
+///
+/// `Write` where the writer failed or took nothing. A beginning of the bytes was then written.
+pub fn write_bytes<W: Sink>(writer: &mut W, bytes: &[u8]) -> Result<(), RunFault>
     ensures ok { OnOk result (Appends (W.contents writer.old) (W.contents writer.new) bytes.now) }
     ensures err { OnErr result ((told later : List ℕ) × Appends (W.contents writer.old) (W.contents writer.new) told × (bytes.now ≡ told ++ later)) }
     ensures cause { HasCause result ⊥ (W.has_failed writer.new ≡ true) ⊥ ⊥ ⊥ }
@@ -76,7 +80,11 @@ fn write_line<W: Sink>(alloc: Global, writer: &mut W, answer: Answer) -> Result<
 }
 
 /// Hands on all that was written.
-fn hand_on<W: Sink>(writer: &mut W) -> Result<(), RunFault>
+///
+/// # Errors
+///
+/// `Write` where that failed.
+pub fn hand_on<W: Sink>(writer: &mut W) -> Result<(), RunFault>
     ensures bytes { Keeps (W.contents writer.old) (W.contents writer.new) }
     ensures flushed { OnOk result (W.is_flushed writer.new ≡ true) }
     ensures cause { HasCause result ⊥ (W.has_failed writer.new ≡ true) ⊥ ⊥ ⊥ }
@@ -167,6 +175,31 @@ fn command_in<D: Desk>(desk: &D, line: &[u8]) -> Option<Command>
 {
     let shape = Shape::new(desk.opened().0)?;
     Command::parse(shape, line)
+}
+
+/// What a line is answered, which has ended: its bytes without LF, at most 4,096 of them. The desk must not have edited since
+/// its opening. Threads take part in reports alone.
+///
+/// # Errors
+///
+/// Those of [`run_watched`] but for `Read` and `Write`. Project and journal are then as before.
+pub fn answer_line<T: Threads + Sync, D: Desk>(
+    rt: &T,
+    desk: &mut D,
+    line: &[u8],
+) -> Result<Answer, RunFault>
+    requires opened { D.opening desk.old ≡ version_in (D.store desk.old) }
+    ensures earlier { D.is_alone desk.new → D.is_alone desk.old }
+    ensures cause { HasCause result ⊥ ⊥ (¬ D.is_alone desk.new) (Unit {0}) (D.clock_is_spent desk.new) }
+    ensures answer { D.is_alone desk.new → IfOk result (λ a. a ≡ reply (D.store desk.old) (command_in (D.store desk.old) line.now)) }
+    ensures store { D.is_alone desk.new → OnOk result (D.store desk.new ≡ after (D.store desk.old) (command_in (D.store desk.old) line.now)) }
+    ensures kept { D.is_alone desk.new → OnErr result (D.store desk.new ≡ D.store desk.old) }
+    ensures stops { D.is_alone desk.new → IfErr result (λ f. MayStop (D.clock_is_spent desk.new) f (D.store desk.old) (command_in (D.store desk.old) line.now)) }
+    ensures own { IfOk result (λ a. is_ok a ≡ true → D.is_alone desk.new) }
+{
+    let mut version = desk.opened().1;
+    let command = command_in(desk, line);
+    obey(rt, desk, &mut version, command)
 }
 
 /// The answer to the line that is held, which has ended.

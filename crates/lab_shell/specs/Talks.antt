@@ -1,0 +1,138 @@
+-- What a session writes for the lines that it reads.
+use Rattle.std.specs.Prelude.{◌≡◌, ◌⊎◌, ℕ, Bool, true, false, ◌&&◌, not, List, [], ◌∷◌, ◌++◌, Option, None, Some, IfSome, is_some, codes, if◌then◌else◌}
+use Rattle.std.specs.Option.{unwrap_or}
+use Rattle.std.specs.Io.KnownBytes.{Appends, Consumes, IsAtEnd}
+use Rattle.project_book.specs.Project.{Project}
+use Rattle.line_words.specs.Words.{words_of}
+use Rattle.bench_shell.specs.Lines.{Line, Whole, Cut, lines_of}
+use Rattle.bench_shell.specs.Store.{Store}
+use Rattle.bench_shell.specs.Text.{line_text}
+use Rattle.bench_shell.specs.Output.{is_long, is_ok, reply, command_in, after_lines, output, store_after}
+use Rattle.bench_shell.specs.declared.answer.Answer.{Answer}
+use Rattle.bench_shell.specs.declared.answer.Answer.TheVariants.{BadLine, BadCut, BadCommand}
+use Rattle.lab_shell.specs.declared.manner.Manner.{Manner}
+use Rattle.lab_shell.specs.declared.manner.Ended.{Ended}
+use Rattle.lab_shell.specs.declared.manner.Ended.TheVariants as ended
+use Rattle.lab_shell.specs.declared.word.ShellWord.{ShellWord}
+use Rattle.lab_shell.specs.declared.word.ShellWord.TheVariants.{Quit, Help, HelpOn, Show, Script, Save}
+use Rattle.lab_shell.specs.Words.{request_of}
+use Rattle.lab_shell.specs.Reasons.{reasoned_text}
+
+-- what a clerk may say to a word, and to the one behind it, about a project: a text, and whether the request was refused
+abbrev pub Says : Type 1
+Says = Project → ShellWord → List ℕ → List ℕ → Bool → Type 0
+
+-- what a line asks the shell for, with the word behind it
+abbrev pub request_in : Line → Option (ShellWord × List ℕ)
+request_in (Whole l) = if is_long l then None else request_of (words_of l)
+request_in (Cut l) = None
+
+-- a line that ends with LF, or one that the end of the input cuts
+abbrev pub line_at : Bool → List ℕ → Line
+line_at true l = Whole l
+line_at false l = Cut l
+
+-- what `bench_shell` answers a line
+abbrev pub answer_to : Store → Line → Answer
+answer_to s (Whole l) = if is_long l then BadLine else reply s (command_in s l)
+answer_to s (Cut l) = if is_long l then BadLine else BadCut
+
+-- an answer, for people with the reason behind it
+abbrev pub answer_text : Bool → Answer → List ℕ
+answer_text people a = if people then unwrap_or (reasoned_text a) [] ++ 10 ∷ [] else line_text a
+
+abbrev pub prompt : Bool → List ℕ
+prompt people = if people then codes "> " else []
+
+-- how a line ends the session, if it does: it was refused in a strict one
+abbrev pub stop_at : Manner → Bool → Option Ended
+stop_at m is_bad = if m.strict && is_bad then Some ended.Refused else None
+
+-- and where it isn't a request: the input is at its end where that cuts the line
+abbrev pub stop_of : Manner → Line → Bool → Option Ended
+stop_of m (Whole l) is_bad = stop_at m is_bad
+stop_of m (Cut l) is_bad = Some (if m.strict then ended.Refused else ended.Input)
+
+-- what a clerk answers
+abbrev pub Clerked : Says → Manner → Store → ShellWord → List ℕ → List ℕ → Store → Option Ended → Type 0
+Clerked says m s word argument answer t stop = (is_bad : Bool) × says s.project word argument answer is_bad × (t ≡ s) × (stop ≡ stop_at m is_bad)
+
+-- what is said where help is asked on a word: what it does, or that there is no such command
+abbrev pub HelpsOn : Manner → List ℕ → Option Ended → Type 0
+HelpsOn m answer stop = (stop ≡ None) ⊎ ((answer ≡ answer_text m.people BadCommand) × (stop ≡ stop_at m true))
+
+-- what is written for a request, the store afterwards, and how it ends the session. What help says isn't fixed here, but to
+-- what is no command it is said that there is none.
+abbrev pub Requested : Says → Manner → Store → ShellWord → List ℕ → List ℕ → Store → Option Ended → Type 0
+Requested says m s Quit argument answer t stop = (answer ≡ []) × (t ≡ s) × (stop ≡ Some ended.Quit)
+Requested says m s Help argument answer t stop = (t ≡ s) × (stop ≡ None)
+Requested says m s HelpOn argument answer t stop = (t ≡ s) × HelpsOn m answer stop
+Requested says m s Show argument answer t stop = Clerked says m s Show argument answer t stop
+Requested says m s Script argument answer t stop = Clerked says m s Script argument answer t stop
+Requested says m s Save argument answer t stop = Clerked says m s Save argument answer t stop
+
+-- what is written for any other line
+abbrev pub Obeyed : Manner → Store → Line → List ℕ → Store → Option Ended → Type 0
+Obeyed m s l answer t stop =
+    (answer ≡ answer_text m.people (answer_to s l)) × (t ≡ after_lines s (l ∷ [])) × (stop ≡ stop_of m l (not (is_ok (answer_to s l))))
+
+abbrev pub OneFor : Says → Manner → Store → Line → Option (ShellWord × List ℕ) → List ℕ → Store → Option Ended → Type 0
+OneFor says m s l None answer t stop = Obeyed m s l answer t stop
+OneFor says m s l (Some (word, argument)) answer t stop = Requested says m s word argument answer t stop
+
+-- ONE LINE: what is written for it
+abbrev pub One : Says → Manner → Store → Line → List ℕ → Store → Option Ended → Type 0
+One says m s l answer t stop = OneFor says m s l (request_in l) answer t stop
+
+-- what is written for these lines in turn, none of which ends the session: each after the prompt
+abbrev pub Goes : Says → Manner → Store → List Line → List ℕ → Store → Type 0
+Goes says m s [] written t = (written ≡ []) × (t ≡ s)
+Goes says m s (l ∷ ls) written t =
+    (answer later : List ℕ) × (mid : Store) × One says m s l answer mid None
+    × (written ≡ (prompt m.people ++ answer) ++ later) × Goes says m mid ls later t
+
+-- the last line ends the session so
+pub record Stops (says : Says) (m : Manner) (s : Store) (lines : List Line) (written : List ℕ) (t : Store) (how : Ended) : Type 0 where
+  pub before : List Line
+  pub last : Line
+  pub first : List ℕ
+  pub answer : List ℕ
+  pub mid : Store
+  pub are_lines : lines ≡ before ++ last ∷ []
+  pub goes : Goes says m s before first mid
+  pub one : One says m mid last answer t (Some how)
+  pub is_written : written ≡ first ++ (prompt m.people ++ answer)
+
+-- THE SESSION: what is written for a text, in which the session ends so
+abbrev pub Talks : Says → Manner → Store → List ℕ → List ℕ → Store → Ended → Type 0
+Talks says m s text written t ended.Input =
+    ((first : List ℕ) × Goes says m s (lines_of text) first t × (written ≡ first ++ prompt m.people))
+    ⊎ Stops says m s (lines_of text) written t ended.Input
+Talks says m s text written t ended.Quit = Stops says m s (lines_of text) written t ended.Quit
+Talks says m s text written t ended.Refused = Stops says m s (lines_of text) written t ended.Refused
+
+-- a reader whose bytes are known has none left
+abbrev pub IsDrained : Option (List ℕ) → Option (List ℕ) → Type 0
+IsDrained reader reader' = IfSome reader (λ bytes. IsAtEnd reader')
+
+-- all was read where the input was at its end
+abbrev pub IsAllRead : Ended → Option (List ℕ) → Option (List ℕ) → Type 0
+IsAllRead ended.Input reader reader' = IsDrained reader reader'
+IsAllRead ended.Quit reader reader' = Unit {0}
+IsAllRead ended.Refused reader reader' = Unit {0}
+
+-- a part was read from the beginning, all of it where the input was at its end, and that was written for it
+abbrev pub Talked : Says → Manner → Option (List ℕ) → Option (List ℕ) → Option (List ℕ) → Option (List ℕ) → Store → Store → Ended → Type 0
+Talked says m reader reader' writer writer' s t how =
+    (read written : List ℕ) × Consumes reader reader' read × IsAllRead how reader reader' × Appends writer writer' written × Talks says m s read written t how
+
+-- no line is a request
+abbrev pub no_request : List Line → Bool
+no_request [] = true
+no_request (l ∷ ls) = if is_some (request_in l) then false else no_request ls
+
+-- where no line that was read is a request: the output of the bench's shell was written, and its store is that after it
+abbrev pub TalksPlainly : Option (List ℕ) → Option (List ℕ) → Option (List ℕ) → Option (List ℕ) → Store → Store → Type 0
+TalksPlainly reader reader' writer writer' s t =
+    (read : List ℕ) × Consumes reader reader' read
+    × (no_request (lines_of read) ≡ true → Appends writer writer' (output s read) × (t ≡ store_after s read))

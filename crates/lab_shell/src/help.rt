@@ -1,0 +1,90 @@
+//! What `help` says.
+
+/// All commands.
+pub const HELP: &str = "\
+Edits:
+  entry P I ENTRY       cut P L               word A V          page G AMOUNT BASE
+  depth QUEUES D        wait D                combine S on|off  window W
+  horizon H
+Questions:
+  reply P I             state C T             memory A T        counter NAME WHO T0 T1
+  profile NET S         tree NET M            level NET M T     bound A B P
+  place A               order A
+Of the shell:
+  show                  script P              save F
+  help                  help COMMAND          quit
+";
+
+/// A command, as it is written, with what it does; None where there is no such command.
+pub(crate) fn usage(word: &[u8]) -> Option<&'static str> {
+    match edit_usage(word) {
+        Some(text) => Some(text),
+        None => match question_usage(word) {
+            Some(text) => Some(text),
+            None => shell_usage(word),
+        },
+    }
+}
+
+fn edit_usage(word: &[u8]) -> Option<&'static str> {
+    let Ok(word) = str::from_utf8(word) else {
+        return None;
+    };
+    Some(match word {
+        "entry" => "\
+entry P I ENTRY: replaces entry I of the script of processor P, or appends where I is its length
+an ENTRY is sync KIND A V [T], plain KIND A V [T], until sync KIND A V W [T], until plain KIND A V W [T], fence, or idle T
+KIND is load, add, and, or, min, max, store or store-if-zero; A an address, V an operand, W a word, T how many times
+",
+        "cut" => "cut P L: keeps the first L entries of the script of processor P\n",
+        "word" => "word A V: the word of address A before cycle 0 is V\n",
+        "page" => "page G AMOUNT BASE: spreads page G over 2^AMOUNT modules from BASE on\n",
+        "depth" => "\
+depth QUEUES D: how deep queues are: low-forward, low-reverse, comb-forward, comb-reverse or module
+",
+        "wait" => "wait D: how deep wait buffers are\n",
+        "combine" => "combine S on, combine S off: whether the switches of stage S combine\n",
+        "window" => "window W: how many references of a processor may be unanswered\n",
+        "horizon" => "horizon H: the last cycle that is simulated\n",
+        _ => return None,
+    })
+}
+
+fn question_usage(word: &[u8]) -> Option<&'static str> {
+    let Ok(word) = str::from_utf8(word) else {
+        return None;
+    };
+    Some(match word {
+        "reply" =>
+            "reply P I: when processor P received the reply to its reference I, from 0, and with which word\n",
+        "state" => "state C T: the state of component C (pI, mI, lS.J or cS.J) at cycle T\n",
+        "memory" => "memory A T: the word of address A at cycle T\n",
+        "counter" => "\
+counter NAME WHO T0 T1: how much was counted in the cycles T0 to T1
+NAME is issued, answered, served, combined or waiting; WHO is all or a component
+",
+        "profile" =>
+            "profile NET S: how often the output queues of stage S of NET, low or comb, had each length from 0 to 16\n",
+        "tree" => "tree NET M: the first cycle of each level of saturation towards module M\n",
+        "level" => "level NET M T: the level of saturation towards module M at cycle T\n",
+        "bound" =>
+            "bound A B P: the bound on the rate of each of P processors, where A of B references go to one module\n",
+        "place" => "place A: the module and the row of address A\n",
+        "order" => "order A: the references to address A in their serial order\n",
+        _ => return None,
+    })
+}
+
+fn shell_usage(word: &[u8]) -> Option<&'static str> {
+    let Ok(word) = str::from_utf8(word) else {
+        return None;
+    };
+    Some(match word {
+        "show" => "show: what the project is, in words\n",
+        "script" => "script P: the entries of the script of processor P\n",
+        "save" => "save F: writes the project as a file of format 2\n",
+        "help" => "help, help COMMAND: all commands, or what one does\n",
+        "quit" => "quit: ends the session\n",
+        _ => return None,
+    })
+}
