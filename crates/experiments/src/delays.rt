@@ -313,6 +313,7 @@ pub fn waited_each<T: Threads + Sync>(
 {
     loads
         .par_iter()
+        .with_min_len(1)
         .map(
             |load: &Load| -> Result<ColdWaits, Fault>
                 ensures { IsWaitedBy load.now from result }

@@ -131,6 +131,7 @@ pub fn steady_each<T: Threads + Sync>(
 {
     loads
         .par_iter()
+        .with_min_len(1)
         .map(
             |load: &Load| -> Result<Steady, Fault>
                 ensures { IsSteadyBy load.now result }

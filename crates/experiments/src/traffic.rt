@@ -122,6 +122,7 @@ pub fn traffic_each<T: Threads + Sync>(
 {
     offers
         .par_iter()
+        .with_min_len(1)
         .map(
             |offer: &Offer| -> Result<Traffic, Fault>
                 ensures { IsTrafficBy offer.now result }
