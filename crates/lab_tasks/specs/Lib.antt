@@ -34,4 +34,3 @@ pub mod Sweeps
 pub mod Tables
 pub mod Traces
 pub mod Words
-pub mod Shells

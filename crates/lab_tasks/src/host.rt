@@ -3,17 +3,12 @@ use crate::end::{End, Reason, refusal, status};
 use crate::other_net::AllOn;
 use crate::outcome::{OutFile, Outcome};
 use crate::progress::Progress;
-use crate::shell::{Shelf, ShellClerk, ShellWords, session_status};
-use crate::task::{perform, project_in};
+use crate::task::perform;
 use crate::words::{Asked, CurveWords, read_words};
-use bench_core::Bench;
-use bench_shell::{RunFault, Writing};
 use clap::Error;
-use lab_shell::{Manner, talk};
-use project_book::Project;
 use project_file::{MAX_BYTES, fault_place};
 use std::alloc::Global;
-use std::io::{BufWriter, Eprint, Input, Print, Read, Write};
+use std::io::{Eprint, Print, Read, Write};
 use std::path::{Path, PathBuf};
 use std::process::ExitCode;
 use std::rt::{Env, Files};
@@ -22,17 +17,9 @@ use std::time::{Clock, Duration, Instant};
 use std::{env, fs, io};
 
 /// What the program takes of its host.
-pub trait Host: AllocGlobal + Env + Files + Input + Print + Eprint + Clock + Threads + Sync {}
+pub trait Host: AllocGlobal + Env + Files + Print + Eprint + Clock + Threads + Sync {}
 
-impl<R: AllocGlobal + Env + Files + Input + Print + Eprint + Clock + Threads + Sync> Host for R {}
-
-/// Which of the program's ends are terminals.
-#[derive(Clone, Copy)]
-pub struct Terminals {
-    pub input: bool,
-    /// Standard error.
-    pub errors: bool,
-}
+impl<R: AllocGlobal + Env + Files + Print + Eprint + Clock + Threads + Sync> Host for R {}
 
 /// A line on a terminal that says how far a task is, once it takes longer than a second.
 #[derive(Drop)]
@@ -312,8 +299,7 @@ fn refuse_over<'a, R: Files + AllocGlobal>(rt: &R, asked: &Asked<'a>) -> Result<
         | Asked::Done { .. }
         | Asked::Trace(_)
         | Asked::Full { .. }
-        | Asked::Check { .. }
-        | Asked::Shell(_) => Ok(()),
+        | Asked::Check { .. } => Ok(()),
     }
 }
 
@@ -324,87 +310,8 @@ fn tell_place<R: Eprint + AllocGlobal>(rt: &R, bytes: &[u8]) {
     }
 }
 
-/// The files of the host, each written beside its name first. What they hold no contract can say.
-#[derive(Drop)]
-struct Disk<'a, R> {
-    rt: &'a R,
-}
-
-impl<R: Files + AllocGlobal> Shelf for Disk<'_, R> {
-    ghost saves = { λ _ _ _ _. Unit {0} };
-
-    fn save(&self, file: &OutFile) -> bool {
-        save_file(self.rt, file).is_ok()
-    }
-}
-
-/// The project of a session, whose file has these bytes.
-fn session_project<'a>(
-    alloc: Global,
-    words: &ShellWords<'a>,
-    bytes: &[u8],
-) -> Result<Project, End<'a>> {
-    match words.file {
-        Some(_) => project_in(alloc, bytes),
-        None => match Project::built_in(alloc) {
-            Ok(project) => Ok(project),
-            Err(_) => Err(End::Memory),
-        },
-    }
-}
-
-/// How the program ends after a fault of a session.
-fn session_end(fault: RunFault) -> End<'static> {
-    match fault {
-        RunFault::Read => End::NotRead("standard input"),
-        RunFault::Write => End::Output,
-        RunFault::Memory => End::Memory,
-        RunFault::Clock | RunFault::OtherEditor => End::Spent,
-    }
-}
-
-/// A session from standard input to standard output: its status.
-fn session<R: Host>(rt: &R, words: &ShellWords<'_>, project: Project, people: bool) -> u8 {
-    let alloc = rt.alloc();
-    let Ok(mut bench) = Bench::new(alloc, project, 0) else {
-        return ended(rt, &End::Memory);
-    };
-    let mut output = io::writer(rt);
-    let Ok(mut writer) = BufWriter::new(alloc, &mut output) else {
-        return ended(rt, &End::Memory);
-    };
-    let mut sink = Writing::new(&mut writer);
-    let manner = Manner {
-        people,
-        strict: words.strict,
-    };
-    let disk = Disk { rt };
-    let clerk = ShellClerk { shelf: &disk };
-    match talk(
-        rt,
-        alloc,
-        manner,
-        &clerk,
-        &mut rt.reader(),
-        &mut sink,
-        &mut bench,
-    ) {
-        Ok(how) => session_status(how),
-        Err(fault) => ended(rt, &session_end(fault)),
-    }
-}
-
-/// Prints why there is no outcome or no project, and where its file is wrong, and gives the status.
-fn refused_file<R: Eprint + AllocGlobal>(rt: &R, end: &End<'_>, bytes: &[u8]) -> u8 {
-    let status = ended(rt, end);
-    if let End::Project(_) = end {
-        tell_place(rt, bytes);
-    }
-    status
-}
-
 /// Does what is asked for.
-fn done<R: Host>(rt: &R, asked: &Asked<'_>, terminals: Terminals) -> u8 {
+fn done<R: Host>(rt: &R, asked: &Asked<'_>, terminal: bool) -> u8 {
     if let Err(end) = refuse_over(rt, asked) {
         return ended(rt, &end);
     }
@@ -412,21 +319,20 @@ fn done<R: Host>(rt: &R, asked: &Asked<'_>, terminals: Terminals) -> u8 {
         Ok(bytes) => bytes,
         Err(end) => return ended(rt, &end),
     };
-    if let Asked::Shell(words) = asked {
-        return match session_project(rt.alloc(), words, bytes.as_slice()) {
-            Ok(project) => session(rt, words, project, terminals.input),
-            Err(end) => refused_file(rt, &end, bytes.as_slice()),
-        };
-    }
-    match performed(rt, asked, bytes.as_slice(), terminals.errors) {
+    match performed(rt, asked, bytes.as_slice(), terminal) {
         Ok(outcome) => delivered(rt, &outcome),
-        Err(end) => refused_file(rt, &end, bytes.as_slice()),
+        Err(end) => {
+            let status = ended(rt, &end);
+            if let End::Project(_) = end {
+                tell_place(rt, bytes.as_slice());
+            }
+            status
+        }
     }
 }
 
-/// The program, from the host's arguments to its status. Where standard error is a terminal it tells how far it is, and where
-/// standard input is one the shell has a prompt.
-pub fn program<R: Host>(rt: &R, terminals: Terminals) -> ExitCode {
+/// The program, from the host's arguments to its status. On a terminal it tells how far it is.
+pub fn program<R: Host>(rt: &R, terminal: bool) -> ExitCode {
     let words = match env::args(rt) {
         Ok(words) => words.collect::<Vec<String>>(rt.alloc()),
         Err(fault) if fault.kind() == io::ErrorKind::OutOfMemory => {
@@ -438,14 +344,14 @@ pub fn program<R: Host>(rt: &R, terminals: Terminals) -> ExitCode {
         }
     };
     let status = match words {
-        Ok(words) => told(rt, words.as_slice(), terminals),
+        Ok(words) => told(rt, words.as_slice(), terminal),
         Err(_) => ended(rt, &End::Memory),
     };
     ExitCode::from(status)
 }
 
 /// Does what the words ask for, of which the first is the program's name.
-fn told<R: Host>(rt: &R, words: &[String], terminals: Terminals) -> u8 {
+fn told<R: Host>(rt: &R, words: &[String], terminal: bool) -> u8 {
     let Ok(texts) = words
         .iter()
         .skip(1)
@@ -455,7 +361,7 @@ fn told<R: Host>(rt: &R, words: &[String], terminals: Terminals) -> u8 {
         return ended(rt, &End::Memory);
     };
     match read_words(rt.alloc(), texts.as_slice()) {
-        Ok(asked) => done(rt, &asked, terminals),
+        Ok(asked) => done(rt, &asked, terminal),
         Err(error) => refused(rt, &error),
     }
 }
