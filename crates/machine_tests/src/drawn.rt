@@ -50,7 +50,7 @@ fn entry(draws: &mut Pcg32) -> ScriptEntry {
         operand: below(draws, 4),
     };
     let address = address(draws);
-    let times = 1 + below(draws, 9);
+    let times = below(draws, 9).saturating_add(1);
     match below(draws, 8) {
         0 => ScriptEntry::Fence,
         1 => ScriptEntry::Idle(times),
@@ -79,7 +79,7 @@ fn edit(draws: &mut Pcg32, k: u32) -> Edit {
             stage: below(draws, k),
             on: either(draws),
         },
-        3 => Edit::Window(1 + below(draws, 8)),
+        3 => Edit::Window(below(draws, 8).saturating_add(1)),
         4 => page(draws, k),
         5 => Edit::Word {
             address: address(draws),
@@ -109,7 +109,7 @@ fn depth(draws: &mut Pcg32) -> Edit {
 fn page(draws: &mut Pcg32, k: u32) -> Edit {
     Edit::Page {
         page: below(draws, 2),
-        amount: below(draws, k + 1),
+        amount: below(draws, k.saturating_add(1)),
         base: below(draws, 1 << k.min(5)),
     }
 }
@@ -117,7 +117,7 @@ fn page(draws: &mut Pcg32, k: u32) -> Edit {
 /// The project of a seed.
 fn project(alloc: Global, seed: u64) -> Result<Project, Fail> {
     let mut draws = Pcg32::new(seed, 0);
-    let k = 1 + below(&mut draws, 3);
+    let k = below(&mut draws, 3).saturating_add(1);
     let mut project = Project::new(alloc, k, HORIZON)?.ok_or("no such project")?;
     for _ in 0..EDITS {
         if let Ok((edited, _)) = project.apply(edit(&mut draws, k)) {
