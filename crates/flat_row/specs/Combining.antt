@@ -1,10 +1,10 @@
 -- How requests combine and replies split at the combining switches of a stage, by the labels of their ports.
-use Rattle.std.specs.Prelude.{◌≡◌, ℕ, ◌<◌, ◌≤◌, ◌==◌, if◌then◌else◌, Bool, List, [], ◌∷◌, length, Option, slice_set}
+use Rattle.std.specs.Prelude.{◌≡◌, ℕ, ◌<◌, ◌≤◌, ◌==◌, if◌then◌else◌, Bool, true, List, [], ◌∷◌, length, Option, slice_set}
 use Rattle.arrayvec.specs.ArrayVec.{ArrayVec}
 use Rattle.omega_net.specs.declared.message.Request.{Request}
 use Rattle.omega_net.specs.declared.message.Reply.{Reply}
 use Rattle.omega_net.specs.Wires.{bit}
-use Rattle.omega_net.specs.Queues.{without_head}
+use Rattle.omega_net.specs.Queues.{head, without_head}
 use Rattle.omega_net.specs.Ports.{empty}
 use Rattle.comb_switch.specs.declared.waiting.Waiting.{Waiting}
 use Rattle.comb_switch.specs.declared.state.CombState.{CombState}
@@ -50,13 +50,13 @@ pub record SameLevel {T : Type 0} (old new : Queues T) : Type 0 where
   pub many : length new.queues ≡ length old.queues
   pub rule : new.rule ≡ old.rule
 
--- what changes where the head at label y has left a level, if it leaves, for the switch of label x at another one
-pub record Met {T : Type 0} (view : (ℕ → ArrayVec T) → Buffers → ℕ → CombState) (effect : Option T → CombState → CombState) (b from to x y : ℕ) (leaves : Bool)
+-- what changes where the head at label y has left a level for its switch at another one
+pub record Met {T : Type 0} (view : (ℕ → ArrayVec T) → Buffers → ℕ → CombState) (effect : Option T → CombState → CombState) (b from to y : ℕ)
     (old new : List (Queues T)) (waits next : Buffers) : Type 0 where
   pub shape : SameShape old new
-  pub source : (z : ℕ) → queue_of new from z ≡ (if z == y then without_head leaves (queue_of old from z) else queue_of old from z)
-  pub here : view (queue_of new to) next x ≡ effect (if_leaves leaves (queue_of old from y)) (view (queue_of old to) waits x)
-  pub only : OnlyAt b x (queue_of old to) (queue_of new to) waits next
+  pub source : (z : ℕ) → queue_of new from z ≡ (if z == y then without_head true (queue_of old from z) else queue_of old from z)
+  pub here : view (queue_of new to) next (port b 0 y) ≡ effect (head (queue_of old from y)) (view (queue_of old to) waits (port b 0 y))
+  pub only : OnlyAt b (port b 0 y) (queue_of old to) (queue_of new to) waits next
   pub rest : (l z : ℕ) → (l ≡ from → ⊥) → (l ≡ to → ⊥) → queue_of new l z ≡ queue_of old l z
 
 -- what a switch is where the heads at both of its ports come, if they leave, that of port 0 first
@@ -64,16 +64,7 @@ abbrev pub both_come : {T : Type 0} → (Option T → CombState → CombState) �
 both_come effect b leaves queues x a =
     effect (if_leaves (leaves (port b 1 x)) (queues (port b 1 x))) (effect (if_leaves (leaves (port b 0 x)) (queues (port b 0 x))) a)
 
--- what changes where both have left
-pub record MetBoth {T : Type 0} (view : (ℕ → ArrayVec T) → Buffers → ℕ → CombState) (effect : Option T → CombState → CombState) (b from to leave x : ℕ)
-    (old new : List (Queues T)) (waits next : Buffers) : Type 0 where
-  pub shape : SameShape old new
-  pub source : (z : ℕ) → z < 64 → queue_of new from z ≡ (if port b 0 z == x then without_head (has leave z) (queue_of old from z) else queue_of old from z)
-  pub here : view (queue_of new to) next x ≡ both_come effect b (has leave) (queue_of old from) x (view (queue_of old to) waits x)
-  pub only : OnlyAt b x (queue_of old to) (queue_of new to) waits next
-  pub rest : (l z : ℕ) → (l ≡ from → ⊥) → (l ≡ to → ⊥) → queue_of new l z ≡ queue_of old l z
-
--- and where all heads of a set have left a level for the switches of a stage
+-- what changes where all heads of a set have left a level for the switches of a stage
 pub record AllMet {T : Type 0} (view : (ℕ → ArrayVec T) → Buffers → ℕ → CombState) (effect : Option T → CombState → CombState) (b from to leave : ℕ)
     (old new : List (Queues T)) (waits next : Buffers) : Type 0 where
   pub shape : SameShape old new

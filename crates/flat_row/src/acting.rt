@@ -135,19 +135,18 @@ fn act(
         ..procs[p as usize]
     };
     let next = acted(project, p, own, replies);
-    let stays = stays(&own, &replies, &next);
     show(low, comb, p, &next);
     procs[p as usize] = next;
-    stays
+    stays(&own, &replies, &next)
 }
 
-/// Whether a processor got no reply, and is as it was.
+/// Whether a processor has got no reply, has issued nothing, and is as it was.
 fn stays(own: &ProcState, replies: &[Option<Reply>; 2], next: &ProcState) -> bool
     ensures low { result ≡ true → message_at replies.now 0 ≡ None }
     ensures comb { result ≡ true → message_at replies.now 1 ≡ None }
     ensures same { result ≡ true → next.now ≡ own.now }
 {
-    replies[0].is_none() && replies[1].is_none() && next.same(own)
+    !next.sent && replies[0].is_none() && replies[1].is_none() && next.same(own)
 }
 
 /// What a processor shows.

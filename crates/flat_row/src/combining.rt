@@ -18,6 +18,7 @@ use page_map::Place;
 use word_ops::Op;
 
 /// A request arrives at the switch of label x.
+#[inline(always)]
 pub(crate) fn arrives(
     level: &mut Level<Request>,
     waits: &mut Waits,
@@ -176,6 +177,7 @@ fn is_first(wait: &[Waiting], tag: Tag) -> bool
 }
 
 /// A reply comes to the switch of label x: it takes out the first entry that waits for its tag and becomes two, or goes on as it is.
+#[inline(always)]
 pub(crate) fn returns_to(
     level: &mut Level<Reply>,
     waits: &mut Waits,

@@ -178,6 +178,7 @@ impl Row {
 
     /// The replies that leave behind a stage: apart on the low network, where each queue takes them by itself, and together on the
     /// combining one.
+    #[inline(always)]
     pub(crate) fn replies_at(&self, project: &Project, net: Net, stage: u32) -> Decided
         requires of { IsRowOf project.now self.now }
         requires stage { stage < project.now.k }

@@ -65,6 +65,7 @@ impl ProcState {
     }
 
     /// Whether two states are the same.
+    #[inline(always)]
     pub fn same(&self, other: &ProcState) -> bool
         ensures { IsTrue result ↔ (self.now ≡ other.now) }
     {

@@ -28,12 +28,14 @@ pub struct ProcTraffic {
 impl ProcState {
     /// The state one cycle later: replies are taken, the request leaves if it does, then the entry acts.
     /// The counts stop at the last values of their types.
+    #[inline(always)]
     pub fn step(&self, settings: &ProcSettings, traffic: &ProcTraffic) -> ProcState
         ensures { result ≡ proc_after settings.now traffic.now self.now }
     {
         self.taking(traffic).acting(settings)
     }
 
+    #[inline(always)]
     fn taking(&self, traffic: &ProcTraffic) -> ProcState
         ensures { result ≡ taking traffic.now self.now }
     {
@@ -51,6 +53,7 @@ impl ProcState {
         }
     }
 
+    #[inline(always)]
     fn acting(self, settings: &ProcSettings) -> ProcState
         ensures { result ≡ acting settings.now settings.now.entry self }
     {
@@ -78,6 +81,7 @@ impl ProcState {
         }
     }
 
+    #[inline(always)]
     fn referring(self, settings: &ProcSettings, sync: bool, op: Op) -> ProcState
         ensures { result ≡ referring settings.now sync op self }
     {
@@ -88,6 +92,7 @@ impl ProcState {
         }
     }
 
+    #[inline(always)]
     fn trying(
         self,
         settings: &ProcSettings,
@@ -135,6 +140,7 @@ impl ProcState {
         }
     }
 
+    #[inline(always)]
     fn next_entry(self) -> ProcState
         ensures { result ≡ next_entry self }
     {
@@ -145,6 +151,7 @@ impl ProcState {
         }
     }
 
+    #[inline(always)]
     fn on_after(self, turns: u32) -> ProcState
         ensures { result ≡ on_after turns self }
     {
@@ -155,6 +162,7 @@ impl ProcState {
         }
     }
 
+    #[inline(always)]
     fn spending(self) -> ProcState
         ensures { result ≡ spending self }
     {
@@ -164,6 +172,7 @@ impl ProcState {
         }
     }
 
+    #[inline(always)]
     fn issuing(self, settings: &ProcSettings, sync: bool, op: Op) -> ProcState
         ensures { result ≡ issuing settings.now sync op self }
     {

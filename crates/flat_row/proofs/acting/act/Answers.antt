@@ -25,14 +25,14 @@ pub returns-clause-stay : goal.returns-clause-stay
 returns-clause-stay c = λ so.
     let there : c.args.p < length c.args.procs.now.items = subst (λ n. c.args.p < n) (sym c.requires.procs) c.requires.there in
     put_acted c.args.procs.now.items c.show.new.low c.show.new.comb c.args.p there c.acted-next.result c.show.ensures.shown
-    ∙ c.stays-stays.ensures.same so
+    ∙ c.stays.ensures.same so
     ∙ (ap (λ s. with_out s c.shown.result) (c.index.ensures ∙ get_or_default c.args.procs.now.items c.args.p c.index.result.now proc_start there) ∙ ap (with_out (proc_at c.args.procs.now.items c.args.p)) c.shown.ensures)
 
 pub returns-clause-rest : goal.returns-clause-rest
 returns-clause-rest c = λ so.
     let there : c.args.p < length c.args.procs.now.items = subst (λ n. c.args.p < n) (sym c.requires.procs) c.requires.there in
     subst (λ s. Rests c.args.project.now c.args.p s) (sym (put_acted c.args.procs.now.items c.show.new.low c.show.new.comb c.args.p there c.acted-next.result c.show.ensures.shown))
-    (rests_then c.args.project.now c.args.p (message_at c.args.replies 0) (message_at c.args.replies 1) (with_out c.index.result.now c.shown.result) c.acted-next.result c.acted-next.ensures.acted (c.stays-stays.ensures.low so) (c.stays-stays.ensures.comb so) (c.stays-stays.ensures.same so))
+    (rests_then c.args.project.now c.args.p (message_at c.args.replies 0) (message_at c.args.replies 1) (with_out c.index.result.now c.shown.result) c.acted-next.result c.acted-next.ensures.acted (c.stays.ensures.low so) (c.stays.ensures.comb so) (c.stays.ensures.same so))
 
 pub returns-clause-others : goal.returns-clause-others
 returns-clause-others c =

@@ -1,17 +1,35 @@
-use Rattle.std.proofs.Common.{refl}
+use Rattle.std.proofs.Common.{◌<◌, sym, subst, arith, refl}
 use Rattle.comb_switch.specs.CombSwitch.{arrives}
 use Rattle.flat_row.specs.Combining.{meeting}
-use Rattle.flat_row.proofs.Crossed.{first_only, second_apart, few_left, met_twice}
+use Rattle.flat_row.proofs.Crossed.{meeting_local, still_can, none_yet, some_there, one_met, all_met, few_yet}
 use Rattle.flat_row.proofs.crossing.cross_forth.Goals as goal
 
-pub meet_side-requires-clause-apart : goal.meet_side-requires-clause-apart
-meet_side-requires-clause-apart c = first_only c.args.crossing.now.settings.bit c.args.crossing.now.leave c.at_first.result c.requires.can.by c.at_first.ensures
+pub loop-y-init : goal.loop-y-init
+loop-y-init c = record { within = omega arith; partly = none_yet (meeting c.args.crossing.now.settings.bit) (arrives c.args.crossing.now.settings) (λ a. refl) c.args.crossing.now.settings.bit c.args.crossing.now.from c.args.crossing.now.to c.args.crossing.now.leave c.requires.can.by (meeting_local c.args.crossing.now.settings.bit) c.args.levels.now.items c.args.waits.now }
 
-pub meet_side-requires-2-clause-apart : goal.meet_side-requires-2-clause-apart
-meet_side-requires-2-clause-apart c = second_apart c.args.crossing.now.settings.bit c.args.crossing.now.leave c.at_first.result c.at_second.result c.requires.can.by c.at_first.ensures c.at_second.ensures
+pub meet-requires-clause-can : goal.meet-requires-clause-can
+meet-requires-clause-can c = still_can c.args.crossing.now.settings.bit c.args.crossing.now.from c.args.crossing.now.to c.args.levels.now.items c.args.waits.now c.requires.can c.loop-y.levels.items c.loop-y.waits c.loop-y.invariant.partly.shape c.loop-y.invariant.partly.entries
 
-pub meet_side-requires-2-clause-few : goal.meet_side-requires-2-clause-few
-meet_side-requires-2-clause-few c = few_left c.args.crossing.now.settings.bit c.args.crossing.now.leave c.at_first.result c.at_second.result c.requires.can.by c.at_first.ensures c.at_second.ensures c.args.crossing.now.settings c.args.crossing.now.from c.args.crossing.now.to c.args.levels.now.items c.meet_side.new.levels.items c.args.waits.now c.meet_side.new.waits c.meet_side.ensures c.requires.none
+pub meet-requires-clause-from : goal.meet-requires-clause-from
+meet-requires-clause-from c = subst (λ n. c.args.crossing.now.from < n) (sym c.loop-y.invariant.partly.shape.many) c.requires.from
+
+pub meet-requires-clause-to : goal.meet-requires-clause-to
+meet-requires-clause-to c = subst (λ n. c.args.crossing.now.to < n) (sym c.loop-y.invariant.partly.shape.many) c.requires.to
+
+pub meet-requires-clause-there : goal.meet-requires-clause-there
+meet-requires-clause-there c = c.in-Some.ensures.there.1
+
+pub meet-requires-clause-some : goal.meet-requires-clause-some
+meet-requires-clause-some c = some_there (meeting c.args.crossing.now.settings.bit) (arrives c.args.crossing.now.settings) (λ a. refl) c.args.crossing.now.settings.bit c.args.crossing.now.from c.args.crossing.now.to c.args.crossing.now.leave c.requires.can.by (meeting_local c.args.crossing.now.settings.bit) c.args.levels.now.items c.args.waits.now c.loop-y.levels.items c.loop-y.waits c.loop-y.next c.loop-y.invariant.partly c.in-Some.y c.in-Some.ensures.there.1 c.in-Some.ensures.there.0 c.in-Some.ensures.there.2 c.in-Some.ensures.passed c.requires.some
+
+pub meet-requires-clause-few : goal.meet-requires-clause-few
+meet-requires-clause-few c = few_yet c.args.crossing.now.settings c.args.crossing.now.settings.bit c.args.crossing.now.from c.args.crossing.now.to c.args.crossing.now.leave c.requires.can.by c.args.levels.now.items c.args.waits.now c.loop-y.levels.items c.loop-y.waits c.loop-y.next c.loop-y.invariant.partly c.requires.none c.in-Some.y c.in-Some.ensures.there.1 c.in-Some.ensures.there.0 c.in-Some.ensures.there.2 c.in-Some.ensures.passed
+
+pub loop-y-smaller : goal.loop-y-smaller
+loop-y-smaller c = omega (arith, c.in-Some.ensures.there.0, c.in-Some.ensures.there.1)
+
+pub loop-y-preserved : goal.loop-y-preserved
+loop-y-preserved c = record { within = omega (arith, c.in-Some.ensures.there.1); partly = one_met (meeting c.args.crossing.now.settings.bit) (arrives c.args.crossing.now.settings) (λ a. refl) c.args.crossing.now.settings.bit c.args.crossing.now.from c.args.crossing.now.to c.args.crossing.now.leave c.requires.can.by (meeting_local c.args.crossing.now.settings.bit) c.args.levels.now.items c.args.waits.now c.loop-y.levels.items c.loop-y.waits c.loop-y.next c.loop-y.invariant.partly c.in-Some.y c.in-Some.ensures.there.1 c.in-Some.ensures.there.0 c.in-Some.ensures.there.2 c.in-Some.ensures.passed c.meet.new.levels.items c.meet.new.waits c.meet.ensures }
 
 pub returns : goal.returns
-returns c = met_twice c.args.crossing.now.settings.bit c.args.crossing.now.leave c.at_first.result c.at_second.result c.requires.can.by c.at_first.ensures c.at_second.ensures (meeting c.args.crossing.now.settings.bit) (arrives c.args.crossing.now.settings) (λ a. refl) c.args.crossing.now.from c.args.crossing.now.to c.args.levels.now.items c.meet_side.new.levels.items c.args.waits.now c.meet_side.new.waits c.meet_side.ensures c.meet_side-2.new.levels.items c.meet_side-2.new.waits c.meet_side-2.ensures
+returns c = all_met (meeting c.args.crossing.now.settings.bit) (arrives c.args.crossing.now.settings) (λ a. refl) c.args.crossing.now.settings.bit c.args.crossing.now.from c.args.crossing.now.to c.args.crossing.now.leave c.requires.can.by (meeting_local c.args.crossing.now.settings.bit) c.args.levels.now.items c.args.waits.now c.loop-y.levels.items c.loop-y.waits c.loop-y.next c.loop-y.invariant.partly c.in_default.ensures.passed

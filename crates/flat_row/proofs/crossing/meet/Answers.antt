@@ -1,52 +1,46 @@
-use Rattle.std.proofs.Common.{◌<◌, ◌∙◌, ap, sym, subst, length, refl}
-use Rattle.std.proofs.Math.ListN.{set}
+use Rattle.std.proofs.Common.{◌<◌, ◌∙◌, ap, sym, subst, length, arith}
 use Rattle.std.specs.Prelude.{IsSome}
 use Rattle.comb_switch.specs.CombSwitch.{arrives}
+use Rattle.omega_net.specs.Wires.{bit}
 use Rattle.omega_net.specs.Queues.{head}
 use Rattle.omega_net.specs.Ports.{queue_at}
 use Rattle.flat_row.specs.Labels.{port}
-use Rattle.flat_row.specs.Masks.{has}
-use Rattle.flat_row.specs.Row.{level_at, queue_of}
-use Rattle.flat_row.specs.Combining.{Met, meeting}
-use Rattle.flat_row.proofs.Carrying.{port_small}
+use Rattle.flat_row.specs.Row.{combined_of}
+use Rattle.flat_row.specs.Combining.{meeting}
+use Rattle.flat_row.proofs.Carrying.{port_small, port_bit}
 use Rattle.flat_row.proofs.Passing.{level_found, found_behind}
-use Rattle.flat_row.proofs.Crossed.{met_is, none_met, label_there, ports_there, entry_there}
+use Rattle.flat_row.proofs.Crossed.{met_is, label_there, ports_there, entry_there}
 use Rattle.flat_row.proofs.crossing.meet.Goals as goal
 
-pub port_of-y-requires-clause-by : goal.port_of-y-requires-clause-by
-port_of-y-requires-clause-by c = c.requires.can.by
-
-pub has-requires : goal.has-requires
-has-requires c = subst (λ n. n < 64) (sym c.port_of-y.ensures) (port_small c.args.crossing.now.settings.bit c.args.x c.args.side c.requires.can.by c.requires.there c.requires.side)
+pub port_of-x-requires-clause-by : goal.port_of-x-requires-clause-by
+port_of-x-requires-clause-by c = c.requires.can.by
 
 pub take-request-requires-clause-there : goal.take-request-requires-clause-there
-take-request-requires-clause-there c = subst (λ v. c.port_of-y.result < length v.queues) (sym (level_found c.args.levels.now.items c.args.crossing.now.from c.index_mut-before.result.now c.index_mut-before.ensures.value c.requires.from)) (subst (λ n. n < length (level_at c.args.levels.now.items c.args.crossing.now.from).queues) (sym c.port_of-y.ensures) (label_there c.args.crossing.now.settings.bit c.args.crossing.now.from c.args.crossing.now.to c.args.levels.now.items c.args.waits.now c.requires.can c.args.x c.args.side c.requires.there c.requires.first c.requires.side (c.requires.some (ap (has c.args.crossing.now.leave) (sym c.port_of-y.ensures) ∙ sym c.has.ensures ∙ c.if-has.true))))
+take-request-requires-clause-there c = subst (λ v. c.args.y < length v.queues) (sym (level_found c.args.levels.now.items c.args.crossing.now.from c.index_mut-before.result.now c.index_mut-before.ensures.value c.requires.from)) (label_there c.args.crossing.now.settings.bit c.args.crossing.now.from c.args.crossing.now.to c.args.levels.now.items c.args.waits.now c.requires.can c.args.y c.requires.there c.requires.some)
 
 pub take-request-requires-clause-some : goal.take-request-requires-clause-some
-take-request-requires-clause-some c =
-    subst (λ v. IsSome (head (queue_at v.queues c.port_of-y.result))) (sym (level_found c.args.levels.now.items c.args.crossing.now.from c.index_mut-before.result.now c.index_mut-before.ensures.value c.requires.from))
-    (subst (λ n. IsSome (head (queue_of c.args.levels.now.items c.args.crossing.now.from n))) (sym c.port_of-y.ensures) (c.requires.some (ap (has c.args.crossing.now.leave) (sym c.port_of-y.ensures) ∙ sym c.has.ensures ∙ c.if-has.true)))
+take-request-requires-clause-some c = subst (λ v. IsSome (head (queue_at v.queues c.args.y))) (sym (level_found c.args.levels.now.items c.args.crossing.now.from c.index_mut-before.result.now c.index_mut-before.ensures.value c.requires.from)) c.requires.some
 
 pub arrives-requires-clause-by : goal.arrives-requires-clause-by
 arrives-requires-clause-by c = c.requires.can.by
 
+pub arrives-requires-clause-there : goal.arrives-requires-clause-there
+arrives-requires-clause-there c = subst (λ n. n < 64) (sym c.port_of-x.ensures) (port_small c.args.crossing.now.settings.bit c.args.y 0 c.requires.can.by c.requires.there (omega arith))
+
+pub arrives-requires-clause-first : goal.arrives-requires-clause-first
+arrives-requires-clause-first c = ap (bit c.args.crossing.now.settings.bit) c.port_of-x.ensures ∙ port_bit c.args.crossing.now.settings.bit c.args.y 0 c.requires.can.by c.requires.there (omega arith)
+
 pub arrives-requires-clause-ports : goal.arrives-requires-clause-ports
-arrives-requires-clause-ports c = λ i h. subst (λ v. port c.args.crossing.now.settings.bit i c.args.x < length v.queues) (sym (found_behind c.args.levels.now.items c.args.crossing.now.from c.args.crossing.now.to c.index_mut-before.result.now c.take-request.new.self c.index_mut-behind.result.now c.index_mut-behind.result.now c.requires.from c.requires.to c.requires.can.apart c.index_mut-before.ensures.value c.index_mut-behind.ensures.value)) (ports_there c.args.crossing.now.settings.bit c.args.crossing.now.from c.args.crossing.now.to c.args.levels.now.items c.args.waits.now c.requires.can c.args.x c.args.side c.requires.there c.requires.first c.requires.side (c.requires.some (ap (has c.args.crossing.now.leave) (sym c.port_of-y.ensures) ∙ sym c.has.ensures ∙ c.if-has.true)) i h)
+arrives-requires-clause-ports c = λ i h. subst (λ n. port c.args.crossing.now.settings.bit i n < length c.index_mut-behind.result.now.queues) (sym c.port_of-x.ensures) (subst (λ v. port c.args.crossing.now.settings.bit i (port c.args.crossing.now.settings.bit 0 c.args.y) < length v.queues) (sym (found_behind c.args.levels.now.items c.args.crossing.now.from c.args.crossing.now.to c.index_mut-before.result.now c.take-request.new.self c.index_mut-behind.result.now c.index_mut-behind.result.now c.requires.from c.requires.to c.requires.can.apart c.index_mut-before.ensures.value c.index_mut-behind.ensures.value)) (ports_there c.args.crossing.now.settings.bit c.args.crossing.now.from c.args.crossing.now.to c.args.levels.now.items c.args.waits.now c.requires.can c.args.y c.requires.there c.requires.some i h))
 
 pub arrives-requires-clause-entries : goal.arrives-requires-clause-entries
-arrives-requires-clause-entries c = entry_there c.args.crossing.now.settings.bit c.args.crossing.now.from c.args.crossing.now.to c.args.levels.now.items c.args.waits.now c.requires.can c.args.x c.args.side c.requires.there c.requires.first c.requires.side (c.requires.some (ap (has c.args.crossing.now.leave) (sym c.port_of-y.ensures) ∙ sym c.has.ensures ∙ c.if-has.true))
+arrives-requires-clause-entries c = subst (λ n. n < length c.args.waits.now.entries) (sym c.port_of-x.ensures) (entry_there c.args.crossing.now.settings.bit c.args.crossing.now.from c.args.crossing.now.to c.args.levels.now.items c.args.waits.now c.requires.can c.args.y c.requires.there c.requires.some)
 
 pub arrives-requires-clause-few : goal.arrives-requires-clause-few
-arrives-requires-clause-few c = c.requires.few
+arrives-requires-clause-few c = subst (λ n. combined_of c.args.waits.now n < 2) (sym c.port_of-x.ensures) c.requires.few
 
-pub returns-then-has : goal.returns-then-has
-returns-then-has c =
-    subst (λ n. Met (meeting c.args.crossing.now.settings.bit) (arrives c.args.crossing.now.settings) c.args.crossing.now.settings.bit c.args.crossing.now.from c.args.crossing.now.to c.args.x n (has c.args.crossing.now.leave n) c.args.levels.now.items (set (set c.args.levels.now.items c.args.crossing.now.from c.take-request.new.self) c.args.crossing.now.to c.arrives.new.level) c.args.waits.now c.arrives.new.waits) c.port_of-y.ensures
-    (met_is (meeting c.args.crossing.now.settings.bit) (arrives c.args.crossing.now.settings) c.args.crossing.now.settings.bit c.args.crossing.now.from c.args.crossing.now.to c.args.x c.port_of-y.result c.args.levels.now.items c.index_mut-before.result.now c.take-request.new.self c.index_mut-behind.result.now c.arrives.new.level c.take-request.result
-    c.args.waits.now c.arrives.new.waits (has c.args.crossing.now.leave c.port_of-y.result) c.requires.from c.requires.to c.requires.can.apart c.index_mut-before.ensures.value c.index_mut-behind.ensures.value
-    (subst (λ v. c.port_of-y.result < length v.queues) (sym (level_found c.args.levels.now.items c.args.crossing.now.from c.index_mut-before.result.now c.index_mut-before.ensures.value c.requires.from)) (subst (λ n. n < length (level_at c.args.levels.now.items c.args.crossing.now.from).queues) (sym c.port_of-y.ensures) (label_there c.args.crossing.now.settings.bit c.args.crossing.now.from c.args.crossing.now.to c.args.levels.now.items c.args.waits.now c.requires.can c.args.x c.args.side c.requires.there c.requires.first c.requires.side (c.requires.some (ap (has c.args.crossing.now.leave) (sym c.port_of-y.ensures) ∙ sym c.has.ensures ∙ c.if-has.true))))) c.take-request.ensures.after c.take-request.ensures.value c.arrives.ensures.shape c.arrives.ensures.met c.arrives.ensures.only (sym c.has.ensures ∙ c.if-has.true))
-
-pub returns-else-has : goal.returns-else-has
-returns-else-has c =
-    none_met (meeting c.args.crossing.now.settings.bit) (arrives c.args.crossing.now.settings) (λ a. refl) c.args.crossing.now.settings.bit c.args.crossing.now.from c.args.crossing.now.to c.args.x (port c.args.crossing.now.settings.bit c.args.side c.args.x) c.args.levels.now.items c.args.waits.now
-    (has c.args.crossing.now.leave (port c.args.crossing.now.settings.bit c.args.side c.args.x)) (ap (has c.args.crossing.now.leave) (sym c.port_of-y.ensures) ∙ sym c.has.ensures ∙ c.if-has.false)
+pub returns : goal.returns
+returns c =
+    met_is (meeting c.args.crossing.now.settings.bit) (arrives c.args.crossing.now.settings) c.args.crossing.now.settings.bit c.args.crossing.now.from c.args.crossing.now.to c.args.y c.args.levels.now.items c.index_mut-before.result.now c.take-request.new.self c.index_mut-behind.result.now c.arrives.new.level c.take-request.result
+    c.args.waits.now c.arrives.new.waits c.requires.from c.requires.to c.requires.can.apart c.index_mut-before.ensures.value c.index_mut-behind.ensures.value
+    (subst (λ v. c.args.y < length v.queues) (sym (level_found c.args.levels.now.items c.args.crossing.now.from c.index_mut-before.result.now c.index_mut-before.ensures.value c.requires.from)) (label_there c.args.crossing.now.settings.bit c.args.crossing.now.from c.args.crossing.now.to c.args.levels.now.items c.args.waits.now c.requires.can c.args.y c.requires.there c.requires.some)) c.take-request.ensures.after c.take-request.ensures.value c.arrives.ensures.shape c.port_of-x.result c.port_of-x.ensures c.arrives.ensures.met c.arrives.ensures.only

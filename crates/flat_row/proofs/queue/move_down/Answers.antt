@@ -1,4 +1,4 @@
-use Rattle.std.proofs.Common.{arith, rules}
+use Rattle.std.proofs.Common.{arith}
 use Rattle.flat_row.proofs.Shifting.{moved_down}
 use Rattle.flat_row.proofs.queue.move_down.Goals as goal
 
