@@ -45,6 +45,7 @@ pub(crate) fn arrives(
 }
 
 /// A request meets the one at that index of an output queue: they combine, or it goes last into the queue.
+#[inline(always)]
 fn meets(
     level: &mut Level<Request>,
     waits: &mut Waits,
@@ -77,6 +78,7 @@ fn meets(
 }
 
 /// A request goes last into an output queue.
+#[inline(always)]
 fn last_in(
     level: &mut Level<Request>,
     waits: &Waits,
@@ -99,6 +101,7 @@ fn last_in(
 }
 
 /// A request combines into the one at that index of an output queue, by the operation that does both.
+#[inline(always)]
 fn combined_in(
     level: &mut Level<Request>,
     waits: &mut Waits,
@@ -152,6 +155,7 @@ fn youngest_for(place: Place, requests: &[Request]) -> Option<usize>
 }
 
 /// The operation that does the request that waits and then the other one, if that one combines into it.
+#[inline(always)]
 fn joint_op(
     settings: &CombSettings,
     wait: &[Waiting],
@@ -170,6 +174,7 @@ fn joint_op(
 }
 
 /// Whether an entry waits for that tag.
+#[inline(always)]
 fn is_first(wait: &[Waiting], tag: Tag) -> bool
     ensures { result ≡ list_any (λ w. same_tag w.first tag) wait.now }
 {
@@ -201,6 +206,7 @@ pub(crate) fn returns_to(
 }
 
 /// The entry at that index goes: its first request is answered the word, its second what the first operation leaves of it.
+#[inline(always)]
 fn splits(
     level: &mut Level<Reply>,
     waits: &mut Waits,
@@ -233,6 +239,7 @@ fn splits(
 }
 
 /// A reply goes last into the queue of its processor.
+#[inline(always)]
 fn sent_back(level: &mut Level<Reply>, waits: &Waits, settings: &CombSettings, x: u32, reply: Reply)
     requires by { settings.now.bit < 6 }
     requires there { x < 64 }
@@ -248,6 +255,7 @@ fn sent_back(level: &mut Level<Reply>, waits: &Waits, settings: &CombSettings, x
 }
 
 /// The index of the first entry that waits for that tag.
+#[inline(always)]
 fn first_waiting(wait: &[Waiting], tag: Tag) -> Option<usize>
     ensures index { result ≡ position (λ w. same_tag w.first tag) wait.now }
     ensures within { IfSome result (λ i. i < length wait.now) }
