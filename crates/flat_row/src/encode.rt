@@ -194,6 +194,7 @@ impl Row {
 /// Appends the words of a module or a switch: of its kind, of the requests and the replies that wait at its ports, of the entries of its
 /// wait buffer, and of what is small.
 #[tactic(auto, using(crate::proofs::Encoding::parts_long))]
+#[inline(always)]
 pub(crate) fn write_parts(
     words: &mut Vec<u64>,
     kind: u64,

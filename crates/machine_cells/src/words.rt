@@ -19,6 +19,7 @@ use std::alloc::{AllocError, Global};
 /// # Errors
 ///
 /// Where the growth was refused. Then nothing was appended.
+#[inline(always)]
 pub fn encode(state: &MachineState, words: &mut Vec<u64>) -> Result<(), AllocError>
     ensures ok { OnOk result (words.new.items ≡ words.old.items ++ words_of state.now) }
     ensures err { OnErr result (words.new.items ≡ words.old.items) }

@@ -13,6 +13,7 @@ use std::alloc::{AllocError, Global};
 
 /// The processor of a head and what follows it. Of those that a processor has, it is that one ([`crate::components_are_told`]), and so
 /// with the others below; where no component has them, some component.
+#[inline(always)]
 pub fn read_proc(head: u64, words: &[u64]) -> ProcState
     ensures { result ≡ proc_from head words.now }
 {

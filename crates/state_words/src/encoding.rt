@@ -16,6 +16,7 @@ use std::alloc::AllocError;
 ///
 /// Where the growth was refused. Then nothing was appended.
 #[tactic(auto, using(crate::proofs::Measuring::proc_long))]
+#[inline(always)]
 pub fn write_proc(words: &mut Vec<u64>, s: &ProcState) -> Result<(), AllocError>
     ensures ok { OnOk result (words.new.items ≡ words.old.items ++ proc_head s.now ∷ proc_body s.now) }
     ensures err { OnErr result (words.new.items ≡ words.old.items) }
