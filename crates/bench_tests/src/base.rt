@@ -2,7 +2,9 @@
 use bench_core::Bench;
 use omega_net::ScriptEntry;
 use project_book::{Edit, Project};
+use shared_bench::Pass;
 use std::alloc::Global;
+use std::process::Abort;
 use std::test::Fail;
 use word_ops::{Kind, Op};
 
@@ -57,4 +59,10 @@ pub(crate) fn bench_of(alloc: Global, project: Project, clock: u64) -> Result<Bo
 /// A fresh bench of the base project.
 pub(crate) fn fresh(alloc: Global) -> Result<Box<Bench>, Fail> {
     bench_of(alloc, base(alloc)?, 0)
+}
+
+/// Closes the last pass: its bench, in a box at once. A proof of a function that looks at the result of `close` takes minutes.
+pub(crate) fn bench_back<R: Abort>(rt: &R, alloc: Global, pass: Pass) -> Box<Bench> {
+    let bench = pass.close().ok().expect(rt, "another pass is there");
+    Box::new(alloc, bench).ok().expect(rt, "no memory")
 }

@@ -10,6 +10,7 @@ use project_book::Edit;
 use run_queries::Query;
 use serial_order::Ordered;
 use std::alloc::Global;
+use std::io::Eprint;
 use std::test::Fail;
 use std::thread::Threads;
 
@@ -43,6 +44,18 @@ fn text<R: Threads + Sync>(
         Asked::Pending(due) => Ok(format!(in alloc; "{due} due")?),
         _ => Err(Fail::from("no answer")),
     }
+}
+
+/// Whether this is answered.
+fn answers<R: Threads + Sync + Eprint>(
+    rt: &R,
+    alloc: Global,
+    bench: &mut Bench,
+    query: Query,
+    wanted: &str,
+) -> Result<bool, Fail> {
+    let found = text(rt, alloc, bench, query)?;
+    Ok(equal(rt, found.as_str(), wanted))
 }
 
 #[test]
@@ -79,18 +92,11 @@ const SERVED: Query = Query::Counter {
     to: 10,
 };
 
-/// What this question is answered, and what 65 questions later, as many as push it out of those that are kept.
-fn again_after_many<R: Threads + Sync>(
-    rt: &R,
-    alloc: Global,
-    bench: &mut Bench,
-    query: Query,
-) -> Result<(String, String), Fail> {
-    let first = text(rt, alloc, bench, query)?;
+/// Asks 65 questions, as many as push another one out of those that are kept.
+fn asks_many<R: Threads + Sync>(rt: &R, bench: &mut Bench) {
     for address in 0..65 {
         bench.ask(rt, Query::Place { address });
     }
-    Ok((first, text(rt, alloc, bench, query)?))
 }
 
 /// How many of these questions are answered the same when they are asked again.
@@ -135,13 +141,14 @@ fn questions_asked_again(rt: HostRuntime) -> Result<(), Fail> {
     let mut bench = settled(alloc)?;
     bench.edit(0, add(0, 1))?;
     settle(&mut bench)?;
-    let (first, later) = again_after_many(&rt, alloc, &mut bench, SERVED)?;
-    assert!(rt; equal(&rt, (first.as_str(), later.as_str()), ("1 1", "1 1")));
+    assert!(rt; answers(&rt, alloc, &mut bench, SERVED, "1 1")?);
+    asks_many(&rt, &mut bench);
+    assert!(rt; answers(&rt, alloc, &mut bench, SERVED, "1 1")?);
     assert!(rt; equal(&rt, same_again(&rt, alloc, &mut bench, &KEPT)?, 5));
     bench.edit(0, word(300, 5))?;
-    assert!(rt; equal(&rt, text(&rt, alloc, &mut bench, SERVED)?.as_str(), "2 due"));
+    assert!(rt; answers(&rt, alloc, &mut bench, SERVED, "2 due")?);
     settle(&mut bench)?;
-    assert!(rt; equal(&rt, text(&rt, alloc, &mut bench, SERVED)?.as_str(), "2 1"));
+    assert!(rt; answers(&rt, alloc, &mut bench, SERVED, "2 1")?);
     Ok(())
 }
 
@@ -163,20 +170,8 @@ fn settled_as_far_as_asked(rt: HostRuntime) -> Result<(), Fail> {
     let mut bench = fresh(alloc)?;
     assert!(rt; equal(&rt, bench.last_cycle(served_to(3)), Some(3)));
     assert!(rt; equal(&rt, bench.settle_to(3), Ok(Settled { computed: 24 })));
-    assert!(rt;
-        equal(
-            &rt,
-            text(&rt, alloc, &mut bench, served_to(3))?.as_str(),
-            "0 0"
-        )
-    );
-    assert!(rt;
-        equal(
-            &rt,
-            text(&rt, alloc, &mut bench, served_to(4))?.as_str(),
-            "6 due"
-        )
-    );
+    assert!(rt; answers(&rt, alloc, &mut bench, served_to(3), "0 0")?);
+    assert!(rt; answers(&rt, alloc, &mut bench, served_to(4), "6 due")?);
     assert!(rt; equal(&rt, bench.settle_to(7), Ok(Settled { computed: 24 })));
     assert!(rt; equal(&rt, bench.settle(), Ok(Settled { computed: 18 })));
     Ok(())
@@ -196,6 +191,18 @@ fn told<R: Threads + Sync>(
     }
 }
 
+/// Whether this is told.
+fn tells<R: Threads + Sync + Eprint>(
+    rt: &R,
+    alloc: Global,
+    bench: &mut Bench,
+    query: Query,
+    wanted: &str,
+) -> Result<bool, Fail> {
+    let found = told(rt, alloc, bench, query)?;
+    Ok(equal(rt, found.as_str(), wanted))
+}
+
 /// The word of address 300, which stands in module 1, before cycle 1.
 const EARLY_WORD: Query = Query::Memory {
     address: 300,
@@ -209,16 +216,10 @@ fn answered_as_far_as_it_looks(rt: HostRuntime) -> Result<(), Fail> {
     let alloc = rt.alloc();
     let mut bench = settled(alloc)?;
     bench.edit(0, word(300, 5))?;
-    assert!(rt;
-        equal(
-            &rt,
-            told(&rt, alloc, &mut bench, EARLY_WORD)?.as_str(),
-            "1 5"
-        )
-    );
-    assert!(rt; equal(&rt, text(&rt, alloc, &mut bench, SERVED)?.as_str(), "3 due"));
-    assert!(rt; equal(&rt, told(&rt, alloc, &mut bench, SERVED)?.as_str(), "1 0"));
-    assert!(rt; equal(&rt, text(&rt, alloc, &mut bench, SERVED)?.as_str(), "1 0"));
+    assert!(rt; tells(&rt, alloc, &mut bench, EARLY_WORD, "1 5")?);
+    assert!(rt; answers(&rt, alloc, &mut bench, SERVED, "3 due")?);
+    assert!(rt; tells(&rt, alloc, &mut bench, SERVED, "1 0")?);
+    assert!(rt; answers(&rt, alloc, &mut bench, SERVED, "1 0")?);
     Ok(())
 }
 
@@ -233,22 +234,10 @@ fn answered_without_a_cell(rt: HostRuntime) -> Result<(), Fail> {
         component: 0,
         cycle: 11,
     };
-    assert!(rt;
-        equal(
-            &rt,
-            told(&rt, alloc, &mut bench, place)?.as_str(),
-            "0 1:300"
-        )
-    );
-    assert!(rt; equal(&rt, told(&rt, alloc, &mut bench, bound)?.as_str(), "bad 6"));
-    assert!(rt; equal(&rt, told(&rt, alloc, &mut bench, beyond)?.as_str(), "bad 2"));
-    assert!(rt;
-        equal(
-            &rt,
-            text(&rt, alloc, &mut bench, SERVED)?.as_str(),
-            "66 due"
-        )
-    );
+    assert!(rt; tells(&rt, alloc, &mut bench, place, "0 1:300")?);
+    assert!(rt; tells(&rt, alloc, &mut bench, bound, "bad 6")?);
+    assert!(rt; tells(&rt, alloc, &mut bench, beyond, "bad 2")?);
+    assert!(rt; answers(&rt, alloc, &mut bench, SERVED, "66 due")?);
     Ok(())
 }
 
@@ -261,36 +250,12 @@ fn a_reply_is_sought_no_further(rt: HostRuntime) -> Result<(), Fail> {
     bench.edit(0, Edit::Horizon(100))?;
     bench.edit(0, add(0, 5))?;
     let reply = Query::Reply { proc: 0, issue: 0 };
-    assert!(rt;
-        equal(
-            &rt,
-            told(&rt, alloc, &mut bench, reply)?.as_str(),
-            "2 at 6 word 10"
-        )
-    );
-    assert!(rt;
-        equal(
-            &rt,
-            text(&rt, alloc, &mut bench, served_to(15))?.as_str(),
-            "2 1"
-        )
-    );
-    assert!(rt;
-        equal(
-            &rt,
-            text(&rt, alloc, &mut bench, served_to(16))?.as_str(),
-            "6 due"
-        )
-    );
+    assert!(rt; tells(&rt, alloc, &mut bench, reply, "2 at 6 word 10")?);
+    assert!(rt; answers(&rt, alloc, &mut bench, served_to(15), "2 1")?);
+    assert!(rt; answers(&rt, alloc, &mut bench, served_to(16), "6 due")?);
     let beyond = Query::Reply { proc: 0, issue: 1 };
-    assert!(rt; equal(&rt, told(&rt, alloc, &mut bench, beyond)?.as_str(), "bad 4"));
-    assert!(rt;
-        equal(
-            &rt,
-            text(&rt, alloc, &mut bench, served_to(100))?.as_str(),
-            "2 1"
-        )
-    );
+    assert!(rt; tells(&rt, alloc, &mut bench, beyond, "bad 4")?);
+    assert!(rt; answers(&rt, alloc, &mut bench, served_to(100), "2 1")?);
     Ok(())
 }
 
@@ -318,6 +283,12 @@ fn ordered(alloc: Global, bench: &Bench) -> Result<String, Fail> {
     }
 }
 
+/// Whether this is the order of word 0.
+fn is_order<R: Eprint>(rt: &R, alloc: Global, bench: &Bench, wanted: &str) -> Result<bool, Fail> {
+    let found = ordered(alloc, bench)?;
+    Ok(equal(rt, found.as_str(), wanted))
+}
+
 /// The order is told whether or not cells are due.
 #[test]
 fn an_order_due_or_settled(rt: HostRuntime) -> Result<(), Fail> {
@@ -326,10 +297,10 @@ fn an_order_due_or_settled(rt: HostRuntime) -> Result<(), Fail> {
     for edit in [add(0, 1), add(1, 2), Edit::Horizon(5)] {
         bench.edit(0, edit)?;
     }
-    assert!(rt; equal(&rt, ordered(alloc, &bench)?.as_str(), "order 0.0 1.0"));
+    assert!(rt; is_order(&rt, alloc, &bench, "order 0.0 1.0")?);
     settle(&mut bench)?;
-    assert!(rt; equal(&rt, ordered(alloc, &bench)?.as_str(), "order 0.0 1.0"));
+    assert!(rt; is_order(&rt, alloc, &bench, "order 0.0 1.0")?);
     bench.edit(0, Edit::Horizon(3))?;
-    assert!(rt; equal(&rt, ordered(alloc, &bench)?.as_str(), "order"));
+    assert!(rt; is_order(&rt, alloc, &bench, "order")?);
     Ok(())
 }

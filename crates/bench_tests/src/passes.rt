@@ -7,7 +7,7 @@ mod lots;
 mod many;
 mod waking;
 
-use crate::base::{base, bench_of, fresh, word};
+use crate::base::{base, bench_back, bench_of, fresh, word};
 use bench_core::{Asked, Bench};
 use benches::{add, begun};
 use cell_table::{Cell, Claim};
@@ -70,16 +70,23 @@ fn claimed<R: Wait>(rt: &R, pass: &mut Pass, cycle: u32) -> Result<Claim<Rp3>, F
     }
 }
 
+/// The first pass gives the result of its claim beside an edit of the other, which doesn't overtake it.
+fn not_overtaken<R: Host + Abort + Eprint>(rt: &R, alloc: Global, a: Pass, claim: Task, b: Pass)
+    requires { a.opening ≡ b.opening }
+{
+    let ((a, given), (b, edited)) = together(rt, a, claim, b, Task::Edit(add(1)));
+    assert!(rt; equal(rt, given, Came::Stored { changed: true }));
+    assert!(rt; equal(rt, edited, Came::Version(1)));
+    bench_back(rt, alloc, a.join(b));
+}
+
 /// 11: processor 0 at cycle 1 reads nothing of processor 1's script, so another pass's edit doesn't overtake it.
 #[test]
 fn example_11(rt: HostRuntime) -> Result<(), Fail> {
     let mut a = opened(rt.alloc(), begun(rt.alloc())?, 2)?;
     let b = split(&mut a)?;
     let claim = claimed(&rt, &mut a, 1)?;
-    let ((a, given), (b, edited)) = together(&rt, a, Task::Give(claim), b, Task::Edit(add(1)));
-    assert!(rt; equal(&rt, given, Came::Stored { changed: true }));
-    assert!(rt; equal(&rt, edited, Came::Version(1)));
-    assert!(rt; a.join(b).close().is_ok());
+    not_overtaken(&rt, rt.alloc(), a, Task::Give(claim), b);
     Ok(())
 }
 
@@ -154,17 +161,20 @@ fn late<R: Host + Abort + Eprint>(rt: &R, a: &mut Pass) -> Result<Pass, Fail>
     Ok(b)
 }
 
+/// A pass that can't be closed, since others are there, comes back.
+fn refused<R: Abort>(rt: &R, pass: Pass) -> Pass
+    ensures { result ≡ pass }
+{
+    pass.close().err().expect(rt, "two other passes are there")
+}
+
 /// A pass can't be closed while others are there; the bench comes back from the last.
-fn closed<R: Abort + Eprint>(rt: &R, a: Pass, early: Pass, b: Pass)
+fn closed<R: Abort + Eprint>(rt: &R, alloc: Global, a: Pass, early: Pass, b: Pass)
     requires early { a.opening ≡ early.opening }
     requires late { a.opening ≡ b.opening }
 {
-    let Err(a) = a.close() else {
-        panic!(rt; "two other passes are there")
-    };
-    let Ok(bench) = a.join(early).join(b).close() else {
-        panic!(rt; "no other pass is there")
-    };
+    let a = refused(rt, a);
+    let bench = bench_back(rt, alloc, a.join(early).join(b));
     assert!(rt; equal(rt, bench.journal().len(), 1));
 }
 
@@ -177,7 +187,7 @@ fn example_16(rt: HostRuntime) -> Result<(), Fail> {
     let (mut a, early) = raced(&rt, a, early);
     let b = late(&rt, &mut a)?;
     assert!(rt; matches!(a.split(), Err(SplitFault::NoSeat)));
-    closed(&rt, a, early, b);
+    closed(&rt, rt.alloc(), a, early, b);
     Ok(())
 }
 
@@ -190,16 +200,8 @@ fn example_20(rt: HostRuntime) -> Result<(), Fail> {
     assert!(rt; equal(&rt, told, Came::ClockSpent));
     let edited = does(&rt, &mut pass, Task::Edit(word(0, 10)));
     assert!(rt; equal(&rt, edited, Came::Refused(EditFault::ClockSpent)));
-    assert!(rt; pass.close().is_ok());
+    bench_back(&rt, rt.alloc(), pass);
     Ok(())
-}
-
-/// Closes the last pass.
-fn bench_back(alloc: Global, pass: Pass) -> Result<Box<Bench>, Fail> {
-    match pass.close() {
-        Ok(bench) => Ok(Box::new(alloc, bench)?),
-        Err(_) => Err(Fail::from("another pass is there")),
-    }
 }
 
 /// Each of 800 answers between 800 edits is that of the simulation of the journal that the pass had seen then.
@@ -217,7 +219,7 @@ fn four_at_once(rt: HostRuntime) -> Result<(), Fail> {
             came
         },
     );
-    let bench = bench_back(alloc, pass)?;
+    let bench = bench_back(&rt, alloc, pass);
     assert!(rt; equal(&rt, bench.version(), 800));
     let words = simulated_versions(alloc, bench.journal())?;
     assert!(rt; equal(&rt, right(&heard, &words), 800));

@@ -6,6 +6,7 @@ mod gates;
 mod sleeping;
 mod waves;
 
+use crate::base::bench_back;
 use bench_core::Asked;
 use benches::opened;
 use expect::equal;
@@ -13,6 +14,7 @@ use gates::{Board, Meeting, Stopping};
 use monitor_sums::Counter;
 use run_queries::{Body, Query};
 use shared_bench::Pass;
+use std::alloc::Global;
 use std::process::Abort;
 use std::sync::{Arc, Wait};
 use std::test::*;
@@ -29,13 +31,19 @@ const SERVED: Query = Query::Counter {
 
 /// What comes of workers with these gates: how many results were given, how many stored, and why they ended before their
 /// turns were over. The pass is closed.
-fn worked<R, G>(rt: &R, pass: Pass, gates: Vec<G>, turns: u64) -> (u64, u64, Option<WorkFault>)
+fn worked<R, G>(
+    rt: &R,
+    alloc: Global,
+    pass: Pass,
+    gates: Vec<G>,
+    turns: u64,
+) -> (u64, u64, Option<WorkFault>)
 where
     R: Threads + Wait + Abort + Sync + Send + Copy + 'static,
     G: Gate + Send + Drop + 'static,
 {
     let worked = work(rt, pass, gates, turns);
-    assert!(rt; worked.pass.close().is_ok());
+    bench_back(rt, alloc, worked.pass);
     (worked.given, worked.stored, worked.fault)
 }
 
@@ -44,7 +52,7 @@ where
 fn example_27_no_seat(rt: HostRuntime) -> Result<(), Fail> {
     for (seats, stored) in [(1, 0), (2, 1)] {
         let gates = vec![in rt.alloc(); Ungated, Ungated]?;
-        let came = worked(&rt, opened(rt.alloc(), seats)?, gates, 1);
+        let came = worked(&rt, rt.alloc(), opened(rt.alloc(), seats)?, gates, 1);
         assert!(rt; equal(&rt, came, (stored, stored, Some(WorkFault::NoSeat))));
     }
     Ok(())
@@ -55,7 +63,7 @@ fn example_27_no_seat(rt: HostRuntime) -> Result<(), Fail> {
 fn example_27_at_once(rt: HostRuntime) -> Result<(), Fail> {
     let board = Arc::new(rt.alloc(), Board::new())?;
     let gates = Meeting::both(rt.alloc(), &board)?;
-    let came = worked(&rt, opened(rt.alloc(), 3)?, gates, 1);
+    let came = worked(&rt, rt.alloc(), opened(rt.alloc(), 3)?, gates, 1);
     assert!(rt; equal(&rt, came, (2, 2, None)));
     assert!(rt; equal(&rt, (board.both_met(), board.first_cells()), (true, (0, 1))));
     Ok(())
@@ -99,7 +107,7 @@ fn a_worker_stops_within_a_lot(rt: HostRuntime) -> Result<(), Fail> {
     ];
     for (stop, turns, given) in cases {
         let gates = vec![in rt.alloc(); Stopping::at(0), Stopping::at(stop)]?;
-        let came = worked(&rt, opened(rt.alloc(), 3)?, gates, turns);
+        let came = worked(&rt, rt.alloc(), opened(rt.alloc(), 3)?, gates, turns);
         assert!(rt; equal(&rt, came, (given, given, None)));
     }
     Ok(())

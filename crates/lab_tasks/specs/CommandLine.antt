@@ -1,5 +1,5 @@
 -- The program's command line, as `clap` reads it.
-use Rattle.std.specs.Prelude.{◌≡◌, true, false, List, [], ◌∷◌, ◌++◌, map, fold, Some, All, codes, bytes_eq}
+use Rattle.std.specs.Prelude.{◌≡◌, true, false, List, [], ◌∷◌, ◌++◌, map, fold, Some, Result, IfOk, All, codes, bytes_eq}
 use Rattle.clap.specs.Words.{App, Rule, Shape, Text, app_of, new_app, new_rule, with_rule, with_subcommand}
 use Rattle.clap.specs.Simple.{new_shape, on_top}
 use Rattle.clap.specs.declared.builder.command.Command.{Command}
@@ -127,5 +127,5 @@ HasMore old rule new = (app : App) → IsApp app old → IsApp (with_rule app ru
 abbrev pub HasAll : Command → List Rule → Command → Type 0
 HasAll old rules new = (app : App) → IsApp app old → IsApp (fold with_rule app rules) new
 
-abbrev pub HasTask : Command → Command → Command → Type 0
-HasTask old task new = (app : App) (shape : Shape) → IsApp app old → IsTask shape task → IsApp (with_subcommand app shape) new
+abbrev pub HasTask : {E : Type 0} → Command → Result Command E → Command → Type 0
+HasTask old task new = (app : App) (shape : Shape) → IsApp app old → IfOk task (IsTask shape) → IsApp (with_subcommand app shape) new

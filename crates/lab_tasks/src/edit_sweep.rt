@@ -12,11 +12,10 @@ ghost use Rattle.lab_tasks.specs.Tables.{field_text, fields_text};
 use crate::end::{End, Reason};
 use crate::sweep::{
     MOST_ROWS, add_answers, add_asks, add_field, add_queues, all_queries, all_rows, all_swept,
-    count_rows,
+    count_rows, opened,
 };
 use crate::swept::{Setting, Swept};
 use crate::tables::Field;
-use bench_core::Bench;
 use edit_templates::{Axis, Put, Step, Template, after_edits, behind, each, in_turn};
 use experiments::{Fault, told_each};
 use project_book::{Edit, EditFault, Project};
@@ -252,9 +251,7 @@ fn says<T: Threads + Sync>(
         Err(EditFault::Memory) => return Err(Fault::Memory),
         Err(fault) => return Ok(Err(fault.number())),
     };
-    let Ok(mut bench) = Bench::new(alloc, after, 0) else {
-        return Err(Fault::Memory);
-    };
+    let mut bench = opened(alloc, after)?;
     match told_each(rt, alloc, &mut bench, queries) {
         Ok(bodies) => Ok(Ok(bodies)),
         Err(fault) => Err(fault),

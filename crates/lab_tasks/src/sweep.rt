@@ -19,6 +19,7 @@ use crate::tables::Field;
 use bench_core::Bench;
 use commands::Command;
 use experiments::{Fault, sweep_row, told_each};
+use grid_law::NoMemory;
 use project_book::{Depths, Edit, MAX_DEPTH, Project};
 use run_queries::{Body, Query};
 use std::alloc::{AllocError, Global};
@@ -381,6 +382,14 @@ fn add_rows<'a, T: Threads + Sync>(
     Ok(())
 }
 
+/// A fresh bench of a project, in a box at once: a proof of a function that holds a bench itself takes minutes.
+pub(crate) fn opened(alloc: Global, project: Project) -> Result<Box<Bench>, NoMemory>
+    ensures { IfOk result (λ bench. project_of bench.value ≡ project) }
+{
+    let bench = Bench::new(alloc, project, 0).ok().ok_or(NoMemory)?;
+    Box::new(alloc, bench).ok().ok_or(NoMemory)
+}
+
 /// The table of what is swept and asked.
 #[tactic(auto, using(crate::proofs::Stops::is_stop_memory))]
 fn table_of<'a, T: Threads + Sync>(
@@ -395,9 +404,7 @@ fn table_of<'a, T: Threads + Sync>(
     ensures refused { IfErr result IsStop }
 {
     let mut text = header(alloc, all, asks)?;
-    let Ok(mut bench) = Bench::new(alloc, project, 0) else {
-        return Err(End::Memory);
-    };
+    let mut bench = opened(alloc, project)?;
     match add_rows(rt, alloc, &mut text, &mut bench, all, queries) {
         Ok(()) => Ok(text),
         Err(end) => Err(end),

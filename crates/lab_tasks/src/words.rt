@@ -730,30 +730,36 @@ fn bare_command<'a>(alloc: Global) -> Result<Command<'a>, AllocError>
 }
 
 /// The command with one task more.
-fn with_task<'a>(command: Command<'a>, task: Command<'a>) -> Result<Command<'a>, AllocError>
+fn with_task<'a>(
+    command: Command<'a>,
+    task: Result<Command<'a>, AllocError>,
+) -> Result<Command<'a>, AllocError>
     ensures { IfOk result (HasTask command.entry task.entry) }
 {
-    command.subcommand(task)
+    match task {
+        Ok(task) => command.subcommand(task),
+        Err(fault) => Err(fault),
+    }
 }
 
 fn lab_command<'a>(alloc: Global) -> Result<Command<'a>, AllocError>
     ensures { IfOk result IsLab }
 {
     let command = bare_command(alloc)?;
-    let command = with_task(command, map_command(alloc)?)?;
-    let command = with_task(command, order_command(alloc)?)?;
-    let command = with_task(command, latency_command(alloc)?)?;
-    let command = with_task(command, done_command(alloc)?)?;
-    let command = with_task(command, trace_command(alloc)?)?;
-    let command = with_task(command, full_command(alloc)?)?;
-    let command = with_task(command, series_command(alloc)?)?;
-    let command = with_task(command, rates_command(alloc)?)?;
-    let command = with_task(command, delays_command(alloc)?)?;
-    let command = with_task(command, load_command(alloc)?)?;
-    let command = with_task(command, sweep_command(alloc)?)?;
-    let command = with_task(command, check_command(alloc)?)?;
-    let command = with_task(command, convert_command(alloc)?)?;
-    let command = with_task(command, page_command(alloc)?)?;
+    let command = with_task(command, map_command(alloc))?;
+    let command = with_task(command, order_command(alloc))?;
+    let command = with_task(command, latency_command(alloc))?;
+    let command = with_task(command, done_command(alloc))?;
+    let command = with_task(command, trace_command(alloc))?;
+    let command = with_task(command, full_command(alloc))?;
+    let command = with_task(command, series_command(alloc))?;
+    let command = with_task(command, rates_command(alloc))?;
+    let command = with_task(command, delays_command(alloc))?;
+    let command = with_task(command, load_command(alloc))?;
+    let command = with_task(command, sweep_command(alloc))?;
+    let command = with_task(command, check_command(alloc))?;
+    let command = with_task(command, convert_command(alloc))?;
+    let command = with_task(command, page_command(alloc))?;
     Ok(command)
 }
 

@@ -9,6 +9,7 @@ use monitor_sums::Counter;
 use omega_net::{Net, ScriptEntry};
 use project_book::{Depths, Edit};
 use run_queries::{Body, Query};
+use std::alloc::Global;
 use std::test::Fail;
 use word_ops::{Kind, Op};
 
@@ -117,12 +118,18 @@ fn loads_are_run_side_by_side(rt: HostRuntime) -> Result<(), Fail> {
     Ok(())
 }
 
+/// A bench of the one processor, with its clock at this value. It stands in a box, since each way out of a function costs
+/// its proof something for every field that it lets go.
+fn bench(alloc: Global, clock: u64) -> Result<Box<Bench>, Fail> {
+    let project = project_of(alloc, ONE)?;
+    let bench = Bench::new(alloc, project, clock).ok().ok_or("a bench")?;
+    Ok(Box::new(alloc, bench)?)
+}
+
 // A bench whose clock is at its last value can compute nothing.
 #[test]
 fn a_spent_clock_is_told(rt: HostRuntime) -> Result<(), Fail> {
-    let Ok(mut bench) = Bench::new(rt.alloc(), project_of(rt.alloc(), ONE)?, u64::MAX) else {
-        return Err(Fail::from("a bench"));
-    };
+    let mut bench = bench(rt.alloc(), u64::MAX)?;
     let query = Query::Reply { proc: 0, issue: 0 };
     assert!(rt; matches!(told(&rt, &mut bench, query), Err(Fault::Clock)));
     Ok(())
@@ -131,9 +138,7 @@ fn a_spent_clock_is_told(rt: HostRuntime) -> Result<(), Fail> {
 // With a queue of two places the module's requests are never more.
 #[test]
 fn edits_are_swept(rt: HostRuntime) -> Result<(), Fail> {
-    let Ok(mut bench) = Bench::new(rt.alloc(), project_of(rt.alloc(), ONE)?, 0) else {
-        return Ok(());
-    };
+    let mut bench = bench(rt.alloc(), 0)?;
     let query = Query::Counter {
         counter: Counter::Served,
         who: None,

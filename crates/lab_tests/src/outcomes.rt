@@ -3,6 +3,8 @@ use expect::equal;
 use lab_tasks::{Outcome, Silent, perform, read_words};
 use machine_page::{HEAD, TAIL};
 use omega_net::Net;
+use std::alloc::Global;
+use std::io::Eprint;
 use std::test::Fail;
 use std::thread::Threads;
 
@@ -487,6 +489,28 @@ fn a_map_of_nothing_is_told(rt: HostRuntime) -> Result<(), Fail> {
     Ok(())
 }
 
+/// Whether this folder is to be there.
+fn is_kept_in<R: Eprint>(rt: &R, outcome: &Outcome, wanted: &str) -> bool {
+    match &outcome.folder {
+        Some(folder) => equal(rt, folder.as_str(), wanted),
+        None => false,
+    }
+}
+
+/// Whether these are the names of the files, in turn.
+fn are_written<R: Eprint>(
+    rt: &R,
+    alloc: Global,
+    outcome: &Outcome,
+    wanted: &[&str],
+) -> Result<bool, Fail> {
+    let mut names = Vec::new(alloc);
+    for file in &outcome.files {
+        names.push(file.name.as_str())?;
+    }
+    Ok(equal(rt, names.as_slice(), wanted))
+}
+
 // One processor whose references are all cold, its module alone: no queue delays it, and the bound of one is one.
 #[test]
 fn rates_are_tabled(rt: HostRuntime) -> Result<(), Fail> {
@@ -496,11 +520,7 @@ fn rates_are_tabled(rt: HostRuntime) -> Result<(), Fail> {
     ];
     let outcome = made(&rt, &words, b"")?;
     assert!(rt; equal(&rt, outcome.printed.len(), 0));
-    assert!(rt; equal(&rt, outcome.folder.ok_or("a folder")?.as_str(), "kept"));
-    let mut names = Vec::new(rt.alloc());
-    for file in &outcome.files {
-        names.push(file.name.as_str())?;
-    }
+    assert!(rt; is_kept_in(&rt, &outcome, "kept"));
     let all = [
         "a.svg",
         "a.csv",
@@ -513,7 +533,7 @@ fn rates_are_tabled(rt: HostRuntime) -> Result<(), Fail> {
         "kept/k1-hot0-on-seed1.toml",
         "kept/k1-hot0-on-seed2.toml",
     ];
-    assert!(rt; equal(&rt, names.as_slice(), all.as_slice()));
+    assert!(rt; are_written(&rt, rt.alloc(), &outcome, &all)?);
     let table = outcome.files.get(1).ok_or("a table")?;
     let text = std::str::from_utf8(table.bytes.as_slice())?;
     assert!(rt;
@@ -541,11 +561,7 @@ fn offered_loads_are_tabled(rt: HostRuntime) -> Result<(), Fail> {
         "--csv", "a.csv", "--out", "a.svg", "--keep", "kept",
     ];
     let outcome = made(&rt, &words, b"")?;
-    assert!(rt; equal(&rt, outcome.folder.ok_or("a folder")?.as_str(), "kept"));
-    let mut names = Vec::new(rt.alloc());
-    for file in &outcome.files {
-        names.push(file.name.as_str())?;
-    }
+    assert!(rt; is_kept_in(&rt, &outcome, "kept"));
     let all = [
         "a.svg",
         "a.csv",
@@ -553,7 +569,7 @@ fn offered_loads_are_tabled(rt: HostRuntime) -> Result<(), Fail> {
         "kept/k1-hot0-rate5-off-seed24.toml",
         "kept/k1-hot0-rate5-on-seed24.toml",
     ];
-    assert!(rt; equal(&rt, names.as_slice(), all.as_slice()));
+    assert!(rt; are_written(&rt, rt.alloc(), &outcome, &all)?);
     let table = outcome.files.get(1).ok_or("a table")?;
     assert!(rt; equal(&rt, table.bytes.as_slice(), OFFERED.as_bytes()));
     Ok(())

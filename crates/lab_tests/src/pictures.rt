@@ -1,5 +1,6 @@
 //! Scales, ticks, texts and documents, by numbers worked out by hand.
 use expect::equal;
+use std::alloc::Global;
 use std::test::Fail;
 use svg_plots::{
     Anchor, Axis, CellGroup, CellMap, CellRow, CellRows, Cells, Colour, Crossing, Curve, Curves,
@@ -187,37 +188,39 @@ fn curves_are_drawn(rt: HostRuntime) -> Result<(), Fail> {
     Ok(())
 }
 
-// Two columns are 285 pixels wide each, one row is 20 high, and its cells begin at 96 under one crossing's label.
-#[test]
-fn maps_are_drawn(rt: HostRuntime) -> Result<(), Fail> {
-    let rows = vec![in rt.alloc();
-        CellRow {
-            label: Label::new(rt.alloc(), "l0.0")?,
-            cells: Cells::from_vec(vec![in rt.alloc(); 2, 3]?),
-        },
-    ]?;
-    let groups = vec![in rt.alloc();
-        CellGroup {
-            label: Label::new(rt.alloc(), "stage 0")?,
-            rows: CellRows::from_vec(rows),
-        },
-    ]?;
-    let key = vec![in rt.alloc();
-        ShadeKey {
-            number: 3,
-            label: Label::new(rt.alloc(), "3 full")?,
-        },
-    ]?;
-    let crossings = vec![in rt.alloc();
-        Crossing {
-            column: Some(1),
-            label: Label::new(rt.alloc(), "level 1: cycle 8")?,
-        },
-    ]?;
+/// One group of one row of two cells.
+fn groups(alloc: Global) -> Result<Vec<CellGroup>, Fail> {
+    let cells = Cells::from_vec(vec![in alloc; 2, 3]?);
+    let label = Label::new(alloc, "l0.0")?;
+    let rows = CellRows::from_vec(vec![in alloc; CellRow { label, cells }]?);
+    let label = Label::new(alloc, "stage 0")?;
+    Ok(vec![in alloc; CellGroup { label, rows }]?)
+}
+
+/// The key of one shade.
+fn key(alloc: Global) -> Result<Vec<ShadeKey>, Fail> {
+    let label = Label::new(alloc, "3 full")?;
+    Ok(vec![in alloc; ShadeKey { number: 3, label }]?)
+}
+
+/// One crossing, before the second column.
+fn crossings(alloc: Global) -> Result<Vec<Crossing>, Fail> {
+    let column = Some(1);
+    let label = Label::new(alloc, "level 1: cycle 8")?;
+    Ok(vec![in alloc; Crossing { column, label }]?)
+}
+
+/// A map of these, as text.
+fn map_of(
+    alloc: Global,
+    groups: Vec<CellGroup>,
+    key: Vec<ShadeKey>,
+    crossings: Vec<Crossing>,
+) -> Result<String, Fail> {
     let map = CellMap {
-        title: Label::new(rt.alloc(), "queues")?,
+        title: Label::new(alloc, "queues")?,
         across: "cycle",
-        ticks: vec![in rt.alloc();
+        ticks: vec![in alloc;
             Tick {
                 value: 1,
                 number: 8,
@@ -228,14 +231,21 @@ fn maps_are_drawn(rt: HostRuntime) -> Result<(), Fail> {
         marked: 3,
         key,
         crossings,
-        levels: vec![in rt.alloc(); 0, 1]?,
+        levels: vec![in alloc; 0, 1]?,
         level_title: "level",
         highest: 1,
-        strokes: vec![in rt.alloc(); false, true]?,
+        strokes: vec![in alloc; false, true]?,
         stroke_title: "served",
-        notes: Vec::new(rt.alloc()),
+        notes: Vec::new(alloc),
     };
-    let text = draw_map(rt.alloc(), &map)?;
+    Ok(draw_map(alloc, &map)?)
+}
+
+// Two columns are 285 pixels wide each, one row is 20 high, and its cells begin at 96 under one crossing's label.
+#[test]
+fn maps_are_drawn(rt: HostRuntime) -> Result<(), Fail> {
+    let alloc = rt.alloc();
+    let text = map_of(alloc, groups(alloc)?, key(alloc)?, crossings(alloc)?)?;
     for part in [
         "<rect x=\"100\" y=\"96\" width=\"285\" height=\"19.6\" fill=\"#6baed6\"/>",
         "<rect x=\"385\" y=\"96\" width=\"285\" height=\"19.6\" fill=\"#2171b5\"/>",

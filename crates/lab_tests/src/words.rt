@@ -1,6 +1,7 @@
 //! Which words are a command line, and what they say.
 use expect::equal;
 use lab_tasks::{Asked, End, read_words, refusal, status};
+use std::alloc::Global;
 use std::io::Eprint;
 use std::process::Abort;
 use std::test::Fail;
@@ -142,26 +143,40 @@ fn words_of_a_series_are_taken(rt: HostRuntime) -> Result<(), Fail> {
     Ok(())
 }
 
+/// Whether this task with this file is of that file.
+fn is_of_file<R: Eprint>(rt: &R, alloc: Global, task: &str, file: &str) -> Result<bool, Fail> {
+    let words = [task, file];
+    let asked = read_words(alloc, &words)?;
+    Ok(equal(rt, asked.file(), Some(file)))
+}
+
+/// Compares what a conversion was told, and whether it may write over its source.
+fn compare_conversion<R: Abort + Eprint>(
+    rt: &R,
+    alloc: Global,
+    words: &[&str],
+    texts: &[&str],
+    force: bool,
+) -> Result<(), Fail> {
+    let asked = read_words(alloc, words)?;
+    let Asked::Convert(told) = &asked else {
+        return Err(Fail::from("a file"));
+    };
+    compare(rt, &[asked.file(), told.out], texts);
+    assert!(rt; equal(rt, told.force, force));
+    Ok(())
+}
+
 #[test]
 fn words_of_a_file_are_taken(rt: HostRuntime) -> Result<(), Fail> {
-    let asked = read_words(rt.alloc(), &["check", "a.toml"])?;
-    compare(&rt, &[asked.file()], &["a.toml"]);
-    let asked = read_words(rt.alloc(), &["done", "a.toml"])?;
-    compare(&rt, &[asked.file()], &["a.toml"]);
-    let asked = read_words(rt.alloc(), &["full", "a.toml"])?;
-    compare(&rt, &[asked.file()], &["a.toml"]);
-    let asked = read_words(rt.alloc(), &["convert", "a.toml", "--out", "b.toml"])?;
-    let Asked::Convert(words) = &asked else {
-        return Err(Fail::from("a file"));
-    };
-    compare(&rt, &[asked.file(), words.out], &["a.toml", "b.toml"]);
-    assert!(rt; !words.force);
-    let asked = read_words(rt.alloc(), &["convert", "--force", "a.toml"])?;
-    let Asked::Convert(words) = &asked else {
-        return Err(Fail::from("a file"));
-    };
-    compare(&rt, &[asked.file(), words.out], &["a.toml", "-"]);
-    assert!(rt; words.force);
+    let alloc = rt.alloc();
+    for task in ["check", "done", "full"] {
+        assert!(rt; is_of_file(&rt, alloc, task, "a.toml")?);
+    }
+    let words = ["convert", "a.toml", "--out", "b.toml"];
+    compare_conversion(&rt, alloc, &words, &["a.toml", "b.toml"], false)?;
+    let words = ["convert", "--force", "a.toml"];
+    compare_conversion(&rt, alloc, &words, &["a.toml", "-"], true)?;
     Ok(())
 }
 

@@ -36,6 +36,12 @@ fn at(cycle: u32, component: u32) -> Cell {
     Cell { cycle, component }
 }
 
+/// The only pass to a bench. It stands in a box, as the bench did.
+fn alone(alloc: Global, bench: Box<Bench>) -> Result<Box<Pass>, Fail> {
+    let pass = opened(alloc, bench, 1)?;
+    Ok(Box::new(alloc, pass)?)
+}
+
 /// The claims of a lot.
 fn lot<R: Wait>(rt: &R, pass: &mut Pass, from: Cell, most: u32) -> Result<Vec<Claim<Rp3>>, Fail> {
     Ok(pass.claim_many(rt, from, most)?)
@@ -104,7 +110,7 @@ fn one_by_one<R: Wait>(rt: &R, alloc: Global, pass: &mut Pass) -> Result<Vec<(u3
 #[test]
 fn a_lot_is_the_claims_one_by_one(rt: HostRuntime) -> Result<(), Fail> {
     let alloc = rt.alloc();
-    let mut pass = opened(alloc, fresh(alloc)?, 1)?;
+    let mut pass = alone(alloc, fresh(alloc)?)?;
     let all = one_by_one(&rt, alloc, &mut pass)?;
     assert!(rt; cells_of(&rt, alloc, &mut pass, at(0, 0), 6)? == all);
     assert!(rt; cells_of(&rt, alloc, &mut pass, at(0, 0), u32::MAX)? == all);
@@ -124,7 +130,7 @@ fn a_lot_is_the_claims_one_by_one(rt: HostRuntime) -> Result<(), Fail> {
 #[test]
 fn a_lot_passes_over_what_is_stored(rt: HostRuntime) -> Result<(), Fail> {
     let alloc = rt.alloc();
-    let mut pass = opened(alloc, fresh(alloc)?, 1)?;
+    let mut pass = alone(alloc, fresh(alloc)?)?;
     for component in [1, 4] {
         let claims = lot(&rt, &mut pass, at(0, component), 1)?;
         assert!(rt; become_so(&rt, alloc, &mut pass, claims, &[Became::Stored])?);
@@ -141,7 +147,7 @@ fn a_lot_passes_over_what_is_stored(rt: HostRuntime) -> Result<(), Fail> {
 #[test]
 fn a_lot_comes_too_late(rt: HostRuntime) -> Result<(), Fail> {
     let alloc = rt.alloc();
-    let mut pass = opened(alloc, fresh(alloc)?, 1)?;
+    let mut pass = alone(alloc, fresh(alloc)?)?;
     let first = lot(&rt, &mut pass, at(0, 0), 64)?;
     let second = lot(&rt, &mut pass, at(0, 0), 64)?;
     assert!(rt; become_so(&rt, alloc, &mut pass, first, &[Became::Stored; 6])?);
@@ -167,7 +173,7 @@ fn a_lot_comes_too_late(rt: HostRuntime) -> Result<(), Fail> {
 #[test]
 fn an_edit_overtakes_some_of_a_lot(rt: HostRuntime) -> Result<(), Fail> {
     let alloc = rt.alloc();
-    let mut pass = opened(alloc, fresh(alloc)?, 1)?;
+    let mut pass = alone(alloc, fresh(alloc)?)?;
     let claims = lot(&rt, &mut pass, at(0, 1), 64)?;
     assert!(rt; pass.edit(&rt, word(300, 5)).is_ok());
     let (stored, overtaken) = (Became::Stored, Became::Overtaken);
@@ -180,7 +186,7 @@ fn an_edit_overtakes_some_of_a_lot(rt: HostRuntime) -> Result<(), Fail> {
 #[test]
 fn a_lot_comes_back_at_a_spent_clock(rt: HostRuntime) -> Result<(), Fail> {
     let alloc = rt.alloc();
-    let mut pass = opened(alloc, bench_of(alloc, base(alloc)?, u64::MAX)?, 1)?;
+    let mut pass = alone(alloc, bench_of(alloc, base(alloc)?, u64::MAX)?)?;
     let claims = lot(&rt, &mut pass, at(0, 0), 2)?;
     assert!(rt; become_so(&rt, alloc, &mut pass, claims, &[Became::ClockSpent; 2])?);
     Ok(())
@@ -196,7 +202,7 @@ fn wide(alloc: Global) -> Result<Box<Bench>, Fail> {
 #[test]
 fn a_lot_has_64_cells_at_most(rt: HostRuntime) -> Result<(), Fail> {
     let alloc = rt.alloc();
-    let mut pass = opened(alloc, wide(alloc)?, 1)?;
+    let mut pass = alone(alloc, wide(alloc)?)?;
     for (most, count) in [(63, 63), (64, 64), (65, 64), (u32::MAX, 64)] {
         assert!(rt; equal(&rt, lot(&rt, &mut pass, at(0, 0), most)?.len(), count));
     }

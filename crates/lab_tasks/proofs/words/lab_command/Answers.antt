@@ -4,17 +4,17 @@ use Rattle.lab_tasks.proofs.words.lab_command.Goals as goal
 pub returns : goal.returns
 unfolding lab
 returns c =
-    let one = c.in_ok-command-2.ensures bare map_task c.in_ok-command.ensures c.in_ok-map_command.ensures in
-    let two = c.in_ok-command-3.ensures _ order_task one c.in_ok-order_command.ensures in
-    let three = c.in_ok-command-4.ensures _ latency_task two c.in_ok-latency_command.ensures in
-    let four = c.in_ok-command-5.ensures _ done_task three c.in_ok-done_command.ensures in
-    let five = c.in_ok-command-6.ensures _ trace_task four c.in_ok-trace_command.ensures in
-    let six = c.in_ok-command-7.ensures _ full_task five c.in_ok-full_command.ensures in
-    let seven = c.in_ok-command-8.ensures _ series_task six c.in_ok-series_command.ensures in
-    let eight = c.in_ok-command-9.ensures _ rates_task seven c.in_ok-rates_command.ensures in
-    let nine = c.in_ok-command-10.ensures _ delays_task eight c.in_ok-delays_command.ensures in
-    let ten = c.in_ok-command-11.ensures _ load_task nine c.in_ok-load_command.ensures in
-    let eleven = c.in_ok-command-12.ensures _ sweep_task ten c.in_ok-sweep_command.ensures in
-    let twelve = c.in_ok-command-13.ensures _ check_task eleven c.in_ok-check_command.ensures in
-    let thirteen = c.in_ok-command-14.ensures _ convert_task twelve c.in_ok-convert_command.ensures in
-    c.in_ok-command-15.ensures _ page_task thirteen c.in_ok-page_command.ensures
+    let one = c.in_ok-command-2.ensures bare map_task c.in_ok-command.ensures c.map_command.ensures in
+    let two = c.in_ok-command-3.ensures _ order_task one c.order_command.ensures in
+    let three = c.in_ok-command-4.ensures _ latency_task two c.latency_command.ensures in
+    let four = c.in_ok-command-5.ensures _ done_task three c.done_command.ensures in
+    let five = c.in_ok-command-6.ensures _ trace_task four c.trace_command.ensures in
+    let six = c.in_ok-command-7.ensures _ full_task five c.full_command.ensures in
+    let seven = c.in_ok-command-8.ensures _ series_task six c.series_command.ensures in
+    let eight = c.in_ok-command-9.ensures _ rates_task seven c.rates_command.ensures in
+    let nine = c.in_ok-command-10.ensures _ delays_task eight c.delays_command.ensures in
+    let ten = c.in_ok-command-11.ensures _ load_task nine c.load_command.ensures in
+    let eleven = c.in_ok-command-12.ensures _ sweep_task ten c.sweep_command.ensures in
+    let twelve = c.in_ok-command-13.ensures _ check_task eleven c.check_command.ensures in
+    let thirteen = c.in_ok-command-14.ensures _ convert_task twelve c.convert_command.ensures in
+    c.in_ok-command-15.ensures _ page_task thirteen c.page_command.ensures
