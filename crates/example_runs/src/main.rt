@@ -9,6 +9,7 @@ ghost use Rattle.example_runs.specs.Verdicts.{Judges};
 
 mod page;
 mod pictures;
+mod shells;
 mod verdict;
 
 use bench_core::Bench;

@@ -1,9 +1,11 @@
 //! The pictures and tables of the examples, made again.
 
+use crate::opened;
 use crate::page::{Session, words};
+use crate::shells::talked;
 use crate::verdict::{Verdict, status_after};
 use command_line::read_file;
-use lab_tasks::{Asked, Outcome, Silent, perform, read_words};
+use lab_tasks::{Asked, OutFile, Outcome, Silent, perform, read_words};
 use std::alloc::AllocGlobal;
 use std::io;
 use std::io::{Print, Write};
@@ -81,6 +83,12 @@ pub fn made<R: Files + AllocGlobal + Threads + Sync>(rt: &R, session: &Session) 
     let Ok(asked) = read_words(rt.alloc(), words.as_slice()) else {
         return Verdict::NotRun;
     };
+    if let Asked::Shell(words) = &asked {
+        return match opened(rt, words.file.unwrap_or("")) {
+            Some(project) => talked(rt, words.strict, project, session),
+            None => Verdict::NotRead,
+        };
+    }
     let Ok(bytes) = input(rt, &asked) else {
         return Verdict::NotRead;
     };
@@ -99,13 +107,23 @@ fn printed<R: Files + AllocGlobal>(rt: &R, outcome: &Outcome, wanted: &[u8]) -> 
     }
 }
 
+/// Whether a file lies in examples/ with the same bytes.
+pub fn is_example<R: Files + AllocGlobal>(rt: &R, file: &OutFile) -> bool {
+    in_examples(rt, file) == Verdict::AsExpected
+}
+
+/// What is said of a file beside the one of its name in examples/.
+fn in_examples<R: Files + AllocGlobal>(rt: &R, file: &OutFile) -> Verdict {
+    match format!(in rt.alloc(); "examples/{}", file.name) {
+        Ok(name) => compared(rt, name.as_str(), file.bytes.as_slice()),
+        Err(_) => Verdict::NotRun,
+    }
+}
+
 /// What is said of the first file that isn't as expected.
 fn files_made<R: Files + AllocGlobal>(rt: &R, outcome: &Outcome) -> Verdict {
     for file in &outcome.files {
-        let Ok(name) = format!(in rt.alloc(); "examples/{}", file.name) else {
-            return Verdict::NotRun;
-        };
-        let verdict = compared(rt, name.as_str(), file.bytes.as_slice());
+        let verdict = in_examples(rt, file);
         if verdict != Verdict::AsExpected {
             return verdict;
         }

@@ -1,2 +1,3 @@
 mod Reading
 mod Talking
+mod Hinting

@@ -19,7 +19,7 @@ use Rattle.lab_shell.specs.declared.manner.Ended.TheVariants as ended
 use Rattle.lab_shell.specs.declared.word.ShellWord.{ShellWord}
 use Rattle.lab_shell.specs.declared.word.ShellWord.TheVariants.{Quit, Help, HelpOn, Show, Script, Save}
 use Rattle.lab_shell.specs.Steps.{IsLine, Line1, Reached, TurnOf, Turned}
-use Rattle.lab_shell.specs.Talks.{Says, One, OneFor, Goes, Stops, Talks, Talked, TalksPlainly, IsAllRead, IsDrained, Obeyed, answer_to, answer_text, prompt, line_at, request_in, no_request}
+use Rattle.lab_shell.specs.Talks.{Says, One, OneFor, Goes, Stops, Talks, Talked, TalksPlainly, IsAllRead, IsDrained, Obeyed, answer_to, told_text, prompt, line_at, request_in, no_request}
 
 is_one : (read bytes : List ℕ) (whole : Bool) → IsLine read bytes whole → lines_of read ≡ line_at whole bytes ∷ []
 is_one read bytes true h = ap lines_of (h.whole refl) ∙ lines_of-whole bytes [] h.no_lf
@@ -216,7 +216,7 @@ one_plain : (says : Says) (m : Manner) (s t : Store) (l : Line) (answer : List �
 one_plain says m s t l answer stop more plain none one =
     let P : Option (ShellWord × List ℕ) → Type 0 = λ r. OneFor says m s l r answer t stop in
     let obeyed : Obeyed m s l answer t stop = subst P none one in
-    let text : answer ≡ line_text (answer_to s l) = obeyed.0 ∙ ap (λ p. answer_text p (answer_to s l)) plain in
+    let text : answer ≡ line_text (answer_to s l) = obeyed.0 ∙ ap (λ p. told_text p l (answer_to s l)) plain in
     let empty : prompt m.people ≡ [] = ap prompt plain in (
       (line_out s l more).0 ∙ ap (λ x. x ++ output_lines (after_lines s (l ∷ [])) more) (sym text)
           ∙ ap (λ x. answer ++ output_lines x more) (sym obeyed.1) ∙ ap (λ x. (x ++ answer) ++ output_lines t more) (sym empty),

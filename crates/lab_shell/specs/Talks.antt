@@ -17,6 +17,7 @@ use Rattle.lab_shell.specs.declared.word.ShellWord.{ShellWord}
 use Rattle.lab_shell.specs.declared.word.ShellWord.TheVariants.{Quit, Help, HelpOn, Show, Script, Save}
 use Rattle.lab_shell.specs.Words.{request_of}
 use Rattle.lab_shell.specs.Reasons.{reasoned_text}
+use Rattle.lab_shell.specs.Hints.{slip_of}
 
 -- what a clerk may say to a word, and to the one behind it, about a project: a text, and whether the request was refused
 abbrev pub Says : Type 1
@@ -40,6 +41,20 @@ answer_to s (Cut l) = if is_long l then BadLine else BadCut
 -- an answer, for people with the reason behind it
 abbrev pub answer_text : Bool → Answer → List ℕ
 answer_text people a = if people then unwrap_or (reasoned_text a) [] ++ 10 ∷ [] else line_text a
+
+-- that a line is no command, with the name that one of its words may be where one is near
+abbrev pub no_command_text : Option (List ℕ) → List ℕ
+no_command_text None = answer_text true BadCommand
+no_command_text (Some name) = codes "bad command: there is no such command; is it " ++ (name ++ codes "?\n")
+
+-- what people are told of a line
+abbrev pub people_text : Line → Answer → List ℕ
+people_text (Whole l) BadCommand = no_command_text (slip_of (words_of l))
+people_text l a = answer_text true a
+
+-- and what anybody is
+abbrev pub told_text : Bool → Line → Answer → List ℕ
+told_text people l a = if people then people_text l a else line_text a
 
 abbrev pub prompt : Bool → List ℕ
 prompt people = if people then codes "> " else []
@@ -74,7 +89,7 @@ Requested says m s Save argument answer t stop = Clerked says m s Save argument 
 -- what is written for any other line
 abbrev pub Obeyed : Manner → Store → Line → List ℕ → Store → Option Ended → Type 0
 Obeyed m s l answer t stop =
-    (answer ≡ answer_text m.people (answer_to s l)) × (t ≡ after_lines s (l ∷ [])) × (stop ≡ stop_of m l (not (is_ok (answer_to s l))))
+    (answer ≡ told_text m.people l (answer_to s l)) × (t ≡ after_lines s (l ∷ [])) × (stop ≡ stop_of m l (not (is_ok (answer_to s l))))
 
 abbrev pub OneFor : Says → Manner → Store → Line → Option (ShellWord × List ℕ) → List ℕ → Store → Option Ended → Type 0
 OneFor says m s l None answer t stop = Obeyed m s l answer t stop

@@ -3,9 +3,10 @@
 //! [`talk`] reads lines from a reader. A line that begins with one of the shell's own words ([`ShellWord`]) is a request;
 //! a [`Clerk`] answers those that need more than the bench. Each other line is answered as `bench_shell` does it. A
 //! [`Manner`] says whether people read the answers, who then get a prompt, and a reason behind each refusal
-//! ([`Reasoned`]), and whether the first refusal ends the session.
+//! ([`Reasoned`]) with the word that a mistyped one may be (`specs/Hints.antt`), and whether the first refusal ends the
+//! session.
 //!
-//! It stands on `bench_shell` for answers, on `bench_core` for the bench, and on `line_words` for words.
+//! It stands on `bench_shell` for answers, on `bench_core` for the bench, on `line_words` for words, and on `strsim` for slips.
 //!
 //! Promise: what was written is the prompt and the answer of each line that was read, in turn, up to the line that ends the
 //! session (`specs/Talks.antt`); where no line is a request and no people read, it is exactly `output` of
@@ -14,6 +15,7 @@
 
 mod clerk;
 mod help;
+mod hint;
 mod manner;
 mod reason;
 mod session;
@@ -21,6 +23,6 @@ mod word;
 
 pub use clerk::{Clerk, Said};
 pub use manner::{Ended, Manner};
-pub use reason::Reasoned;
+pub use reason::{Reasoned, told_line};
 pub use session::talk;
 pub use word::{ShellWord, request};

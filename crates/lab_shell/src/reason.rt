@@ -1,8 +1,10 @@
 //! The reasons behind refusals.
-ghost use Rattle.std.specs.Prelude.{◌≡◌};
+ghost use Rattle.std.specs.Prelude.{◌≡◌, IfOk, string_bytes};
 ghost use Rattle.lab_shell.specs.Reasons.{refused_reason, bad_reason, reason_of};
+ghost use Rattle.lab_shell.specs.Talks.{answer_text};
 
 use bench_shell::Answer;
+use std::alloc::{AllocError, Global};
 use std::fmt;
 
 /// Why an edit is refused, behind its number.
@@ -68,4 +70,20 @@ impl fmt::Display for Reasoned<'_> {
     fn fmt<W: fmt::Write>(&self, f: &mut fmt::Formatter<W>) -> fmt::Result {
         write!(f, "{}{}", self.0, reason_of(self.0))
     }
+}
+
+/// The line of an answer, for people with the reason behind it.
+///
+/// # Errors
+///
+/// Where a growth was refused.
+pub fn told_line(alloc: Global, people: bool, answer: &Answer) -> Result<String, AllocError>
+    ensures { IfOk result (λ text. string_bytes text ≡ answer_text people answer.now) }
+{
+    if people {
+        let text = format!(in alloc; "{}\n", Reasoned(answer))?;
+        return Ok(text);
+    }
+    let text = format!(in alloc; "{answer}\n")?;
+    Ok(text)
 }

@@ -1,27 +1,34 @@
 //! A session: lines from a reader, answers to a writer.
-ghost use Rattle.std.specs.Prelude.{◌≡◌, ◌⊎◌, ℕ, ◌<◌, ◌+◌, ◌-◌, ◌^◌, List, [], ◌∷◌, ◌++◌, Bool, true, false, not, Some, None, OnOk, OnErr, IfOk, MatchOption, length};
+ghost use Rattle.std.specs.Prelude.{◌≡◌, ◌≢◌, ◌⊎◌, ℕ, ◌<◌, ◌+◌, ◌-◌, ◌^◌, List, [], ◌∷◌, ◌++◌, Bool, true, false, not, Some, None, OnOk, OnErr, IfOk, MatchOption, length};
 ghost use Rattle.std.specs.Io.{StopsAt};
+ghost use Rattle.std.specs.IoError.{error_kind};
 ghost use Rattle.std.specs.Io.KnownBytes.{Appends, Consumes};
 ghost use Rattle.bench_shell.specs.Cause.{HasCause};
 ghost use Rattle.bench_shell.specs.Output.{is_ok, after_lines};
 ghost use Rattle.bench_shell.specs.Steps.{has_lf};
 ghost use Rattle.bench_shell.specs.Store.{store_of};
+ghost use Rattle.line_words.specs.Words.{words_of};
+ghost use Rattle.lab_shell.specs.Hints.{slip_of};
 ghost use Rattle.lab_shell.specs.Steps.{IsLine, Turned};
-ghost use Rattle.lab_shell.specs.Talks.{IsDrained, answer_text, answer_to, line_at, prompt, request_in, stop_at, stop_of, Clerked, HelpsOn, Obeyed, One, Requested, Talked, TalksPlainly};
+ghost use Rattle.lab_shell.specs.Talks.{IsDrained, answer_text, answer_to, line_at, no_command_text, people_text, prompt, request_in, stop_at, stop_of, told_text, Clerked, HelpsOn, Obeyed, One, Requested, Talked, TalksPlainly};
 
 use crate::clerk::Clerk;
 use crate::help::{HELP, usage};
+use crate::hint::slip;
 use crate::manner::{Ended, Manner};
-use crate::reason::Reasoned;
+use crate::reason::told_line;
 use crate::word::{ShellWord, request};
 use bench_core::Bench;
 use bench_shell::{Answer, RunFault, Sink, answer_line, hand_on, write_bytes};
 use std::alloc::Global;
-use std::io::BufRead;
+use std::io::{BufRead, Error, ErrorKind};
 use std::thread::Threads;
 
 /// The longest line that is read as a command.
 const LONGEST: usize = 4096;
+
+/// What people are told of a line that is no command, before the name that one of its words may be.
+const NO_COMMAND: &str = "bad command: there is no such command; is it ";
 
 /// What stands before each line where people read.
 const PROMPT: &str = "> ";
@@ -31,12 +38,24 @@ fn next_line<R: BufRead>(alloc: Global, reader: &mut R) -> Result<Vec<u8>, RunFa
     ensures read { IfOk result (λ line. Consumes (R.remaining reader.old) (R.remaining reader.new) line.items) }
     ensures one { IfOk result (λ line. StopsAt line.items 10) }
     ensures end { IfOk result (λ line. has_lf line.items ≡ false → IsDrained (R.remaining reader.old) (R.remaining reader.new)) }
-    ensures cause { HasCause result (Unit {0}) ⊥ ⊥ ⊥ ⊥ }
+    ensures cause { HasCause result (Unit {0}) ⊥ ⊥ (Unit {0}) ⊥ }
 {
     let mut line = Vec::new(alloc);
     match reader.read_until(b'\n', &mut line) {
         Ok(_) => Ok(line),
-        Err(_) => Err(RunFault::Read),
+        Err(fault) => Err(read_fault(&fault)),
+    }
+}
+
+/// What became of a session whose read failed: the line may have found no memory.
+fn read_fault(fault: &Error) -> RunFault
+    ensures memory { error_kind fault.now ≡ ErrorKind.OutOfMemory → result ≡ RunFault.Memory }
+    ensures read { error_kind fault.now ≢ ErrorKind.OutOfMemory → result ≡ RunFault.Read }
+{
+    if fault.kind() == ErrorKind::OutOfMemory {
+        RunFault::Memory
+    } else {
+        RunFault::Read
     }
 }
 
@@ -67,16 +86,88 @@ fn put_answer<W: Sink>(
     ensures cause { HasCause result ⊥ (W.has_failed writer.new ≡ true) ⊥ (Unit {0}) ⊥ }
     ensures same_reference { W.lender writer.new ≡ W.lender writer.old }
 {
-    if people {
-        let Ok(text) = format!(in alloc; "{}\n", Reasoned(answer)) else {
-            return Err(RunFault::Memory);
-        };
-        return write_bytes(writer, text.as_bytes());
-    }
-    let Ok(text) = format!(in alloc; "{answer}\n") else {
-        return Err(RunFault::Memory);
+    let text = match told_line(alloc, people, answer) {
+        Ok(text) => text,
+        Err(_) => return Err(RunFault::Memory),
     };
     write_bytes(writer, text.as_bytes())
+}
+
+/// Writes that a line is no command, but has a word that may be this name.
+fn put_name<W: Sink>(name: &[u8], writer: &mut W) -> Result<(), RunFault>
+    ensures ok { OnOk result (Appends (W.contents writer.old) (W.contents writer.new) (no_command_text (Some name.now))) }
+    ensures cause { HasCause result ⊥ (W.has_failed writer.new ≡ true) ⊥ ⊥ ⊥ }
+    ensures same_reference { W.lender writer.new ≡ W.lender writer.old }
+{
+    match write_bytes(writer, NO_COMMAND.as_bytes()) {
+        Ok(()) => {}
+        Err(fault) => return Err(fault),
+    }
+    match write_bytes(writer, name) {
+        Ok(()) => {}
+        Err(fault) => return Err(fault),
+    }
+    write_bytes(writer, b"?\n".as_slice())
+}
+
+/// Writes that a line is no command, for people.
+fn put_no_command<W: Sink>(alloc: Global, line: &[u8], writer: &mut W) -> Result<(), RunFault>
+    ensures ok { OnOk result (Appends (W.contents writer.old) (W.contents writer.new) (no_command_text (slip_of (words_of line.now)))) }
+    ensures cause { HasCause result ⊥ (W.has_failed writer.new ≡ true) ⊥ (Unit {0}) ⊥ }
+    ensures same_reference { W.lender writer.new ≡ W.lender writer.old }
+{
+    match slip(alloc, line) {
+        Ok(Some(name)) => put_name(name, writer),
+        Ok(None) => put_answer(alloc, true, &Answer::BadCommand, writer),
+        Err(_) => Err(RunFault::Memory),
+    }
+}
+
+/// Writes for people what a line is answered that is no request.
+fn put_for_people<W: Sink>(
+    alloc: Global,
+    line: &[u8],
+    is_whole: bool,
+    answer: &Answer,
+    writer: &mut W,
+) -> Result<(), RunFault>
+    ensures ok { OnOk result (Appends (W.contents writer.old) (W.contents writer.new) (people_text (line_at is_whole line.now) answer.now)) }
+    ensures cause { HasCause result ⊥ (W.has_failed writer.new ≡ true) ⊥ (Unit {0}) ⊥ }
+    ensures same_reference { W.lender writer.new ≡ W.lender writer.old }
+{
+    if !is_whole {
+        return put_answer(alloc, true, answer, writer);
+    }
+    match answer {
+        Answer::BadCommand => put_no_command(alloc, line, writer),
+        Answer::Accepted(_)
+        | Answer::Told(..)
+        | Answer::Ordered(..)
+        | Answer::Refused(_)
+        | Answer::Bad(_)
+        | Answer::BadLine
+        | Answer::BadCut => put_answer(alloc, true, answer, writer),
+    }
+}
+
+/// Writes what a line is answered that is no request.
+fn put_told<W: Sink>(
+    alloc: Global,
+    people: bool,
+    line: &[u8],
+    is_whole: bool,
+    answer: &Answer,
+    writer: &mut W,
+) -> Result<(), RunFault>
+    ensures ok { OnOk result (Appends (W.contents writer.old) (W.contents writer.new) (told_text people (line_at is_whole line.now) answer.now)) }
+    ensures cause { HasCause result ⊥ (W.has_failed writer.new ≡ true) ⊥ (Unit {0}) ⊥ }
+    ensures same_reference { W.lender writer.new ≡ W.lender writer.old }
+{
+    if people {
+        put_for_people(alloc, line, is_whole, answer, writer)
+    } else {
+        put_answer(alloc, false, answer, writer)
+    }
 }
 
 /// What a line is answered that is no request.
@@ -158,7 +249,7 @@ fn obeyed<T: Threads + Sync, W: Sink>(
         Err(fault) => return Err(fault),
     };
     let stop = stop_of(manner, is_whole, !is_taken(&answer));
-    match put_answer(alloc, manner.people, &answer, writer) {
+    match put_told(alloc, manner.people, line, is_whole, &answer, writer) {
         Ok(()) => Ok(stop),
         Err(fault) => Err(fault),
     }

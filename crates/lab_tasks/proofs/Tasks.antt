@@ -99,7 +99,7 @@ no_help word l e answers clear =
 
 -- the labels of the tasks, and `help`
 abbrev labels : Names
-labels = (codes "map", []) ∷ (codes "order", []) ∷ (codes "latency", []) ∷ (codes "done", []) ∷ (codes "trace", []) ∷ (codes "full", []) ∷ (codes "series", []) ∷ (codes "rates", []) ∷ (codes "delays", []) ∷ (codes "load", []) ∷ (codes "sweep", []) ∷ (codes "check", []) ∷ (codes "convert", []) ∷ (codes "page", []) ∷ (codes "help", []) ∷ []
+labels = (codes "map", []) ∷ (codes "order", []) ∷ (codes "latency", []) ∷ (codes "done", []) ∷ (codes "trace", []) ∷ (codes "full", []) ∷ (codes "series", []) ∷ (codes "rates", []) ∷ (codes "delays", []) ∷ (codes "load", []) ∷ (codes "sweep", []) ∷ (codes "check", []) ∷ (codes "convert", []) ∷ (codes "page", []) ∷ (codes "shell", []) ∷ (codes "help", []) ∷ []
 
 labels_are : names_of (built lab) ≡ labels
 unfolding lab clap_on_literals
@@ -125,8 +125,9 @@ not_other word l name (inr (inr (inr (inr (inr (inr (inr (inr (inr (inr (inl e))
 not_other word l name (inr (inr (inr (inr (inr (inr (inr (inr (inr (inr (inr (inl e)))))))))))) is answers clear none = differ (codes "check") l name e is (none 11 map_task (omega arith))
 not_other word l name (inr (inr (inr (inr (inr (inr (inr (inr (inr (inr (inr (inr (inl e))))))))))))) is answers clear none = differ (codes "convert") l name e is (none 12 map_task (omega arith))
 not_other word l name (inr (inr (inr (inr (inr (inr (inr (inr (inr (inr (inr (inr (inr (inl e)))))))))))))) is answers clear none = differ (codes "page") l name e is (none 13 map_task (omega arith))
-not_other word l name (inr (inr (inr (inr (inr (inr (inr (inr (inr (inr (inr (inr (inr (inr (inl e))))))))))))))) is answers clear none = no_help word l e answers clear
-not_other word l name (inr (inr (inr (inr (inr (inr (inr (inr (inr (inr (inr (inr (inr (inr (inr never))))))))))))))) is answers clear none = absurd never
+not_other word l name (inr (inr (inr (inr (inr (inr (inr (inr (inr (inr (inr (inr (inr (inr (inl e))))))))))))))) is answers clear none = differ (codes "shell") l name e is (none 14 map_task (omega arith))
+not_other word l name (inr (inr (inr (inr (inr (inr (inr (inr (inr (inr (inr (inr (inr (inr (inr (inl e)))))))))))))))) is answers clear none = no_help word l e answers clear
+not_other word l name (inr (inr (inr (inr (inr (inr (inr (inr (inr (inr (inr (inr (inr (inr (inr (inr never)))))))))))))))) is answers clear none = absurd never
 
 first_is : (p q : Text × List Row) → Some p ≡ Some q → p.0 ≡ q.0
 first_is p q e =

@@ -85,9 +85,16 @@ convert_task = task (codes "convert") (file_rule ∷ option_rule (codes "out") �
 abbrev pub page_task : Shape
 page_task = task (codes "page") (file_rule ∷ map option_rule (codes "from" ∷ codes "to" ∷ codes "out" ∷ []))
 
+-- the project file may be left out
+abbrev pub optional_rule : Text → Rule
+optional_rule id = new_rule id
+
+abbrev pub shell_task : Shape
+shell_task = task (codes "shell") (optional_rule (codes "FILE") ∷ flag_rule (codes "strict") ∷ [])
+
 -- the tasks
 abbrev pub tasks : List Shape
-tasks = map_task ∷ order_task ∷ latency_task ∷ done_task ∷ trace_task ∷ full_task ∷ series_task ∷ rates_task ∷ delays_task ∷ load_task ∷ sweep_task ∷ check_task ∷ convert_task ∷ page_task ∷ []
+tasks = map_task ∷ order_task ∷ latency_task ∷ done_task ∷ trace_task ∷ full_task ∷ series_task ∷ rates_task ∷ delays_task ∷ load_task ∷ sweep_task ∷ check_task ∷ convert_task ∷ page_task ∷ shell_task ∷ []
 
 -- none of these tasks has this name; and no task at all
 abbrev pub IsNoneOf : List Shape → Text → Type 0
@@ -101,7 +108,7 @@ abbrev pub reports : List Shape
 reports = latency_task ∷ done_task ∷ trace_task ∷ full_task ∷ series_task ∷ []
 
 abbrev pub other_tasks : List Shape
-other_tasks = map_task ∷ order_task ∷ rates_task ∷ delays_task ∷ load_task ∷ sweep_task ∷ check_task ∷ convert_task ∷ page_task ∷ []
+other_tasks = map_task ∷ order_task ∷ rates_task ∷ delays_task ∷ load_task ∷ sweep_task ∷ check_task ∷ convert_task ∷ page_task ∷ shell_task ∷ []
 
 -- `lab TASK ..`, with a version; the words are those behind the program's name
 abbrev pub bare : App

@@ -15,7 +15,7 @@ use Rattle.lab_tasks.specs.declared.tables.DelayPoint.{DelayPoint}
 use Rattle.lab_tasks.specs.declared.load_plan.LoadPlan.{LoadPlan}
 use Rattle.lab_tasks.specs.declared.load_table.LoadPoint.{LoadPoint}
 use Rattle.lab_tasks.specs.declared.words.Asked.{Asked}
-use Rattle.lab_tasks.specs.declared.words.Asked.TheVariants.{Map, Order, Latency, Done as Completed, Trace, Full, Series, Rates, Delays, Load as Loaded, Sweep, Check, Convert, Page}
+use Rattle.lab_tasks.specs.declared.words.Asked.TheVariants.{Map, Order, Latency, Done as Completed, Trace, Full, Series, Rates, Delays, Load as Loaded, Sweep, Check, Convert, Page, Shell}
 use Rattle.lab_tasks.specs.declared.words.MapWords.{MapWords}
 use Rattle.lab_tasks.specs.declared.words.CurveWords.{CurveWords}
 use Rattle.lab_tasks.specs.declared.words.LoadWords.{LoadWords}
@@ -131,7 +131,7 @@ IsConverted P text = (text ≡ project_text P) × (filed text ≡ Ok P)
 abbrev pub IsOver : ConvertWords → End → Type 0
 IsOver words e = (is_over words ≡ true) × Refuses (codes "--out") words.file.now 2 (codes "is the file that is read; --force writes over it") e
 
--- what is done for what is asked, with the bytes of its file
+-- what is done for what is asked, with the bytes of its file; a session of the shell has no outcome
 abbrev pub IsDone : Asked → List ℕ → Outcome → Type 0
 IsDone (Map words) bytes outcome = IsMapMade words bytes outcome
 IsDone (Order words) bytes outcome = IsMadeOf bytes (text_of words.out) (IsOrderText words) outcome
@@ -147,6 +147,7 @@ IsDone (Sweep words) bytes outcome = IsMadeOf bytes (text_of words.csv) (IsSweep
 IsDone (Check file) bytes outcome = IsMadeOf bytes None IsSummary outcome
 IsDone (Convert words) bytes outcome = (is_over words ≡ false) × IsMadeOf bytes (text_of words.out) IsConverted outcome
 IsDone (Page words) bytes outcome = IsMadeOf bytes (text_of words.out) (IsPageText words) outcome
+IsDone (Shell words) bytes outcome = ⊥
 
 -- the bytes are refused as a project, by their fault
 abbrev pub IsNoProject : List ℕ → End → Type 0
@@ -172,3 +173,4 @@ IsNotDone (Sweep words) bytes e = IsNotMade bytes (IsNoSweep words e) e
 IsNotDone (Check file) bytes e = IsNotMade bytes (λ P. ⊥) e
 IsNotDone (Convert words) bytes e = IsOver words e ⊎ ((is_over words ≡ false) × IsNotMade bytes (λ P. ⊥) e)
 IsNotDone (Page words) bytes e = IsNotMade bytes (λ P. IsNoPage P words e) e
+IsNotDone (Shell words) bytes e = e ≡ end.Words

@@ -34,3 +34,4 @@ pub mod Sweeps
 pub mod Tables
 pub mod Traces
 pub mod Words
+pub mod Shells

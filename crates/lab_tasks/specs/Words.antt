@@ -4,12 +4,13 @@ use Rattle.std.specs.Option.{option_map_or}
 use Rattle.std.specs.Borrow.{Bor}
 use Rattle.clap.specs.Words.{Row, Text, all_of, first_of}
 use Rattle.lab_tasks.specs.declared.words.Asked.{Asked}
-use Rattle.lab_tasks.specs.declared.words.Asked.TheVariants.{Map, Order, Latency, Done, Trace, Full, Series, Rates, Delays, Load, Sweep, Check, Convert, Page}
+use Rattle.lab_tasks.specs.declared.words.Asked.TheVariants.{Map, Order, Latency, Done, Trace, Full, Series, Rates, Delays, Load, Sweep, Check, Convert, Page, Shell}
 use Rattle.lab_tasks.specs.declared.words.MapWords.{MapWords}
 use Rattle.lab_tasks.specs.declared.convert.ConvertWords.{ConvertWords}
 use Rattle.lab_tasks.specs.declared.latency.LatencyWords.{LatencyWords}
 use Rattle.lab_tasks.specs.declared.order.OrderWords.{OrderWords}
 use Rattle.lab_tasks.specs.declared.series.SeriesWords.{SeriesWords}
+use Rattle.lab_tasks.specs.declared.shell.ShellWords.{ShellWords}
 use Rattle.lab_tasks.specs.declared.trace.TraceWords.{TraceWords}
 use Rattle.lab_tasks.specs.declared.words.CurveWords.{CurveWords}
 use Rattle.lab_tasks.specs.declared.words.LoadWords.{LoadWords}
@@ -97,6 +98,10 @@ pub record AreConvertWords (rows : List Row) (words : ConvertWords) : Type 0 whe
   pub out : text_of words.out ≡ first_of (codes "out") rows
   pub force : words.force ≡ is_given rows (codes "force")
 
+pub record AreShellWords (rows : List Row) (words : ShellWords) : Type 0 where
+  pub file : text_of words.file ≡ first_of (codes "FILE") rows
+  pub strict : words.strict ≡ is_given rows (codes "strict")
+
 -- a task is named, and its matches say this
 abbrev pub IsNamed : Option (Text × List Row) → Text → (List Row → Type 0) → Type 0
 IsNamed said name Says = (rows : List Row) × (said ≡ Some (name, rows)) × Says rows
@@ -117,6 +122,7 @@ AsksFor said (Sweep words) = IsNamed said (codes "sweep") (λ rows. AreSweepWord
 AsksFor said (Check file) = IsNamed said (codes "check") (λ rows. file.now ≡ file_at rows)
 AsksFor said (Convert words) = IsNamed said (codes "convert") (λ rows. AreConvertWords rows words)
 AsksFor said (Page words) = IsNamed said (codes "page") (λ rows. AreOrderWords rows words)
+AsksFor said (Shell words) = IsNamed said (codes "shell") (λ rows. AreShellWords rows words)
 
 abbrev pub file_of : Asked → Option (List ℕ)
 file_of (Map words) = Some words.file.now
@@ -133,3 +139,4 @@ file_of (Sweep words) = Some words.file.now
 file_of (Check file) = Some file.now
 file_of (Convert words) = Some words.file.now
 file_of (Page words) = Some words.file.now
+file_of (Shell words) = text_of words.file

@@ -3,12 +3,17 @@ use crate::end::{End, Reason, refusal, status};
 use crate::other_net::AllOn;
 use crate::outcome::{OutFile, Outcome};
 use crate::progress::Progress;
+use crate::shell::{Shelf, ShellWords, end_after, hold, opened};
 use crate::task::perform;
 use crate::words::{Asked, CurveWords, read_words};
+use bench_core::Bench;
+use bench_shell::{RunFault, Writing};
 use clap::Error;
+use lab_shell::Manner;
+use project_book::Project;
 use project_file::{MAX_BYTES, fault_place};
 use std::alloc::Global;
-use std::io::{Eprint, Print, Read, Write};
+use std::io::{BufWriter, Eprint, Input, Print, Read, Write};
 use std::path::{Path, PathBuf};
 use std::process::ExitCode;
 use std::rt::{Env, Files};
@@ -17,9 +22,17 @@ use std::time::{Clock, Duration, Instant};
 use std::{env, fs, io};
 
 /// What the program takes of its host.
-pub trait Host: AllocGlobal + Env + Files + Print + Eprint + Clock + Threads + Sync {}
+pub trait Host: AllocGlobal + Env + Files + Input + Print + Eprint + Clock + Threads + Sync {}
 
-impl<R: AllocGlobal + Env + Files + Print + Eprint + Clock + Threads + Sync> Host for R {}
+impl<R: AllocGlobal + Env + Files + Input + Print + Eprint + Clock + Threads + Sync> Host for R {}
+
+/// Which of the program's ends are terminals.
+#[derive(Clone, Copy)]
+pub struct Terminals {
+    pub input: bool,
+    /// Standard error.
+    pub errors: bool,
+}
 
 /// A line on a terminal that says how far a task is, once it takes longer than a second.
 #[derive(Drop)]
@@ -299,7 +312,8 @@ fn refuse_over<'a, R: Files + AllocGlobal>(rt: &R, asked: &Asked<'a>) -> Result<
         | Asked::Done { .. }
         | Asked::Trace(_)
         | Asked::Full { .. }
-        | Asked::Check { .. } => Ok(()),
+        | Asked::Check { .. }
+        | Asked::Shell(_) => Ok(()),
     }
 }
 
@@ -310,8 +324,78 @@ fn tell_place<R: Eprint + AllocGlobal>(rt: &R, bytes: &[u8]) {
     }
 }
 
+/// The files of the host, each written beside its name first. What they hold no contract can say.
+#[derive(Drop)]
+struct Disk<'a, R> {
+    rt: &'a R,
+}
+
+impl<R: Files + AllocGlobal> Shelf for Disk<'_, R> {
+    ghost saves = { λ _ _ _ _. Unit {0} };
+
+    fn save(&self, file: &OutFile) -> bool {
+        save_file(self.rt, file).is_ok()
+    }
+}
+
+/// A bench on a project, in a box, since each way out of a function costs its proof something for every field that it lets go.
+fn bench_of(alloc: Global, project: Project) -> Option<Box<Bench>> {
+    match Bench::new(alloc, project, 0) {
+        Ok(bench) => Box::new(alloc, bench).ok(),
+        Err(_) => None,
+    }
+}
+
+/// A session from standard input to standard output, over a bench.
+fn session<R: Host>(
+    rt: &R,
+    words: &ShellWords<'_>,
+    people: bool,
+    bench: &mut Bench,
+) -> Result<u8, RunFault> {
+    let manner = Manner {
+        people,
+        strict: words.strict,
+    };
+    let mut output = io::writer(rt);
+    let Ok(mut writer) = BufWriter::new(rt.alloc(), &mut output) else {
+        return Err(RunFault::Memory);
+    };
+    let mut sink = Writing::new(&mut writer);
+    let mut input = rt.reader();
+    hold(
+        rt,
+        rt.alloc(),
+        manner,
+        &Disk { rt },
+        &mut input,
+        &mut sink,
+        bench,
+    )
+}
+
+/// A session on a project: its status.
+fn sat<R: Host>(rt: &R, words: &ShellWords<'_>, people: bool, project: Project) -> u8 {
+    let Some(mut bench) = bench_of(rt.alloc(), project) else {
+        return ended(rt, &End::Memory);
+    };
+    match session(rt, words, people, &mut bench) {
+        Ok(status) => status,
+        Err(fault) => ended(rt, &end_after(fault)),
+    }
+}
+
+/// Prints why there is no outcome or no project, and where its file is wrong, and gives the status.
+fn refused_file<R: Eprint + AllocGlobal>(rt: &R, end: &End<'_>, bytes: &[u8]) -> u8 {
+    let status = ended(rt, end);
+    if let End::Project(_) = end {
+        tell_place(rt, bytes);
+    }
+    status
+}
+
 /// Does what is asked for.
-fn done<R: Host>(rt: &R, asked: &Asked<'_>, terminal: bool) -> u8 {
+fn done<R: Host>(rt: &R, asked: &Asked<'_>, terminals: Terminals) -> u8 {
     if let Err(end) = refuse_over(rt, asked) {
         return ended(rt, &end);
     }
@@ -319,20 +403,21 @@ fn done<R: Host>(rt: &R, asked: &Asked<'_>, terminal: bool) -> u8 {
         Ok(bytes) => bytes,
         Err(end) => return ended(rt, &end),
     };
-    match performed(rt, asked, bytes.as_slice(), terminal) {
+    if let Asked::Shell(words) = asked {
+        return match opened(rt.alloc(), words.file, bytes.as_slice()) {
+            Ok(project) => sat(rt, words, terminals.input, project),
+            Err(end) => refused_file(rt, &end, bytes.as_slice()),
+        };
+    }
+    match performed(rt, asked, bytes.as_slice(), terminals.errors) {
         Ok(outcome) => delivered(rt, &outcome),
-        Err(end) => {
-            let status = ended(rt, &end);
-            if let End::Project(_) = end {
-                tell_place(rt, bytes.as_slice());
-            }
-            status
-        }
+        Err(end) => refused_file(rt, &end, bytes.as_slice()),
     }
 }
 
-/// The program, from the host's arguments to its status. On a terminal it tells how far it is.
-pub fn program<R: Host>(rt: &R, terminal: bool) -> ExitCode {
+/// The program, from the host's arguments to its status. Where standard error is a terminal it tells how far it is, and where
+/// standard input is one the shell has a prompt.
+pub fn program<R: Host>(rt: &R, terminals: Terminals) -> ExitCode {
     let words = match env::args(rt) {
         Ok(words) => words.collect::<Vec<String>>(rt.alloc()),
         Err(fault) if fault.kind() == io::ErrorKind::OutOfMemory => {
@@ -344,14 +429,14 @@ pub fn program<R: Host>(rt: &R, terminal: bool) -> ExitCode {
         }
     };
     let status = match words {
-        Ok(words) => told(rt, words.as_slice(), terminal),
+        Ok(words) => told(rt, words.as_slice(), terminals),
         Err(_) => ended(rt, &End::Memory),
     };
     ExitCode::from(status)
 }
 
 /// Does what the words ask for, of which the first is the program's name.
-fn told<R: Host>(rt: &R, words: &[String], terminal: bool) -> u8 {
+fn told<R: Host>(rt: &R, words: &[String], terminals: Terminals) -> u8 {
     let Ok(texts) = words
         .iter()
         .skip(1)
@@ -361,7 +446,7 @@ fn told<R: Host>(rt: &R, words: &[String], terminal: bool) -> u8 {
         return ended(rt, &End::Memory);
     };
     match read_words(rt.alloc(), texts.as_slice()) {
-        Ok(asked) => done(rt, &asked, terminal),
+        Ok(asked) => done(rt, &asked, terminals),
         Err(error) => refused(rt, &error),
     }
 }

@@ -17,7 +17,8 @@
 //! files are kept (`specs/Kept.antt`), the statuses and lines (`specs/Ends.antt`), the pictures of `rates`, `delays` and
 //! `load` (`specs/RatePictures.antt`, `specs/DelayPictures.antt`, `specs/LoadPictures.antt`), which offered loads those are and
 //! what is measured of them (`specs/LoadPlans.antt`, `specs/LoadTables.antt`), which page a run is (`specs/MachinePages.antt`), and when it is told that a map draws the network where no reference
-//! is (`specs/Elsewhere.antt`). What the pictures look like is shown by examples.
+//! is (`specs/Elsewhere.antt`). What the pictures look like is shown by examples. A session of the shell is `talk` of `lab_shell`
+//! over a bench; what a [`ShellClerk`] says in it of its project is in `specs/Shells.antt`.
 #![tactic(auto)]
 
 mod check;
@@ -52,6 +53,7 @@ mod rate_picture;
 mod rates;
 mod series;
 mod setup;
+mod shell;
 mod sweep;
 mod swept;
 mod tables;
@@ -61,12 +63,13 @@ mod words;
 
 pub use convert::ConvertWords;
 pub use end::{End, Reason, refusal, status};
-pub use host::program;
+pub use host::{Terminals, program};
 pub use latency::LatencyWords;
 pub use order::OrderWords;
 pub use outcome::{OutFile, Outcome};
 pub use progress::{Progress, Silent};
 pub use series::SeriesWords;
+pub use shell::{Shelf, ShellClerk, ShellWords, hold, session_status};
 pub use task::perform;
 pub use trace::TraceWords;
 pub use words::{Asked, CurveWords, LoadWords, MapWords, SweepWords, read_words};

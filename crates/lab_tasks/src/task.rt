@@ -102,7 +102,7 @@ fn to_file_or_output(
 }
 
 /// The project that a file's bytes are.
-fn project_in<'a>(alloc: Global, bytes: &[u8]) -> Result<Project, End<'a>>
+pub(crate) fn project_in<'a>(alloc: Global, bytes: &[u8]) -> Result<Project, End<'a>>
     ensures filed { IfOk result (λ project. filed bytes.now ≡ Ok project) }
     ensures refused { IfErr result (IsNotMade bytes.now (λ P. ⊥)) }
 {
@@ -440,7 +440,7 @@ fn page<'a>(alloc: Global, words: &OrderWords<'a>, bytes: &[u8]) -> Result<Outco
 ///
 /// # Errors
 ///
-/// The project that is refused, a word that is, or a growth.
+/// The project that is refused, a word that is, or a growth. A session of the shell is no task: `Words`.
 pub fn perform<'a, T: Threads + Sync, P: Progress>(
     rt: &T,
     alloc: Global,
@@ -475,5 +475,7 @@ pub fn perform<'a, T: Threads + Sync, P: Progress>(
         }
         Asked::Convert(words) => convert(alloc, words, bytes),
         Asked::Page(words) => page(alloc, words, bytes),
+        // A session isn't made at once.
+        Asked::Shell(_) => Err(End::Words),
     }
 }

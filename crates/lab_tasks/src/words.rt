@@ -4,13 +4,14 @@ ghost use Rattle.std.specs.Option.{option_map_or};
 ghost use Rattle.clap.specs.Matches.{matched_of, raw_values};
 ghost use Rattle.clap.specs.Walk.{texts};
 ghost use Rattle.clap.specs.Words.{FailsBy, fault_of, first_of, found_of, new_app, rows_of, rule_of, subcommand_of};
-ghost use Rattle.lab_tasks.specs.CommandLine.{any_number_rule, bare, check_task, convert_task, delays_task, done_task, file_rule, flag_rule, full_task, kept_rules, lab, load_task, map_task, latency_task, measured_task, option_rule, order_task, other_tasks, page_task, position_rule, rates_task, reports, series_task, several_rule, sweep_task, trace_task, HasAll, HasMore, HasTask, IsApp, IsLab, IsNoneOf, IsNoTask, IsTask};
-ghost use Rattle.lab_tasks.specs.Words.{file_at, is_given, text_of, texts_at, AreConvertWords, AreCurveWords, AreLatencyWords, AreLoadWords, AreMapWords, AreOrderWords, AreSeriesWords, AreSweepWords, AreTraceWords, AsksFor};
+ghost use Rattle.lab_tasks.specs.CommandLine.{any_number_rule, bare, check_task, convert_task, delays_task, done_task, file_rule, flag_rule, full_task, kept_rules, lab, load_task, map_task, latency_task, measured_task, option_rule, optional_rule, order_task, other_tasks, page_task, position_rule, rates_task, reports, series_task, several_rule, shell_task, sweep_task, trace_task, HasAll, HasMore, HasTask, IsApp, IsLab, IsNoneOf, IsNoTask, IsTask};
+ghost use Rattle.lab_tasks.specs.Words.{file_at, is_given, text_of, texts_at, AreConvertWords, AreCurveWords, AreLatencyWords, AreLoadWords, AreMapWords, AreOrderWords, AreSeriesWords, AreShellWords, AreSweepWords, AreTraceWords, AsksFor};
 
 use crate::convert::ConvertWords;
 use crate::latency::LatencyWords;
 use crate::order::OrderWords;
 use crate::series::SeriesWords;
+use crate::shell::ShellWords;
 use crate::trace::TraceWords;
 use clap::{Arg, ArgAction, ArgMatches, Command, Error};
 use std::alloc::{AllocError, Global};
@@ -79,6 +80,7 @@ pub enum Asked<'a> {
     Check { file: &'a str },
     Convert(ConvertWords<'a>),
     Page(OrderWords<'a>),
+    Shell(ShellWords<'a>),
 }
 
 impl<'a> Asked<'a> {
@@ -101,6 +103,7 @@ impl<'a> Asked<'a> {
             Asked::Check { file } => Some(*file),
             Asked::Convert(words) => Some(words.file),
             Asked::Page(words) => Some(words.file),
+            Asked::Shell(words) => words.file,
         }
     }
 }
@@ -156,6 +159,16 @@ const SHARES_HELP: &str =
 
 const HOT_HELP: &str =
     "How many of a hundred references are hot, up to seven numbers, each with curves of its own; without it 0";
+
+const SHELL_ABOUT: &str =
+    "Answers commands line by line, as hotspot does, and words of its own: help, show, script, save, quit";
+
+const TALKED: &str = "\
+Where standard input is a terminal there is a prompt before each line, and a reason behind each refusal. Else nothing is written
+but answers: what 'hotspot FILE < commands' writes, where no line begins with a word of the shell's own. 'help' lists them all.
+
+Status: 0 the input ended, or quit was read; 1 a line was refused, with --strict; 2 the command line; 3 FILE or standard input
+can't be read; 4 the project is refused; 5 no memory, or standard output can't be written.";
 
 const RATES_MEASURED: &str = "\
 Each processor issues 256 references, at most 8 of them unanswered: of a hundred as many as --hot says add 1 to word 0, the
@@ -250,6 +263,13 @@ fn position<'a>(alloc: Global, id: &'a str, help: &'a str) -> Arg<'a>
     Arg::new(alloc, id).required(true).help(help)
 }
 
+fn optional<'a>(alloc: Global, id: &'a str, help: &'a str) -> Arg<'a>
+    ensures rule { rule_of result ≡ optional_rule id.entry.now }
+    ensures global { result.global ≡ false }
+{
+    Arg::new(alloc, id).help(help)
+}
+
 fn file_argument<'a>(alloc: Global) -> Arg<'a>
     ensures rule { rule_of result ≡ file_rule }
     ensures global { result.global ≡ false }
@@ -287,6 +307,17 @@ fn with_position<'a>(
     ensures { IfOk result (HasMore task.entry (position_rule id.entry.now)) }
 {
     with(task, position(alloc, id, help))
+}
+
+fn with_optional<'a>(
+    alloc: Global,
+    task: Command<'a>,
+    id: &'a str,
+    help: &'a str,
+) -> Result<Command<'a>, AllocError>
+    ensures { IfOk result (HasMore task.entry (optional_rule id.entry.now)) }
+{
+    with(task, optional(alloc, id, help))
 }
 
 fn with_option<'a>(
@@ -711,6 +742,25 @@ fn page_command<'a>(alloc: Global) -> Result<Command<'a>, AllocError>
     Ok(task)
 }
 
+fn shell_command<'a>(alloc: Global) -> Result<Command<'a>, AllocError>
+    ensures { IfOk result (IsTask shell_task) }
+{
+    let task = named(alloc, "shell", SHELL_ABOUT, TALKED);
+    let task = with_optional(
+        alloc,
+        task,
+        "FILE",
+        "The project file; without it the built-in project",
+    )?;
+    let task = with_flag(
+        alloc,
+        task,
+        "strict",
+        "Ends with status 1 at the first line that is refused",
+    )?;
+    Ok(task)
+}
+
 /// The program's command without its tasks.
 fn bare_command<'a>(alloc: Global) -> Result<Command<'a>, AllocError>
     ensures { IfOk result (IsApp bare) }
@@ -760,6 +810,7 @@ fn lab_command<'a>(alloc: Global) -> Result<Command<'a>, AllocError>
     let command = with_task(command, check_command(alloc))?;
     let command = with_task(command, convert_command(alloc))?;
     let command = with_task(command, page_command(alloc))?;
+    let command = with_task(command, shell_command(alloc))?;
     Ok(command)
 }
 
@@ -917,6 +968,15 @@ fn convert_words<'a>(matches: &ArgMatches<'a>) -> ConvertWords<'a>
     }
 }
 
+fn shell_words<'a>(matches: &ArgMatches<'a>) -> ShellWords<'a>
+    ensures { AreShellWords (rows_of (found_of matches.now)) result }
+{
+    ShellWords {
+        file: text_in(matches, "FILE"),
+        strict: flag_in(matches, "strict"),
+    }
+}
+
 /// What the report of a name is asked for by its matches; None where no report has the name.
 fn report_asked<'a>(
     alloc: Global,
@@ -961,6 +1021,7 @@ fn other_asked<'a>(
         }),
         "convert" => Some(Asked::Convert(convert_words(matches))),
         "page" => Some(Asked::Page(order_words(matches))),
+        "shell" => Some(Asked::Shell(shell_words(matches))),
         _ => None,
     })
 }

@@ -239,3 +239,25 @@ fn ends_have_statuses_and_lines(rt: HostRuntime) -> Result<(), Fail> {
     }
     Ok(())
 }
+
+#[test]
+fn words_of_a_shell_are_taken(rt: HostRuntime) -> Result<(), Fail> {
+    let asked = read_words(rt.alloc(), &["shell", "a.toml", "--strict"])?;
+    let Asked::Shell(shell) = &asked else {
+        return Err(Fail::from("a shell"));
+    };
+    compare(&rt, &[asked.file(), shell.file], &["a.toml", "a.toml"]);
+    assert!(rt; shell.strict);
+    Ok(())
+}
+
+#[test]
+fn a_shell_needs_no_words(rt: HostRuntime) -> Result<(), Fail> {
+    let asked = read_words(rt.alloc(), &["shell"])?;
+    let Asked::Shell(shell) = &asked else {
+        return Err(Fail::from("a shell"));
+    };
+    compare(&rt, &[asked.file(), shell.file], &["-", "-"]);
+    assert!(rt; !shell.strict);
+    Ok(())
+}

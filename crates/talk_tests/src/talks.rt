@@ -80,7 +80,7 @@ const SESSION: &[u8] =
 
 #[test]
 fn sessions_are_answered(rt: HostRuntime) -> Result<(), Fail> {
-    let told: [(Manner, &[u8], Ended, &[u8]); 6] = [
+    let told: [(Manner, &[u8], Ended, &[u8]); 8] = [
         (
             PLAIN,
             SESSION,
@@ -94,6 +94,21 @@ fn sessions_are_answered(rt: HostRuntime) -> Result<(), Fail> {
             b"> bad command: there is no such command; help lists them\n\
 > refused 9: a depth is 2 to 16, of comb-reverse 4 to 16, of wait 1 to 16\n\
 > bad cut: the input ends within the line\n",
+        ),
+        (
+            FOR_PEOPLE,
+            b"depth low_forward 3\nhorizn 9\nfoo 0\nexit\nquit\n",
+            Ended::Quit,
+            b"> bad command: there is no such command; is it low-forward?\n\
+> bad command: there is no such command; is it horizon?\n\
+> bad command: there is no such command; help lists them\n\
+> bad command: there is no such command; is it quit?\n> ",
+        ),
+        (
+            PLAIN,
+            b"depth low_forward 3\n",
+            Ended::Input,
+            b"bad command\n",
         ),
         (FOR_PEOPLE, b"", Ended::Input, b"> "),
         (

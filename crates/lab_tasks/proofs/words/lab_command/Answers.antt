@@ -1,4 +1,4 @@
-use Rattle.lab_tasks.specs.CommandLine.{bare, check_task, convert_task, delays_task, done_task, full_task, lab, latency_task, load_task, map_task, order_task, page_task, rates_task, series_task, sweep_task, trace_task}
+use Rattle.lab_tasks.specs.CommandLine.{bare, check_task, convert_task, delays_task, done_task, full_task, lab, latency_task, load_task, map_task, order_task, page_task, rates_task, series_task, shell_task, sweep_task, trace_task}
 use Rattle.lab_tasks.proofs.words.lab_command.Goals as goal
 
 pub returns : goal.returns
@@ -17,4 +17,5 @@ returns c =
     let eleven = c.in_ok-command-12.ensures _ sweep_task ten c.sweep_command.ensures in
     let twelve = c.in_ok-command-13.ensures _ check_task eleven c.check_command.ensures in
     let thirteen = c.in_ok-command-14.ensures _ convert_task twelve c.convert_command.ensures in
-    c.in_ok-command-15.ensures _ page_task thirteen c.page_command.ensures
+    let fourteen = c.in_ok-command-15.ensures _ page_task thirteen c.page_command.ensures in
+    c.in_ok-command-16.ensures _ shell_task fourteen c.shell_command.ensures

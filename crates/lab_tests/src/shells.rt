@@ -1,0 +1,152 @@
+//! What a session of the shell says of its project, and how it ends.
+use bench_core::Bench;
+use bench_shell::Writing;
+use expect::equal;
+use lab_shell::Manner;
+use lab_tasks::{OutFile, Shelf, hold};
+use project_file::read_project;
+use std::alloc::Global;
+use std::test::Fail;
+use std::thread::Threads;
+
+/// Two processors: the first refers three times to word 5 and once to word 260, the second five times to word 260 at most.
+const TWO: &[u8] = b"format = 2
+k = 1
+horizon = 8
+window = 2
+
+[[script]]
+processor = 0
+entries = [\"plain add 5 1 3\", \"plain load 260 0\", \"fence\"]
+
+[[script]]
+processor = 1
+entries = [\"until plain load 260 0 9 5\"]
+";
+
+/// The same behind `cut 1 0` and `window 1`, as it is written.
+const CUT: &[u8] = b"format = 2
+k = 1
+horizon = 8
+
+[[script]]
+processor = 0
+entries = [\"plain add 5 1 3\", \"plain load 260 0\", \"fence\"]
+";
+
+/// Takes one file alone.
+struct Drawer {
+    name: &'static str,
+    bytes: &'static [u8],
+}
+
+impl Shelf for Drawer {
+    ghost saves = { λ _ _ _ _. Unit {0} };
+
+    fn save(&self, file: &OutFile) -> bool {
+        file.name.as_str() == self.name && file.bytes.as_slice() == self.bytes
+    }
+}
+
+const DRAWER: Drawer = Drawer {
+    name: "cut.toml",
+    bytes: CUT,
+};
+
+fn bench(alloc: Global) -> Result<Box<Bench>, Fail> {
+    let Ok(project) = read_project(alloc, TWO) else {
+        return Err(Fail::from("a project"));
+    };
+    let bench = Bench::new(alloc, project, 0).ok().ok_or("no memory")?;
+    Ok(Box::new(alloc, bench)?)
+}
+
+/// The status of a session, and what it writes.
+fn held<R: AllocGlobal + Threads + Sync>(
+    rt: &R,
+    manner: Manner,
+    input: &[u8],
+) -> Result<(Option<u8>, Vec<u8>), Fail> {
+    let mut desk = bench(rt.alloc())?;
+    let mut reader = input;
+    let mut written = Vec::new(rt.alloc());
+    let status = {
+        let mut sink = Writing::new(&mut written);
+        hold(
+            rt,
+            rt.alloc(),
+            manner,
+            &DRAWER,
+            &mut reader,
+            &mut sink,
+            &mut *desk,
+        )
+    };
+    Ok((status.ok(), written))
+}
+
+const SESSION: &[u8] =
+    b"script 0\nscript 1\nscript 2\nsave cut.toml\ncut 1 0\nwindow 1\nsave cut.toml\nshow\nscript x\nsave\n";
+
+const PLAIN: Manner = Manner {
+    people: false,
+    strict: false,
+};
+
+const PLAIN_ANSWERS: &str = "\
+entry 0 0 plain add 5 1 3
+entry 0 1 plain load 260 0
+entry 0 2 fence
+entry 1 0 until plain load 260 0 9 5
+bad 1
+bad file
+ok 1
+ok 2
+saved cut.toml
+2 processors, 2 modules, 1 stages; cycles 0 to 8; at most 1 unanswered
+places: low-forward 4, low-reverse 4, comb-forward 4, comb-reverse 8, module 4, wait 4
+combining: off
+scripts: 1, with 3 entries, 4 references at most
+hot words, by processors and references: 5 (1, 3), 260 (1, 1)
+hot modules, by processors and references: 1 (1, 3), 0 (1, 1)
+bad command
+bad command
+";
+
+#[test]
+fn a_shell_says_what_its_project_is(rt: HostRuntime) -> Result<(), Fail> {
+    let (status, written) = held(&rt, PLAIN, SESSION)?;
+    assert!(rt; equal(&rt, status, Some(0)));
+    assert!(rt; equal(&rt, written.as_slice(), PLAIN_ANSWERS.as_bytes()));
+    Ok(())
+}
+
+const PEOPLE: Manner = Manner {
+    people: true,
+    strict: true,
+};
+
+const PEOPLE_ANSWERS: [(&[u8], &str); 3] = [
+    (
+        b"script 2\nshow\n",
+        "> bad 1: there is no such processor, module, component or stage\n",
+    ),
+    (
+        b"window 1\nsave cut.toml\nshow\n",
+        "> ok 1\n> bad file: it can't be written\n",
+    ),
+    (
+        b"script p0\nshow\n",
+        "> bad command: there is no such command; help lists them\n",
+    ),
+];
+
+#[test]
+fn a_strict_shell_ends_at_a_refusal(rt: HostRuntime) -> Result<(), Fail> {
+    for (input, answers) in PEOPLE_ANSWERS {
+        let (status, written) = held(&rt, PEOPLE, input)?;
+        assert!(rt; equal(&rt, status, Some(1)));
+        assert!(rt; equal(&rt, written.as_slice(), answers.as_bytes()));
+    }
+    Ok(())
+}
