@@ -7,7 +7,7 @@ use Rattle.std.proofs.lemmas.List.Elements.{All-push, Contains-append_left, Cont
 use Rattle.std.proofs.lemmas.List.Quantifiers.{all_pairs_push}
 use Rattle.omega_net.specs.Wires.{below}
 use Rattle.lab_tasks.specs.declared.hot.Hot.{Hot}
-use Rattle.lab_tasks.specs.Counts.{hot_at, AreHottest, Hotter, IsHottest}
+use Rattle.lab_tasks.specs.Counts.{AreHottest, Hotter, IsHottest}
 use Rattle.lab_tasks.proofs.Listing.{sum_next}
 
 -- one number more, of those that are 1 or 0

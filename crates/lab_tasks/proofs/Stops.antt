@@ -1,5 +1,5 @@
 -- How a sweep stops, and why no project is read.
-use Rattle.std.proofs.Common.{◌≡◌, ◌⊎◌, inl, inr, ℕ, List, Ok, subst, sym}
+use Rattle.std.proofs.Common.{◌≡◌, inl, inr, ℕ, List, subst, sym}
 use Rattle.project_book.specs.Project.{Project}
 use Rattle.project_book.specs.declared.fault.EditFault.{EditFault}
 use Rattle.project_book.specs.declared.fault.EditFault.TheVariants as edit_fault

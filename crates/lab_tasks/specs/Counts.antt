@@ -1,5 +1,5 @@
 -- What a summary counts.
-use Rattle.std.specs.Prelude.{◌≡◌, ◌≤◌, ◌<◌, ◌==◌, ◌⊎◌, ◌^◌, ◌*◌, ℕ, Bool, true, if◌then◌else◌, List, map, length, min, All, AllPairs, Contains, slice_index, sum_by, Option, None, Some}
+use Rattle.std.specs.Prelude.{◌≡◌, ◌≤◌, ◌<◌, ◌==◌, ◌⊎◌, ◌^◌, ◌*◌, ℕ, Bool, true, if◌then◌else◌, List, map, length, min, All, AllPairs, Contains, slice_index, sum_by, Option, Some}
 use Rattle.omega_net.specs.declared.script.ScriptEntry.{ScriptEntry}
 use Rattle.omega_net.specs.declared.script.ScriptEntry.TheVariants.{Reference, Until}
 use Rattle.omega_net.specs.Wires.{below}

@@ -1,5 +1,5 @@
 -- What the pictures of curves share.
-use Rattle.std.specs.Prelude.{ℕ, ◌+◌, ◌*◌, ◌-◌, ◌/◌, ◌%◌, ◌==◌, nat_le, min, Bool, false, if◌then◌else◌, List, [], ◌∷◌, length, take, drop, map}
+use Rattle.std.specs.Prelude.{ℕ, ◌+◌, ◌*◌, ◌%◌, ◌==◌, nat_le, min, Bool, if◌then◌else◌, List, [], ◌∷◌, length, take, drop, map}
 use Rattle.std.specs.List.{flat_map}
 use Rattle.omega_net.specs.Wires.{below}
 use Rattle.svg_plots.specs.declared.colour.Colour.{Colour}

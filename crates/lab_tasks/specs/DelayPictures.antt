@@ -1,5 +1,5 @@
 -- WHAT THE PICTURE OF `delays` SHOWS: the mean delay of the references that aren't hot against the share of hot ones, a curve for each network.
-use Rattle.std.specs.Prelude.{◌≡◌, ℕ, ◌+◌, ◌*◌, ◌-◌, ◌/◌, ◌==◌, min, max, Bool, true, false, if◌then◌else◌, List, [], ◌∷◌, ◌++◌, length, map, codes, decimal, Option, Some}
+use Rattle.std.specs.Prelude.{◌≡◌, ℕ, ◌+◌, ◌*◌, ◌-◌, ◌/◌, ◌==◌, min, max, true, false, if◌then◌else◌, List, [], ◌∷◌, ◌++◌, length, map, codes, decimal, Some}
 use Rattle.std.specs.List.{flat_map, fold}
 use Rattle.omega_net.specs.Wires.{below}
 use Rattle.svg_plots.specs.declared.curves.Curve.{Curve}

@@ -1,7 +1,6 @@
 -- The table of a sweep of edits, and why there is none.
-use Rattle.std.specs.Prelude.{◌≡◌, ◌≤◌, ◌<◌, ◌⊎◌, ℕ, ◌*◌, ◌==◌, ◌&&◌, not, nat_le, Bool, true, false, List, [], ◌∷◌, ◌++◌, map, length, MatchBool, Option, None, Some, option_map, Result, Ok, Err, codes, decimal, string_bytes}
+use Rattle.std.specs.Prelude.{◌≡◌, ◌≤◌, ◌<◌, ◌⊎◌, ℕ, ◌*◌, ◌==◌, ◌&&◌, not, nat_le, Bool, true, false, List, [], ◌∷◌, ◌++◌, map, length, MatchBool, Option, None, Some, Result, Ok, Err, codes, decimal, string_bytes}
 use Rattle.std.specs.List.{flat_map, list_all, AllZip}
-use Rattle.project_book.specs.declared.edit.Edit.{Edit}
 use Rattle.project_book.specs.declared.edit.Edit.TheVariants.{Depth}
 use Rattle.project_book.specs.declared.fault.EditFault.{EditFault}
 use Rattle.project_book.specs.Faults.{number_of}
@@ -12,7 +11,7 @@ use Rattle.run_queries.specs.Answers.{answer}
 use Rattle.edit_templates.specs.declared.step.Axis.{Axis}
 use Rattle.edit_templates.specs.Templates.{Template, template_of, ways}
 use Rattle.edit_templates.specs.Steps.{Step, each, first_length, followed, in_turn}
-use Rattle.edit_templates.specs.Lines.{axis_of, steps_of}
+use Rattle.edit_templates.specs.Lines.{axis_of}
 use Rattle.edit_templates.specs.Edited.{after_edits}
 use Rattle.lab_tasks.specs.declared.end.End.{End}
 use Rattle.lab_tasks.specs.declared.swept.Swept.{Swept}

@@ -1,5 +1,5 @@
 -- WHERE NOTHING IS DRAWN: the network that all references of a project's scripts are on, where that isn't the one that is drawn.
-use Rattle.std.specs.Prelude.{ℕ, Bool, true, false, not, ◌&&◌, if◌then◌else◌, List, codes, Option, None, Some}
+use Rattle.std.specs.Prelude.{ℕ, Bool, false, not, if◌then◌else◌, List, codes, Option, None, Some}
 use Rattle.std.specs.List.{list_any}
 use Rattle.omega_net.specs.declared.component.Net.{Net}
 use Rattle.omega_net.specs.declared.component.Net.TheVariants.{Low, Comb}

@@ -1,5 +1,5 @@
 -- Of which gauges, and in which bins, `series` makes a table, and why it doesn't.
-use Rattle.std.specs.Prelude.{◌≡◌, ◌≤◌, ◌<◌, ◌+◌, ◌⊎◌, ℕ, List, [], Option, None, Some, codes, unwrap_or}
+use Rattle.std.specs.Prelude.{◌≡◌, ◌≤◌, ◌<◌, ◌+◌, ◌⊎◌, ℕ, List, [], None, Some, codes, unwrap_or}
 use Rattle.std.specs.List.{AllZip}
 use Rattle.project_book.specs.Project.{Project}
 use Rattle.machine_cells.specs.Run.{run}

@@ -1,6 +1,6 @@
 -- WHAT THE PICTURE OF `rates` SHOWS: a mean over seeds for each number of processors and each share of hot references, with its spread and the bound.
 -- Both axes are scales by doublings.
-use Rattle.std.specs.Prelude.{◌≡◌, ℕ, ◌+◌, ◌*◌, ◌/◌, ◌==◌, min, max, Bool, true, false, if◌then◌else◌, List, [], ◌∷◌, ◌++◌, length, map, sum_by, codes, decimal, Option, None, Some}
+use Rattle.std.specs.Prelude.{◌≡◌, ℕ, ◌+◌, ◌*◌, ◌/◌, ◌==◌, min, max, Bool, true, false, if◌then◌else◌, List, [], ◌∷◌, ◌++◌, length, map, sum_by, codes, decimal, None, Some}
 use Rattle.std.specs.List.{flat_map, fold}
 use Rattle.omega_net.specs.Wires.{below}
 use Rattle.svg_plots.specs.declared.curves.Curve.{Curve}

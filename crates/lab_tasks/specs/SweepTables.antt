@@ -1,5 +1,5 @@
 -- The table of a sweep, and why there is none.
-use Rattle.std.specs.Prelude.{◌≡◌, ◌≤◌, ◌<◌, ℕ, ◌⊎◌, List, [], ◌++◌, map, length, take, slice_index_or, Option, None, Some, Result, Ok, Err, codes, decimal}
+use Rattle.std.specs.Prelude.{◌≡◌, ◌≤◌, ◌<◌, ℕ, ◌⊎◌, List, [], ◌++◌, map, length, take, slice_index_or, Option, Some, Result, Ok, Err, codes, decimal}
 use Rattle.std.specs.List.{flat_map, concat, AllZip}
 use Rattle.line_words.specs.Words.{words_of}
 use Rattle.project_book.specs.Project.{Project}

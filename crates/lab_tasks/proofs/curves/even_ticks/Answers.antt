@@ -1,6 +1,4 @@
 use Rattle.std.proofs.Common.{◌≡◌, arith}
-use Rattle.std.specs.List.{flat_map}
-use Rattle.omega_net.specs.Wires.{below}
 use Rattle.lab_tasks.proofs.curves.even_ticks.Goals as goal
 
 pub returns : goal.returns

@@ -1,4 +1,4 @@
-use Rattle.std.proofs.Common.{IfOk, Result, subst, rules, ℕ, refl}
+use Rattle.std.proofs.Common.{Result, subst, rules, ℕ, refl}
 use Rattle.std.specs.List.{AllZip}
 use Rattle.std.specs.Slice.Iter.{iter_rest}
 use Rattle.std.specs.Iterator.Adapters.{zip_first, zip_second}

@@ -1,4 +1,4 @@
-use Rattle.std.proofs.Common.{IfOk, Result}
+use Rattle.std.proofs.Common.{Result}
 use Rattle.std.specs.Slice.Iter.{iter_rest}
 use Rattle.std.specs.Iterator.Adapters.{zip_first, zip_second}
 use Rattle.experiments.specs.declared.fault.Fault.{Fault}

@@ -1,5 +1,5 @@
-use Rattle.std.proofs.Common.{◌≡◌, ℕ, List, sym, subst, string_bytes}
-use Rattle.std.specs.Prelude.{IfErr, OnOk, Result, Err}
+use Rattle.std.proofs.Common.{sym, subst, string_bytes}
+use Rattle.std.specs.Prelude.{IfErr, OnOk, Err}
 use Rattle.lab_tasks.specs.EditSweeps.{HasCells}
 use Rattle.lab_tasks.proofs.EditRows.{cells_refused_on}
 use Rattle.lab_tasks.proofs.edit_sweep.add_cells.Goals as goal

@@ -1,5 +1,4 @@
-use Rattle.std.proofs.Common.{◌≡◌, ◌-◌, ◌^◌, ◌*◌, length, nat_le, arith, rules}
-use Rattle.std.specs.Prelude.{min}
+use Rattle.std.proofs.Common.{length, rules}
 use Rattle.lab_tasks.specs.Sweeps.{rows_of}
 use Rattle.lab_tasks.specs.EditSweeps.{edit_count}
 use Rattle.lab_tasks.proofs.EditRows.{few-rows}

@@ -1,4 +1,4 @@
-use Rattle.std.proofs.Common.{◌≡◌, ◌∙◌, ◌+◌, ap, length, rules, arith, Some}
+use Rattle.std.proofs.Common.{◌≡◌, ◌∙◌, ◌+◌, ap, length, rules, arith}
 use Rattle.std.proofs.lemmas.List.{length_push}
 use Rattle.lab_tasks.specs.Counts.{is_of, references, referrers}
 use Rattle.lab_tasks.proofs.Hottest.{naming-none, naming-taken, hottest-all, hottest-eight}

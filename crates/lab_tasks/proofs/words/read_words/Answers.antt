@@ -1,5 +1,5 @@
 use Rattle.std.proofs.Common.{ℕ, List, sym, subst}
-use Rattle.std.specs.Prelude.{Ok, Err, Some, Option}
+use Rattle.std.specs.Prelude.{Ok, Err, Option}
 use Rattle.clap.specs.Walk.{texts}
 use Rattle.clap.specs.Words.{Row, Text, found_of, rows_of}
 use Rattle.lab_tasks.specs.Words.{AsksFor}
