@@ -52,15 +52,15 @@ IsSaved people saves P name text is_bad =
     ((bytes : List ℕ) × IsConverted P bytes × saves name bytes true × (text ≡ codes "saved " ++ (name ++ codes "\n")) × (is_bad ≡ false))
     ⊎ ((text ≡ unsaved_text people) × (is_bad ≡ true))
 
--- what is said to a request of the shell
+-- what is said to a request of the shell; a clerk isn't asked the other three, and saves nothing for them
 abbrev pub IsSaid : Bool → Saves → Project → ShellWord → List ℕ → List ℕ → Bool → Type 0
 IsSaid people saves P Show argument text is_bad = IsSummary P text × (is_bad ≡ false)
 IsSaid people saves P Script argument text is_bad =
     (text ≡ (script_answer people P (number_of argument)).0) × (is_bad ≡ (script_answer people P (number_of argument)).1)
 IsSaid people saves P Save argument text is_bad = IsSaved people saves P argument text is_bad
-IsSaid people saves P Quit argument text is_bad = Unit {0}
-IsSaid people saves P Help argument text is_bad = Unit {0}
-IsSaid people saves P HelpOn argument text is_bad = Unit {0}
+IsSaid people saves P Quit argument text is_bad = (text ≡ unsaved_text people) × (is_bad ≡ true)
+IsSaid people saves P Help argument text is_bad = (text ≡ unsaved_text people) × (is_bad ≡ true)
+IsSaid people saves P HelpOn argument text is_bad = (text ≡ unsaved_text people) × (is_bad ≡ true)
 
 -- the status of a session that ended so
 abbrev pub status_of_session : Ended → ℕ
