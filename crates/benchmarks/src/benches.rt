@@ -11,10 +11,10 @@ use std::thread::Threads;
 
 /// A fresh bench.
 pub fn opened(alloc: Global, project: Project) -> Result<Box<Bench>> {
-    match Bench::new(alloc, project, 0) {
-        Ok(bench) => Ok(Box::new(alloc, bench)?),
-        Err(_) => Err(Error::msg("no memory")),
-    }
+    let bench = Bench::new(alloc, project, 0)
+        .ok()
+        .ok_or_else(|| Error::msg("no memory"))?;
+    Ok(Box::new(alloc, bench)?)
 }
 
 /// Settles the bench: how many cells were computed.
@@ -50,10 +50,9 @@ pub fn replied<T: Threads + Sync>(
 pub fn shared(alloc: Global, bench: Box<Bench>, seats: u32) -> Result<Pass>
     requires { (0 < seats) × (seats ≤ 64) }
 {
-    match open(alloc, Box::into_inner(bench), seats) {
-        Ok(pass) => Ok(pass),
-        Err(_) => Err(Error::msg("no memory")),
-    }
+    open(alloc, Box::into_inner(bench), seats)
+        .ok()
+        .ok_or_else(|| Error::msg("no memory"))
 }
 
 /// A pass more.

@@ -18,8 +18,11 @@ use std::time::{Duration, Instant};
 use std::{fmt, thread};
 use wave_workers::{Gate, attend, work};
 
-/// How often each thing is done.
+/// How often cells are computed.
 const TIMES: u32 = 5;
+
+/// How often each edit is made, with its answer.
+const EDITS: u32 = 25;
 
 /// How many seats a bench has: for four workers, for who starts them, and for who edits.
 const SEATS: u32 = 6;
@@ -186,16 +189,19 @@ fn worked<H: Hall>(
     }
 }
 
-/// Looks until the question is answered, and then ends the workers: how long that took.
+/// Looks until the question is answered, and then ends the workers: how long that took. A look takes a turn, so the first one
+/// comes only when one thread would have settled the bench.
 fn waited<H: Hall>(
     rt: &HostRuntime,
     host: &H,
     pass: Pass,
     query: Query,
     since: Instant,
+    first: u64,
     board: &Board,
 ) -> Result<u64> {
     let mut pass = pass;
+    thread::sleep(rt, Duration::from_micros(first / 1_000));
     for _ in 0..u32::MAX {
         if let Asked::Answer { .. } = pass.look(host, query) {
             break;
@@ -207,8 +213,14 @@ fn waited<H: Hall>(
     time
 }
 
-/// Settles a fresh bench by so many workers, slice by slice: the time.
-fn sliced<H: Hall>(rt: &HostRuntime, host: &H, project: &Project, workers: u32) -> Result<u64> {
+/// Settles a fresh bench by so many workers, slice by slice, which one thread settles in `alone` nanoseconds: the time.
+fn sliced<H: Hall>(
+    rt: &HostRuntime,
+    host: &H,
+    project: &Project,
+    workers: u32,
+    alone: u64,
+) -> Result<u64> {
     let mut pass = fresh_pass(rt.alloc(), project)?;
     let own = second(&mut pass)?;
     let board = new_board(rt.alloc(), u64::MAX)?;
@@ -216,7 +228,7 @@ fn sliced<H: Hall>(rt: &HostRuntime, host: &H, project: &Project, workers: u32) 
     let since = Instant::now(rt)?;
     let (time, ()) = thread::join(
         host,
-        || -> Result<u64> { waited(rt, host, pass, last_word(project), since, &board) },
+        || -> Result<u64> { waited(rt, host, pass, last_word(project), since, alone, &board) },
         || attended(host, own, gates, &board),
     );
     time
@@ -256,7 +268,7 @@ fn all_worked<H: Hall>(rt: &HostRuntime, host: &H, load: Load, project: &Project
         )?;
         let mut times = Times::none();
         for _ in 0..TIMES {
-            times = times.and(sliced(rt, host, project, workers)?);
+            times = times.and(sliced(rt, host, project, workers, alone.best())?);
         }
         row_beside(rt, load, "and in slices", times, cells, beside)?;
     }
@@ -289,7 +301,7 @@ fn edits<H: Hall>(
     what: What,
 ) -> Result<Times> {
     let mut times = Times::none();
-    for time in 0..TIMES {
+    for time in 0..EDITS {
         thread::sleep(rt, Duration::from_micros(REST));
         let since = Instant::now(rt)?;
         pass.edit(host, what.edit(load, time))?;
@@ -416,5 +428,5 @@ fn beside_workers<H: Hall>(
         eprintln!(rt; "{load}, beside four workers, {what}:")?;
         row_beside(rt, load, what, times, 1, beside)?;
     }
-    Ok(TIMES.saturating_mul(3))
+    Ok(EDITS.saturating_mul(3))
 }

@@ -1,6 +1,7 @@
 //! What begins at one cycle, and how it is found among others.
-ghost use Rattle.std.specs.Prelude.{◌≡◌, ℕ, ◌+◌, ◌<◌, ◌≤◌, ◌^◌, None, true, false, length, take, drop};
+ghost use Rattle.std.specs.Prelude.{◌≡◌, ℕ, ◌+◌, ◌<◌, ◌≤◌, ◌^◌, None, true, false, length, take, drop, slice_index_or};
 ghost use Rattle.std.specs.Option.{option_copied};
+ghost use Rattle.change_lists.specs.declared.begun.Begun.{Begun};
 ghost use Rattle.change_lists.specs.Changes.{standing, begins, starts, first_or, Rises, IsPlace};
 
 /// A value, or nothing, from a cycle on.
@@ -10,9 +11,9 @@ pub(crate) struct Begun<V> {
     pub value: Option<V>,
 }
 
-/// How many begin before a cycle.
+/// How many begin before a cycle, sought among all.
 #[tactic(auto, using(crate::proofs::Places::behind_more))]
-pub(crate) fn place<V>(begun: &[Begun<V>], t: u32) -> usize
+fn sought<V>(begun: &[Begun<V>], t: u32) -> usize
     requires { Rises 0 begun.now (2 ^ 32) }
     ensures { IsPlace begun.now t result }
 {
@@ -27,6 +28,50 @@ pub(crate) fn place<V>(begun: &[Begun<V>], t: u32) -> usize
         }
     }
     low
+}
+
+/// Whether all that stand before a place begin before a cycle.
+fn are_before<V>(begun: &[Begun<V>], i: usize, t: u32) -> bool
+    requires rises { Rises 0 begun.now (2 ^ 32) }
+    requires within { i ≤ length begun.now }
+    ensures { result ≡ true → (k : ℕ) (d : Begun V) → k < i → (slice_index_or begun.now k d).from < t }
+{
+    if i == 0 {
+        return true;
+    }
+    if begun[i - 1].from < t { true } else { false }
+}
+
+/// Whether none that stands at a place or behind it begins before a cycle.
+#[tactic(auto, using(crate::proofs::Places::behind_more))]
+fn are_behind<V>(begun: &[Begun<V>], i: usize, t: u32) -> bool
+    requires { Rises 0 begun.now (2 ^ 32) }
+    ensures { result ≡ true → (k : ℕ) (d : Begun V) → i ≤ k → k < length begun.now → t ≤ (slice_index_or begun.now k d).from }
+{
+    i >= begun.len() || begun[i].from >= t
+}
+
+/// Whether so many begin before a cycle.
+fn is_place<V>(begun: &[Begun<V>], i: usize, t: u32) -> bool
+    requires { Rises 0 begun.now (2 ^ 32) }
+    ensures { result ≡ true → IsPlace begun.now t i }
+{
+    i <= begun.len() && are_before(begun, i, t) && are_behind(begun, i, t)
+}
+
+/// How many begin before a cycle. A guess is tried first, and one more.
+pub(crate) fn place<V>(begun: &[Begun<V>], near: usize, t: u32) -> usize
+    requires { Rises 0 begun.now (2 ^ 32) }
+    ensures { IsPlace begun.now t result }
+{
+    if is_place(begun, near, t) {
+        return near;
+    }
+    let next = near.saturating_add(1);
+    if is_place(begun, next, t) {
+        return next;
+    }
+    sought(begun, t)
 }
 
 /// Whether the one at a place begins at a cycle.
@@ -60,12 +105,12 @@ fn last_of<V>(begun: &[Begun<V>], n: usize, t: u32) -> Option<&V>
     begun[n - 1].value.as_ref()
 }
 
-/// The value of the last that begins at a cycle or before.
-pub(crate) fn value_at<V>(begun: &[Begun<V>], t: u32) -> Option<&V>
+/// The value of the last that begins at a cycle or before; how many begin before that cycle may be guessed, as for `place`.
+pub(crate) fn value_at<V>(begun: &[Begun<V>], near: usize, t: u32) -> Option<&V>
     requires { Rises 0 begun.now (2 ^ 32) }
     ensures { option_copied result ≡ standing begun.now t None }
 {
-    let i = place(begun, t);
+    let i = place(begun, near, t);
     if is_at(begun, i, t) {
         return last_of(begun, i + 1, t);
     }
@@ -73,20 +118,20 @@ pub(crate) fn value_at<V>(begun: &[Begun<V>], t: u32) -> Option<&V>
 }
 
 /// Whether one begins at a cycle.
-pub(crate) fn has_begin<V>(begun: &[Begun<V>], t: u32) -> bool
+pub(crate) fn has_begin<V>(begun: &[Begun<V>], near: usize, t: u32) -> bool
     requires { Rises 0 begun.now (2 ^ 32) }
     ensures { result ≡ begins begun.now t }
 {
-    is_at(begun, place(begun, t), t)
+    is_at(begun, place(begun, near, t), t)
 }
 
 /// The first cycle from t on, and before `to`, at which one begins, or else `to`.
-pub(crate) fn next_begin<V>(begun: &[Begun<V>], t: u32, to: u32) -> u32
+pub(crate) fn next_begin<V>(begun: &[Begun<V>], near: usize, t: u32, to: u32) -> u32
     requires { Rises 0 begun.now (2 ^ 32) }
     ensures from { t ≤ to → t ≤ result }
     ensures to { result ≤ to }
     ensures none { (u : ℕ) → t ≤ u → u < result → begins begun.now u ≡ false }
     ensures there { result < to → begins begun.now result ≡ true }
 {
-    begin_or(begun, place(begun, t), to)
+    begin_or(begun, place(begun, near, t), to)
 }

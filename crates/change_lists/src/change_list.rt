@@ -12,6 +12,8 @@ use std::marker::Model;
 #[derive(Drop)]
 pub(crate) struct ChangeList<V> {
     begun: Vec<Begun<V>>,
+    /// Where the last one was put or went on: mostly the next cell that is looked for is beside it.
+    near: usize,
 }
 
 impl<V> Model for ChangeList<V> {
@@ -115,6 +117,7 @@ impl<V: Drop> ChangeList<V> {
     {
         ChangeList {
             begun: Vec::new(alloc),
+            near: 0,
         }
     }
 
@@ -128,14 +131,14 @@ impl<V: Drop> ChangeList<V> {
     pub fn at(&self, t: u32) -> Option<&V>
         ensures { option_copied result ≡ standing self.now.begun t None }
     {
-        value_at(self.begun.as_slice(), t)
+        value_at(self.begun.as_slice(), self.near, t)
     }
 
     /// Whether one begins at a cycle.
     pub fn begins(&self, t: u32) -> bool
         ensures { result ≡ begins self.now.begun t }
     {
-        has_begin(self.begun.as_slice(), t)
+        has_begin(self.begun.as_slice(), self.near, t)
     }
 
     /// The first cycle from t on, and before `to`, at which one begins, or else `to`.
@@ -145,7 +148,7 @@ impl<V: Drop> ChangeList<V> {
         ensures none { (u : ℕ) → t ≤ u → u < result → begins self.now.begun u ≡ false }
         ensures there { result < to → begins self.now.begun result ≡ true }
     {
-        next_begin(self.begun.as_slice(), t, to)
+        next_begin(self.begun.as_slice(), self.near, t, to)
     }
 
     /// Gets the memory for two changes more.
@@ -165,12 +168,13 @@ impl<V: Drop> ChangeList<V> {
         ensures written { IsWritten self.old.begun self.new.begun t (t + 1) end value result }
         ensures begins { begins self.new.begun t ≡ true }
     {
-        let i = place(self.begun.as_slice(), t);
+        let i = place(self.begun.as_slice(), self.near, t);
         let here = is_at(self.begun.as_slice(), i, t);
         let next = behind(i, here);
         let again = goes_on(self.begun.as_slice(), next, t + 1, end);
         begin_at(&mut self.begun, i, here, t, value);
         insert_if(&mut self.begun, again, i + 1, t + 1, stood);
+        self.near = i;
         again
     }
 
@@ -182,12 +186,13 @@ impl<V: Drop> ChangeList<V> {
         ensures begins { begins self.new.begun from ≡ false }
         ensures nothing { self.old.begun ≡ [] → self.new.begun ≡ [] }
     {
-        let i = place(self.begun.as_slice(), from);
+        let i = place(self.begun.as_slice(), self.near, from);
         if !is_at(self.begun.as_slice(), i, from) {
             return false;
         }
         let again = goes_on(self.begun.as_slice(), i + 1, to, end);
         begin_later_if(&mut self.begun, again, i, to);
+        self.near = i;
         again
     }
 
@@ -213,7 +218,7 @@ impl<V: Drop> ChangeList<V> {
     pub fn truncate(&mut self, n: u32)
         ensures { IsCut self.old.begun self.new.begun n }
     {
-        let many = place(self.begun.as_slice(), n);
+        let many = place(self.begun.as_slice(), self.near, n);
         self.begun.truncate(many);
     }
 }

@@ -11,7 +11,7 @@
 //! - [`cold_waits`], [`waited_each`]: how long the references that aren't hot wait for their replies.
 //! - [`order_rows`], [`rows_shown`]: the references of a run in their one order, with the cycles that each took;
 //!   [`lane_counts`], [`lane_of`]: where their bars stand in a space-time diagram.
-//! - [`told`], [`told_each`], [`sweep_row`]: what a bench is told after one edit more.
+//! - [`told`], [`told_or_bad`], [`told_each`], [`sweep_row`]: what a bench is told after one edit more.
 //!
 //! The crate stands on `machine_cells` for runs, on `run_reports` for one that is counted cycle by cycle and not kept, on
 //! `serial_order` and `memory_order` for the one order, on `bench_core` and
@@ -46,5 +46,5 @@ pub use offer::{Offer, offered, project_offered};
 pub use order::{Issue, OrderRow, order_rows, rows_shown};
 pub use series::{QueueLengths, Queues, Series};
 pub use steady::{Steady, steady_each};
-pub use sweep::{sweep_row, told, told_each};
+pub use sweep::{sweep_row, told, told_each, told_or_bad};
 pub use traffic::{Traffic, traffic_each};

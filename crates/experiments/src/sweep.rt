@@ -36,7 +36,7 @@ pub fn told<T: Threads + Sync>(rt: &T, bench: &mut Bench, query: Query) -> Resul
 /// # Errors
 ///
 /// Clock and Memory, as [`told`] has them.
-fn told_or_bad<T: Threads + Sync>(
+pub fn told_or_bad<T: Threads + Sync>(
     rt: &T,
     bench: &mut Bench,
     query: Query,

@@ -113,10 +113,7 @@ pub(crate) fn pass_to(alloc: Global, project: Project, clock: u64, seats: u32) -
     requires { (0 < seats) × (seats ≤ 64) }
 {
     let bench = bench_of(alloc, project, clock)?;
-    match open(alloc, Box::into_inner(bench), seats) {
-        Ok(pass) => Some(pass),
-        Err(_) => None,
-    }
+    open(alloc, Box::into_inner(bench), seats).ok()
 }
 
 /// A bench for the session.

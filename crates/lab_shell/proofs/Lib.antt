@@ -1,3 +1,5 @@
 mod Reading
 mod Talking
 mod Hinting
+mod Ranging
+mod Undoing

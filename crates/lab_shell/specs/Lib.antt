@@ -1,5 +1,7 @@
 pub mod Words
+pub mod Ranges
 pub mod Reasons
+pub mod Sessions
 pub mod Talks
 pub mod Steps
 pub mod Hints

@@ -1,32 +1,43 @@
 -- What a session writes for the lines that it reads.
-use Rattle.std.specs.Prelude.{◌≡◌, ◌⊎◌, ℕ, Bool, true, false, ◌&&◌, not, List, [], ◌∷◌, ◌++◌, Option, None, Some, IfSome, is_some, codes, if◌then◌else◌}
+use Rattle.std.specs.Prelude.{◌≡◌, ◌⊎◌, ℕ, Bool, true, false, ◌&&◌, ◌||◌, not, List, [], ◌∷◌, ◌++◌, Option, None, Some, IfSome, MatchOption, is_some, codes, string_bytes, if◌then◌else◌}
 use Rattle.std.specs.Option.{unwrap_or}
+use Rattle.std.specs.List.{flat_map, list_all}
 use Rattle.std.specs.Io.KnownBytes.{Appends, Consumes, IsAtEnd}
 use Rattle.project_book.specs.Project.{Project}
+use Rattle.project_book.specs.declared.edit.Edit.{Edit}
 use Rattle.line_words.specs.Words.{words_of}
 use Rattle.bench_shell.specs.Lines.{Line, Whole, Cut, lines_of}
 use Rattle.bench_shell.specs.Store.{Store}
 use Rattle.bench_shell.specs.Text.{line_text}
-use Rattle.bench_shell.specs.Output.{is_long, is_ok, reply, command_in, after_lines, output, store_after}
+use Rattle.bench_shell.specs.Output.{is_long, is_ok, reply, command_in, output, store_after}
 use Rattle.bench_shell.specs.declared.answer.Answer.{Answer}
 use Rattle.bench_shell.specs.declared.answer.Answer.TheVariants.{BadLine, BadCut, BadCommand}
 use Rattle.lab_shell.specs.declared.manner.Manner.{Manner}
 use Rattle.lab_shell.specs.declared.manner.Ended.{Ended}
 use Rattle.lab_shell.specs.declared.manner.Ended.TheVariants as ended
 use Rattle.lab_shell.specs.declared.word.ShellWord.{ShellWord}
-use Rattle.lab_shell.specs.declared.word.ShellWord.TheVariants.{Quit, Help, HelpOn, Show, Script, Save}
+use Rattle.lab_shell.specs.declared.word.ShellWord.TheVariants.{Quit, Help, HelpOn, Show, Script, Save, Undo, Latency, Done, Trace, Full, OrderAll}
+use Rattle.lab_shell.specs.declared.clerk.Said.{Said}
+use Rattle.lab_shell.specs.declared.clerk.Said.TheVariants.{Text, Refused, Unsaved}
 use Rattle.lab_shell.specs.Words.{request_of}
+use Rattle.lab_shell.specs.Ranges.{lines_of_range}
+use Rattle.lab_shell.specs.Sessions.{Session, held, after_line, after_undo, undo_answers}
 use Rattle.lab_shell.specs.Reasons.{reasoned_text}
 use Rattle.lab_shell.specs.Hints.{slip_of}
 
--- what a clerk may say to a word, and to the one behind it, about a project: a text, and whether the request was refused
+-- what a clerk may say to a word, and to those behind it, about a project
 abbrev pub Says : Type 1
-Says = Project → ShellWord → List ℕ → List ℕ → Bool → Type 0
+Says = Project → ShellWord → List (List ℕ) → Said → Type 0
 
--- what a line asks the shell for, with the word behind it
-abbrev pub request_in : Line → Option (ShellWord × List ℕ)
+-- what a line asks the shell for, with the words behind the first one
+abbrev pub request_in : Line → Option (ShellWord × List (List ℕ))
 request_in (Whole l) = if is_long l then None else request_of (words_of l)
 request_in (Cut l) = None
+
+-- the lines that a line stands for, by a range of processors; none where it has no range
+abbrev pub lines_in : Line → List (List ℕ)
+lines_in (Whole l) = if is_long l then [] else lines_of_range (words_of l)
+lines_in (Cut l) = []
 
 -- a line that ends with LF, or one that the end of the input cuts
 abbrev pub line_at : Bool → List ℕ → Line
@@ -47,10 +58,14 @@ abbrev pub no_command_text : Option (List ℕ) → List ℕ
 no_command_text None = answer_text true BadCommand
 no_command_text (Some name) = codes "bad command: there is no such command; is it " ++ (name ++ codes "?\n")
 
--- what people are told of a line
+-- what people are told of words that are answered so, and of a line
+abbrev pub people_told : List (List ℕ) → Answer → List ℕ
+people_told words BadCommand = no_command_text (slip_of words)
+people_told words a = answer_text true a
+
 abbrev pub people_text : Line → Answer → List ℕ
-people_text (Whole l) BadCommand = no_command_text (slip_of (words_of l))
-people_text l a = answer_text true a
+people_text (Whole l) a = people_told (words_of l) a
+people_text (Cut l) a = answer_text true a
 
 -- and what anybody is
 abbrev pub told_text : Bool → Line → Answer → List ℕ
@@ -68,58 +83,103 @@ abbrev pub stop_of : Manner → Line → Bool → Option Ended
 stop_of m (Whole l) is_bad = stop_at m is_bad
 stop_of m (Cut l) is_bad = Some (if m.strict then ended.Refused else ended.Input)
 
+-- that a file wasn't written, for people with the reason behind it
+abbrev pub unsaved_text : Bool → List ℕ
+unsaved_text people = if people then codes "bad file: it can't be written\n" else codes "bad file\n"
+
+-- what is written where a clerk said this to such words: a refusal as of a line
+abbrev pub said_text : Bool → List (List ℕ) → Said → List ℕ
+said_text people words (Text text) = string_bytes text
+said_text people words (Refused a) = if people then people_told words a else line_text a
+said_text people words Unsaved = unsaved_text people
+
+abbrev pub is_refused : Said → Bool
+is_refused (Text text) = false
+is_refused (Refused a) = true
+is_refused Unsaved = true
+
 -- what a clerk answers
-abbrev pub Clerked : Says → Manner → Store → ShellWord → List ℕ → List ℕ → Store → Option Ended → Type 0
-Clerked says m s word argument answer t stop = (is_bad : Bool) × says s.project word argument answer is_bad × (t ≡ s) × (stop ≡ stop_at m is_bad)
+abbrev pub Clerked : Says → Manner → Session → ShellWord → List (List ℕ) → List ℕ → Session → Option Ended → Type 0
+Clerked says m s word argument answer t stop =
+    (said : Said) × says s.store.project word argument said × (answer ≡ said_text m.people argument said) × (t ≡ s) × (stop ≡ stop_at m (is_refused said))
 
 -- what is said where help is asked on a word: what it does, or that there is no such command
 abbrev pub HelpsOn : Manner → List ℕ → Option Ended → Type 0
 HelpsOn m answer stop = (stop ≡ None) ⊎ ((answer ≡ answer_text m.people BadCommand) × (stop ≡ stop_at m true))
 
+-- that nothing is left to take back, for people with the reason behind it
+abbrev pub nothing_text : Bool → List ℕ
+nothing_text people = if people then codes "bad command: there is nothing to undo\n" else line_text BadCommand
+
+-- `undo`: the edits that take back the last one that was accepted and not yet taken back are made, and answered one by one
+abbrev pub Undone : Manner → Session → List (List Edit) → List ℕ → Session → Option Ended → Type 0
+Undone m s [] answer t stop = (answer ≡ nothing_text m.people) × (t ≡ s) × (stop ≡ stop_at m true)
+Undone m s (es ∷ undos) answer t stop =
+    (answer ≡ flat_map (answer_text m.people) (undo_answers s.store es)) × (t ≡ after_undo s es undos)
+    × (stop ≡ stop_at m (not (list_all is_ok (undo_answers s.store es))))
+
 -- what is written for a request, the store afterwards, and how it ends the session. What help says isn't fixed here, but to
 -- what is no command it is said that there is none.
-abbrev pub Requested : Says → Manner → Store → ShellWord → List ℕ → List ℕ → Store → Option Ended → Type 0
+abbrev pub Requested : Says → Manner → Session → ShellWord → List (List ℕ) → List ℕ → Session → Option Ended → Type 0
 Requested says m s Quit argument answer t stop = (answer ≡ []) × (t ≡ s) × (stop ≡ Some ended.Quit)
 Requested says m s Help argument answer t stop = (t ≡ s) × (stop ≡ None)
 Requested says m s HelpOn argument answer t stop = (t ≡ s) × HelpsOn m answer stop
 Requested says m s Show argument answer t stop = Clerked says m s Show argument answer t stop
 Requested says m s Script argument answer t stop = Clerked says m s Script argument answer t stop
 Requested says m s Save argument answer t stop = Clerked says m s Save argument answer t stop
+Requested says m s Undo argument answer t stop = Undone m s s.undos answer t stop
+Requested says m s Latency argument answer t stop = Clerked says m s Latency argument answer t stop
+Requested says m s Done argument answer t stop = Clerked says m s Done argument answer t stop
+Requested says m s Trace argument answer t stop = Clerked says m s Trace argument answer t stop
+Requested says m s Full argument answer t stop = Clerked says m s Full argument answer t stop
+Requested says m s OrderAll argument answer t stop = Clerked says m s OrderAll argument answer t stop
 
--- what is written for any other line
-abbrev pub Obeyed : Manner → Store → Line → List ℕ → Store → Option Ended → Type 0
+-- what is written for a command
+abbrev pub Obeyed : Manner → Session → Line → List ℕ → Session → Option Ended → Type 0
 Obeyed m s l answer t stop =
-    (answer ≡ told_text m.people l (answer_to s l)) × (t ≡ after_lines s (l ∷ [])) × (stop ≡ stop_of m l (not (is_ok (answer_to s l))))
+    (answer ≡ told_text m.people l (answer_to s.store l)) × (t ≡ after_line s l) × (stop ≡ stop_of m l (not (is_ok (answer_to s.store l))))
 
-abbrev pub OneFor : Says → Manner → Store → Line → Option (ShellWord × List ℕ) → List ℕ → Store → Option Ended → Type 0
-OneFor says m s l None answer t stop = Obeyed m s l answer t stop
+-- what is written for these commands in turn, up to the first that ends the session
+abbrev pub InTurn : Manner → Session → List (List ℕ) → List ℕ → Session → Option Ended → Type 0
+InTurn m s [] answer t stop = (answer ≡ []) × (t ≡ s) × (stop ≡ None)
+InTurn m s (l ∷ ls) answer t stop =
+    (first later : List ℕ) × (mid : Session) × (so : Option Ended) × Obeyed m s (Whole l) first mid so × (answer ≡ first ++ later)
+    × MatchOption so (InTurn m mid ls later t stop) (λ how. (later ≡ []) × (t ≡ mid) × (stop ≡ Some how))
+
+-- what is written for a line that is no request: for itself, or for the lines that it stands for
+abbrev pub ObeyedAs : Manner → Session → Line → List (List ℕ) → List ℕ → Session → Option Ended → Type 0
+ObeyedAs m s l [] answer t stop = Obeyed m s l answer t stop
+ObeyedAs m s l (first ∷ more) answer t stop = InTurn m s (first ∷ more) answer t stop
+
+abbrev pub OneFor : Says → Manner → Session → Line → Option (ShellWord × List (List ℕ)) → List ℕ → Session → Option Ended → Type 0
+OneFor says m s l None answer t stop = ObeyedAs m s l (lines_in l) answer t stop
 OneFor says m s l (Some (word, argument)) answer t stop = Requested says m s word argument answer t stop
 
 -- ONE LINE: what is written for it
-abbrev pub One : Says → Manner → Store → Line → List ℕ → Store → Option Ended → Type 0
+abbrev pub One : Says → Manner → Session → Line → List ℕ → Session → Option Ended → Type 0
 One says m s l answer t stop = OneFor says m s l (request_in l) answer t stop
 
 -- what is written for these lines in turn, none of which ends the session: each after the prompt
-abbrev pub Goes : Says → Manner → Store → List Line → List ℕ → Store → Type 0
+abbrev pub Goes : Says → Manner → Session → List Line → List ℕ → Session → Type 0
 Goes says m s [] written t = (written ≡ []) × (t ≡ s)
 Goes says m s (l ∷ ls) written t =
-    (answer later : List ℕ) × (mid : Store) × One says m s l answer mid None
+    (answer later : List ℕ) × (mid : Session) × One says m s l answer mid None
     × (written ≡ (prompt m.people ++ answer) ++ later) × Goes says m mid ls later t
 
 -- the last line ends the session so
-pub record Stops (says : Says) (m : Manner) (s : Store) (lines : List Line) (written : List ℕ) (t : Store) (how : Ended) : Type 0 where
+pub record Stops (says : Says) (m : Manner) (s : Session) (lines : List Line) (written : List ℕ) (t : Session) (how : Ended) : Type 0 where
   pub before : List Line
   pub last : Line
   pub first : List ℕ
   pub answer : List ℕ
-  pub mid : Store
+  pub mid : Session
   pub are_lines : lines ≡ before ++ last ∷ []
   pub goes : Goes says m s before first mid
   pub one : One says m mid last answer t (Some how)
   pub is_written : written ≡ first ++ (prompt m.people ++ answer)
 
 -- THE SESSION: what is written for a text, in which the session ends so
-abbrev pub Talks : Says → Manner → Store → List ℕ → List ℕ → Store → Ended → Type 0
+abbrev pub Talks : Says → Manner → Session → List ℕ → List ℕ → Session → Ended → Type 0
 Talks says m s text written t ended.Input =
     ((first : List ℕ) × Goes says m s (lines_of text) first t × (written ≡ first ++ prompt m.people))
     ⊎ Stops says m s (lines_of text) written t ended.Input
@@ -136,17 +196,27 @@ IsAllRead ended.Input reader reader' = IsDrained reader reader'
 IsAllRead ended.Quit reader reader' = Unit {0}
 IsAllRead ended.Refused reader reader' = Unit {0}
 
--- a part was read from the beginning, all of it where the input was at its end, and that was written for it
+-- a part was read from the beginning, all of it where the input was at its end, and that was written for it; before it there is
+-- nothing to take back
 abbrev pub Talked : Says → Manner → Option (List ℕ) → Option (List ℕ) → Option (List ℕ) → Option (List ℕ) → Store → Store → Ended → Type 0
 Talked says m reader reader' writer writer' s t how =
-    (read written : List ℕ) × Consumes reader reader' read × IsAllRead how reader reader' × Appends writer writer' written × Talks says m s read written t how
+    (read written : List ℕ) × (undos : List (List Edit)) × Consumes reader reader' read × IsAllRead how reader reader' × Appends writer writer' written
+    × Talks says m (held s []) read written (held t undos) how
 
--- no line is a request
+abbrev pub is_any : List (List ℕ) → Bool
+is_any [] = false
+is_any (l ∷ ls) = true
+
+-- a line is a request, or has a range
+abbrev pub is_own : Line → Bool
+is_own l = is_some (request_in l) || is_any (lines_in l)
+
+-- no line is one of the shell's own
 abbrev pub no_request : List Line → Bool
 no_request [] = true
-no_request (l ∷ ls) = if is_some (request_in l) then false else no_request ls
+no_request (l ∷ ls) = if is_own l then false else no_request ls
 
--- where no line that was read is a request: the output of the bench's shell was written, and its store is that after it
+-- where no line that was read is one of the shell's own: the output of the bench's shell was written, and its store is that after it
 abbrev pub TalksPlainly : Option (List ℕ) → Option (List ℕ) → Option (List ℕ) → Option (List ℕ) → Store → Store → Type 0
 TalksPlainly reader reader' writer writer' s t =
     (read : List ℕ) × Consumes reader reader' read

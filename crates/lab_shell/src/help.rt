@@ -10,9 +10,15 @@ Questions:
   reply P I             state C T             memory A T        counter NAME WHO T0 T1
   profile NET S         tree NET M            level NET M T     bound A B P
   place A               order A
+Reports:
+  latency [--processor P] [--network low|comb] [--address A] [--page N] [--hot|--cold]
+    [--from T] [--to T]
+  done                  trace P I             full
+  order all
 Of the shell:
-  show                  script P              save F
+  show                  script P              save F                undo
   help                  help COMMAND          quit
+P of entry and cut may be a range A..B of processors
 ";
 
 /// A command, as it is written, with what it does; None where there is no such command.
@@ -21,7 +27,10 @@ pub(crate) fn usage(word: &[u8]) -> Option<&'static str> {
         Some(text) => Some(text),
         None => match question_usage(word) {
             Some(text) => Some(text),
-            None => shell_usage(word),
+            None => match report_usage(word) {
+                Some(text) => Some(text),
+                None => shell_usage(word),
+            },
         },
     }
 }
@@ -33,10 +42,14 @@ fn edit_usage(word: &[u8]) -> Option<&'static str> {
     Some(match word {
         "entry" => "\
 entry P I ENTRY: replaces entry I of the script of processor P, or appends where I is its length
+entry A..B I ENTRY: does so for each of the processors A to B, at most 64 of them
 an ENTRY is sync KIND A V [T], plain KIND A V [T], until sync KIND A V W [T], until plain KIND A V W [T], fence, or idle T
 KIND is load, add, and, or, min, max, store or store-if-zero; A an address, V an operand, W a word, T how many times
 ",
-        "cut" => "cut P L: keeps the first L entries of the script of processor P\n",
+        "cut" => "\
+cut P L: keeps the first L entries of the script of processor P
+cut A..B L: does so for each of the processors A to B, at most 64 of them
+",
         "word" => "word A V: the word of address A before cycle 0 is V\n",
         "page" => "page G AMOUNT BASE: spreads page G over 2^AMOUNT modules from BASE on\n",
         "depth" => "\
@@ -70,7 +83,30 @@ NAME is issued, answered, served, combined or waiting; WHO is all or a component
         "bound" =>
             "bound A B P: the bound on the rate of each of P processors, where A of B references go to one module\n",
         "place" => "place A: the module and the row of address A\n",
-        "order" => "order A: the references to address A in their serial order\n",
+        "order" => "\
+order A: the references to address A in their serial order
+order all: the table of all references in the one order, with when each was issued, served and answered
+",
+        _ => return None,
+    })
+}
+
+fn report_usage(word: &[u8]) -> Option<&'static str> {
+    let Ok(word) = str::from_utf8(word) else {
+        return None;
+    };
+    Some(match word {
+        "latency" => "\
+latency [--processor P] [--network low|comb] [--address A] [--page N] [--hot|--cold] [--from T] [--to T]:
+how long references waited for their replies: those of processor P alone, on one network, to address A, to page N,
+to the hottest word or to all others, issued in the cycles from T to T; without these all
+",
+        "done" =>
+            "done: when each processor had its last reply and came to the end of its script\n",
+        "trace" =>
+            "trace P I: where reference I of processor P, from 0, or the one that it was combined into, was at each cycle\n",
+        "full" =>
+            "full: which queues and wait buffers were full, in the order in which they first were\n",
         _ => return None,
     })
 }
@@ -83,6 +119,8 @@ fn shell_usage(word: &[u8]) -> Option<&'static str> {
         "show" => "show: what the project is, in words\n",
         "script" => "script P: the entries of the script of processor P\n",
         "save" => "save F: writes the project as a file of format 2\n",
+        "undo" =>
+            "undo: takes back the last edit of this session that was accepted and not yet taken back, by edits that make it what it was\n",
         "help" => "help, help COMMAND: all commands, or what one does\n",
         "quit" => "quit: ends the session\n",
         _ => return None,

@@ -1,15 +1,17 @@
 //! The shell for people: the commands of the workbench, answered in the same bytes, and words of its own.
 //!
 //! [`talk`] reads lines from a reader. A line that begins with one of the shell's own words ([`ShellWord`]) is a request;
-//! a [`Clerk`] answers those that need more than the bench. Each other line is answered as `bench_shell` does it. A
+//! a [`Clerk`] answers those that need more than the bench. Each other line is answered as `bench_shell` does it, one with a
+//! range of processors ([`lines_of_range`]) as the lines for each of them. What takes back each edit (`edit_undo`) is kept. A
 //! [`Manner`] says whether people read the answers, who then get a prompt, and a reason behind each refusal
 //! ([`Reasoned`]) with the word that a mistyped one may be (`specs/Hints.antt`), and whether the first refusal ends the
 //! session.
 //!
-//! It stands on `bench_shell` for answers, on `bench_core` for the bench, on `line_words` for words, and on `strsim` for slips.
+//! It stands on `bench_shell` for answers, on `bench_core` for the bench, on `edit_undo` for what takes edits back, on `commands`
+//! and `line_words` for commands and words, and on `strsim` for slips.
 //!
 //! Promise: what was written is the prompt and the answer of each line that was read, in turn, up to the line that ends the
-//! session (`specs/Talks.antt`); where no line is a request and no people read, it is exactly `output` of
+//! session (`specs/Talks.antt`); where no line is a request or has a range and no people read, it is exactly `output` of
 //! `bench_shell`.
 #![tactic(auto)]
 
@@ -17,12 +19,15 @@ mod clerk;
 mod help;
 mod hint;
 mod manner;
+mod range;
 mod reason;
 mod session;
+mod undo;
 mod word;
 
 pub use clerk::{Clerk, Said};
 pub use manner::{Ended, Manner};
+pub use range::lines_of_range;
 pub use reason::{Reasoned, told_line};
 pub use session::talk;
-pub use word::{ShellWord, request};
+pub use word::{ShellWord, first_word, request};

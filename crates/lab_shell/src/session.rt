@@ -1,26 +1,30 @@
 //! A session: lines from a reader, answers to a writer.
-ghost use Rattle.std.specs.Prelude.{◌≡◌, ◌≢◌, ◌⊎◌, ℕ, ◌<◌, ◌+◌, ◌-◌, ◌^◌, List, [], ◌∷◌, ◌++◌, Bool, true, false, not, Some, None, OnOk, OnErr, IfOk, MatchOption, length};
+ghost use Rattle.std.specs.Prelude.{◌≡◌, ◌≢◌, ◌⊎◌, ℕ, ◌<◌, ◌+◌, ◌-◌, ◌^◌, List, [], ◌∷◌, ◌++◌, Bool, true, false, not, Some, None, OnOk, OnErr, IfOk, MatchOption, length, map};
 ghost use Rattle.std.specs.Io.{StopsAt};
 ghost use Rattle.std.specs.IoError.{error_kind};
 ghost use Rattle.std.specs.Io.KnownBytes.{Appends, Consumes};
 ghost use Rattle.bench_shell.specs.Cause.{HasCause};
-ghost use Rattle.bench_shell.specs.Output.{is_ok, after_lines};
+ghost use Rattle.bench_shell.specs.Output.{is_ok};
 ghost use Rattle.bench_shell.specs.Steps.{has_lf};
 ghost use Rattle.bench_shell.specs.Store.{store_of};
 ghost use Rattle.line_words.specs.Words.{words_of};
 ghost use Rattle.lab_shell.specs.Hints.{slip_of};
+ghost use Rattle.lab_shell.specs.Sessions.{after_line, held};
 ghost use Rattle.lab_shell.specs.Steps.{IsLine, Turned};
-ghost use Rattle.lab_shell.specs.Talks.{IsDrained, answer_text, answer_to, line_at, no_command_text, people_text, prompt, request_in, stop_at, stop_of, told_text, Clerked, HelpsOn, Obeyed, One, Requested, Talked, TalksPlainly};
+ghost use Rattle.lab_shell.specs.Talks.{IsDrained, answer_text, answer_to, line_at, no_command_text, people_text, prompt, is_refused, lines_in, request_in, said_text, stop_at, stop_of, told_text, unsaved_text, Clerked, HelpsOn, InTurn, Obeyed, ObeyedAs, One, Requested, Talked, TalksPlainly};
 
-use crate::clerk::Clerk;
+use crate::clerk::{Clerk, Said};
 use crate::help::{HELP, usage};
 use crate::hint::slip;
 use crate::manner::{Ended, Manner};
+use crate::range::lines_of_range;
 use crate::reason::told_line;
-use crate::word::{ShellWord, request};
+use crate::undo::{edit_in, edited, undone};
+use crate::word::{ShellWord, first_word, request};
 use bench_core::Bench;
 use bench_shell::{Answer, RunFault, Sink, answer_line, hand_on, write_bytes};
-use std::alloc::Global;
+use edit_undo::Undos;
+use std::alloc::{AllocError, Global};
 use std::io::{BufRead, Error, ErrorKind};
 use std::thread::Threads;
 
@@ -76,7 +80,7 @@ fn without_end(line: &[u8]) -> (&[u8], bool)
 }
 
 /// Writes the line of an answer, for people with the reason behind it.
-fn put_answer<W: Sink>(
+pub(crate) fn put_answer<W: Sink>(
     alloc: Global,
     people: bool,
     answer: &Answer,
@@ -170,15 +174,18 @@ fn put_told<W: Sink>(
     }
 }
 
-/// What a line is answered that is no request.
+/// What a line is answered that is no request. What takes its edit back is noted where that is accepted.
+#[tactic(auto, using(crate::proofs::Undoing::long_session, crate::proofs::Undoing::cut_session, crate::proofs::Undoing::edit_session, crate::proofs::Undoing::other_session, crate::proofs::Undoing::edit_answer))]
 fn answer_of<T: Threads + Sync>(
     rt: &T,
+    alloc: Global,
     bench: &mut Bench,
+    undos: &mut Undos,
     line: &[u8],
     is_whole: bool,
 ) -> Result<Answer, RunFault>
     ensures answer { IfOk result (λ a. a ≡ answer_to (store_of bench.old) (line_at is_whole line.now)) }
-    ensures store { OnOk result (store_of bench.new ≡ after_lines (store_of bench.old) (line_at is_whole line.now ∷ [])) }
+    ensures session { OnOk result (held (store_of bench.new) undos.new ≡ after_line (held (store_of bench.old) undos.old) (line_at is_whole line.now)) }
     ensures kept { OnErr result (store_of bench.new ≡ store_of bench.old) }
     ensures cause { HasCause result ⊥ ⊥ ⊥ (Unit {0}) (bench.new.table.clock ≡ 2 ^ 64 - 1) }
 {
@@ -188,11 +195,14 @@ fn answer_of<T: Threads + Sync>(
     if !is_whole {
         return Ok(Answer::BadCut);
     }
-    answer_line(rt, bench, line)
+    match edit_in(bench, line) {
+        Some(edit) => edited(alloc, bench, undos, edit),
+        None => answer_line(rt, bench, line),
+    }
 }
 
 /// Whether an answer rests on the edits so far, so that nothing was refused.
-fn is_taken(answer: &Answer) -> bool
+pub(crate) fn is_taken(answer: &Answer) -> bool
     ensures { result ≡ is_ok answer.now }
 {
     match answer {
@@ -206,7 +216,7 @@ fn is_taken(answer: &Answer) -> bool
 }
 
 /// How a request ends the session that was refused, or wasn't.
-fn stop_at(manner: Manner, is_bad: bool) -> Option<Ended>
+pub(crate) fn stop_at(manner: Manner, is_bad: bool) -> Option<Ended>
     ensures { result ≡ stop_at manner is_bad }
 {
     if manner.strict && is_bad {
@@ -235,16 +245,17 @@ fn obeyed<T: Threads + Sync, W: Sink>(
     alloc: Global,
     manner: Manner,
     bench: &mut Bench,
+    undos: &mut Undos,
     line: &[u8],
     is_whole: bool,
     writer: &mut W,
 ) -> Result<Option<Ended>, RunFault>
     ensures ok { IfOk result (λ stop. (answer : List ℕ) × Appends (W.contents writer.old) (W.contents writer.new) answer
-        × Obeyed manner (store_of bench.old) (line_at is_whole line.now) answer (store_of bench.new) stop) }
+        × Obeyed manner (held (store_of bench.old) undos.old) (line_at is_whole line.now) answer (held (store_of bench.new) undos.new) stop) }
     ensures cause { HasCause result ⊥ (W.has_failed writer.new ≡ true) ⊥ (Unit {0}) (bench.new.table.clock ≡ 2 ^ 64 - 1) }
     ensures same_reference { W.lender writer.new ≡ W.lender writer.old }
 {
-    let answer = match answer_of(rt, bench, line, is_whole) {
+    let answer = match answer_of(rt, alloc, bench, undos, line, is_whole) {
         Ok(answer) => answer,
         Err(fault) => return Err(fault),
     };
@@ -255,27 +266,143 @@ fn obeyed<T: Threads + Sync, W: Sink>(
     }
 }
 
+/// The lines that a line stands for, by a range of processors.
+fn lines_in(alloc: Global, line: &[u8], is_whole: bool) -> Result<Vec<Vec<u8>>, AllocError>
+    ensures { IfOk result (λ v. map (λ l. l.items) v.items ≡ lines_in (line_at is_whole line.now)) }
+{
+    if !is_whole || line.len() > LONGEST {
+        return Ok(Vec::new(alloc));
+    }
+    lines_of_range(alloc, line)
+}
+
+/// Obeys these commands in turn, up to the first that ends the session: how that does.
+fn in_turn<T: Threads + Sync, W: Sink>(
+    rt: &T,
+    alloc: Global,
+    manner: Manner,
+    bench: &mut Bench,
+    undos: &mut Undos,
+    lines: &[Vec<u8>],
+    writer: &mut W,
+) -> Result<Option<Ended>, RunFault>
+    ensures ok { IfOk result (λ stop. (answer : List ℕ) × Appends (W.contents writer.old) (W.contents writer.new) answer
+        × InTurn manner (held (store_of bench.old) undos.old) (map (λ l. l.items) lines.now) answer (held (store_of bench.new) undos.new) stop) }
+    ensures cause { HasCause result ⊥ (W.has_failed writer.new ≡ true) ⊥ (Unit {0}) (bench.new.table.clock ≡ 2 ^ 64 - 1) }
+    ensures same_reference { W.lender writer.new ≡ W.lender writer.old }
+{
+    for line in lines {
+        match obeyed(
+            rt,
+            alloc,
+            manner,
+            bench,
+            undos,
+            line.as_slice(),
+            true,
+            writer,
+        ) {
+            Ok(None) => {}
+            Ok(Some(ended)) => return Ok(Some(ended)),
+            Err(fault) => return Err(fault),
+        }
+    }
+    Ok(None)
+}
+
+/// Obeys a line that is no request, or each of the lines that it stands for: how that ends the session.
+fn obeyed_as<T: Threads + Sync, W: Sink>(
+    rt: &T,
+    alloc: Global,
+    manner: Manner,
+    bench: &mut Bench,
+    undos: &mut Undos,
+    line: &[u8],
+    is_whole: bool,
+    writer: &mut W,
+) -> Result<Option<Ended>, RunFault>
+    ensures ok { IfOk result (λ stop. (answer : List ℕ) × Appends (W.contents writer.old) (W.contents writer.new) answer
+        × ObeyedAs manner (held (store_of bench.old) undos.old) (line_at is_whole line.now) (lines_in (line_at is_whole line.now)) answer (held (store_of bench.new) undos.new) stop) }
+    ensures cause { HasCause result ⊥ (W.has_failed writer.new ≡ true) ⊥ (Unit {0}) (bench.new.table.clock ≡ 2 ^ 64 - 1) }
+    ensures same_reference { W.lender writer.new ≡ W.lender writer.old }
+{
+    let lines = match lines_in(alloc, line, is_whole) {
+        Ok(lines) => lines,
+        Err(_) => return Err(RunFault::Memory),
+    };
+    if lines.is_empty() {
+        obeyed(rt, alloc, manner, bench, undos, line, is_whole, writer)
+    } else {
+        in_turn(rt, alloc, manner, bench, undos, lines.as_slice(), writer)
+    }
+}
+
+/// Writes that a file wasn't written.
+fn put_unsaved<W: Sink>(people: bool, writer: &mut W) -> Result<(), RunFault>
+    ensures ok { OnOk result (Appends (W.contents writer.old) (W.contents writer.new) (unsaved_text people)) }
+    ensures cause { HasCause result ⊥ (W.has_failed writer.new ≡ true) ⊥ ⊥ ⊥ }
+    ensures same_reference { W.lender writer.new ≡ W.lender writer.old }
+{
+    let text = if people {
+        "bad file: it can't be written\n"
+    } else {
+        "bad file\n"
+    };
+    write_bytes(writer, text.as_bytes())
+}
+
+/// Writes what a clerk said to some words.
+fn put_said<W: Sink>(
+    alloc: Global,
+    people: bool,
+    words: &[u8],
+    said: &Said,
+    writer: &mut W,
+) -> Result<(), RunFault>
+    ensures ok { OnOk result (Appends (W.contents writer.old) (W.contents writer.new) (said_text people (words_of words.now) said.now)) }
+    ensures cause { HasCause result ⊥ (W.has_failed writer.new ≡ true) ⊥ (Unit {0}) ⊥ }
+    ensures same_reference { W.lender writer.new ≡ W.lender writer.old }
+{
+    match said {
+        Said::Text(text) => write_bytes(writer, text.as_bytes()),
+        Said::Refused(answer) => put_told(alloc, people, words, true, answer, writer),
+        Said::Unsaved => put_unsaved(people, writer),
+    }
+}
+
+/// Whether a request was refused.
+fn is_refused(said: &Said) -> bool
+    ensures { result ≡ is_refused said.now }
+{
+    match said {
+        Said::Text(_) => false,
+        Said::Refused(_) | Said::Unsaved => true,
+    }
+}
+
 /// Writes what a clerk says to a request: how that ends the session.
 fn clerked<C: Clerk, W: Sink>(
     alloc: Global,
     manner: Manner,
     clerk: &C,
     bench: &Bench,
+    undos: &Undos,
     word: ShellWord,
     argument: &[u8],
     writer: &mut W,
 ) -> Result<Option<Ended>, RunFault>
     ensures ok { IfOk result (λ stop. (answer : List ℕ) × Appends (W.contents writer.old) (W.contents writer.new) answer
-        × Clerked (C.says clerk.now) manner (store_of bench.now) word argument.now answer (store_of bench.now) stop) }
+        × Clerked (C.says clerk.now) manner (held (store_of bench.now) undos.now) word (words_of argument.now) answer (held (store_of bench.now) undos.now) stop) }
     ensures cause { HasCause result ⊥ (W.has_failed writer.new ≡ true) ⊥ (Unit {0}) ⊥ }
     ensures same_reference { W.lender writer.new ≡ W.lender writer.old }
 {
+    let _ = undos;
     let said = match clerk.say(alloc, bench.project(), word, argument) {
         Ok(said) => said,
         Err(_) => return Err(RunFault::Memory),
     };
-    match write_bytes(writer, said.text.as_bytes()) {
-        Ok(()) => Ok(stop_at(manner, said.is_bad)),
+    match put_said(alloc, manner.people, argument, &said, writer) {
+        Ok(()) => Ok(stop_at(manner, is_refused(&said))),
         Err(fault) => Err(fault),
     }
 }
@@ -321,29 +448,38 @@ fn requested<C: Clerk, W: Sink>(
     alloc: Global,
     manner: Manner,
     clerk: &C,
-    bench: &Bench,
+    bench: &mut Bench,
+    undos: &mut Undos,
     word: ShellWord,
     argument: &[u8],
     writer: &mut W,
 ) -> Result<Option<Ended>, RunFault>
     ensures ok { IfOk result (λ stop. (answer : List ℕ) × Appends (W.contents writer.old) (W.contents writer.new) answer
-        × Requested (C.says clerk.now) manner (store_of bench.now) word argument.now answer (store_of bench.now) stop) }
-    ensures cause { HasCause result ⊥ (W.has_failed writer.new ≡ true) ⊥ (Unit {0}) ⊥ }
+        × Requested (C.says clerk.now) manner (held (store_of bench.old) undos.old) word (words_of argument.now) answer (held (store_of bench.new) undos.new) stop) }
+    ensures cause { HasCause result ⊥ (W.has_failed writer.new ≡ true) ⊥ (Unit {0}) (bench.new.table.clock ≡ 2 ^ 64 - 1) }
     ensures same_reference { W.lender writer.new ≡ W.lender writer.old }
 {
     match word {
         ShellWord::Quit => Ok(Some(Ended::Quit)),
         ShellWord::Help => helped(writer),
-        ShellWord::HelpOn => helped_on(alloc, manner, argument, writer),
-        ShellWord::Show | ShellWord::Script | ShellWord::Save => {
-            clerked(alloc, manner, clerk, bench, word, argument, writer)
-        }
+        ShellWord::HelpOn => helped_on(alloc, manner, first_word(argument), writer),
+        ShellWord::Show
+        | ShellWord::Script
+        | ShellWord::Save
+        | ShellWord::Latency
+        | ShellWord::Done
+        | ShellWord::Trace
+        | ShellWord::Full
+        | ShellWord::OrderAll => clerked(
+            alloc, manner, clerk, bench, undos, word, argument, writer,
+        ),
+        ShellWord::Undo => undone(alloc, manner, bench, undos, writer),
     }
 }
 
-/// The request that a line is, with the word behind it.
+/// The request that a line is, with the words behind the first one.
 fn asked(line: &[u8], is_whole: bool) -> Option<(ShellWord, &[u8])>
-    ensures { MatchOption result (request_in (line_at is_whole line.now) ≡ None) (λ p. request_in (line_at is_whole line.now) ≡ Some (p.0, p.1.now)) }
+    ensures { MatchOption result (request_in (line_at is_whole line.now) ≡ None) (λ p. request_in (line_at is_whole line.now) ≡ Some (p.0, words_of p.1.now)) }
 {
     if !is_whole {
         return None;
@@ -361,18 +497,21 @@ fn line_done<T: Threads + Sync, C: Clerk, W: Sink>(
     manner: Manner,
     clerk: &C,
     bench: &mut Bench,
+    undos: &mut Undos,
     line: &[u8],
     is_whole: bool,
     writer: &mut W,
 ) -> Result<Option<Ended>, RunFault>
     ensures ok { IfOk result (λ stop. (answer : List ℕ) × Appends (W.contents writer.old) (W.contents writer.new) answer
-        × One (C.says clerk.now) manner (store_of bench.old) (line_at is_whole line.now) answer (store_of bench.new) stop) }
+        × One (C.says clerk.now) manner (held (store_of bench.old) undos.old) (line_at is_whole line.now) answer (held (store_of bench.new) undos.new) stop) }
     ensures cause { HasCause result ⊥ (W.has_failed writer.new ≡ true) ⊥ (Unit {0}) (bench.new.table.clock ≡ 2 ^ 64 - 1) }
     ensures same_reference { W.lender writer.new ≡ W.lender writer.old }
 {
     match asked(line, is_whole) {
-        Some((word, argument)) => requested(alloc, manner, clerk, bench, word, argument, writer),
-        None => obeyed(rt, alloc, manner, bench, line, is_whole, writer),
+        Some((word, argument)) => requested(
+            alloc, manner, clerk, bench, undos, word, argument, writer,
+        ),
+        None => obeyed_as(rt, alloc, manner, bench, undos, line, is_whole, writer),
     }
 }
 
@@ -399,9 +538,10 @@ fn turn<T: Threads + Sync, C: Clerk, R: BufRead, W: Sink>(
     reader: &mut R,
     writer: &mut W,
     bench: &mut Bench,
+    undos: &mut Undos,
 ) -> Result<Option<Ended>, RunFault>
     ensures ok { IfOk result (Turned (C.says clerk.now) manner (R.remaining reader.old) (R.remaining reader.new)
-        (W.contents writer.old) (W.contents writer.new) (store_of bench.old) (store_of bench.new)) }
+        (W.contents writer.old) (W.contents writer.new) (held (store_of bench.old) undos.old) (held (store_of bench.new) undos.new)) }
     ensures cause { HasCause result (Unit {0}) (W.has_failed writer.new ≡ true) ⊥ (Unit {0}) (bench.new.table.clock ≡ 2 ^ 64 - 1) }
     ensures same_reference { W.lender writer.new ≡ W.lender writer.old }
 {
@@ -417,7 +557,43 @@ fn turn<T: Threads + Sync, C: Clerk, R: BufRead, W: Sink>(
         return Ok(Some(Ended::Input));
     }
     let (bytes, is_whole) = without_end(line.as_slice());
-    line_done(rt, alloc, manner, clerk, bench, bytes, is_whole, writer)
+    line_done(
+        rt, alloc, manner, clerk, bench, undos, bytes, is_whole, writer,
+    )
+}
+
+/// Answers each line that comes, over a session that has nothing to take back.
+fn talk_over<T: Threads + Sync, C: Clerk, R: BufRead, W: Sink>(
+    rt: &T,
+    alloc: Global,
+    manner: Manner,
+    clerk: &C,
+    reader: &mut R,
+    writer: &mut W,
+    bench: &mut Bench,
+    undos: &mut Undos,
+) -> Result<Ended, RunFault>
+    requires { undos.old ≡ [] }
+    ensures talks { IfOk result (Talked (C.says clerk.now) manner (R.remaining reader.old) (R.remaining reader.new)
+        (W.contents writer.old) (W.contents writer.new) (store_of bench.old) (store_of bench.new)) }
+    ensures plain { manner.people ≡ false → OnOk result (TalksPlainly (R.remaining reader.old) (R.remaining reader.new)
+        (W.contents writer.old) (W.contents writer.new) (store_of bench.old) (store_of bench.new)) }
+    ensures cause { HasCause result (Unit {0}) (W.has_failed writer.new ≡ true) ⊥ (Unit {0}) (bench.new.table.clock ≡ 2 ^ 64 - 1) }
+    ensures same_writer { W.lender writer.new ≡ W.lender writer.old }
+{
+    'turns: for _ in 0..u64::MAX {
+        match turn(rt, alloc, manner, clerk, reader, writer, bench, undos) {
+            Ok(None) => {}
+            Ok(Some(ended)) => {
+                return match hand_on(writer) {
+                    Ok(()) => Ok(ended),
+                    Err(fault) => Err(fault),
+                };
+            }
+            Err(fault) => return Err(fault),
+        }
+    }
+    Err(RunFault::Read)
 }
 
 /// Answers each line that comes, until the input ends, `quit` is read, or in a strict session a line is refused. What was
@@ -444,17 +620,6 @@ pub fn talk<T: Threads + Sync, C: Clerk, R: BufRead, W: Sink>(
     ensures cause { HasCause result (Unit {0}) (W.has_failed writer.new ≡ true) ⊥ (Unit {0}) (bench.new.table.clock ≡ 2 ^ 64 - 1) }
     ensures same_writer { W.lender writer.new ≡ W.lender writer.old }
 {
-    'turns: for _ in 0..u64::MAX {
-        match turn(rt, alloc, manner, clerk, reader, writer, bench) {
-            Ok(None) => {}
-            Ok(Some(ended)) => {
-                return match hand_on(writer) {
-                    Ok(()) => Ok(ended),
-                    Err(fault) => Err(fault),
-                };
-            }
-            Err(fault) => return Err(fault),
-        }
-    }
-    Err(RunFault::Read)
+    let mut undos = Undos::new(alloc);
+    talk_over(rt, alloc, manner, clerk, reader, writer, bench, &mut undos)
 }

@@ -1,7 +1,7 @@
 //! The shell's own words.
-ghost use Rattle.std.specs.Prelude.{◌≡◌, [], None, Some, MatchOption};
+ghost use Rattle.std.specs.Prelude.{◌≡◌, None, Some, MatchOption};
 ghost use Rattle.line_words.specs.Words.{words_of};
-ghost use Rattle.lab_shell.specs.Words.{alone, with_one, request_of};
+ghost use Rattle.lab_shell.specs.Words.{alone, asked_by, first_word, is_order_all, report_named, request_of, with_one, word_of};
 
 use line_words::split_word;
 
@@ -20,6 +20,18 @@ pub enum ShellWord {
     Script,
     /// `save F`: the project as a file.
     Save,
+    /// `undo`: the last edit is taken back.
+    Undo,
+    /// `latency ..`: how long references waited.
+    Latency,
+    /// `done`: when each processor was done.
+    Done,
+    /// `trace P I`: where a reference was.
+    Trace,
+    /// `full`: which queues were full.
+    Full,
+    /// `order all`: the table of all references in their one order.
+    OrderAll,
 }
 
 /// What a word asks for that stands alone.
@@ -32,6 +44,8 @@ fn alone(word: &[u8]) -> Option<ShellWord>
         Some(ShellWord::Help)
     } else if word == b"show".as_slice() {
         Some(ShellWord::Show)
+    } else if word == b"undo".as_slice() {
+        Some(ShellWord::Undo)
     } else {
         None
     }
@@ -52,18 +66,70 @@ fn with_one(word: &[u8]) -> Option<ShellWord>
     }
 }
 
-/// What a line asks the shell for, with the word behind it: an empty one where there is none. None where it is no request.
-pub fn request(line: &[u8]) -> Option<(ShellWord, &[u8])>
-    ensures { MatchOption result (request_of (words_of line.now) ≡ None) (λ p. request_of (words_of line.now) ≡ Some (p.0, p.1.now)) }
+/// The report of a name, which may have any words behind it.
+fn report_named(word: &[u8]) -> Option<ShellWord>
+    ensures { result ≡ report_named word.now }
 {
-    let (first, behind) = split_word(line)?;
+    if word == b"latency".as_slice() {
+        Some(ShellWord::Latency)
+    } else if word == b"done".as_slice() {
+        Some(ShellWord::Done)
+    } else if word == b"trace".as_slice() {
+        Some(ShellWord::Trace)
+    } else if word == b"full".as_slice() {
+        Some(ShellWord::Full)
+    } else {
+        None
+    }
+}
+
+fn is_order_all(word: &[u8], argument: &[u8]) -> bool
+    ensures { result ≡ is_order_all word.now argument.now }
+{
+    word == b"order".as_slice() && argument == b"all".as_slice()
+}
+
+/// What a word asks for that is no report, with these words behind it.
+fn asked_by(word: &[u8], behind: &[u8]) -> Option<ShellWord>
+    ensures { result ≡ asked_by word.now (words_of behind.now) }
+{
     let Some((argument, more)) = split_word(behind) else {
-        let word = alone(first)?;
-        return Some((word, b"".as_slice()));
+        return alone(word);
     };
     if split_word(more).is_some() {
         return None;
     }
-    let word = with_one(first)?;
-    Some((word, argument))
+    if is_order_all(word, argument) {
+        return Some(ShellWord::OrderAll);
+    }
+    with_one(word)
+}
+
+/// What a word asks for with these words behind it.
+fn word_of(word: &[u8], behind: &[u8]) -> Option<ShellWord>
+    ensures { result ≡ word_of word.now (words_of behind.now) }
+{
+    match report_named(word) {
+        Some(report) => Some(report),
+        None => asked_by(word, behind),
+    }
+}
+
+/// What a line asks the shell for, with the words behind its first one. None where it is no request.
+pub fn request(line: &[u8]) -> Option<(ShellWord, &[u8])>
+    ensures { MatchOption result (request_of (words_of line.now) ≡ None) (λ p. request_of (words_of line.now) ≡ Some (p.0, words_of p.1.now)) }
+{
+    let (first, behind) = split_word(line)?;
+    let word = word_of(first, behind)?;
+    Some((word, behind))
+}
+
+/// The first of some words; an empty one where there is none.
+pub fn first_word(words: &[u8]) -> &[u8]
+    ensures { result.now ≡ first_word (words_of words.now) }
+{
+    match split_word(words) {
+        Some((word, _behind)) => word,
+        None => b"".as_slice(),
+    }
 }

@@ -1,13 +1,10 @@
 -- Fields, one character or one field more.
 use Rattle.std.proofs.Common.{◌≡◌, ℕ, ◌+◌, ◌<◌, ◌==◌, arith, take, get_or, List, [], ◌∷◌, ◌++◌, length, map, refl, sym, ap, ◌∙◌, append-nil, append_assoc, codes}
-use Rattle.std.specs.Prelude.{if◌then◌else◌, decimal, Some, Result, Ok, Err, OnOk}
+use Rattle.std.specs.Prelude.{if◌then◌else◌}
 use Rattle.std.specs.List.{flat_map}
 use Rattle.std.proofs.lemmas.Bool.{ne_eqb}
-use Rattle.std.proofs.lemmas.List.{length-map, length-take-le, map_more, map_push}
+use Rattle.std.proofs.lemmas.List.{length-map, length-take-le, map_more, take_more}
 use Rattle.std.proofs.lemmas.Grind.{flat_map-append}
-use Rattle.run_queries.specs.declared.body.Body.{Body}
-use Rattle.lab_tasks.specs.declared.swept.Setting.{Setting}
-use Rattle.lab_tasks.specs.SweepTables.{shown, HasFields, HasRowOf}
 use Rattle.lab_tasks.specs.Tables.{doubled_char, field_text, fields_text}
 
 pub doubled_next : (cs : List ℕ) (c : ℕ) → flat_map doubled_char (cs ++ c ∷ []) ≡ flat_map doubled_char cs ++ doubled_char c
@@ -46,23 +43,10 @@ field-more text xs i d begin old new lt so written =
     fields-next (map text (take i xs)) (text (get_or xs i d)) begin old new i many so written
     ∙ ap (λ texts. begin ++ fields_text texts) (sym (map_more text xs i d lt))
 
--- one answer more
-pub answer-next : (bodies : List (Result Body ℕ)) (i : ℕ) (body : Result Body ℕ) (answer begin old new : List ℕ) → i < length bodies → body ≡ get_or bodies i body
-    → HasFields (take i bodies) begin old → shown body ≡ Some answer → new ≡ old ++ (before i ++ field_text answer) → HasFields (take (i + 1) bodies) begin new
-answer-next bodies i body answer begin old new lt is h told written =
-    let answers : List (List ℕ) = h.0 in
-    let each : map shown (take i bodies) ≡ map Some answers = h.1 in
-    let many : length answers ≡ i =
-    sym (length-map answers Some) ∙ ap length (sym each) ∙ length-map (take i bodies) shown ∙ length-take-le i bodies (omega arith) in (
-      answers ++ answer ∷ [],
-      map_more shown bodies i body lt ∙ ap (λ t. map shown (take i bodies) ++ t ∷ []) (ap shown (sym is) ∙ told) ∙ ap (λ ts. ts ++ Some answer ∷ []) each
-          ∙ sym (map_push Some answers answer),
-      fields-next answers answer begin old new i many h.2 written,
-    )
-
--- the end of a row
-pub row-ends : {E : Type 0} (r : Result (Unit {0}) E) (bodies : List (Result Body ℕ)) (row : List Setting) (begin depths fields new : List ℕ)
-    → depths ≡ begin ++ flat_map (λ s. decimal s.depth ++ codes ",") row → HasFields bodies depths fields → OnOk r (new ≡ fields ++ codes "\n") → OnOk r (HasRowOf bodies row begin new)
-row-ends (Err e) bodies row begin depths fields new first h written = tt
-row-ends (Ok x) bodies row begin depths fields new first h written =
-    (h.0, h.1, written ∙ ap (λ t. t ++ codes "\n") (h.2 ∙ ap (λ t. t ++ fields_text h.0) first) ∙ simp append_assoc)
+-- one cell more
+pub field-next : (cells : List (List ℕ)) (i : ℕ) (d cell begin old new : List ℕ) → i < length cells → cell ≡ get_or cells i d → old ≡ begin ++ fields_text (take i cells)
+    → new ≡ old ++ (before i ++ field_text cell) → new ≡ begin ++ fields_text (take (i + 1) cells)
+field-next cells i d cell begin old new lt is so written =
+    let many : length (take i cells) ≡ i = length-take-le i cells (omega arith) in
+    fields-next (take i cells) cell begin old new i many so written
+    ∙ ap (λ texts. begin ++ fields_text texts) (ap (λ c. take i cells ++ c ∷ []) is ∙ sym (take_more cells i d lt))

@@ -147,3 +147,23 @@ hottest-all p r ps rs hots le named none =
         | inr gone ↦ inl gone.0
       ];
     }
+
+-- the hottest of all that are counted
+pub hottest_is : (p r : ℕ → ℕ) (ps rs : List ℕ) (h : Hot) → ((n : ℕ) → slice_index ps n ≡ p n) → ((n : ℕ) → slice_index rs n ≡ r n) → IsHottest ps rs h
+    → (0 < p h.number) × ((n : ℕ) → 0 < p n → (n ≡ h.number) ⊎ Hotter (with_counts p r h.number) (with_counts p r n))
+hottest_is p r ps rs h each times most = (
+  some,
+  λ n more. elim (most.4 n (counted n more)) [
+    | inl same ↦ inl same
+    | inr hotter ↦ inr (subst (λ g. Hotter g (with_counts p r n)) told (hotter_by h n (slice_index ps n) (slice_index rs n) (p n) (r n) (each n) (times n) hotter))
+  ],
+)
+  where
+    told : h ≡ with_counts p r h.number
+    told = same_hot h (p h.number) (r h.number) (most.1 ∙ each h.number) (most.2 ∙ times h.number)
+
+    some : 0 < p h.number
+    some = let own = each h.number in omega (arith, most.1, most.3)
+
+    counted : (n : ℕ) → 0 < p n → 0 < slice_index ps n
+    counted n more = let own = each n in omega arith

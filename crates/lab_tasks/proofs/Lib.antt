@@ -1,4 +1,5 @@
 pub mod Adding
+pub mod Answering
 pub mod ColumnSteps
 pub mod EditRows
 pub mod Fields
@@ -18,4 +19,6 @@ pub mod Stops
 pub mod SweepRows
 pub mod SweptTexts
 pub mod Tasks
+pub mod Threads
 pub mod WordByWord
+pub mod WordTexts

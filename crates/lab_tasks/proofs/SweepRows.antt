@@ -1,19 +1,19 @@
 -- The rows of a table, one after another, on one bench.
-use Rattle.std.proofs.Common.{◌≡◌, ℕ, ◌+◌, ◌-◌, ◌<◌, ◌≤◌, List, [], ◌∷◌, ◌++◌, length, map, take, get_or, refl, sym, ap, subst, ◌∙◌, append_assoc, append-nil, arith}
-use Rattle.std.specs.Prelude.{Some, Result}
-use Rattle.std.specs.List.{concat, flat_map, AllZip, AllByRecursion}
+use Rattle.std.proofs.Common.{◌≡◌, ℕ, ◌+◌, ◌-◌, ◌<◌, ◌≤◌, List, [], ◌∷◌, ◌++◌, length, map, take, get_or, refl, sym, ap, subst, ◌∙◌, arith}
+use Rattle.std.specs.Prelude.{Some}
+use Rattle.std.specs.List.{flat_map, AllZip, AllByRecursion}
 use Rattle.std.proofs.lemmas.List.{take_more, take_all, get_or-map, length-map}
 use Rattle.std.proofs.lemmas.List.Elements.{All-from_recursion}
 use Rattle.omega_net.specs.Wires.{below}
 use Rattle.project_book.specs.declared.edit.Depths.{Depths}
 use Rattle.project_book.specs.Project.{Project}
 use Rattle.run_queries.specs.declared.query.Query.{Query}
-use Rattle.run_queries.specs.declared.body.Body.{Body}
-use Rattle.run_queries.specs.Answers.{answer}
+use Rattle.lab_tasks.specs.declared.answered.Form.{Form}
 use Rattle.lab_tasks.specs.declared.swept.Swept.{Swept}
 use Rattle.lab_tasks.specs.declared.swept.Setting.{Setting}
 use Rattle.lab_tasks.specs.Sweeps.{rows_of, with_settings}
-use Rattle.lab_tasks.specs.SweepTables.{shown, told_text, row_text, IsRow, HasRows, HasRowOf}
+use Rattle.lab_tasks.specs.Answered.{told_cells}
+use Rattle.lab_tasks.specs.SweepTables.{depth_words, IsRow}
 use Rattle.lab_tasks.proofs.WordByWord.{zip-push}
 use Rattle.lab_tasks.proofs.Settings.{queues, with_settings-twice}
 
@@ -57,37 +57,12 @@ SameWhereSet qs B P = (row : List Setting) → queues row ≡ qs → with_settin
 same-next : (qs : List Depths) (B C P : Project) (row : List Setting) → SameWhereSet qs B P → queues row ≡ qs → C ≡ with_settings B row → SameWhereSet qs C P
 same-next qs B C P row same sets is = λ later e. ap (λ (Q : Project). with_settings Q later) is ∙ with_settings-twice B row later (sets ∙ sym e) ∙ same later e
 
-map-map : {X Y Z : Type 0} (g : Y → Z) (f : X → Y) (xs : List X) → map g (map f xs) ≡ map (λ x. g (f x)) xs
-map-map g f [] = refl
-map-map g f (x ∷ xs) = ap (λ ys. g (f x) ∷ ys) (map-map g f xs)
-
-told-all : (Q : Project) (queries : List Query) (says : List (Result Body ℕ)) (answers : List (List ℕ)) → says ≡ map (answer Q) queries → map shown says ≡ map Some answers
-    → map (told_text Q) queries ≡ map Some answers
-told-all Q queries says answers told texts = sym (map-map shown (answer Q) queries) ∙ ap (map shown) (sym told) ∙ texts
-
--- the next row
-row-is : (qs : List Depths) (P B : Project) (queries : List Query) (row : List Setting) (says : List (Result Body ℕ)) (answers : List (List ℕ)) → SameWhereSet qs B P → queues row ≡ qs
-    → says ≡ map (answer (with_settings B row)) queries → map shown says ≡ map Some answers → IsRow P queries row (row_text row answers)
-row-is qs P B queries row says answers same sets told texts = (
-  answers,
-  subst (λ (Q : Project). map (told_text Q) queries ≡ map Some answers) (same row sets) (told-all (with_settings B row) queries says answers told texts),
-  refl,
-)
-
-concat-push : (rows : List (List ℕ)) (row : List ℕ) → concat (rows ++ row ∷ []) ≡ concat rows ++ row
-concat-push [] row = append-nil row
-concat-push (first ∷ rows) row = ap (λ text. first ++ text) (concat-push rows row) ∙ sym (append_assoc first (concat rows) row)
-
-pub rows-none : {T : Type 0} (Row : T → List ℕ → Type 0) (first : List ℕ) → HasRows Row first [] first
-rows-none Row first = ([], tt, sym (append-nil first))
-
-pub rows-more : {T : Type 0} (Row : T → List ℕ → Type 0) (first old new more : List ℕ) (things : List T) (i : ℕ) (d : T) → i < length things
-    → HasRows Row first (take i things) old → Row (get_or things i d) more → new ≡ old ++ more → HasRows Row first (take (i + 1) things) new
-rows-more {T} Row first old new more things i d lt h is written = (
-  h.0 ++ more ∷ [],
-  subst (λ (ts : List T). AllZip Row ts (h.0 ++ more ∷ [])) (sym (take_more things i d lt)) (zip-push Row (take i things) h.0 (get_or things i d) more h.1 is),
-  written ∙ ap (λ text. text ++ more) h.2 ∙ append_assoc first (concat h.0) more ∙ ap (λ text. first ++ text) (sym (concat-push h.0 more)),
-)
+-- one row more
+pub rows-more : {T C : Type 0} (Row : T → C → Type 0) (things : List T) (rows more : List C) (i : ℕ) (d : T) (row : C) → i < length things
+    → AllZip Row (take i things) rows → Row (get_or things i d) row → more ≡ rows ++ row ∷ [] → AllZip Row (take (i + 1) things) more
+rows-more {T} {C} Row things rows more i d row lt h is pushed =
+    subst (λ (ts : List T). AllZip Row ts more) (sym (take_more things i d lt))
+    (subst (λ (rs : List C). AllZip Row (take i things ++ get_or things i d ∷ []) rs) (sym pushed) (zip-push Row (take i things) rows (get_or things i d) row h is))
 
 -- the row that is read at a place
 pub row-read : {V : Type 0} (items : V → List Setting) (read : List V) (all : List Swept) (i : ℕ) (v : V) (row : List Setting) → map items read ≡ rows_of all → i < length read
@@ -96,22 +71,22 @@ row-read items read all i v row e lt is at =
     let many : length read ≡ length (rows_of all) = sym (length-map read items) ∙ ap length e in
     (omega arith, at ∙ ap items is ∙ sym (get_or-map items read i v [] lt) ∙ ap (λ (rows : List (List Setting)). get_or rows i []) e)
 
--- a row that is told and written
-pub row-done : (all : List Swept) (P B C : Project) (queries : List Query) (i : ℕ) (row : List Setting) (told bodies : List (Result Body ℕ)) (begin old new : List ℕ)
-    → (i < length (rows_of all)) × (row ≡ get_or (rows_of all) i []) → SameWhereSet (swept_queues all) B P → HasRows (IsRow P queries) begin (take i (rows_of all)) old
-    → told ≡ map (answer (with_settings B row)) queries → bodies ≡ told → C ≡ with_settings B row → HasRowOf bodies row old new
-    → SameWhereSet (swept_queues all) C P × HasRows (IsRow P queries) begin (take (i + 1) (rows_of all)) new
-row-done all P B C queries i row told bodies begin old new at same before answered read is written =
-    let sets : queues row ≡ swept_queues all = ap queues at.1 ∙ row-sets all i [] at.0 in (
+-- a row that is told
+pub row-done : (form : Form) (all : List Swept) (P B C : Project) (queries : List Query) (i : ℕ) (row : List Setting) (cells : List (List ℕ)) (rows more : List (List (List ℕ)))
+    → (i < length (rows_of all)) × (row ≡ get_or (rows_of all) i []) → SameWhereSet (swept_queues all) B P → AllZip (IsRow form P queries) (take i (rows_of all)) rows
+    → IsRow form B queries row cells → C ≡ with_settings B row → more ≡ rows ++ cells ∷ []
+    → SameWhereSet (swept_queues all) C P × AllZip (IsRow form P queries) (take (i + 1) (rows_of all)) more
+row-done form all P B C queries i row cells rows more at same before told is pushed =
+    let sets : queues row ≡ swept_queues all = ap queues at.1 ∙ row-sets all i [] at.0 in
+    let here : IsRow form P queries row cells =
+    subst (λ (Q : Project). map Some cells ≡ map Some (depth_words row) ++ flat_map (told_cells form Q) queries) (same row sets) told in (
       same-next (swept_queues all) B C P row same sets is,
-      rows-more (IsRow P queries) begin old new (row_text row written.0) (rows_of all) i [] at.0 before
-          (subst (λ (r : List Setting). IsRow P queries r (row_text row written.0)) at.1 (row-is (swept_queues all) P B queries row told written.0 same sets answered (ap (map shown) (sym read) ∙ written.1)))
-          written.2,
+      rows-more (IsRow form P queries) (rows_of all) rows more i [] cells at.0 before (subst (λ (r : List Setting). IsRow form P queries r cells) at.1 here) pushed,
     )
 
 -- no row is left
-pub rows-end : {V : Type 0} (items : V → List Setting) (read : List V) (all : List Swept) (P : Project) (queries : List Query) (i : ℕ) (begin text : List ℕ) → map items read ≡ rows_of all
-    → length read ≤ i → HasRows (IsRow P queries) begin (take i (rows_of all)) text → HasRows (IsRow P queries) begin (rows_of all) text
-rows-end items read all P queries i begin text e le h =
+pub rows-end : {V : Type 0} (items : V → List Setting) (read : List V) (all : List Swept) (Row : List Setting → List (List ℕ) → Type 0) (i : ℕ) (rows : List (List (List ℕ)))
+    → map items read ≡ rows_of all → length read ≤ i → AllZip Row (take i (rows_of all)) rows → AllZip Row (rows_of all) rows
+rows-end items read all Row i rows e le h =
     let many : length read ≡ length (rows_of all) = sym (length-map read items) ∙ ap length e in
-    subst (λ (rows : List (List Setting)). HasRows (IsRow P queries) begin rows text) (take_all i (rows_of all) (omega arith)) h
+    subst (λ (things : List (List Setting)). AllZip Row things rows) (take_all i (rows_of all) (omega arith)) h

@@ -99,7 +99,7 @@ no_help word l e answers clear =
 
 -- the labels of the tasks, and `help`
 abbrev labels : Names
-labels = (codes "map", []) ∷ (codes "order", []) ∷ (codes "latency", []) ∷ (codes "done", []) ∷ (codes "trace", []) ∷ (codes "full", []) ∷ (codes "series", []) ∷ (codes "rates", []) ∷ (codes "delays", []) ∷ (codes "load", []) ∷ (codes "sweep", []) ∷ (codes "check", []) ∷ (codes "convert", []) ∷ (codes "page", []) ∷ (codes "shell", []) ∷ (codes "help", []) ∷ []
+labels = (codes "map", []) ∷ (codes "order", []) ∷ (codes "latency", []) ∷ (codes "done", []) ∷ (codes "trace", []) ∷ (codes "full", []) ∷ (codes "series", []) ∷ (codes "busy", []) ∷ (codes "rates", []) ∷ (codes "delays", []) ∷ (codes "load", []) ∷ (codes "sweep", []) ∷ (codes "check", []) ∷ (codes "convert", []) ∷ (codes "page", []) ∷ (codes "shell", []) ∷ (codes "help", []) ∷ []
 
 labels_are : names_of (built lab) ≡ labels
 unfolding lab clap_on_literals
@@ -118,16 +118,17 @@ not_other word l name (inr (inr (inr (inl e)))) is answers clear none = differ (
 not_other word l name (inr (inr (inr (inr (inl e))))) is answers clear none = differ (codes "trace") l name e is (none 4 map_task (omega arith))
 not_other word l name (inr (inr (inr (inr (inr (inl e)))))) is answers clear none = differ (codes "full") l name e is (none 5 map_task (omega arith))
 not_other word l name (inr (inr (inr (inr (inr (inr (inl e))))))) is answers clear none = differ (codes "series") l name e is (none 6 map_task (omega arith))
-not_other word l name (inr (inr (inr (inr (inr (inr (inr (inl e)))))))) is answers clear none = differ (codes "rates") l name e is (none 7 map_task (omega arith))
-not_other word l name (inr (inr (inr (inr (inr (inr (inr (inr (inl e))))))))) is answers clear none = differ (codes "delays") l name e is (none 8 map_task (omega arith))
-not_other word l name (inr (inr (inr (inr (inr (inr (inr (inr (inr (inl e)))))))))) is answers clear none = differ (codes "load") l name e is (none 9 map_task (omega arith))
-not_other word l name (inr (inr (inr (inr (inr (inr (inr (inr (inr (inr (inl e))))))))))) is answers clear none = differ (codes "sweep") l name e is (none 10 map_task (omega arith))
-not_other word l name (inr (inr (inr (inr (inr (inr (inr (inr (inr (inr (inr (inl e)))))))))))) is answers clear none = differ (codes "check") l name e is (none 11 map_task (omega arith))
-not_other word l name (inr (inr (inr (inr (inr (inr (inr (inr (inr (inr (inr (inr (inl e))))))))))))) is answers clear none = differ (codes "convert") l name e is (none 12 map_task (omega arith))
-not_other word l name (inr (inr (inr (inr (inr (inr (inr (inr (inr (inr (inr (inr (inr (inl e)))))))))))))) is answers clear none = differ (codes "page") l name e is (none 13 map_task (omega arith))
-not_other word l name (inr (inr (inr (inr (inr (inr (inr (inr (inr (inr (inr (inr (inr (inr (inl e))))))))))))))) is answers clear none = differ (codes "shell") l name e is (none 14 map_task (omega arith))
-not_other word l name (inr (inr (inr (inr (inr (inr (inr (inr (inr (inr (inr (inr (inr (inr (inr (inl e)))))))))))))))) is answers clear none = no_help word l e answers clear
-not_other word l name (inr (inr (inr (inr (inr (inr (inr (inr (inr (inr (inr (inr (inr (inr (inr (inr never)))))))))))))))) is answers clear none = absurd never
+not_other word l name (inr (inr (inr (inr (inr (inr (inr (inl e)))))))) is answers clear none = differ (codes "busy") l name e is (none 7 map_task (omega arith))
+not_other word l name (inr (inr (inr (inr (inr (inr (inr (inr (inl e))))))))) is answers clear none = differ (codes "rates") l name e is (none 8 map_task (omega arith))
+not_other word l name (inr (inr (inr (inr (inr (inr (inr (inr (inr (inl e)))))))))) is answers clear none = differ (codes "delays") l name e is (none 9 map_task (omega arith))
+not_other word l name (inr (inr (inr (inr (inr (inr (inr (inr (inr (inr (inl e))))))))))) is answers clear none = differ (codes "load") l name e is (none 10 map_task (omega arith))
+not_other word l name (inr (inr (inr (inr (inr (inr (inr (inr (inr (inr (inr (inl e)))))))))))) is answers clear none = differ (codes "sweep") l name e is (none 11 map_task (omega arith))
+not_other word l name (inr (inr (inr (inr (inr (inr (inr (inr (inr (inr (inr (inr (inl e))))))))))))) is answers clear none = differ (codes "check") l name e is (none 12 map_task (omega arith))
+not_other word l name (inr (inr (inr (inr (inr (inr (inr (inr (inr (inr (inr (inr (inr (inl e)))))))))))))) is answers clear none = differ (codes "convert") l name e is (none 13 map_task (omega arith))
+not_other word l name (inr (inr (inr (inr (inr (inr (inr (inr (inr (inr (inr (inr (inr (inr (inl e))))))))))))))) is answers clear none = differ (codes "page") l name e is (none 14 map_task (omega arith))
+not_other word l name (inr (inr (inr (inr (inr (inr (inr (inr (inr (inr (inr (inr (inr (inr (inr (inl e)))))))))))))))) is answers clear none = differ (codes "shell") l name e is (none 15 map_task (omega arith))
+not_other word l name (inr (inr (inr (inr (inr (inr (inr (inr (inr (inr (inr (inr (inr (inr (inr (inr (inl e))))))))))))))))) is answers clear none = no_help word l e answers clear
+not_other word l name (inr (inr (inr (inr (inr (inr (inr (inr (inr (inr (inr (inr (inr (inr (inr (inr (inr never))))))))))))))))) is answers clear none = absurd never
 
 first_is : (p q : Text × List Row) → Some p ≡ Some q → p.0 ≡ q.0
 first_is p q e =
@@ -164,7 +165,7 @@ no_task name r o =
     let rs = recursion_from_All has_not reports r in
     let os = recursion_from_All has_not other_tasks o in
     All-from_recursion has_not tasks
-    (os.0, (os.1.0, (rs.0, (rs.1.0, (rs.1.1.0, (rs.1.1.1.0, (rs.1.1.1.1.0, (os.1.1.0, (os.1.1.1.0, (os.1.1.1.1.0, (os.1.1.1.1.1.0, (os.1.1.1.1.1.1.0, (os.1.1.1.1.1.1.1.0, os.1.1.1.1.1.1.1.1)))))))))))))
+    (os.0, (os.1.0, (rs.0, (rs.1.0, (rs.1.1.0, (rs.1.1.1.0, (rs.1.1.1.1.0, (rs.1.1.1.1.1.0, (os.1.1.0, (os.1.1.1.0, (os.1.1.1.1.0, (os.1.1.1.1.1.0, (os.1.1.1.1.1.1.0, (os.1.1.1.1.1.1.1.0, (os.1.1.1.1.1.1.1.1.0, os.1.1.1.1.1.1.1.1.1)))))))))))))))
 
 -- nothing, so what follows from it too
 pub none_more : {T : Type 0} (o : Option T) (X Y : Type 0) → (X → Y) → IfNone o X → IfNone o Y

@@ -37,20 +37,26 @@ abbrev pub order_task : Shape
 order_task = task (codes "order") (file_rule ∷ map option_rule (codes "from" ∷ codes "to" ∷ codes "out" ∷ []))
 
 abbrev pub latency_task : Shape
-latency_task = task (codes "latency") (file_rule ∷ map option_rule (codes "processor" ∷ codes "network" ∷ codes "from" ∷ codes "to" ∷ []))
+latency_task =
+    task (codes "latency")
+    (file_rule ∷ map option_rule (codes "processor" ∷ codes "network" ∷ codes "address" ∷ codes "page" ∷ []) ++ flag_rule (codes "hot")
+    ∷ flag_rule (codes "cold") ∷ map option_rule (codes "from" ∷ codes "to" ∷ []))
 
 abbrev pub done_task : Shape
 done_task = task (codes "done") (file_rule ∷ [])
 
 abbrev pub trace_task : Shape
-trace_task = task (codes "trace") (file_rule ∷ position_rule (codes "P") ∷ position_rule (codes "I") ∷ [])
+trace_task = task (codes "trace") (file_rule ∷ position_rule (codes "P") ∷ position_rule (codes "I") ∷ option_rule (codes "out") ∷ [])
 
 abbrev pub full_task : Shape
 full_task = task (codes "full") (file_rule ∷ [])
 
 abbrev pub series_task : Shape
 series_task =
-    task (codes "series") (file_rule ∷ several_rule (codes "of") ∷ map option_rule (codes "from" ∷ codes "to" ∷ codes "bin" ∷ codes "csv" ∷ []))
+    task (codes "series") (file_rule ∷ several_rule (codes "of") ∷ map option_rule (codes "from" ∷ codes "to" ∷ codes "bin" ∷ codes "csv" ∷ codes "out" ∷ []))
+
+abbrev pub busy_task : Shape
+busy_task = task (codes "busy") (file_rule ∷ map option_rule (codes "from" ∷ codes "to" ∷ []))
 
 abbrev pub measured_rules : List Rule
 measured_rules = map option_rule (codes "k" ∷ codes "hot" ∷ codes "cycles" ∷ codes "seed" ∷ [])
@@ -61,11 +67,19 @@ measured_task name = task name measured_rules
 abbrev pub kept_rules : List Rule
 kept_rules = map option_rule (codes "csv" ∷ codes "out" ∷ codes "keep" ∷ [])
 
+-- the project file may be left out
+abbrev pub optional_rule : Text → Rule
+optional_rule id = new_rule id
+
+-- which references of a file are drawn
+abbrev pub drawn_rules : List Rule
+drawn_rules = optional_rule (codes "FILE") ∷ map option_rule (codes "processor" ∷ codes "network" ∷ codes "from" ∷ codes "to" ∷ [])
+
 abbrev pub rates_task : Shape
 rates_task = task (codes "rates") (measured_rules ++ (map option_rule (codes "seeds" ∷ codes "of" ∷ []) ++ kept_rules))
 
 abbrev pub delays_task : Shape
-delays_task = task (codes "delays") (measured_rules ++ kept_rules)
+delays_task = task (codes "delays") (measured_rules ++ (kept_rules ++ drawn_rules))
 
 abbrev pub load_task : Shape
 load_task = task (codes "load") (measured_rules ++ (map option_rule (codes "seeds" ∷ codes "rate" ∷ codes "step" ∷ []) ++ kept_rules))
@@ -74,7 +88,8 @@ abbrev pub sweep_task : Shape
 sweep_task =
     task (codes "sweep")
     (file_rule ∷ any_number_rule (codes "setup") ∷ any_number_rule (codes "depth") ∷ any_number_rule (codes "edit") ∷ flag_rule (codes "zip")
-    ∷ several_rule (codes "ask") ∷ option_rule (codes "csv") ∷ [])
+    ∷ several_rule (codes "ask") ∷ option_rule (codes "csv") ∷ flag_rule (codes "numbers") ∷ option_rule (codes "plot") ∷ option_rule (codes "x")
+    ∷ any_number_rule (codes "y") ∷ [])
 
 abbrev pub check_task : Shape
 check_task = task (codes "check") (file_rule ∷ [])
@@ -85,16 +100,12 @@ convert_task = task (codes "convert") (file_rule ∷ option_rule (codes "out") �
 abbrev pub page_task : Shape
 page_task = task (codes "page") (file_rule ∷ map option_rule (codes "from" ∷ codes "to" ∷ codes "out" ∷ []))
 
--- the project file may be left out
-abbrev pub optional_rule : Text → Rule
-optional_rule id = new_rule id
-
 abbrev pub shell_task : Shape
 shell_task = task (codes "shell") (optional_rule (codes "FILE") ∷ flag_rule (codes "strict") ∷ [])
 
 -- the tasks
 abbrev pub tasks : List Shape
-tasks = map_task ∷ order_task ∷ latency_task ∷ done_task ∷ trace_task ∷ full_task ∷ series_task ∷ rates_task ∷ delays_task ∷ load_task ∷ sweep_task ∷ check_task ∷ convert_task ∷ page_task ∷ shell_task ∷ []
+tasks = map_task ∷ order_task ∷ latency_task ∷ done_task ∷ trace_task ∷ full_task ∷ series_task ∷ busy_task ∷ rates_task ∷ delays_task ∷ load_task ∷ sweep_task ∷ check_task ∷ convert_task ∷ page_task ∷ shell_task ∷ []
 
 -- none of these tasks has this name; and no task at all
 abbrev pub IsNoneOf : List Shape → Text → Type 0
@@ -105,7 +116,7 @@ IsNoTask = IsNoneOf tasks
 
 -- those that print a report of a file's run, and the others
 abbrev pub reports : List Shape
-reports = latency_task ∷ done_task ∷ trace_task ∷ full_task ∷ series_task ∷ []
+reports = latency_task ∷ done_task ∷ trace_task ∷ full_task ∷ series_task ∷ busy_task ∷ []
 
 abbrev pub other_tasks : List Shape
 other_tasks = map_task ∷ order_task ∷ rates_task ∷ delays_task ∷ load_task ∷ sweep_task ∷ check_task ∷ convert_task ∷ page_task ∷ shell_task ∷ []

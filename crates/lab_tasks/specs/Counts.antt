@@ -1,5 +1,5 @@
 -- What a summary counts.
-use Rattle.std.specs.Prelude.{◌≡◌, ◌≤◌, ◌<◌, ◌==◌, ◌⊎◌, ◌^◌, ◌*◌, ℕ, Bool, true, if◌then◌else◌, List, map, length, min, All, AllPairs, Contains, slice_index, sum_by, Option, Some}
+use Rattle.std.specs.Prelude.{◌≡◌, ◌≤◌, ◌<◌, ◌==◌, ◌⊎◌, ◌^◌, ◌*◌, ℕ, Bool, true, if◌then◌else◌, List, map, length, min, All, AllPairs, Contains, slice_index, sum_by, Option, None, Some}
 use Rattle.omega_net.specs.declared.script.ScriptEntry.{ScriptEntry}
 use Rattle.omega_net.specs.declared.script.ScriptEntry.TheVariants.{Reference, Until}
 use Rattle.omega_net.specs.Wires.{below}
@@ -80,3 +80,10 @@ pub record AreHottest (hot : ℕ → Hot) (hots : List Hot) : Type 0 where
   pub told : All (λ h. (h ≡ hot h.number) × (0 < h.processors)) hots
   pub ordered : AllPairs Hotter hots
   pub others : (n : ℕ) → 0 < (hot n).processors → Contains (map (λ h. h.number) hots) n ⊎ ((length hots ≡ 8) × All (λ h. Hotter h (hot n)) hots)
+
+-- the hottest word of the scripts: a processor refers to it, and it is hotter than each other one to which a processor does; none where
+-- there is no such word
+abbrev pub IsHottestWord : Project → Option ℕ → Type 0
+IsHottestWord P None = (n : ℕ) → (hot_of P Words n).processors ≡ 0
+IsHottestWord P (Some w) =
+    (0 < (hot_of P Words w).processors) × ((n : ℕ) → 0 < (hot_of P Words n).processors → (n ≡ w) ⊎ Hotter (hot_of P Words w) (hot_of P Words n))

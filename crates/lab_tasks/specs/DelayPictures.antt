@@ -7,11 +7,13 @@ use Rattle.svg_plots.specs.declared.curves.Curves.{Curves}
 use Rattle.svg_plots.specs.declared.curves.Panel.{Panel}
 use Rattle.svg_plots.specs.declared.element.Stroke.{Stroke}
 use Rattle.svg_plots.specs.declared.tick.Tick.{Tick}
+use Rattle.svg_plots.specs.AxisTicks.{ticks_between}
+use Rattle.svg_plots.specs.Styles.{mark_of, stroke_of}
 use Rattle.svg_plots.specs.CurvePanels.{curves_text}
 use Rattle.svg_plots.specs.Logarithms.{log2_of}
 use Rattle.lab_tasks.specs.declared.plan.CurvePlan.{CurvePlan}
 use Rattle.lab_tasks.specs.declared.tables.DelayPoint.{DelayPoint}
-use Rattle.lab_tasks.specs.CurvePictures.{even_ticks, mark_of, part_of, stroke_of}
+use Rattle.lab_tasks.specs.CurvePictures.{part_of}
 use Rattle.lab_tasks.specs.Points.{first_measured}
 use Rattle.lab_tasks.specs.Tables.{mean_of, processors_of}
 
@@ -69,7 +71,7 @@ pub record IsDelayPanel (plan : CurvePlan) (points : List DelayPoint) (panel : P
   pub across_ticks : panel.across.ticks.now ≡ share_ticks (greatest_share plan.hot.items)
   pub up_title : panel.up.title.now ≡ codes "cycles"
   pub up : (panel.up.from ≡ 0) × (panel.up.to ≡ longest_of points * 10)
-  pub up_ticks : panel.up.ticks.now ≡ even_ticks (longest_of points)
+  pub up_ticks : panel.up.ticks.now ≡ ticks_between 0 (longest_of points)
   pub curves : panel.curves.items ≡ map (delay_curve plan points) (below 3)
 
 abbrev pub delay_title : CurvePlan → List ℕ

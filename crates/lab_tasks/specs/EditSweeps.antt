@@ -6,20 +6,19 @@ use Rattle.project_book.specs.declared.fault.EditFault.{EditFault}
 use Rattle.project_book.specs.Faults.{number_of}
 use Rattle.project_book.specs.Project.{Project}
 use Rattle.run_queries.specs.declared.query.Query.{Query}
-use Rattle.run_queries.specs.declared.body.Body.{Body}
-use Rattle.run_queries.specs.Answers.{answer}
 use Rattle.edit_templates.specs.declared.step.Axis.{Axis}
 use Rattle.edit_templates.specs.Templates.{Template, template_of, ways}
 use Rattle.edit_templates.specs.Steps.{Step, each, first_length, followed, in_turn}
 use Rattle.edit_templates.specs.Lines.{axis_of}
 use Rattle.edit_templates.specs.Edited.{after_edits}
+use Rattle.lab_tasks.specs.declared.answered.Form.{Form}
 use Rattle.lab_tasks.specs.declared.end.End.{End}
 use Rattle.lab_tasks.specs.declared.swept.Swept.{Swept}
 use Rattle.lab_tasks.specs.declared.swept.Setting.{Setting}
+use Rattle.lab_tasks.specs.Answered.{asked_columns, form_of, refused_cells, told_cells}
 use Rattle.lab_tasks.specs.Ends.{RefusesForm, RefusesRange}
-use Rattle.lab_tasks.specs.Sweeps.{queue_text, rows_of, IsSwept, IsAsked}
-use Rattle.lab_tasks.specs.SweepTables.{max_rows, shown, HasRows, RefusesFirst, SayAll, AreNotSwept, AreNotAsked}
-use Rattle.lab_tasks.specs.Tables.{field_text, fields_text}
+use Rattle.lab_tasks.specs.Sweeps.{rows_of, IsSwept, IsAsked}
+use Rattle.lab_tasks.specs.SweepTables.{max_rows, queue_names, HasRows, RefusesFirst, SayAll, AreNotSwept, AreNotAsked}
 
 -- ---- what is gone through
 
@@ -86,47 +85,25 @@ are_even axes = list_all (λ axis. length axis.steps.items == first_length (axes
 
 -- ---- the table
 
--- what the project after some edits says to each question, or the number of the reason why one of the edits is refused
-abbrev pub says_after : Result Project EditFault → List Query → Result (List (Result Body ℕ)) ℕ
-says_after (Ok Q) queries = Ok (map (answer Q) queries)
-says_after (Err fault) queries = Err (number_of fault)
+-- what the project after some edits says to each question, or `refused N` with the number of the reason why one of the edits is refused
+abbrev pub after_cells : Form → List Query → Result Project EditFault → List (Option (List ℕ))
+after_cells form queries (Ok Q) = flat_map (told_cells form Q) queries
+after_cells form queries (Err fault) = flat_map (refused_cells form (number_of fault)) queries
 
--- its fields: each answer, or `refused N` in the place of each
-abbrev pub refused_text : ℕ → List ℕ
-refused_text n = codes "refused " ++ decimal n
+-- a row: the words that are put in, then what the project after the row's edits says to each question
+abbrev pub IsEditRow : Form → Project → List Query → Step → List (List ℕ) → Type 0
+IsEditRow form P queries step cells = map Some cells ≡ map Some step.0 ++ after_cells form queries (after_edits P step.1)
 
-abbrev pub shown_row : List Query → Result (List (Result Body ℕ)) ℕ → List (Option (List ℕ))
-shown_row queries (Ok bodies) = map shown bodies
-shown_row queries (Err n) = map (λ query. Some (refused_text n)) queries
-
--- a row: the words that are put in, each with a comma behind, then the answers as fields
-abbrev pub words_text : List (List ℕ) → List ℕ
-words_text words = flat_map (λ word. field_text word ++ codes ",") words
-
-abbrev pub edit_row_text : List (List ℕ) → List (List ℕ) → List ℕ
-edit_row_text words cells = words_text words ++ (fields_text cells ++ codes "\n")
-
--- a text goes on with the fields of a row, and with the row
-abbrev pub HasCells : List Query → Result (List (Result Body ℕ)) ℕ → List ℕ → List ℕ → Type 0
-HasCells queries says old new = (cells : List (List ℕ)) × (shown_row queries says ≡ map Some cells) × (new ≡ old ++ fields_text cells)
-
-abbrev pub HasEditRow : List Query → Step → Result (List (Result Body ℕ)) ℕ → List ℕ → List ℕ → Type 0
-HasEditRow queries step says old new = (cells : List (List ℕ)) × (shown_row queries says ≡ map Some cells) × (new ≡ old ++ edit_row_text step.0 cells)
-
--- a row has what the project after the row's edits says to each question
-abbrev pub IsEditRow : Project → List Query → Step → List ℕ → Type 0
-IsEditRow P queries step text =
-    (cells : List (List ℕ)) × (shown_row queries (says_after (after_edits P step.1) queries) ≡ map Some cells) × (text ≡ edit_row_text step.0 cells)
-
--- the first row: the names of the queues and of the braces, then the questions
+-- the first row: the names of the queues and of the braces, then the columns of the questions
 abbrev pub axes_names : List Axis → List (List ℕ)
 axes_names axes = flat_map (λ axis. map string_bytes axis.names.items) axes
 
-abbrev pub edit_header : List Swept → List Axis → List (List ℕ) → List ℕ
-edit_header swept axes asks = flat_map (λ s. queue_text s.queue ++ codes ",") swept ++ (words_text (axes_names axes) ++ (fields_text asks ++ codes "\n"))
+abbrev pub edit_header : Form → List Swept → List Axis → List Query → List (List ℕ) → List (List ℕ)
+edit_header form swept axes queries asks = queue_names swept ++ (axes_names axes ++ asked_columns form queries asks)
 
--- the table: the depths and the edits that the words sweep, and the answers to the questions that the words ask
-pub record IsEditTable (P : Project) (zip : Bool) (depths edits asks : List (List ℕ)) (text : List ℕ) : Type 0 where
+-- the table: the depths and the edits that the words sweep, and the answers to the questions that the words ask, of which each number has a column of
+-- its own or not
+pub record IsEditTable (P : Project) (numbers zip : Bool) (depths edits asks : List (List ℕ)) (table : List (List (List ℕ))) : Type 0 where
   pub swept : List Swept
   pub axes : List Axis
   pub queries : List Query
@@ -135,7 +112,8 @@ pub record IsEditTable (P : Project) (zip : Bool) (depths edits asks : List (Lis
   pub are_asked : AllZip (IsAsked P) asks queries
   pub even : (zip && not (are_even axes)) ≡ false
   pub few : row_count zip swept axes ≤ max_rows
-  pub rows : HasRows (IsEditRow P queries) (edit_header swept axes asks) (sweep_steps zip swept axes) text
+  pub rows :
+      HasRows (IsEditRow (form_of P numbers) P queries) (edit_header (form_of P numbers) swept axes queries asks) (sweep_steps zip swept axes) table
 
 -- the edits aren't of one length, or there are too many rows
 abbrev pub AreUneven : Project → Bool → List (List ℕ) → End → Type 0

@@ -1,5 +1,5 @@
 -- Of which gauges, and in which bins, `series` makes a table, and why it doesn't.
-use Rattle.std.specs.Prelude.{◌≡◌, ◌≤◌, ◌<◌, ◌+◌, ◌⊎◌, ℕ, List, [], None, Some, codes, unwrap_or}
+use Rattle.std.specs.Prelude.{◌≡◌, ◌≤◌, ◌<◌, ◌+◌, ◌⊎◌, ℕ, List, [], Option, None, Some, codes, unwrap_or}
 use Rattle.std.specs.List.{AllZip}
 use Rattle.project_book.specs.Project.{Project}
 use Rattle.machine_cells.specs.Run.{run}
@@ -7,7 +7,8 @@ use Rattle.machine_cells.specs.Runs.{state_in}
 use Rattle.run_reports.specs.declared.gauge.Gauge.{Gauge}
 use Rattle.run_reports.specs.declared.series.Bins.{Bins}
 use Rattle.run_reports.specs.GaugeTexts.{gauge_named}
-use Rattle.run_reports.specs.Series.{series_text}
+use Rattle.run_reports.specs.Series.{series, series_text}
+use Rattle.report_pictures.specs.SeriesPictures.{IsSeriesPicture}
 use Rattle.lab_tasks.specs.declared.end.End.{End}
 use Rattle.lab_tasks.specs.declared.series.SeriesWords.{SeriesWords}
 use Rattle.lab_tasks.specs.Ends.{RefusesBackwards, RefusesForm}
@@ -54,11 +55,18 @@ AreNoBins P words end =
     InTurn (IsUntold (codes "--to") (text_of words.to) 0 P.horizon end) (IsLast P words) (λ to.
     (to < from) × RefusesBackwards (codes "--to") (unwrap_or (text_of words.to) []) end)))
 
--- the table of these gauges in these bins of the run
-abbrev pub IsSeriesText : SeriesWords → Project → List ℕ → Type 0
-IsSeriesText words P text =
+-- a picture where a file is named for it, else nothing
+abbrev pub IsWanted : Option (List ℕ) → (List ℕ → Type 0) → List ℕ → Type 0
+IsWanted None IsPicture picture = picture ≡ []
+IsWanted (Some out) IsPicture picture = IsPicture picture
+
+-- the table of these gauges in these bins of the run, and the picture of their curves
+abbrev pub AreSeriesTexts : SeriesWords → Project → List ℕ → List ℕ → Type 0
+AreSeriesTexts words P table picture =
     (gauges : List Gauge) × (b : Bins) × AllZip (IsGauge P.k) (texts_of words.gauges.items) gauges × AreBins P words b
-    × (text ≡ series_text P.k (state_in (run P)) gauges b)
+    × (table ≡ series_text P.k (state_in (run P)) gauges b)
+    × IsWanted (text_of words.out)
+    (IsSeriesPicture words.file.now (texts_of words.gauges.items) b (series P.k (state_in (run P)) gauges b)) picture
 
 -- why there is none: a word that is no gauge, else the first of the other words that is refused
 abbrev pub IsNoSeriesText : SeriesWords → Project → End → Type 0

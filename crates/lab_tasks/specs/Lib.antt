@@ -1,16 +1,21 @@
 pub mod Added
+pub mod Answered
+pub mod Busy
 pub mod Columns
 pub mod CommandLine
 pub mod Completions
 pub mod Counts
 pub mod CurvePictures
+pub mod Cycles
 pub mod DelayPictures
 pub mod Done
 pub mod EditSweeps
+pub mod Either
 pub mod Elsewhere
 pub mod Ends
 pub mod Fullness
 pub mod Gauged
+pub mod Grids
 pub mod Heats
 pub mod Kept
 pub mod Latencies
@@ -24,6 +29,7 @@ pub mod OrderPictures
 pub mod Orders
 pub mod Outcomes
 pub mod Plans
+pub mod PlotPictures
 pub mod Points
 pub mod ProjectTexts
 pub mod RatePictures
@@ -34,4 +40,5 @@ pub mod Sweeps
 pub mod Tables
 pub mod Traces
 pub mod Words
+pub mod ShellReports
 pub mod Shells

@@ -8,12 +8,14 @@ use Rattle.svg_plots.specs.declared.curves.Curves.{Curves}
 use Rattle.svg_plots.specs.declared.curves.Panel.{Panel}
 use Rattle.svg_plots.specs.declared.curves.Whisker.{Whisker}
 use Rattle.svg_plots.specs.declared.element.Stroke.{Stroke}
+use Rattle.svg_plots.specs.AxisTicks.{ticks_between}
+use Rattle.svg_plots.specs.Styles.{mark_of, stroke_of}
 use Rattle.svg_plots.specs.CurvePanels.{curves_text}
 use Rattle.lab_tasks.specs.declared.load_picture.Shown.{Shown}
 use Rattle.lab_tasks.specs.declared.load_picture.Shown.TheVariants.{Latency, Accepted}
 use Rattle.lab_tasks.specs.declared.load_plan.LoadPlan.{LoadPlan}
 use Rattle.lab_tasks.specs.declared.load_table.LoadPoint.{LoadPoint}
-use Rattle.lab_tasks.specs.CurvePictures.{even_ticks, mark_of, part_of, stroke_of}
+use Rattle.lab_tasks.specs.CurvePictures.{part_of}
 use Rattle.lab_tasks.specs.DelayPictures.{network_label}
 use Rattle.lab_tasks.specs.LoadPlans.{rate_at, rate_count}
 use Rattle.lab_tasks.specs.LoadTables.{accepted_of}
@@ -128,10 +130,10 @@ pub record IsLoadPanel (plan : LoadPlan) (points : List LoadPoint) (shown : Show
   pub title : panel.title.now ≡ load_panel_title shown
   pub across_title : panel.across.title.now ≡ codes "references offered in a hundred cycles"
   pub across : (panel.across.from ≡ 0) × (panel.across.to ≡ 1000)
-  pub across_ticks : panel.across.ticks.now ≡ even_ticks 100
+  pub across_ticks : panel.across.ticks.now ≡ ticks_between 0 100
   pub up_title : panel.up.title.now ≡ up_title shown
   pub up : (panel.up.from ≡ 0) × (panel.up.to ≡ top_of shown points * 10)
-  pub up_ticks : panel.up.ticks.now ≡ even_ticks (top_of shown points)
+  pub up_ticks : panel.up.ticks.now ≡ ticks_between 0 (top_of shown points)
   pub curves : panel.curves.items ≡ load_curves plan points shown
 
 abbrev pub load_title : LoadPlan → List ℕ

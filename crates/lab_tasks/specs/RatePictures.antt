@@ -7,6 +7,7 @@ use Rattle.svg_plots.specs.declared.curves.Curve.{Curve}
 use Rattle.svg_plots.specs.declared.curves.Curves.{Curves}
 use Rattle.svg_plots.specs.declared.curves.Panel.{Panel}
 use Rattle.svg_plots.specs.declared.curves.Whisker.{Whisker}
+use Rattle.svg_plots.specs.Styles.{mark_of, stroke_of}
 use Rattle.svg_plots.specs.CurvePanels.{curves_text}
 use Rattle.svg_plots.specs.Lists.{each}
 use Rattle.svg_plots.specs.Logarithms.{log2_of}
@@ -14,7 +15,7 @@ use Rattle.lab_tasks.specs.declared.plan.CurvePlan.{CurvePlan}
 use Rattle.lab_tasks.specs.declared.plan.Measure.{Measure}
 use Rattle.lab_tasks.specs.declared.plan.Measure.TheVariants.{Answered, Served}
 use Rattle.lab_tasks.specs.declared.tables.RatePoint.{RatePoint}
-use Rattle.lab_tasks.specs.CurvePictures.{doublings, mark_of, part_of, stroke_of}
+use Rattle.lab_tasks.specs.CurvePictures.{doublings, part_of}
 use Rattle.lab_tasks.specs.Tables.{bound_of, processors_of, rate_of}
 
 -- what is drawn of a run, in thousandths: no more than a thousand a cycle

@@ -1,5 +1,5 @@
 -- What a session of the shell says of projects, and how it ends.
-use Rattle.std.specs.Prelude.{◌≡◌, ◌⊎◌, ℕ, Bool, true, false, List, [], ◌++◌, Option, None, Some, Ok, codes, decimal, nat_lt, if◌then◌else◌}
+use Rattle.std.specs.Prelude.{◌≡◌, ◌⊎◌, ℕ, Bool, true, List, [], ◌++◌, Option, None, Some, Result, Ok, Err, codes, decimal, nat_lt, string_bytes, if◌then◌else◌}
 use Rattle.std.specs.Borrow.{Bor}
 use Rattle.std.specs.List.{flat_map}
 use Rattle.omega_net.specs.Numbers.{lines}
@@ -9,18 +9,22 @@ use Rattle.line_words.specs.Numbers.{number_of}
 use Rattle.project_book.specs.Project.{Project, blank, length_at, entry_at}
 use Rattle.project_book.specs.EntryTexts.{entry_text}
 use Rattle.project_file.specs.Filed.{filed}
+use Rattle.bench_shell.specs.declared.answer.Answer.{Answer}
 use Rattle.bench_shell.specs.declared.answer.Answer.TheVariants.{Bad, BadCommand}
 use Rattle.bench_shell.specs.declared.fault.RunFault.{RunFault}
 use Rattle.bench_shell.specs.declared.fault.RunFault.TheVariants.{Read, Write, OtherEditor, Memory, Clock}
 use Rattle.lab_shell.specs.declared.manner.Ended.{Ended}
 use Rattle.lab_shell.specs.declared.manner.Ended.TheVariants as ended
 use Rattle.lab_shell.specs.declared.word.ShellWord.{ShellWord}
-use Rattle.lab_shell.specs.declared.word.ShellWord.TheVariants.{Quit, Help, HelpOn, Show, Script, Save}
-use Rattle.lab_shell.specs.Talks.{answer_text}
+use Rattle.lab_shell.specs.declared.word.ShellWord.TheVariants.{Quit, Help, HelpOn, Show, Script, Save, Undo, Latency, Done, Trace, Full, OrderAll}
+use Rattle.lab_shell.specs.declared.clerk.Said.{Said}
+use Rattle.lab_shell.specs.declared.clerk.Said.TheVariants.{Text, Refused, Unsaved}
+use Rattle.lab_shell.specs.Words.{first_word}
 use Rattle.lab_tasks.specs.declared.end.End.{End}
 use Rattle.lab_tasks.specs.declared.end.End.TheVariants as end
 use Rattle.lab_tasks.specs.Summaries.{IsSummary}
 use Rattle.lab_tasks.specs.Done.{IsConverted, IsNotMade}
+use Rattle.lab_tasks.specs.ShellReports.{IsReported, IsText}
 
 -- the words of an entry, the edit that makes it, and the edits that make a script
 abbrev pub entry_words : Option ScriptEntry → List ℕ
@@ -33,34 +37,40 @@ entry_line P p i = codes "entry " ++ (decimal p ++ (codes " " ++ (decimal i ++ (
 abbrev pub script_said : Project → ℕ → List ℕ
 script_said P p = flat_map (entry_line P p) (below (length_at P p))
 
--- what is said to `script P`, for people with the reason behind it, and whether that was refused
-abbrev pub script_answer : Bool → Project → Option ℕ → List ℕ × Bool
-script_answer people P None = (answer_text people BadCommand, true)
-script_answer people P (Some p) = if nat_lt p (lines P.k) then (script_said P p, false) else (answer_text people (Bad 1), true)
+-- what is said to `script P`: a text, or why not
+abbrev pub script_answer : Project → Option ℕ → Result (List ℕ) Answer
+script_answer P None = Err BadCommand
+script_answer P (Some p) = if nat_lt p (lines P.k) then Ok (script_said P p) else Err (Bad 1)
+
+abbrev pub Gives : Result (List ℕ) Answer → Said → Type 0
+Gives (Ok text) (Text said) = string_bytes said ≡ text
+Gives (Err a) (Refused b) = b ≡ a
+Gives given said = ⊥
 
 -- what a shelf may do with a file of this name and these bytes: whether it was written
 abbrev pub Saves : Type 1
 Saves = List ℕ → List ℕ → Bool → Type 0
 
--- that a file wasn't written, for people with the reason behind it
-abbrev pub unsaved_text : Bool → List ℕ
-unsaved_text people = if people then codes "bad file: it can't be written\n" else codes "bad file\n"
-
 -- what is said to `save F`: the file was written, and is the project's; or it wasn't
-abbrev pub IsSaved : Bool → Saves → Project → List ℕ → List ℕ → Bool → Type 0
-IsSaved people saves P name text is_bad =
-    ((bytes : List ℕ) × IsConverted P bytes × saves name bytes true × (text ≡ codes "saved " ++ (name ++ codes "\n")) × (is_bad ≡ false))
-    ⊎ ((text ≡ unsaved_text people) × (is_bad ≡ true))
+abbrev pub IsSaved : Saves → Project → List ℕ → Said → Type 0
+IsSaved saves P name said =
+    ((bytes : List ℕ) × IsConverted P bytes × saves name bytes true × IsText (λ text. text ≡ codes "saved " ++ (name ++ codes "\n")) said)
+    ⊎ (said ≡ Unsaved)
 
--- what is said to a request of the shell; a clerk isn't asked the other three, and saves nothing for them
-abbrev pub IsSaid : Bool → Saves → Project → ShellWord → List ℕ → List ℕ → Bool → Type 0
-IsSaid people saves P Show argument text is_bad = IsSummary P text × (is_bad ≡ false)
-IsSaid people saves P Script argument text is_bad =
-    (text ≡ (script_answer people P (number_of argument)).0) × (is_bad ≡ (script_answer people P (number_of argument)).1)
-IsSaid people saves P Save argument text is_bad = IsSaved people saves P argument text is_bad
-IsSaid people saves P Quit argument text is_bad = (text ≡ unsaved_text people) × (is_bad ≡ true)
-IsSaid people saves P Help argument text is_bad = (text ≡ unsaved_text people) × (is_bad ≡ true)
-IsSaid people saves P HelpOn argument text is_bad = (text ≡ unsaved_text people) × (is_bad ≡ true)
+-- what is said to a request of the shell with these words behind it; a clerk isn't asked the last four, and saves nothing for them
+abbrev pub IsSaid : Saves → Project → ShellWord → List (List ℕ) → Said → Type 0
+IsSaid saves P Show words said = IsText (IsSummary P) said
+IsSaid saves P Script words said = Gives (script_answer P (number_of (first_word words))) said
+IsSaid saves P Save words said = IsSaved saves P (first_word words) said
+IsSaid saves P Latency words said = IsReported P (codes "latency") words said
+IsSaid saves P Done words said = IsReported P (codes "done") words said
+IsSaid saves P Trace words said = IsReported P (codes "trace") words said
+IsSaid saves P Full words said = IsReported P (codes "full") words said
+IsSaid saves P OrderAll words said = IsReported P (codes "order") [] said
+IsSaid saves P Quit words said = said ≡ Unsaved
+IsSaid saves P Help words said = said ≡ Unsaved
+IsSaid saves P HelpOn words said = said ≡ Unsaved
+IsSaid saves P Undo words said = said ≡ Unsaved
 
 -- the status of a session that ended so
 abbrev pub status_of_session : Ended → ℕ

@@ -1,64 +1,50 @@
 -- The table of a sweep, and why there is none.
-use Rattle.std.specs.Prelude.{◌≡◌, ◌≤◌, ◌<◌, ℕ, ◌⊎◌, List, [], ◌++◌, map, length, take, slice_index_or, Option, Some, Result, Ok, Err, codes, decimal}
-use Rattle.std.specs.List.{flat_map, concat, AllZip}
+use Rattle.std.specs.Prelude.{◌≡◌, ◌≤◌, ◌<◌, ℕ, ◌⊎◌, Bool, List, [], ◌∷◌, ◌++◌, map, length, take, slice_index_or, Some, codes, decimal}
+use Rattle.std.specs.List.{flat_map, AllZip}
 use Rattle.line_words.specs.Words.{words_of}
 use Rattle.project_book.specs.Project.{Project}
 use Rattle.commands.specs.Commands.{command_of}
 use Rattle.run_queries.specs.declared.query.Query.{Query}
-use Rattle.run_queries.specs.declared.body.Body.{Body}
-use Rattle.run_queries.specs.Answers.{answer}
-use Rattle.run_queries.specs.Texts.{body_text}
+use Rattle.lab_tasks.specs.declared.answered.Form.{Form}
 use Rattle.lab_tasks.specs.declared.end.End.{End}
 use Rattle.lab_tasks.specs.declared.end.End.TheVariants.{Memory, Spent}
 use Rattle.lab_tasks.specs.declared.swept.Swept.{Swept}
 use Rattle.lab_tasks.specs.declared.swept.Setting.{Setting}
+use Rattle.lab_tasks.specs.Answered.{asked_columns, form_of, told_cells}
 use Rattle.lab_tasks.specs.Ends.{RefusesRange}
 use Rattle.lab_tasks.specs.Sweeps.{queue_text, depths_in, IsSwept, RefusesDepths, rows_of, with_settings, IsAsked, RefusesAsk}
-use Rattle.lab_tasks.specs.Tables.{fields_text}
 
--- what a project says to a question, as text: its answer, or `bad N` with the number of the reason why it has none
-abbrev pub shown : Result Body ℕ → Option (List ℕ)
-shown (Ok body) = body_text body
-shown (Err n) = Some (codes "bad " ++ decimal n)
+-- the first row: the names of the queues, then the columns of the questions
+abbrev pub queue_names : List Swept → List (List ℕ)
+queue_names swept = map (λ s. queue_text s.queue) swept
 
-abbrev pub told_text : Project → Query → Option (List ℕ)
-told_text P query = shown (answer P query)
+abbrev pub header_cells : Form → List Swept → List Query → List (List ℕ) → List (List ℕ)
+header_cells form swept queries asks = queue_names swept ++ asked_columns form queries asks
 
--- the first row: the names of the queues, each with a comma behind, then the questions as fields
-abbrev pub header_text : List Swept → List (List ℕ) → List ℕ
-header_text swept asks = flat_map (λ s. queue_text s.queue ++ codes ",") swept ++ (fields_text asks ++ codes "\n")
+-- a row: its depths, then what the project with these depths says to each question
+abbrev pub depth_words : List Setting → List (List ℕ)
+depth_words row = map (λ s. decimal s.depth) row
 
--- a row: its depths, each with a comma behind, then the answers as fields
-abbrev pub row_text : List Setting → List (List ℕ) → List ℕ
-row_text row answers = flat_map (λ s. decimal s.depth ++ codes ",") row ++ (fields_text answers ++ codes "\n")
+abbrev pub IsRow : Form → Project → List Query → List Setting → List (List ℕ) → Type 0
+IsRow form P queries row cells = map Some cells ≡ map Some (depth_words row) ++ flat_map (told_cells form (with_settings P row)) queries
 
--- a text goes on with answers as fields, and with a row that has them
-abbrev pub HasFields : List (Result Body ℕ) → List ℕ → List ℕ → Type 0
-HasFields says old new = (answers : List (List ℕ)) × (map shown says ≡ map Some answers) × (new ≡ old ++ fields_text answers)
-
-abbrev pub HasRowOf : List (Result Body ℕ) → List Setting → List ℕ → List ℕ → Type 0
-HasRowOf says row old new = (answers : List (List ℕ)) × (map shown says ≡ map Some answers) × (new ≡ old ++ row_text row answers)
-
--- a row has what the project with the row's depths says to each question
-abbrev pub IsRow : Project → List Query → List Setting → List ℕ → Type 0
-IsRow P queries row text = (answers : List (List ℕ)) × (map (told_text (with_settings P row)) queries ≡ map Some answers) × (text ≡ row_text row answers)
-
--- a text has a row for each of some things behind a first one
-abbrev pub HasRows : {T : Type 0} → (T → List ℕ → Type 0) → List ℕ → List T → List ℕ → Type 0
-HasRows Row first things text = (rows : List (List ℕ)) × AllZip Row things rows × (text ≡ first ++ concat rows)
+-- a table has a row for each of some things behind a first one
+abbrev pub HasRows : {T : Type 0} → (T → List (List ℕ) → Type 0) → List (List ℕ) → List T → List (List (List ℕ)) → Type 0
+HasRows Row first things table = (rows : List (List (List ℕ))) × AllZip Row things rows × (table ≡ first ∷ rows)
 
 -- how many rows a table may have
 abbrev pub max_rows : ℕ
 max_rows = 10000
 
--- the table: the depths that the words sweep, each with each, and the answers to the questions that the words ask
-pub record IsTable (P : Project) (depths asks : List (List ℕ)) (text : List ℕ) : Type 0 where
+-- the table: the depths that the words sweep, each with each, and the answers to the questions that the words ask, of which each number has a column
+-- of its own or not
+pub record IsTable (P : Project) (numbers : Bool) (depths asks : List (List ℕ)) (table : List (List (List ℕ))) : Type 0 where
   pub swept : List Swept
   pub queries : List Query
   pub are_swept : AllZip IsSwept depths swept
   pub are_asked : AllZip (IsAsked P) asks queries
   pub few : length (rows_of swept) ≤ max_rows
-  pub rows : HasRows (IsRow P queries) (header_text swept asks) (rows_of swept) text
+  pub rows : HasRows (IsRow (form_of P numbers) P queries) (header_cells (form_of P numbers) swept queries asks) (rows_of swept) table
 
 -- each of some words says something
 abbrev pub SayAll : {T : Type 0} → (List ℕ → T → Type 0) → List (List ℕ) → Type 0

@@ -4,7 +4,8 @@ use Rattle.std.specs.Option.{option_map_or}
 use Rattle.std.specs.Borrow.{Bor}
 use Rattle.clap.specs.Words.{Row, Text, all_of, first_of}
 use Rattle.lab_tasks.specs.declared.words.Asked.{Asked}
-use Rattle.lab_tasks.specs.declared.words.Asked.TheVariants.{Map, Order, Latency, Done, Trace, Full, Series, Rates, Delays, Load, Sweep, Check, Convert, Page, Shell}
+use Rattle.lab_tasks.specs.declared.words.Asked.TheVariants.{Map, Order, Latency, Done, Trace, Full, Series, Busy, Rates, Delays, Load, Sweep, Check, Convert, Page, Shell}
+use Rattle.lab_tasks.specs.declared.busy.BusyWords.{BusyWords}
 use Rattle.lab_tasks.specs.declared.words.MapWords.{MapWords}
 use Rattle.lab_tasks.specs.declared.convert.ConvertWords.{ConvertWords}
 use Rattle.lab_tasks.specs.declared.latency.LatencyWords.{LatencyWords}
@@ -13,6 +14,7 @@ use Rattle.lab_tasks.specs.declared.series.SeriesWords.{SeriesWords}
 use Rattle.lab_tasks.specs.declared.shell.ShellWords.{ShellWords}
 use Rattle.lab_tasks.specs.declared.trace.TraceWords.{TraceWords}
 use Rattle.lab_tasks.specs.declared.words.CurveWords.{CurveWords}
+use Rattle.lab_tasks.specs.declared.words.DelayWords.{DelayWords}
 use Rattle.lab_tasks.specs.declared.words.LoadWords.{LoadWords}
 use Rattle.lab_tasks.specs.declared.words.SweepWords.{SweepWords}
 
@@ -52,6 +54,10 @@ pub record AreLatencyWords (rows : List Row) (words : LatencyWords) : Type 0 whe
   pub file : words.file.now ≡ file_at rows
   pub processor : text_of words.processor ≡ first_of (codes "processor") rows
   pub network : text_of words.network ≡ first_of (codes "network") rows
+  pub address : text_of words.address ≡ first_of (codes "address") rows
+  pub page : text_of words.page ≡ first_of (codes "page") rows
+  pub hot : words.hot ≡ is_given rows (codes "hot")
+  pub cold : words.cold ≡ is_given rows (codes "cold")
   pub from : text_of words.from ≡ first_of (codes "from") rows
   pub to : text_of words.to ≡ first_of (codes "to") rows
 
@@ -59,6 +65,7 @@ pub record AreTraceWords (rows : List Row) (words : TraceWords) : Type 0 where
   pub file : words.file.now ≡ file_at rows
   pub processor : text_of words.processor ≡ first_of (codes "P") rows
   pub number : text_of words.number ≡ first_of (codes "I") rows
+  pub out : text_of words.out ≡ first_of (codes "out") rows
 
 pub record AreSeriesWords (rows : List Row) (words : SeriesWords) : Type 0 where
   pub file : words.file.now ≡ file_at rows
@@ -67,6 +74,12 @@ pub record AreSeriesWords (rows : List Row) (words : SeriesWords) : Type 0 where
   pub to : text_of words.to ≡ first_of (codes "to") rows
   pub bin : text_of words.bin ≡ first_of (codes "bin") rows
   pub csv : text_of words.csv ≡ first_of (codes "csv") rows
+  pub out : text_of words.out ≡ first_of (codes "out") rows
+
+pub record AreBusyWords (rows : List Row) (words : BusyWords) : Type 0 where
+  pub file : words.file.now ≡ file_at rows
+  pub from : text_of words.from ≡ first_of (codes "from") rows
+  pub to : text_of words.to ≡ first_of (codes "to") rows
 
 pub record AreCurveWords (rows : List Row) (words : CurveWords) : Type 0 where
   pub k : text_of words.k ≡ first_of (codes "k") rows
@@ -78,6 +91,11 @@ pub record AreCurveWords (rows : List Row) (words : CurveWords) : Type 0 where
   pub csv : text_of words.csv ≡ first_of (codes "csv") rows
   pub out : text_of words.out ≡ first_of (codes "out") rows
   pub keep : text_of words.keep ≡ first_of (codes "keep") rows
+
+pub record AreDelayWords (rows : List Row) (words : DelayWords) : Type 0 where
+  pub curves : AreCurveWords rows words.curves
+  pub file : text_of words.file ≡ first_of (codes "FILE") rows
+  pub latency : AreLatencyWords rows words.latency
 
 pub record AreLoadWords (rows : List Row) (words : LoadWords) : Type 0 where
   pub curves : AreCurveWords rows words.curves
@@ -92,6 +110,10 @@ pub record AreSweepWords (rows : List Row) (words : SweepWords) : Type 0 where
   pub zip : words.zip ≡ is_given rows (codes "zip")
   pub asks : texts_of words.asks.items ≡ texts_at rows (codes "ask")
   pub csv : text_of words.csv ≡ first_of (codes "csv") rows
+  pub numbers : words.numbers ≡ is_given rows (codes "numbers")
+  pub plot : text_of words.plot ≡ first_of (codes "plot") rows
+  pub x : text_of words.x ≡ first_of (codes "x") rows
+  pub ys : texts_of words.ys.items ≡ texts_at rows (codes "y")
 
 pub record AreConvertWords (rows : List Row) (words : ConvertWords) : Type 0 where
   pub file : words.file.now ≡ file_at rows
@@ -115,8 +137,9 @@ AsksFor said (Done file) = IsNamed said (codes "done") (λ rows. file.now ≡ fi
 AsksFor said (Trace words) = IsNamed said (codes "trace") (λ rows. AreTraceWords rows words)
 AsksFor said (Full file) = IsNamed said (codes "full") (λ rows. file.now ≡ file_at rows)
 AsksFor said (Series words) = IsNamed said (codes "series") (λ rows. AreSeriesWords rows words)
+AsksFor said (Busy words) = IsNamed said (codes "busy") (λ rows. AreBusyWords rows words)
 AsksFor said (Rates words) = IsNamed said (codes "rates") (λ rows. AreCurveWords rows words)
-AsksFor said (Delays words) = IsNamed said (codes "delays") (λ rows. AreCurveWords rows words)
+AsksFor said (Delays words) = IsNamed said (codes "delays") (λ rows. AreDelayWords rows words)
 AsksFor said (Load words) = IsNamed said (codes "load") (λ rows. AreLoadWords rows words)
 AsksFor said (Sweep words) = IsNamed said (codes "sweep") (λ rows. AreSweepWords rows words)
 AsksFor said (Check file) = IsNamed said (codes "check") (λ rows. file.now ≡ file_at rows)
@@ -132,8 +155,9 @@ file_of (Done file) = Some file.now
 file_of (Trace words) = Some words.file.now
 file_of (Full file) = Some file.now
 file_of (Series words) = Some words.file.now
+file_of (Busy words) = Some words.file.now
 file_of (Rates words) = None
-file_of (Delays words) = None
+file_of (Delays words) = text_of words.file
 file_of (Load words) = None
 file_of (Sweep words) = Some words.file.now
 file_of (Check file) = Some file.now

@@ -4,13 +4,14 @@ ghost use Rattle.std.specs.List.{flat_map};
 ghost use Rattle.omega_net.specs.Wires.{below};
 ghost use Rattle.lab_tasks.specs.DelayPictures.{delay_curve, delay_note, delay_spot, delay_title, greatest_share, longest_of, most_tenths, network_label, network_stroke, share_at, share_place, share_ticks, tenths_of, IsDelayPanel, IsDelayPicture};
 
-use crate::curves::{even_ticks, labels_of, mark_of, part_of, stroke_of};
+use crate::curves::part_of;
 use crate::delays::first_measured;
 use crate::plan::CurvePlan;
 use crate::tables::{DelayPoint, processors_of};
 use std::alloc::{AllocError, Global};
 use svg_plots::{
-    Axis, Curve, Curves, Label, Panel, Points, Stroke, Tick, Whiskers, draw_curves, log2_hundredths,
+    Axis, Curve, Curves, Label, Panel, Points, Stroke, Tick, Whiskers, draw_curves, labels_of,
+    log2_hundredths, mark_of, stroke_of, ticks_between,
 };
 
 /// Where a share stands: 0 at 0 and h at 1 + log2 h, in hundredths.
@@ -234,7 +235,7 @@ pub(crate) fn delay_picture(
     let note = delay_note(alloc, plan)?;
     let (right, top) = (greatest_share(plan.hot.as_slice()), longest_of(points));
     let across = share_ticks(alloc, right)?;
-    let up = even_ticks(alloc, top)?;
+    let up = ticks_between(alloc, 0, top)?;
     let curves = delay_curves(alloc, plan, points)?;
     let panel = delay_panel(right, top, across.as_slice(), up.as_slice(), curves);
     let mut panels = Vec::new(alloc);

@@ -1,27 +1,26 @@
 //! The table of a sweep of edits.
-ghost use Rattle.std.specs.Prelude.{◌≡◌, ◌-◌, ◌^◌, ◌≤◌, ◌++◌, ◌∷◌, ◌&&◌, [], not, Err, Ok, IfErr, IfOk, OnOk, codes, false, map, min, nat_le, string_bytes, true};
-ghost use Rattle.std.specs.List.{flat_map, AllZip};
+ghost use Rattle.std.specs.Prelude.{◌≡◌, ◌-◌, ◌^◌, ◌≤◌, ◌++◌, ◌&&◌, not, IfErr, IfOk, OnOk, Some, false, map, min, nat_le, string_bytes, true};
+ghost use Rattle.std.specs.List.{AllZip};
 ghost use Rattle.edit_templates.specs.Braces.{put_text};
 ghost use Rattle.edit_templates.specs.Edited.{after_edits};
-ghost use Rattle.lab_tasks.specs.EditSweeps.{are_even, axes_names, edit_count, edit_header, edit_steps, refused_text, row_count, says_after, settings_step, sweep_steps, words_text, HasCells, HasEditRow, IsAxis, IsEditRow, IsEditTable, IsNoEditTable, AreNotEdits, RefusesEdit};
+ghost use Rattle.lab_tasks.specs.EditSweeps.{after_cells, are_even, axes_names, edit_count, edit_header, edit_steps, row_count, settings_step, sweep_steps, IsAxis, IsEditRow, IsEditTable, IsNoEditTable, AreNotEdits, RefusesEdit};
 ghost use Rattle.lab_tasks.specs.Ends.{IsStop};
 ghost use Rattle.lab_tasks.specs.Sweeps.{rows_of, IsAsked, IsSwept};
 ghost use Rattle.lab_tasks.specs.SweepTables.{max_rows, HasRows, OrMemory, OrStop};
-ghost use Rattle.lab_tasks.specs.Tables.{field_text, fields_text};
 
+use crate::answered::{Form, add_all_refused, add_asked};
 use crate::end::{End, Reason};
+use crate::grid::{Cell, Grid, Row};
 use crate::sweep::{
-    MOST_ROWS, add_answers, add_asks, add_field, add_queues, all_queries, all_rows, all_swept,
-    count_rows, opened,
+    MOST_ROWS, add_queues, add_told, all_queries, all_rows, all_swept, count_rows, form_of, opened,
 };
 use crate::swept::{Setting, Swept};
-use crate::tables::Field;
 use edit_templates::{Axis, Put, Step, Template, after_edits, behind, each, in_turn};
-use experiments::{Fault, told_each};
+use experiments::Fault;
 use project_book::{Edit, EditFault, Project};
-use run_queries::{Body, Query};
+use rayon::prelude::*;
+use run_queries::Query;
 use std::alloc::{AllocError, Global};
-use std::fmt::Write;
 use std::thread::Threads;
 
 /// The edit with braces that a word is for a project: its names and steps.
@@ -233,29 +232,30 @@ fn edit_plan<'a>(
     })
 }
 
-/// What the project after some edits says to each question, or the number of the reason why one of the edits is refused.
+/// Adds what the project after some edits says to each question, or the reason why one of the edits is refused.
 ///
 /// A bench of its own is begun for each row: none goes on from the row before.
-fn says<T: Threads + Sync>(
+fn add_after<T: Threads + Sync>(
     rt: &T,
     alloc: Global,
+    form: Form,
     project: &Project,
     edits: &[Edit],
     queries: &[Query],
-) -> Result<Result<Vec<Result<Body, u8>>, u8>, Fault>
-    ensures told { IfOk result (λ says. IfOk says (λ bodies. says_after (after_edits project.now edits.now) queries.now ≡ Ok bodies.items)) }
-    ensures refused { IfOk result (λ says. IfErr says (λ n. says_after (after_edits project.now edits.now) queries.now ≡ Err n)) }
+    cells: &mut Vec<Cell>,
+) -> Result<(), Fault>
+    ensures { OnOk result (map Some cells.new.items ≡ map Some cells.old.items ++ after_cells form queries.now (after_edits project.now edits.now)) }
 {
     let after = match after_edits(project, edits) {
         Ok(after) => after,
         Err(EditFault::Memory) => return Err(Fault::Memory),
-        Err(fault) => return Ok(Err(fault.number())),
+        Err(fault) => {
+            add_all_refused(alloc, cells, form, fault.number(), queries)?;
+            return Ok(());
+        }
     };
     let mut bench = opened(alloc, after)?;
-    match told_each(rt, alloc, &mut bench, queries) {
-        Ok(bodies) => Ok(Ok(bodies)),
-        Err(fault) => Err(fault),
-    }
+    add_told(rt, alloc, form, &mut bench, queries, cells)
 }
 
 /// A word that is put in, as text.
@@ -265,136 +265,112 @@ fn put_word(alloc: Global, put: Put<'_>) -> Result<String, AllocError>
     format!(in alloc; "{put}")
 }
 
-/// Adds the words that are put in, each with a comma behind.
-fn add_puts(alloc: Global, text: &mut String, puts: &[Put<'_>]) -> Result<(), AllocError>
-    ensures { OnOk result (string_bytes text.new ≡ string_bytes text.old ++ words_text (map put_text puts.now)) }
+/// Adds the words that are put in.
+fn add_puts(alloc: Global, cells: &mut Vec<Cell>, puts: &[Put<'_>]) -> Result<(), AllocError>
+    ensures { OnOk result (cells.new.items ≡ cells.old.items ++ map put_text puts.now) }
 {
     for put in puts {
         let word = put_word(alloc, *put)?;
-        add_word(text, word.as_str())?;
+        cells.push(Cell::new(word))?;
     }
     Ok(())
 }
 
-/// Adds a word as a field, with a comma behind.
-fn add_word(text: &mut String, word: &str) -> Result<(), AllocError>
-    ensures { OnOk result (string_bytes text.new ≡ string_bytes text.old ++ (field_text word.now ++ codes ",")) }
-{
-    let field = Field(word);
-    write!(text, "{field},")
-}
-
-/// What stands in place of an answer where an edit is refused, by the number of the reason.
-fn refused_word(alloc: Global, number: u8) -> Result<String, AllocError>
-    ensures { IfOk result (λ text. string_bytes text ≡ refused_text number) }
-{
-    format!(in alloc; "refused {number}")
-}
-
-/// Adds `refused N` in the place of each answer, with commas between.
-fn add_refused(
-    alloc: Global,
-    text: &mut String,
-    number: u8,
-    queries: &[Query],
-) -> Result<(), AllocError>
-    ensures { OnOk result (string_bytes text.new ≡ string_bytes text.old ++ fields_text (map (λ query. refused_text number) queries.now)) }
-{
-    for (place, _query) in queries.iter().enumerate() {
-        let refused = refused_word(alloc, number)?;
-        add_field(text, place, refused.as_str())?;
-    }
-    Ok(())
-}
-
-/// Adds the fields of a row's answers.
-fn add_cells(
-    alloc: Global,
-    text: &mut String,
-    queries: &[Query],
-    says: &Result<Vec<Result<Body, u8>>, u8>,
-) -> Result<(), AllocError>
-    ensures told { OnOk result (IfOk says.now (λ bodies. HasCells queries.now (Ok bodies.items) (string_bytes text.old) (string_bytes text.new))) }
-    ensures refused { OnOk result (IfErr says.now (λ n. HasCells queries.now (Err n) (string_bytes text.old) (string_bytes text.new))) }
-{
-    match says {
-        Ok(bodies) => add_answers(alloc, text, bodies.as_slice()),
-        Err(number) => add_refused(alloc, text, *number, queries),
-    }
-}
-
-/// Adds a row: its words, then its answers.
-fn add_edit_row<T: Threads + Sync>(
+/// A row: its words, then its answers.
+fn edit_row<T: Threads + Sync>(
     rt: &T,
     alloc: Global,
-    text: &mut String,
+    form: Form,
     project: &Project,
     step: &Step<'_>,
     queries: &[Query],
-) -> Result<(), Fault>
-    ensures { OnOk result (HasEditRow queries.now step.now (says_after (after_edits project.now step.now.1) queries.now) (string_bytes text.old) (string_bytes text.new)) }
+) -> Result<Row, Fault>
+    ensures { IfOk result (IsEditRow form project.now queries.now step.now) }
 {
-    let says = says(rt, alloc, project, step.edits(), queries)?;
-    add_puts(alloc, text, step.puts())?;
-    add_cells(alloc, text, queries, &says)?;
-    writeln!(text, "")?;
-    Ok(())
+    let mut cells = Vec::new(alloc);
+    add_puts(alloc, &mut cells, step.puts())?;
+    add_after(rt, alloc, form, project, step.edits(), queries, &mut cells)?;
+    Ok(Row::new(cells))
 }
 
-/// Adds all rows.
-#[tactic(auto, using(crate::proofs::Stops::is_stop))]
-fn add_edit_rows<'a, T: Threads + Sync>(
+/// All rows, told by as many threads as there are processors; each hangs on the project and its own step alone.
+fn each_row<T: Threads + Sync>(
     rt: &T,
     alloc: Global,
-    text: &mut String,
+    form: Form,
     project: &Project,
     steps: &[Step<'_>],
     queries: &[Query],
-) -> Result<(), End<'a>>
-    ensures rows { OnOk result (HasRows (IsEditRow project.now queries.now) (string_bytes text.old) steps.now (string_bytes text.new)) }
+) -> Result<Result<Vec<Row>, Fault>, AllocError>
+    ensures { IfOk result (λ told. IfOk told (λ v. AllZip (IsEditRow form project.now queries.now) steps.now v.items)) }
+{
+    steps
+        .par_iter()
+        .with_min_len(1)
+        .map(
+            |step: &Step<'_>| -> Result<Row, Fault>
+                ensures { IfOk result (IsEditRow form project.entry.now queries.entry.now step.now) }
+            { edit_row(rt, alloc, form, project, step, queries) },
+        )
+        .collect(rt, alloc)
+}
+
+/// All rows.
+#[tactic(auto, using(crate::proofs::Stops::is_stop, crate::proofs::Stops::is_stop_memory))]
+fn edit_rows<'a, T: Threads + Sync>(
+    rt: &T,
+    alloc: Global,
+    form: Form,
+    project: &Project,
+    steps: &[Step<'_>],
+    queries: &[Query],
+) -> Result<Vec<Row>, End<'a>>
+    ensures rows { IfOk result (λ v. AllZip (IsEditRow form project.now queries.now) steps.now v.items) }
     ensures refused { IfErr result IsStop }
 {
-    for step in steps {
-        add_edit_row(rt, alloc, text, project, step, queries)?;
+    match each_row(rt, alloc, form, project, steps, queries)? {
+        Ok(rows) => Ok(rows),
+        Err(fault) => Err(End::from(fault)),
     }
-    Ok(())
 }
 
-/// Adds the names of an axis, each with a comma behind.
-fn add_names(text: &mut String, names: &[String]) -> Result<(), AllocError>
-    ensures { OnOk result (string_bytes text.new ≡ string_bytes text.old ++ words_text (map string_bytes names.now)) }
+/// Adds the names of an axis.
+fn add_names(alloc: Global, cells: &mut Vec<Cell>, names: &[String]) -> Result<(), AllocError>
+    ensures { OnOk result (cells.new.items ≡ cells.old.items ++ map string_bytes names.now) }
 {
     for name in names {
-        add_word(text, name.as_str())?;
+        let name = String::from_str(alloc, name.as_str())?;
+        cells.push(Cell::new(name))?;
     }
     Ok(())
 }
 
-/// Adds the names of all axes, each with a comma behind.
-fn add_axes(text: &mut String, axes: &[Axis<'_>]) -> Result<(), AllocError>
-    ensures { OnOk result (string_bytes text.new ≡ string_bytes text.old ++ words_text (axes_names axes.now)) }
+/// Adds the names of all axes.
+fn add_axes(alloc: Global, cells: &mut Vec<Cell>, axes: &[Axis<'_>]) -> Result<(), AllocError>
+    ensures { OnOk result (cells.new.items ≡ cells.old.items ++ axes_names axes.now) }
 {
     for axis in axes {
-        add_names(text, axis.names.as_slice())?;
+        add_names(alloc, cells, axis.names.as_slice())?;
     }
     Ok(())
 }
 
-/// The first row: the names of the queues and of the braces, then the questions.
+/// The first row: the names of the queues and of the braces, then the columns of the questions.
 fn edit_header(
     alloc: Global,
+    form: Form,
     all: &[Swept],
     axes: &[Axis<'_>],
+    queries: &[Query],
     asks: &[&str],
-) -> Result<String, AllocError>
-    ensures { IfOk result (λ text. string_bytes text ≡ edit_header all.now axes.now (map (λ ask. ask.now) asks.entry.now)) }
+) -> Result<Row, AllocError>
+    ensures { IfOk result (λ row. row ≡ edit_header form all.now axes.now queries.now (map (λ ask. ask.now) asks.entry.now)) }
 {
-    let mut text = String::new(alloc);
-    add_queues(&mut text, all)?;
-    add_axes(&mut text, axes)?;
-    add_asks(&mut text, asks)?;
-    writeln!(text, "")?;
-    Ok(text)
+    let mut names = Vec::new(alloc);
+    add_queues(alloc, &mut names, all)?;
+    add_axes(alloc, &mut names, axes)?;
+    add_asked(alloc, &mut names, form, queries, asks)?;
+    Ok(Row::new(names))
 }
 
 /// The table of what is swept and asked.
@@ -402,20 +378,23 @@ fn edit_header(
 fn edit_table_of<'a, T: Threads + Sync>(
     rt: &T,
     alloc: Global,
+    form: Form,
     project: &Project,
     zip: bool,
     plan: &Plan<'_>,
     asks: &[&'a str],
-) -> Result<String, End<'a>>
-    ensures rows { IfOk result (λ text. HasRows (IsEditRow project.now plan.now.queries.items) (edit_header plan.now.swept.items plan.now.axes.items (map (λ ask. ask.now) asks.entry.now)) (sweep_steps zip plan.now.swept.items plan.now.axes.items) (string_bytes text)) }
+) -> Result<Grid, End<'a>>
+    ensures rows { IfOk result (HasRows (IsEditRow form project.now plan.now.queries.items) (edit_header form plan.now.swept.items plan.now.axes.items plan.now.queries.items (map (λ ask. ask.now) asks.entry.now)) (sweep_steps zip plan.now.swept.items plan.now.axes.items)) }
     ensures refused { IfErr result IsStop }
 {
     let (all, axes) = (plan.swept.as_slice(), plan.axes.as_slice());
-    let mut text = edit_header(alloc, all, axes, asks)?;
-    let steps = sweep_steps(alloc, zip, all, axes)?;
     let queries = plan.queries.as_slice();
-    add_edit_rows(rt, alloc, &mut text, project, steps.as_slice(), queries)?;
-    Ok(text)
+    let names = edit_header(alloc, form, all, axes, queries, asks)?;
+    let steps = sweep_steps(alloc, zip, all, axes)?;
+    match edit_rows(rt, alloc, form, project, steps.as_slice(), queries) {
+        Ok(rows) => Ok(Grid::new(names, rows)),
+        Err(end) => Err(end),
+    }
 }
 
 /// The table of a sweep of edits over a project.
@@ -424,17 +403,26 @@ pub(crate) fn edit_table<'a, T: Threads + Sync>(
     rt: &T,
     alloc: Global,
     project: &Project,
+    numbers: bool,
     zip: bool,
     depths: &[&'a str],
     edits: &[&'a str],
     asks: &[&'a str],
-) -> Result<String, End<'a>>
-    ensures table { IfOk result (λ text. IsEditTable project.now zip (map (λ word. word.now) depths.entry.now) (map (λ word. word.now) edits.entry.now) (map (λ word. word.now) asks.entry.now) (string_bytes text)) }
+) -> Result<Grid, End<'a>>
+    ensures table { IfOk result (IsEditTable project.now numbers zip (map (λ word. word.now) depths.entry.now) (map (λ word. word.now) edits.entry.now) (map (λ word. word.now) asks.entry.now)) }
     ensures refused { IfErr result (OrStop (IsNoEditTable project.now zip (map (λ word. word.now) depths.entry.now) (map (λ word. word.now) edits.entry.now) (map (λ word. word.now) asks.entry.now))) }
 {
     let plan = match edit_plan(alloc, project, zip, depths, edits, asks) {
         Ok(plan) => plan,
         Err(end) => return Err(end),
     };
-    edit_table_of(rt, alloc, project, zip, &plan, asks)
+    edit_table_of(
+        rt,
+        alloc,
+        form_of(project, numbers),
+        project,
+        zip,
+        &plan,
+        asks,
+    )
 }

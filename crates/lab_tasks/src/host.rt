@@ -3,9 +3,10 @@ use crate::end::{End, Reason, refusal, status};
 use crate::other_net::AllOn;
 use crate::outcome::{OutFile, Outcome};
 use crate::progress::Progress;
+use crate::series::SeriesWords;
 use crate::shell::{Shelf, ShellWords, end_after, hold, opened};
 use crate::task::perform;
-use crate::words::{Asked, CurveWords, read_words};
+use crate::words::{Asked, CurveWords, DelayWords, SweepWords, read_words};
 use bench_core::Bench;
 use bench_shell::{RunFault, Writing};
 use clap::Error;
@@ -290,6 +291,43 @@ fn refuse_table<'a, R: Files + AllocGlobal>(rt: &R, words: &CurveWords<'a>) -> R
     }
 }
 
+/// Refuses to write the table or the picture of a sweep over the file that is read, or both to one file.
+fn refuse_sweep<'a, R: Files + AllocGlobal>(rt: &R, words: &SweepWords<'a>) -> Result<(), End<'a>> {
+    let source = Reason::Form(NOT_SOURCE);
+    refuse_file(rt, words.file, "--csv", words.csv, source)?;
+    refuse_file(rt, words.file, "--plot", words.plot, source)?;
+    match words.csv {
+        Some(table) => refuse_file(rt, table, "--plot", words.plot, Reason::Form(NOT_TABLE)),
+        None => Ok(()),
+    }
+}
+
+/// Refuses to write a histogram over its file, or a picture and its table to one file.
+fn refuse_delays<'a, R: Files + AllocGlobal>(
+    rt: &R,
+    words: &DelayWords<'a>,
+) -> Result<(), End<'a>> {
+    if let Some(file) = words.file {
+        let source = Reason::Form(NOT_SOURCE);
+        refuse_file(rt, file, "--out", words.curves.out, source)?;
+    }
+    refuse_table(rt, &words.curves)
+}
+
+/// Refuses to write the table or the picture of a series over its file, or both to one file.
+fn refuse_series<'a, R: Files + AllocGlobal>(
+    rt: &R,
+    words: &SeriesWords<'a>,
+) -> Result<(), End<'a>> {
+    let source = Reason::Form(NOT_SOURCE);
+    refuse_file(rt, words.file, "--csv", words.csv, source)?;
+    refuse_file(rt, words.file, "--out", words.out, source)?;
+    match words.csv {
+        Some(table) => refuse_file(rt, table, "--out", words.out, Reason::Form(NOT_TABLE)),
+        None => Ok(()),
+    }
+}
+
 /// Refuses to write over the file that is read, but for a converted project that may be, or two files as one.
 fn refuse_over<'a, R: Files + AllocGlobal>(rt: &R, asked: &Asked<'a>) -> Result<(), End<'a>> {
     let source = Reason::Form(NOT_SOURCE);
@@ -298,9 +336,11 @@ fn refuse_over<'a, R: Files + AllocGlobal>(rt: &R, asked: &Asked<'a>) -> Result<
         Asked::Order(words) | Asked::Page(words) => {
             refuse_file(rt, words.file, "--out", words.out, source)
         }
-        Asked::Series(words) => refuse_file(rt, words.file, "--csv", words.csv, source),
-        Asked::Sweep(words) => refuse_file(rt, words.file, "--csv", words.csv, source),
-        Asked::Rates(words) | Asked::Delays(words) => refuse_table(rt, words),
+        Asked::Trace(words) => refuse_file(rt, words.file, "--out", words.out, source),
+        Asked::Series(words) => refuse_series(rt, words),
+        Asked::Sweep(words) => refuse_sweep(rt, words),
+        Asked::Rates(words) => refuse_table(rt, words),
+        Asked::Delays(words) => refuse_delays(rt, words),
         Asked::Load(words) => refuse_table(rt, &words.curves),
         Asked::Convert(words) => {
             if words.force {
@@ -310,8 +350,8 @@ fn refuse_over<'a, R: Files + AllocGlobal>(rt: &R, asked: &Asked<'a>) -> Result<
         }
         Asked::Latency(_)
         | Asked::Done { .. }
-        | Asked::Trace(_)
         | Asked::Full { .. }
+        | Asked::Busy(_)
         | Asked::Check { .. }
         | Asked::Shell(_) => Ok(()),
     }

@@ -4,7 +4,7 @@ ghost use Rattle.omega_net.specs.Wires.{below};
 ghost use Rattle.page_map.specs.Limits.{address_count};
 ghost use Rattle.project_book.specs.Limits.{max_times};
 ghost use Rattle.project_book.specs.Scripts.{IsEntry};
-ghost use Rattle.lab_tasks.specs.Counts.{any, hot_of, is_of, part_count, part_of, references, referrers, script_times, times_in, times_of, hot_at, AreHottest, Hotter, IsHottest};
+ghost use Rattle.lab_tasks.specs.Counts.{any, hot_of, is_of, part_count, part_of, references, referrers, script_times, times_in, times_of, hot_at, AreHottest, Hotter, IsHottest, IsHottestWord};
 
 use omega_net::ScriptEntry;
 use page_map::ADDRESSES;
@@ -256,6 +256,25 @@ fn hottest(counts: &Counts) -> Option<Hot>
         Some(most)
     } else {
         None
+    }
+}
+
+/// The address that a word's number is.
+fn address_of(hot: Hot) -> u32
+    requires { hot.number < 2 ^ 32 }
+    ensures { result ≡ hot.number }
+{
+    hot.number as u32
+}
+
+/// The hottest word of the scripts; None where they refer to none.
+pub(crate) fn hottest_word(alloc: Global, project: &Project) -> Result<Option<u32>, AllocError>
+    ensures { IfOk result (IsHottestWord project.now) }
+{
+    let counts = counts_of(alloc, project, Parts::Words)?;
+    match hottest(&counts) {
+        Some(hot) => Ok(Some(address_of(hot))),
+        None => Ok(None),
     }
 }
 

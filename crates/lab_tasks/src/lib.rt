@@ -18,19 +18,24 @@
 //! `load` (`specs/RatePictures.antt`, `specs/DelayPictures.antt`, `specs/LoadPictures.antt`), which offered loads those are and
 //! what is measured of them (`specs/LoadPlans.antt`, `specs/LoadTables.antt`), which page a run is (`specs/MachinePages.antt`), and when it is told that a map draws the network where no reference
 //! is (`specs/Elsewhere.antt`). What the pictures look like is shown by examples. A session of the shell is `talk` of `lab_shell`
-//! over a bench; what a [`ShellClerk`] says in it of its project is in `specs/Shells.antt`.
+//! over a bench; what a [`ShellClerk`] says in it of its project is in `specs/Shells.antt` and `specs/ShellReports.antt`.
 #![tactic(auto)]
 
+mod answered;
+mod busy;
 mod check;
 mod columns;
 mod completion;
 mod convert;
 mod curves;
+mod cycles;
 mod delay_picture;
 mod delays;
 mod edit_sweep;
+mod either;
 mod end;
 mod full;
+mod grid;
 mod host;
 mod hot;
 mod latency;
@@ -47,6 +52,7 @@ mod other_net;
 mod outcome;
 mod page;
 mod plan;
+mod plot;
 mod points;
 mod progress;
 mod rate_picture;
@@ -54,6 +60,7 @@ mod rates;
 mod series;
 mod setup;
 mod shell;
+mod shell_report;
 mod sweep;
 mod swept;
 mod tables;
@@ -61,6 +68,7 @@ mod task;
 mod trace;
 mod words;
 
+pub use busy::BusyWords;
 pub use convert::ConvertWords;
 pub use end::{End, Reason, refusal, status};
 pub use host::{Terminals, program};
@@ -72,4 +80,4 @@ pub use series::SeriesWords;
 pub use shell::{Shelf, ShellClerk, ShellWords, hold, session_status};
 pub use task::perform;
 pub use trace::TraceWords;
-pub use words::{Asked, CurveWords, LoadWords, MapWords, SweepWords, read_words};
+pub use words::{Asked, CurveWords, DelayWords, LoadWords, MapWords, SweepWords, read_words};

@@ -3,12 +3,12 @@ ghost use Rattle.std.specs.Prelude.{◌≡◌, ◌+◌, ◌*◌, ◌/◌, ◌<�
 ghost use Rattle.std.specs.List.{flat_map};
 ghost use Rattle.omega_net.specs.Wires.{below};
 ghost use Rattle.page_map.specs.Limits.{max_k};
-ghost use Rattle.lab_tasks.specs.CurvePictures.{even_ticks};
+ghost use Rattle.svg_plots.specs.AxisTicks.{ticks_between};
 ghost use Rattle.lab_tasks.specs.LoadPictures.{all_values, diagonal, drawn_at, first_curves, first_short, greatest_of, is_short, label_of, least_of, load_curve, load_curves, load_panel_title, load_stroke, load_title, mean_of, or_else, runs_at, saturated_text, share_of, short_at, spot_of, spread_of, top_of, up_title, values_of, IsLoadPanel, IsLoadPicture};
 ghost use Rattle.lab_tasks.specs.declared.load_picture.Shown.TheVariants.{Accepted, Latency};
 ghost use Rattle.lab_tasks.specs.LoadPlans.{rate_at, rate_count};
 
-use crate::curves::{even_ticks, labels_of, mark_of, part_of, stroke_of};
+use crate::curves::part_of;
 use crate::delay_picture::network_label;
 use crate::load_plan::LoadPlan;
 use crate::load_table::LoadPoint;
@@ -16,6 +16,7 @@ use crate::tables::processors_of;
 use std::alloc::{AllocError, Global};
 use svg_plots::{
     Axis, Curve, Curves, Label, Panel, Points, Stroke, Tick, Whisker, Whiskers, draw_curves,
+    labels_of, mark_of, stroke_of, ticks_between,
 };
 
 /// What of the runs a panel shows.
@@ -415,8 +416,8 @@ fn load_panel<'a>(
     requires seeds { plan.now.seeds ≤ 20 }
     requires top { top ≡ top_of shown points.now }
     requires small { top ≤ 100000 }
-    requires across { across.now ≡ even_ticks 100 }
-    requires up { up.now ≡ even_ticks top }
+    requires across { across.now ≡ ticks_between 0 100 }
+    requires up { up.now ≡ ticks_between 0 top }
     ensures { IfOk result (IsLoadPanel plan.now points.now shown) }
 {
     let curves = load_curves(alloc, plan, points, shown)?;
@@ -497,8 +498,8 @@ fn panels_drawn(
     requires title { title.now ≡ load_title plan.now }
     requires top { top ≡ top_of Latency points.now }
     requires small { top ≤ 100000 }
-    requires across { across.now ≡ even_ticks 100 }
-    requires up { up.now ≡ even_ticks top }
+    requires across { across.now ≡ ticks_between 0 100 }
+    requires up { up.now ≡ ticks_between 0 top }
     ensures { IfOk result (λ text. IsLoadPicture plan.now points.now (string_bytes text)) }
 {
     let mut panels = Vec::new(alloc);
@@ -528,8 +529,8 @@ pub(crate) fn load_picture(
 {
     let title = load_title(alloc, plan)?;
     let top = top_of(alloc, Shown::Latency, points)?;
-    let across = even_ticks(alloc, 100)?;
-    let up = even_ticks(alloc, top)?;
+    let across = ticks_between(alloc, 0, 100)?;
+    let up = ticks_between(alloc, 0, top)?;
     let notes = notes_of(alloc, plan, points)?;
     panels_drawn(
         alloc,

@@ -7,13 +7,13 @@ ghost use Rattle.svg_plots.specs.Lists.{each};
 ghost use Rattle.lab_tasks.specs.CurvePictures.{doublings};
 ghost use Rattle.lab_tasks.specs.RatePictures.{bound_curve, bound_spot, drawn_of, greatest_drawn, least_drawn, mean_drawn, measured_curve, panel_title, rate_spot, rate_title, runs_at, share_curves, spread_at, what_of, IsRatePanel, IsRatePicture};
 
-use crate::curves::{doublings, labels_of, mark_of, part_of, stroke_of};
+use crate::curves::{doublings, part_of};
 use crate::plan::{CurvePlan, Measure};
 use crate::tables::{RatePoint, bound_thousandths, processors_of};
 use std::alloc::{AllocError, Global};
 use svg_plots::{
-    Axis, Curve, Curves, Label, Panel, Points, Tick, Whisker, Whiskers, draw_curves,
-    log2_hundredths,
+    Axis, Curve, Curves, Label, Panel, Points, Tick, Whisker, Whiskers, draw_curves, labels_of,
+    log2_hundredths, mark_of, stroke_of,
 };
 
 /// What is drawn of a point, in thousandths.

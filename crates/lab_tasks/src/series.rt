@@ -1,15 +1,19 @@
 //! What a run shows, cycle by cycle or by bins of cycles.
-ghost use Rattle.std.specs.Prelude.{◌≡◌, ◌≤◌, ◌<◌, IfErr, IfOk, map, string_bytes};
-ghost use Rattle.std.specs.List.{AllZip};
-ghost use Rattle.lab_tasks.specs.Gauged.{AreBins, AreNoBins, AreNoGauges, IsGauge, IsNoSeriesText, IsSeriesText, RefusesGauge};
+ghost use Rattle.std.specs.Prelude.{◌≡◌, ◌≤◌, ◌<◌, ◌++◌, IfErr, IfOk, map, string_bytes};
+ghost use Rattle.std.specs.List.{flat_map, AllZip};
+ghost use Rattle.run_reports.specs.Series.{bin_row, name_row};
+ghost use Rattle.report_pictures.specs.SeriesPictures.{IsSeriesPicture};
+ghost use Rattle.lab_tasks.specs.Gauged.{AreBins, AreNoBins, AreNoGauges, AreSeriesTexts, IsGauge, IsNoSeriesText, IsWanted, RefusesGauge};
 ghost use Rattle.lab_tasks.specs.SweepTables.{OrMemory};
+ghost use Rattle.lab_tasks.specs.Words.{text_of, texts_of};
 
 use crate::end::{End, Reason};
 use crate::plan::number_at;
 use omega_net::Shape;
 use project_book::Project;
-use run_reports::{Bins, Gauge, Window, gauge_named, series_text};
-use std::alloc::Global;
+use report_pictures::series_picture;
+use run_reports::{Bins, Gauge, Sums, Window, gauge_named, series_sums, series_table};
+use std::alloc::{AllocError, Global};
 
 /// What `series` is told.
 #[derive(Drop)]
@@ -20,6 +24,7 @@ pub struct SeriesWords<'a> {
     pub to: Option<&'a str>,
     pub bin: Option<&'a str>,
     pub csv: Option<&'a str>,
+    pub out: Option<&'a str>,
 }
 
 /// What a word at `--of` has to be.
@@ -84,15 +89,59 @@ fn bins_at<'a>(words: &SeriesWords<'a>, project: &Project) -> Result<Bins, End<'
     Ok(Bins { window, size })
 }
 
-/// The table that the words name.
-pub(crate) fn series_table<'a>(
+/// What a series is as text: a table, and where one is wanted a picture.
+#[derive(Drop)]
+pub(crate) struct SeriesTexts {
+    pub table: String,
+    pub picture: String,
+}
+
+/// The picture where a file is named for it.
+fn picture_of(
+    alloc: Global,
+    words: &SeriesWords<'_>,
+    bins: Bins,
+    all: &[(u32, Sums)],
+) -> Result<String, AllocError>
+    requires from { bins.window.from ≤ 1000000 }
+    requires to { bins.window.to ≤ 1000000 }
+    ensures { IfOk result (λ text. IsWanted (text_of words.now.out) (IsSeriesPicture words.now.file.now (texts_of words.now.gauges.items) bins all.now) (string_bytes text)) }
+{
+    match words.out {
+        Some(_) => series_picture(alloc, words.file, words.gauges.as_slice(), bins, all),
+        None => Ok(String::new(alloc)),
+    }
+}
+
+/// The table of these bins, and the picture where a file is named for it.
+fn texts_in(
+    alloc: Global,
+    words: &SeriesWords<'_>,
+    shape: Shape,
+    gauges: &[Gauge],
+    bins: Bins,
+    all: &[(u32, Sums)],
+) -> Result<SeriesTexts, AllocError>
+    requires from { bins.window.from ≤ 1000000 }
+    requires to { bins.window.to ≤ 1000000 }
+    ensures table { IfOk result (λ texts. string_bytes texts.table ≡ name_row shape gauges.now ++ flat_map bin_row all.now) }
+    ensures picture { IfOk result (λ texts. IsWanted (text_of words.now.out) (IsSeriesPicture words.now.file.now (texts_of words.now.gauges.items) bins all.now) (string_bytes texts.picture)) }
+{
+    let table = series_table(alloc, shape, gauges, all)?;
+    let picture = picture_of(alloc, words, bins, all)?;
+    Ok(SeriesTexts { table, picture })
+}
+
+/// The table that the words name, and the picture where a file is named for it.
+pub(crate) fn series_texts<'a>(
     alloc: Global,
     words: &SeriesWords<'a>,
     project: &Project,
-) -> Result<String, End<'a>>
-    ensures done { IfOk result (λ text. IsSeriesText words.now project.now (string_bytes text)) }
+) -> Result<SeriesTexts, End<'a>>
+    ensures done { IfOk result (λ texts. AreSeriesTexts words.now project.now (string_bytes texts.table) (string_bytes texts.picture)) }
     ensures refused { IfErr result (OrMemory (IsNoSeriesText words.now project.now)) }
 {
+    project.is_project();
     let gauges = match all_gauges(alloc, project.shape(), words.gauges.as_slice()) {
         Ok(gauges) => gauges,
         Err(end) => return Err(end),
@@ -101,8 +150,19 @@ pub(crate) fn series_table<'a>(
         Ok(bins) => bins,
         Err(end) => return Err(end),
     };
-    match series_text(alloc, project, gauges.as_slice(), bins) {
-        Ok(text) => Ok(text),
+    let all = match series_sums(alloc, project, gauges.as_slice(), bins) {
+        Ok(all) => all,
+        Err(_) => return Err(End::Memory),
+    };
+    match texts_in(
+        alloc,
+        words,
+        project.shape(),
+        gauges.as_slice(),
+        bins,
+        all.as_slice(),
+    ) {
+        Ok(texts) => Ok(texts),
         Err(_) => Err(End::Memory),
     }
 }

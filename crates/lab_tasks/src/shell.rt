@@ -6,8 +6,11 @@ ghost use Rattle.line_words.specs.Numbers.{number_of};
 ghost use Rattle.project_book.specs.Project.{blank};
 ghost use Rattle.bench_shell.specs.Cause.{HasCause};
 ghost use Rattle.bench_shell.specs.Store.{store_of};
-ghost use Rattle.lab_shell.specs.Talks.{answer_text, Talked, TalksPlainly};
-ghost use Rattle.lab_tasks.specs.Shells.{entry_line, entry_words, script_answer, script_said, status_of_session, unsaved_text, IsEndAfter, IsNotOpened, IsOpened, IsSaid, IsSaved};
+ghost use Rattle.line_words.specs.Words.{words_of};
+ghost use Rattle.lab_shell.specs.Talks.{Talked, TalksPlainly};
+ghost use Rattle.lab_shell.specs.Words.{first_word};
+ghost use Rattle.lab_tasks.specs.Shells.{entry_line, entry_words, script_answer, script_said, status_of_session, Gives, IsEndAfter, IsNotOpened, IsOpened, IsSaid, IsSaved};
+ghost use Rattle.lab_tasks.specs.ShellReports.{IsText};
 ghost use Rattle.lab_tasks.specs.Summaries.{IsSummary};
 ghost use Rattle.lab_tasks.specs.Words.{text_of};
 
@@ -15,10 +18,11 @@ use crate::check::summary;
 use crate::convert::convert_file;
 use crate::end::End;
 use crate::outcome::OutFile;
+use crate::shell_report::reported;
 use crate::task::project_in;
 use bench_core::Bench;
 use bench_shell::{Answer, RunFault, Sink};
-use lab_shell::{Clerk, Ended, Manner, Said, ShellWord, talk, told_line};
+use lab_shell::{Clerk, Ended, Manner, Said, ShellWord, first_word, talk};
 use line_words::number;
 use omega_net::ScriptEntry;
 use project_book::{EntryText, Project};
@@ -51,8 +55,6 @@ pub trait Shelf {
 /// Who answers the requests of a session, with a shelf for files.
 #[derive(Drop)]
 pub struct ShellClerk<'a, S> {
-    /// There is a reason behind each refusal.
-    pub people: bool,
     pub shelf: &'a S,
 }
 
@@ -89,78 +91,40 @@ fn add_script(text: &mut String, project: &Project, proc: u32) -> Result<(), All
     Ok(())
 }
 
-/// That a request was refused with this answer.
-fn refused(alloc: Global, people: bool, answer: &Answer) -> Result<Said, AllocError>
-    ensures text { IfOk result (λ said. string_bytes said.text ≡ answer_text people answer.now) }
-    ensures is_bad { IfOk result (λ said. said.is_bad ≡ true) }
-{
-    let text = told_line(alloc, people, answer)?;
-    Ok(Said { text, is_bad: true })
-}
-
 /// What is said to `script P`.
-fn scripted(
-    alloc: Global,
-    people: bool,
-    project: &Project,
-    argument: &[u8],
-) -> Result<Said, AllocError>
-    ensures text { IfOk result (λ said. string_bytes said.text ≡ (script_answer people project.now (number_of argument.now)).0) }
-    ensures is_bad { IfOk result (λ said. said.is_bad ≡ (script_answer people project.now (number_of argument.now)).1) }
+fn scripted(alloc: Global, project: &Project, argument: &[u8]) -> Result<Said, AllocError>
+    ensures { IfOk result (λ said. Gives (script_answer project.now (number_of argument.now)) said) }
 {
     let Some(proc) = number(argument) else {
-        return refused(alloc, people, &Answer::BadCommand);
+        return Ok(Said::Refused(Answer::BadCommand));
     };
     if proc >= project.processors() {
-        return refused(alloc, people, &Answer::Bad(1));
+        return Ok(Said::Refused(Answer::Bad(1)));
     }
     let mut text = String::new(alloc);
     add_script(&mut text, project, proc)?;
-    Ok(Said {
-        text,
-        is_bad: false,
-    })
-}
-
-/// That a file wasn't written.
-fn unsaved(alloc: Global, people: bool) -> Result<Said, AllocError>
-    ensures text { IfOk result (λ said. string_bytes said.text ≡ unsaved_text people) }
-    ensures is_bad { IfOk result (λ said. said.is_bad ≡ true) }
-{
-    let why = if people {
-        "bad file: it can't be written\n"
-    } else {
-        "bad file\n"
-    };
-    let mut text = String::new(alloc);
-    text.push_str(why)?;
-    Ok(Said { text, is_bad: true })
+    Ok(Said::Text(text))
 }
 
 /// That a file of this name was written.
 fn saved(alloc: Global, name: &str) -> Result<Said, AllocError>
-    ensures text { IfOk result (λ said. string_bytes said.text ≡ codes "saved " ++ (name.now ++ codes "\n")) }
-    ensures is_bad { IfOk result (λ said. said.is_bad ≡ false) }
+    ensures { IfOk result (λ said. IsText (λ text. text ≡ codes "saved " ++ (name.now ++ codes "\n")) said) }
 {
     let mut text = String::new(alloc);
     text.push_str("saved ")?;
     text.push_str(name)?;
     text.push_str("\n")?;
-    Ok(Said {
-        text,
-        is_bad: false,
-    })
+    Ok(Said::Text(text))
 }
 
 /// Saves a project as a file of this name.
 fn kept<S: Shelf>(
     alloc: Global,
-    people: bool,
     shelf: &S,
     project: &Project,
     name: &str,
 ) -> Result<Said, AllocError>
-    ensures { IfOk result (λ said. IsSaved people (S.saves shelf.now) project.now name.now (string_bytes said.text) said.is_bad) }
+    ensures { IfOk result (λ said. IsSaved (S.saves shelf.now) project.now name.now said) }
 {
     let mut file = OutFile {
         name: String::new(alloc),
@@ -173,42 +137,37 @@ fn kept<S: Shelf>(
     if shelf.save(&file) {
         saved(alloc, name)
     } else {
-        unsaved(alloc, people)
+        Ok(Said::Unsaved)
     }
 }
 
 /// What is said to `save F`.
 fn saving<S: Shelf>(
     alloc: Global,
-    people: bool,
     shelf: &S,
     project: &Project,
     argument: &[u8],
 ) -> Result<Said, AllocError>
-    ensures { IfOk result (λ said. IsSaved people (S.saves shelf.now) project.now argument.now (string_bytes said.text) said.is_bad) }
+    ensures { IfOk result (λ said. IsSaved (S.saves shelf.now) project.now argument.now said) }
 {
     match str::from_utf8(argument) {
-        Ok(name) => kept(alloc, people, shelf, project, name),
-        Err(_) => unsaved(alloc, people),
+        Ok(name) => kept(alloc, shelf, project, name),
+        Err(_) => Ok(Said::Unsaved),
     }
 }
 
 /// What is said to `show`.
 fn shown(alloc: Global, project: &Project) -> Result<Said, AllocError>
-    ensures text { IfOk result (λ said. IsSummary project.now (string_bytes said.text)) }
-    ensures is_bad { IfOk result (λ said. said.is_bad ≡ false) }
+    ensures { IfOk result (λ said. IsText (IsSummary project.now) said) }
 {
     let text = summary(alloc, project)?;
-    Ok(Said {
-        text,
-        is_bad: false,
-    })
+    Ok(Said::Text(text))
 }
 
 impl<S: Shelf> Clerk for ShellClerk<'_, S> {
     ghost use Rattle.lab_tasks.specs.Shells.{IsSaid};
 
-    ghost says = { λ clerk. IsSaid clerk.people (S.saves clerk.shelf.now) };
+    ghost says = { λ clerk. IsSaid (S.saves clerk.shelf.now) };
 
     fn say(
         &self,
@@ -219,9 +178,16 @@ impl<S: Shelf> Clerk for ShellClerk<'_, S> {
     ) -> Result<Said, AllocError> {
         match word {
             ShellWord::Show => shown(alloc, project),
-            ShellWord::Script => scripted(alloc, self.people, project, argument),
-            ShellWord::Save => saving(alloc, self.people, self.shelf, project, argument),
-            ShellWord::Quit | ShellWord::Help | ShellWord::HelpOn => unsaved(alloc, self.people),
+            ShellWord::Script => scripted(alloc, project, first_word(argument)),
+            ShellWord::Save => saving(alloc, self.shelf, project, first_word(argument)),
+            ShellWord::Latency => reported(alloc, "latency", argument, project),
+            ShellWord::Done => reported(alloc, "done", argument, project),
+            ShellWord::Trace => reported(alloc, "trace", argument, project),
+            ShellWord::Full => reported(alloc, "full", argument, project),
+            ShellWord::OrderAll => reported(alloc, "order", b"".as_slice(), project),
+            ShellWord::Quit | ShellWord::Help | ShellWord::HelpOn | ShellWord::Undo => {
+                Ok(Said::Unsaved)
+            }
         }
     }
 }
@@ -263,17 +229,14 @@ pub fn hold<T: Threads + Sync, S: Shelf, R: BufRead, W: Sink>(
     bench: &mut Bench,
 ) -> Result<u8, RunFault>
     ensures talks { IfOk result (λ status. (how : Ended) × (status ≡ status_of_session how)
-        × Talked (IsSaid manner.people (S.saves shelf.now)) manner (R.remaining reader.old) (R.remaining reader.new)
+        × Talked (IsSaid (S.saves shelf.now)) manner (R.remaining reader.old) (R.remaining reader.new)
         (W.contents writer.old) (W.contents writer.new) (store_of bench.old) (store_of bench.new) how) }
     ensures plain { manner.people ≡ false → OnOk result (TalksPlainly (R.remaining reader.old) (R.remaining reader.new)
         (W.contents writer.old) (W.contents writer.new) (store_of bench.old) (store_of bench.new)) }
     ensures cause { HasCause result (Unit {0}) (W.has_failed writer.new ≡ true) ⊥ (Unit {0}) (bench.new.table.clock ≡ 2 ^ 64 - 1) }
     ensures same_writer { W.lender writer.new ≡ W.lender writer.old }
 {
-    let clerk = ShellClerk {
-        people: manner.people,
-        shelf,
-    };
+    let clerk = ShellClerk { shelf };
     match talk(rt, alloc, manner, &clerk, reader, writer, bench) {
         Ok(how) => Ok(session_status(how)),
         Err(fault) => Err(fault),

@@ -1,29 +1,27 @@
 //! One depth after another on one bench.
-ghost use Rattle.std.specs.Prelude.{◌≡◌, ◌+◌, ◌-◌, ◌^◌, ◌<◌, ◌≤◌, ◌==◌, [], ◌∷◌, ◌++◌, IfErr, IfOk, OnOk, Some, codes, decimal, if◌then◌else◌, length, map, min, string_bytes};
+ghost use Rattle.std.specs.Prelude.{◌≡◌, ◌+◌, ◌-◌, ◌^◌, ◌<◌, ◌≤◌, ◌∷◌, ◌++◌, IfErr, IfOk, OnOk, Some, decimal, length, map, min, string_bytes};
 ghost use Rattle.std.specs.List.{flat_map, AllZip};
 ghost use Rattle.line_words.specs.Words.{words_of};
-ghost use Rattle.run_queries.specs.Answers.{answer};
-ghost use Rattle.run_queries.specs.Texts.{body_text};
 ghost use Rattle.bench_core.specs.Shown.{project_of};
 ghost use Rattle.commands.specs.Queues.{queue_named};
 ghost use Rattle.commands.specs.Commands.{command_of};
 ghost use Rattle.lab_tasks.specs.Ends.{IsStop};
 ghost use Rattle.lab_tasks.specs.Sweeps.{queue_text, depths_in, IsSwept, RefusesDepths, rows_of, settings_of, with_settings, IsAsked, RefusesAsk};
-ghost use Rattle.lab_tasks.specs.SweepTables.{header_text, shown, HasFields, HasRowOf, HasRows, IsRow, IsTable, AreNotSwept, AreNotAsked, IsNoTable, OrMemory, OrStop};
-ghost use Rattle.lab_tasks.specs.Tables.{field_text, fields_text};
+ghost use Rattle.lab_tasks.specs.Answered.{form_of, told_cells};
+ghost use Rattle.lab_tasks.specs.SweepTables.{depth_words, header_cells, queue_names, HasRows, IsRow, IsTable, AreNotSwept, AreNotAsked, IsNoTable, OrMemory, OrStop};
 
+use crate::answered::{Form, add_asked, add_said};
 use crate::end::{End, Reason};
+use crate::grid::{Cell, Grid, Row};
 use crate::numbers::{parts_at, range_in};
 use crate::swept::{Setting, Swept};
-use crate::tables::Field;
 use bench_core::Bench;
 use commands::Command;
-use experiments::{Fault, sweep_row, told_each};
+use experiments::{Fault, sweep_row, told_or_bad};
 use grid_law::NoMemory;
 use project_book::{Depths, Edit, MAX_DEPTH, Project};
-use run_queries::{Body, Query};
+use run_queries::Query;
 use std::alloc::{AllocError, Global};
-use std::fmt::Write;
 use std::thread::Threads;
 
 /// The word of some queues in the command language.
@@ -218,112 +216,86 @@ pub(crate) fn all_rows(alloc: Global, all: &[Swept]) -> Result<Vec<Vec<Setting>>
     Ok(rows)
 }
 
-/// Adds a field of a row, with a comma before it but for the first.
-pub(crate) fn add_field(text: &mut String, place: usize, field: &str) -> Result<(), AllocError>
-    ensures { OnOk result (string_bytes text.new ≡ string_bytes text.old ++ ((if place == 0 then [] else codes ",") ++ field_text field.now)) }
-{
-    let field = Field(field);
-    if place == 0 {
-        write!(text, "{field}")
-    } else {
-        write!(text, ",{field}")
-    }
-}
-
-/// Adds the names of the queues, each with a comma behind.
-pub(crate) fn add_queues(text: &mut String, all: &[Swept]) -> Result<(), AllocError>
-    ensures { OnOk result (string_bytes text.new ≡ string_bytes text.old ++ flat_map (λ swept. queue_text swept.queue ++ codes ",") all.now) }
+/// Adds the names of the queues.
+pub(crate) fn add_queues(
+    alloc: Global,
+    names: &mut Vec<Cell>,
+    all: &[Swept],
+) -> Result<(), AllocError>
+    ensures { OnOk result (names.new.items ≡ names.old.items ++ queue_names all.now) }
 {
     for swept in all {
-        let name = queue_name(swept.queue);
-        write!(text, "{name},")?;
+        let name = String::from_str(alloc, queue_name(swept.queue))?;
+        names.push(Cell::new(name))?;
     }
     Ok(())
 }
 
-/// Adds the questions, with commas between.
-pub(crate) fn add_asks(text: &mut String, asks: &[&str]) -> Result<(), AllocError>
-    ensures { OnOk result (string_bytes text.new ≡ string_bytes text.old ++ fields_text (map (λ ask. ask.now) asks.entry.now)) }
+/// The first row: the names of the queues, then the columns of the questions.
+fn header(
+    alloc: Global,
+    form: Form,
+    all: &[Swept],
+    queries: &[Query],
+    asks: &[&str],
+) -> Result<Row, AllocError>
+    ensures { IfOk result (λ row. row ≡ header_cells form all.now queries.now (map (λ ask. ask.now) asks.entry.now)) }
 {
-    for (place, ask) in asks.iter().enumerate() {
-        add_field(text, place, ask)?;
+    let mut names = Vec::new(alloc);
+    add_queues(alloc, &mut names, all)?;
+    add_asked(alloc, &mut names, form, queries, asks)?;
+    Ok(Row::new(names))
+}
+
+/// The columns of answers about a project.
+pub(crate) fn form_of(project: &Project, numbers: bool) -> Form
+    ensures { result ≡ form_of project.now numbers }
+{
+    Form {
+        numbers,
+        k: project.k(),
     }
-    Ok(())
 }
 
-/// The header of the table: the queues, then the questions.
-fn header(alloc: Global, all: &[Swept], asks: &[&str]) -> Result<String, AllocError>
-    ensures { IfOk result (λ text. string_bytes text ≡ header_text all.now (map (λ ask. ask.now) asks.entry.now)) }
+/// A depth as text.
+fn depth_word(alloc: Global, setting: Setting) -> Result<String, AllocError>
+    ensures { IfOk result (λ text. string_bytes text ≡ decimal setting.depth) }
 {
-    let mut text = String::new(alloc);
-    add_queues(&mut text, all)?;
-    add_asks(&mut text, asks)?;
-    writeln!(text, "")?;
-    Ok(text)
+    let depth = setting.depth;
+    format!(in alloc; "{depth}")
 }
 
-/// Adds the depths of a row, each with a comma behind.
-fn add_depths(text: &mut String, row: &[Setting]) -> Result<(), AllocError>
-    ensures { OnOk result (string_bytes text.new ≡ string_bytes text.old ++ flat_map (λ setting. decimal setting.depth ++ codes ",") row.now) }
+/// Adds the depths of a row.
+fn add_depths(alloc: Global, cells: &mut Vec<Cell>, row: &[Setting]) -> Result<(), AllocError>
+    ensures { OnOk result (cells.new.items ≡ cells.old.items ++ depth_words row.now) }
 {
     for setting in row {
-        let depth = setting.depth;
-        write!(text, "{depth},")?;
+        let depth = depth_word(alloc, *setting)?;
+        cells.push(Cell::new(depth))?;
     }
     Ok(())
 }
 
-/// An answer's text.
-fn printed(alloc: Global, body: &Body) -> Result<String, AllocError>
-    ensures { IfOk result (λ text. body_text body.now ≡ Some (string_bytes text)) }
-{
-    format!(in alloc; "{body}")
-}
-
-/// What stands in place of an answer that there isn't, by the number of the reason.
-fn bad_text(alloc: Global, number: u8) -> Result<String, AllocError>
-    ensures { IfOk result (λ text. string_bytes text ≡ codes "bad " ++ decimal number) }
-{
-    format!(in alloc; "bad {number}")
-}
-
-/// The text of what is said to a question.
-fn said(alloc: Global, says: &Result<Body, u8>) -> Result<String, AllocError>
-    ensures { IfOk result (λ text. shown says.now ≡ Some (string_bytes text)) }
-{
-    match says {
-        Ok(body) => printed(alloc, body),
-        Err(number) => bad_text(alloc, *number),
-    }
-}
-
-/// Adds what is said to the questions of a row, with commas between.
-pub(crate) fn add_answers(
+/// Adds what the bench's project says to each question.
+pub(crate) fn add_told<T: Threads + Sync>(
+    rt: &T,
     alloc: Global,
-    text: &mut String,
-    bodies: &[Result<Body, u8>],
-) -> Result<(), AllocError>
-    ensures { OnOk result (HasFields bodies.now (string_bytes text.old) (string_bytes text.new)) }
+    form: Form,
+    bench: &mut Bench,
+    queries: &[Query],
+    cells: &mut Vec<Cell>,
+) -> Result<(), Fault>
+    ensures told { OnOk result (map Some cells.new.items ≡ map Some cells.old.items ++ flat_map (told_cells form (project_of bench.old)) queries.now) }
+    ensures project { project_of bench.new ≡ project_of bench.old }
 {
-    for (place, body) in bodies.iter().enumerate() {
-        let answer = said(alloc, body)?;
-        add_field(text, place, answer.as_str())?;
+    for query in queries {
+        let says = match told_or_bad(rt, bench, *query) {
+            Ok(says) => says,
+            Err(fault) => return Err(fault),
+        };
+        add_said(alloc, cells, form, *query, &says)?;
     }
     Ok(())
-}
-
-/// Adds a row to the table.
-fn add_row(
-    alloc: Global,
-    text: &mut String,
-    row: &[Setting],
-    bodies: &[Result<Body, u8>],
-) -> Result<(), AllocError>
-    ensures { OnOk result (HasRowOf bodies.now row.now (string_bytes text.old) (string_bytes text.new)) }
-{
-    add_depths(text, row)?;
-    add_answers(alloc, text, bodies)?;
-    writeln!(text, "")
 }
 
 /// Gives the queues of a row their depths.
@@ -345,41 +317,45 @@ fn set_row<T: Threads + Sync>(
     Ok(())
 }
 
-/// What the project with the depths of a row says to each question.
-fn row_at<T: Threads + Sync>(
+/// A row: its depths, then what the project with these depths says to each question.
+fn row_told<T: Threads + Sync>(
     rt: &T,
     alloc: Global,
+    form: Form,
     bench: &mut Bench,
     row: &[Setting],
     queries: &[Query],
-) -> Result<Vec<Result<Body, u8>>, Fault>
-    ensures answers { IfOk result (λ bodies. bodies.items ≡ map (answer (with_settings (project_of bench.old) row.now)) queries.now) }
+) -> Result<Row, Fault>
+    ensures row { IfOk result (IsRow form (project_of bench.old) queries.now row.now) }
     ensures project { OnOk result (project_of bench.new ≡ with_settings (project_of bench.old) row.now) }
 {
+    let mut cells = Vec::new(alloc);
     set_row(rt, alloc, bench, row)?;
-    told_each(rt, alloc, bench, queries)
+    add_depths(alloc, &mut cells, row)?;
+    add_told(rt, alloc, form, bench, queries, &mut cells)?;
+    Ok(Row::new(cells))
 }
 
-/// Adds all rows: what the bench's project is told with the depths of each.
+/// All rows: what the bench's project is told with the depths of each.
 #[tactic(auto, using(crate::proofs::Stops::is_stop, crate::proofs::Stops::is_stop_memory))]
-fn add_rows<'a, T: Threads + Sync>(
+fn rows_told<'a, T: Threads + Sync>(
     rt: &T,
     alloc: Global,
-    text: &mut String,
+    form: Form,
     bench: &mut Bench,
     all: &[Swept],
     queries: &[Query],
-) -> Result<(), End<'a>>
-    ensures rows { OnOk result (HasRows (IsRow (project_of bench.old) queries.now) (string_bytes text.old) (rows_of all.now) (string_bytes text.new)) }
+) -> Result<Vec<Row>, End<'a>>
+    ensures rows { IfOk result (λ v. AllZip (IsRow form (project_of bench.old) queries.now) (rows_of all.now) v.items) }
     ensures refused { IfErr result IsStop }
 {
     let rows = all_rows(alloc, all)?;
+    let mut told = Vec::new(alloc);
     for settings in rows.as_slice() {
-        let row = settings.as_slice();
-        let bodies = row_at(rt, alloc, bench, row, queries)?;
-        add_row(alloc, text, row, bodies.as_slice())?;
+        let row = row_told(rt, alloc, form, bench, settings.as_slice(), queries)?;
+        told.push(row)?;
     }
-    Ok(())
+    Ok(told)
 }
 
 /// A fresh bench of a project, in a box at once: a proof of a function that holds a bench itself takes minutes.
@@ -396,17 +372,18 @@ fn table_of<'a, T: Threads + Sync>(
     rt: &T,
     alloc: Global,
     project: Project,
+    form: Form,
     all: &[Swept],
     queries: &[Query],
     asks: &[&'a str],
-) -> Result<String, End<'a>>
-    ensures rows { IfOk result (λ text. HasRows (IsRow project queries.now) (header_text all.now (map (λ ask. ask.now) asks.entry.now)) (rows_of all.now) (string_bytes text)) }
+) -> Result<Grid, End<'a>>
+    ensures rows { IfOk result (HasRows (IsRow form project queries.now) (header_cells form all.now queries.now (map (λ ask. ask.now) asks.entry.now)) (rows_of all.now)) }
     ensures refused { IfErr result IsStop }
 {
-    let mut text = header(alloc, all, asks)?;
+    let names = header(alloc, form, all, queries, asks)?;
     let mut bench = opened(alloc, project)?;
-    match add_rows(rt, alloc, &mut text, &mut bench, all, queries) {
-        Ok(()) => Ok(text),
+    match rows_told(rt, alloc, form, &mut bench, all, queries) {
+        Ok(rows) => Ok(Grid::new(names, rows)),
         Err(end) => Err(end),
     }
 }
@@ -417,10 +394,11 @@ pub(crate) fn sweep_table<'a, T: Threads + Sync>(
     rt: &T,
     alloc: Global,
     project: Project,
+    numbers: bool,
     depths: &[&'a str],
     asks: &[&'a str],
-) -> Result<String, End<'a>>
-    ensures table { IfOk result (λ text. IsTable project (map (λ word. word.now) depths.entry.now) (map (λ word. word.now) asks.entry.now) (string_bytes text)) }
+) -> Result<Grid, End<'a>>
+    ensures table { IfOk result (IsTable project numbers (map (λ word. word.now) depths.entry.now) (map (λ word. word.now) asks.entry.now)) }
     ensures refused { IfErr result (OrStop (IsNoTable project (map (λ word. word.now) depths.entry.now) (map (λ word. word.now) asks.entry.now))) }
 {
     let all = match all_swept(alloc, depths) {
@@ -438,5 +416,14 @@ pub(crate) fn sweep_table<'a, T: Threads + Sync>(
             reason: Reason::Within(1, MOST_ROWS),
         });
     }
-    table_of(rt, alloc, project, all.as_slice(), queries.as_slice(), asks)
+    let form = form_of(&project, numbers);
+    table_of(
+        rt,
+        alloc,
+        project,
+        form,
+        all.as_slice(),
+        queries.as_slice(),
+        asks,
+    )
 }

@@ -3,32 +3,38 @@ ghost use Rattle.std.specs.Prelude.{◌≡◌, ◌≤◌, ◌⊎◌, [], ◌∷�
 ghost use Rattle.page_map.specs.Limits.{max_k};
 ghost use Rattle.project_file.specs.Filed.{filed};
 ghost use Rattle.lab_tasks.specs.Added.{Adds};
+ghost use Rattle.lab_tasks.specs.Busy.{IsBusyText, IsNotBusy};
 ghost use Rattle.lab_tasks.specs.Completions.{IsCompletionText};
 ghost use Rattle.lab_tasks.specs.DelayPictures.{IsDelayPicture};
-ghost use Rattle.lab_tasks.specs.Done.{delay_header, rate_header, is_over, AreDelays, AreRates, IsConverted, IsDone, IsMadeOf, IsMapMade, IsNoSweep, IsNotDone, IsNotMade, IsOver, IsSweepText, IsTableGiven};
+ghost use Rattle.lab_tasks.specs.Done.{delay_header, has_numbers, rate_header, is_over, AreDelays, AreDelaysMade, AreDelaysNotMade, AreRates, IsConverted, IsDone, IsMadeOf, IsMapMade, IsNoPlotted, IsNoSweep, IsNoSweepTable, IsNotDone, IsNotMade, IsOver, IsPlotted, IsSeriesMade, IsSweepMade, IsSweepOf, IsSweepTable, IsTableGiven};
 ghost use Rattle.lab_tasks.specs.Fullness.{IsFullText};
-ghost use Rattle.lab_tasks.specs.Gauged.{IsNoSeries, IsSeriesText};
+ghost use Rattle.lab_tasks.specs.Gauged.{IsNoSeries};
 ghost use Rattle.lab_tasks.specs.Kept.{kept_of, load_name, name_text, net_text, IsKept, IsWithKept};
-ghost use Rattle.lab_tasks.specs.Latencies.{IsLatencyText, IsNoCondition};
+ghost use Rattle.lab_tasks.specs.Latencies.{IsLatencyDrawn, IsLatencyText, IsNoCondition};
 ghost use Rattle.lab_tasks.specs.MachinePages.{IsNoPage, IsPageText};
 ghost use Rattle.lab_tasks.specs.Orders.{IsNoOrder, IsOrderText};
 ghost use Rattle.lab_tasks.specs.Outcomes.{files_of, folder_of, AreGiven, IsGiven};
 ghost use Rattle.lab_tasks.specs.Plans.{IsNoCurve, IsNoMap};
 ghost use Rattle.lab_tasks.specs.RatePictures.{IsRatePicture};
 ghost use Rattle.lab_tasks.specs.Summaries.{IsSummary};
+ghost use Rattle.lab_tasks.specs.SweepTables.{OrMemory};
 ghost use Rattle.lab_tasks.specs.Tables.{delay_row, rate_row, table_text};
 ghost use Rattle.lab_tasks.specs.Traces.{IsNoTag, IsTraceText};
 ghost use Rattle.lab_tasks.specs.Words.{text_of};
 
+use crate::busy::{BusyWords, busy_report};
 use crate::check::summary;
 use crate::completion::completion_report;
 use crate::convert::{ConvertWords, convert_file, refuse_source};
+use crate::cycles::cycles_at;
 use crate::delay_picture::delay_picture;
 use crate::delays::{delay_points, delay_table};
 use crate::edit_sweep::edit_table;
+use crate::either::refuse_other;
 use crate::end::End;
 use crate::full::full_report;
-use crate::latency::{LatencyWords, condition, report};
+use crate::grid::Grid;
+use crate::latency::{LatencyWords, condition, drawn, report};
 use crate::load::load;
 use crate::map::map_picture;
 use crate::order::{OrderWords, order_text, order_window};
@@ -36,20 +42,22 @@ use crate::other_net::elsewhere;
 use crate::outcome::{OutFile, Outcome};
 use crate::page::{page_of, page_window};
 use crate::plan::{CurvePlan, curve_plan, map_plan};
+use crate::plot::plotted;
 use crate::points::{delay_loads, rate_loads};
 use crate::progress::Progress;
 use crate::rate_picture::rate_picture;
 use crate::rates::{rate_points, rate_table};
-use crate::series::{SeriesWords, series_table};
+use crate::series::{SeriesTexts, SeriesWords, series_texts};
 use crate::setup::set_up;
 use crate::sweep::sweep_table;
 use crate::tables::{DelayPoint, RatePoint};
-use crate::trace::{TraceWords, trace_line, traced};
-use crate::words::{Asked, CurveWords, MapWords, SweepWords};
+use crate::trace::{TraceWords, trace_made, traced};
+use crate::words::{Asked, CurveWords, DelayWords, MapWords, SweepWords};
 use experiments::{Load, project_of};
 use page_map::MAX_K;
 use project_book::{Edit, MAX_HORIZON, Project};
 use project_file::{ProjectFault, read_project, write_project};
+use run_reports::Window;
 use std::alloc::{AllocError, Global};
 use std::fmt;
 use std::thread::Threads;
@@ -142,7 +150,7 @@ fn latency<'a>(alloc: Global, words: &LatencyWords<'a>, bytes: &[u8]) -> Result<
 {
     let project = project_in(alloc, bytes)?;
     let condition = condition(words, &project)?;
-    let text = report(alloc, &project, &condition)?;
+    let text = report(alloc, words, &project, &condition)?;
     Ok(to_file_or_output(alloc, None, text.into_bytes())?)
 }
 
@@ -156,13 +164,13 @@ fn done<'a>(alloc: Global, bytes: &[u8]) -> Result<Outcome, End<'a>>
 }
 
 fn trace<'a>(alloc: Global, words: &TraceWords<'a>, bytes: &[u8]) -> Result<Outcome, End<'a>>
-    ensures done { IfOk result (IsMadeOf bytes.now None (IsTraceText words.now)) }
+    ensures done { IfOk result (IsMadeOf bytes.now (text_of words.now.out) (IsTraceText words.now)) }
     ensures refused { IfErr result (λ end. IsNotMade bytes.now (λ P. IsNoTag P words.now end) end) }
 {
     let project = project_in(alloc, bytes)?;
     let tag = traced(words, &project)?;
-    let text = trace_line(alloc, &project, tag)?;
-    Ok(to_file_or_output(alloc, None, text.into_bytes())?)
+    let text = trace_made(alloc, words, &project, tag)?;
+    Ok(to_file_or_output(alloc, words.out, text.into_bytes())?)
 }
 
 fn full<'a>(alloc: Global, bytes: &[u8]) -> Result<Outcome, End<'a>>
@@ -176,15 +184,29 @@ fn full<'a>(alloc: Global, bytes: &[u8]) -> Result<Outcome, End<'a>>
 
 #[tactic(auto, using(crate::proofs::Stops::not_made))]
 fn series<'a>(alloc: Global, words: &SeriesWords<'a>, bytes: &[u8]) -> Result<Outcome, End<'a>>
-    ensures done { IfOk result (IsMadeOf bytes.now (text_of words.now.csv) (IsSeriesText words.now)) }
+    ensures done { IfOk result (IsSeriesMade words.now bytes.now) }
     ensures refused { IfErr result (λ end. IsNotMade bytes.now (IsNoSeries words.now end) end) }
 {
     let project = project_in(alloc, bytes)?;
-    let table = match series_table(alloc, words, &project) {
-        Ok(table) => table,
+    let SeriesTexts { table, picture } = match series_texts(alloc, words, &project) {
+        Ok(texts) => texts,
         Err(end) => return Err(end),
     };
-    Ok(to_file_or_output(alloc, words.csv, table.into_bytes())?)
+    Ok(both_given(alloc, words.csv, words.out, table, picture)?)
+}
+
+fn busy<'a>(alloc: Global, words: &BusyWords<'a>, bytes: &[u8]) -> Result<Outcome, End<'a>>
+    ensures done { IfOk result (IsMadeOf bytes.now None (IsBusyText words.now)) }
+    ensures refused { IfErr result (λ end. IsNotMade bytes.now (λ P. IsNotBusy P words.now end) end) }
+{
+    let project = project_in(alloc, bytes)?;
+    let cycles = cycles_at(words.from, words.to, &project)?;
+    let window = Window {
+        from: cycles.0,
+        to: cycles.1,
+    };
+    let text = busy_report(alloc, &project, window)?;
+    Ok(to_file_or_output(alloc, None, text.into_bytes())?)
 }
 
 /// The network of a load, in the name of its project file.
@@ -269,6 +291,28 @@ fn keep<'a>(
 }
 
 /// The table and the picture where they are wanted; the table on standard output where neither is.
+fn both_given(
+    alloc: Global,
+    csv: Option<&str>,
+    out: Option<&str>,
+    table: String,
+    picture: String,
+) -> Result<Outcome, AllocError>
+    ensures { IfOk result (AreGiven (text_of csv.entry) (text_of out.entry) (string_bytes table) (string_bytes picture)) }
+{
+    let mut outcome = nothing(alloc);
+    if let Some(name) = out {
+        add_file(alloc, &mut outcome, name, picture.into_bytes())?;
+    }
+    match csv {
+        Some(name) => add_file(alloc, &mut outcome, name, table.into_bytes())?,
+        None if out.is_none() => outcome.printed = table.into_bytes(),
+        None => {}
+    }
+    Ok(outcome)
+}
+
+/// The same for what the words of a task of curves want.
 pub(crate) fn curves<'a>(
     alloc: Global,
     words: &CurveWords<'a>,
@@ -277,16 +321,7 @@ pub(crate) fn curves<'a>(
 ) -> Result<Outcome, AllocError>
     ensures { IfOk result (AreGiven (text_of words.now.csv) (text_of words.now.out) (string_bytes table) (string_bytes picture)) }
 {
-    let mut outcome = nothing(alloc);
-    if let Some(name) = words.out {
-        add_file(alloc, &mut outcome, name, picture.into_bytes())?;
-    }
-    match words.csv {
-        Some(name) => add_file(alloc, &mut outcome, name, table.into_bytes())?,
-        None if words.out.is_none() => outcome.printed = table.into_bytes(),
-        None => {}
-    }
-    Ok(outcome)
+    both_given(alloc, words.csv, words.out, table, picture)
 }
 
 /// Adds the project files of some loads, where they are wanted.
@@ -366,6 +401,45 @@ fn delays<'a, T: Threads + Sync, P: Progress>(
     with_kept(alloc, words, loads.as_slice(), outcome)
 }
 
+/// Whether each number of an answer has a column of its own.
+fn has_numbers(words: &SweepWords<'_>) -> bool
+    ensures { result ≡ has_numbers words.now }
+{
+    words.numbers || words.plot.is_some()
+}
+
+fn latencies_drawn<'a>(
+    alloc: Global,
+    words: &DelayWords<'a>,
+    bytes: &[u8],
+) -> Result<Outcome, End<'a>>
+    ensures done { IfOk result (IsMadeOf bytes.now (text_of words.now.curves.out) (IsLatencyDrawn words.now.latency)) }
+    ensures refused { IfErr result (λ end. IsNotMade bytes.now (λ P. IsNoCondition P words.now.latency end) end) }
+{
+    let project = project_in(alloc, bytes)?;
+    let condition = condition(&words.latency, &project)?;
+    let text = drawn(alloc, &words.latency, &project, &condition)?;
+    Ok(to_file_or_output(alloc, words.curves.out, text.into_bytes())?)
+}
+
+/// What is measured, or the latencies of a file.
+fn delays_asked<'a, T: Threads + Sync, P: Progress>(
+    rt: &T,
+    alloc: Global,
+    words: &DelayWords<'a>,
+    bytes: &[u8],
+    progress: &mut P,
+) -> Result<Outcome, End<'a>>
+    ensures done { IfOk result (AreDelaysMade words.now bytes.now) }
+    ensures refused { IfErr result (AreDelaysNotMade words.now bytes.now) }
+{
+    refuse_other(words)?;
+    match words.file {
+        Some(_) => latencies_drawn(alloc, words, bytes),
+        None => delays(rt, alloc, &words.curves, progress),
+    }
+}
+
 /// The table that the words of a sweep ask for.
 #[tactic(auto, using(crate::proofs::Stops::or_stop_memory, crate::proofs::Stops::or_stop_by))]
 fn swept<'a, T: Threads + Sync>(
@@ -373,9 +447,9 @@ fn swept<'a, T: Threads + Sync>(
     alloc: Global,
     words: &SweepWords<'a>,
     project: Project,
-) -> Result<String, End<'a>>
-    ensures done { IfOk result (λ text. IsSweepText words.now project (string_bytes text)) }
-    ensures refused { IfErr result (λ end. IsNoSweep words.now end project) }
+) -> Result<Grid, End<'a>>
+    ensures done { IfOk result (IsSweepTable words.now project) }
+    ensures refused { IfErr result (λ end. IsNoSweepTable words.now end project) }
 {
     let (depths, asks) = (words.depths.as_slice(), words.asks.as_slice());
     let project = match set_up(project, words.setups.as_slice()) {
@@ -383,10 +457,45 @@ fn swept<'a, T: Threads + Sync>(
         Err(end) => return Err(end),
     };
     let edits = words.edits.as_slice();
+    let numbers = has_numbers(words);
     if edits.is_empty() {
-        return sweep_table(rt, alloc, project, depths, asks);
+        return sweep_table(rt, alloc, project, numbers, depths, asks);
     }
-    edit_table(rt, alloc, &project, words.zip, depths, edits, asks)
+    edit_table(rt, alloc, &project, numbers, words.zip, depths, edits, asks)
+}
+
+/// The picture of the table, where one is asked for.
+fn picture_of<'a>(alloc: Global, words: &SweepWords<'a>, table: &Grid) -> Result<String, End<'a>>
+    ensures done { IfOk result (λ text. IsPlotted words.now (text_of words.now.plot) table.now (string_bytes text)) }
+    ensures refused { IfErr result (OrMemory (IsNoPlotted words.now (text_of words.now.plot) table.now)) }
+{
+    match words.plot {
+        None => Ok(String::new(alloc)),
+        Some(plot) => plotted(alloc, words.file, plot, words.x, words.ys.as_slice(), table),
+    }
+}
+
+/// The table and the picture of a project's sweep, where they are wanted.
+#[tactic(auto, using(crate::proofs::SweptTexts::not_swept, crate::proofs::SweptTexts::not_plotted))]
+fn sweep_of<'a, T: Threads + Sync>(
+    rt: &T,
+    alloc: Global,
+    words: &SweepWords<'a>,
+    project: Project,
+) -> Result<Outcome, End<'a>>
+    ensures done { IfOk result (IsSweepOf words.now project) }
+    ensures refused { IfErr result (λ end. IsNoSweep words.now end project) }
+{
+    let table = match swept(rt, alloc, words, project) {
+        Ok(table) => table,
+        Err(end) => return Err(end),
+    };
+    let picture = match picture_of(alloc, words, &table) {
+        Ok(picture) => picture,
+        Err(end) => return Err(end),
+    };
+    let text = table.text(alloc)?;
+    Ok(both_given(alloc, words.csv, words.plot, text, picture)?)
 }
 
 #[tactic(auto, using(crate::proofs::Stops::not_made))]
@@ -396,15 +505,14 @@ fn sweep<'a, T: Threads + Sync>(
     words: &SweepWords<'a>,
     bytes: &[u8],
 ) -> Result<Outcome, End<'a>>
-    ensures done { IfOk result (IsMadeOf bytes.now (text_of words.now.csv) (IsSweepText words.now)) }
+    ensures done { IfOk result (IsSweepMade words.now bytes.now) }
     ensures refused { IfErr result (λ end. IsNotMade bytes.now (IsNoSweep words.now end) end) }
 {
     let project = project_in(alloc, bytes)?;
-    let table = match swept(rt, alloc, words, project) {
-        Ok(table) => table,
-        Err(end) => return Err(end),
-    };
-    Ok(to_file_or_output(alloc, words.csv, table.into_bytes())?)
+    match sweep_of(rt, alloc, words, project) {
+        Ok(outcome) => Ok(outcome),
+        Err(end) => Err(end),
+    }
 }
 
 fn check<'a>(alloc: Global, bytes: &[u8]) -> Result<Outcome, End<'a>>
@@ -465,8 +573,9 @@ pub fn perform<'a, T: Threads + Sync, P: Progress>(
             Ok(outcome)
         }
         Asked::Series(words) => series(alloc, words, bytes),
+        Asked::Busy(words) => busy(alloc, words, bytes),
         Asked::Rates(words) => rates(rt, alloc, words, progress),
-        Asked::Delays(words) => delays(rt, alloc, words, progress),
+        Asked::Delays(words) => delays_asked(rt, alloc, words, bytes, progress),
         Asked::Load(words) => load(rt, alloc, words, progress),
         Asked::Sweep(words) => sweep(rt, alloc, words, bytes),
         Asked::Check { .. } => {

@@ -4,9 +4,10 @@ ghost use Rattle.std.specs.Option.{option_map_or};
 ghost use Rattle.clap.specs.Matches.{matched_of, raw_values};
 ghost use Rattle.clap.specs.Walk.{texts};
 ghost use Rattle.clap.specs.Words.{FailsBy, fault_of, first_of, found_of, new_app, rows_of, rule_of, subcommand_of};
-ghost use Rattle.lab_tasks.specs.CommandLine.{any_number_rule, bare, check_task, convert_task, delays_task, done_task, file_rule, flag_rule, full_task, kept_rules, lab, load_task, map_task, latency_task, measured_task, option_rule, optional_rule, order_task, other_tasks, page_task, position_rule, rates_task, reports, series_task, several_rule, shell_task, sweep_task, trace_task, HasAll, HasMore, HasTask, IsApp, IsLab, IsNoneOf, IsNoTask, IsTask};
-ghost use Rattle.lab_tasks.specs.Words.{file_at, is_given, text_of, texts_at, AreConvertWords, AreCurveWords, AreLatencyWords, AreLoadWords, AreMapWords, AreOrderWords, AreSeriesWords, AreShellWords, AreSweepWords, AreTraceWords, AsksFor};
+ghost use Rattle.lab_tasks.specs.CommandLine.{any_number_rule, bare, busy_task, check_task, convert_task, delays_task, done_task, file_rule, flag_rule, full_task, kept_rules, lab, load_task, map_task, latency_task, measured_task, option_rule, optional_rule, order_task, other_tasks, page_task, position_rule, rates_task, reports, series_task, several_rule, shell_task, sweep_task, trace_task, drawn_rules, HasAll, HasMore, HasTask, IsApp, IsLab, IsNoTask, IsNoneOf, IsTask};
+ghost use Rattle.lab_tasks.specs.Words.{file_at, is_given, text_of, texts_at, AreBusyWords, AreConvertWords, AreCurveWords, AreDelayWords, AreLatencyWords, AreLoadWords, AreMapWords, AreOrderWords, AreSeriesWords, AreShellWords, AreSweepWords, AreTraceWords, AsksFor};
 
+use crate::busy::BusyWords;
 use crate::convert::ConvertWords;
 use crate::latency::LatencyWords;
 use crate::order::OrderWords;
@@ -42,6 +43,16 @@ pub struct CurveWords<'a> {
     pub keep: Option<&'a str>,
 }
 
+/// What `delays` is told.
+#[derive(Clone, Copy)]
+pub struct DelayWords<'a> {
+    /// What `rates` is told too.
+    pub curves: CurveWords<'a>,
+    /// The file whose latencies are drawn in the place of what is measured, where one is named, and of which references.
+    pub file: Option<&'a str>,
+    pub latency: LatencyWords<'a>,
+}
+
 /// What `load` is told.
 #[derive(Clone, Copy)]
 pub struct LoadWords<'a> {
@@ -61,6 +72,10 @@ pub struct SweepWords<'a> {
     pub zip: bool,
     pub asks: Vec<&'a str>,
     pub csv: Option<&'a str>,
+    pub numbers: bool,
+    pub plot: Option<&'a str>,
+    pub x: Option<&'a str>,
+    pub ys: Vec<&'a str>,
 }
 
 /// What the program is asked for.
@@ -73,8 +88,9 @@ pub enum Asked<'a> {
     Trace(TraceWords<'a>),
     Full { file: &'a str },
     Series(SeriesWords<'a>),
+    Busy(BusyWords<'a>),
     Rates(CurveWords<'a>),
-    Delays(CurveWords<'a>),
+    Delays(DelayWords<'a>),
     Load(LoadWords<'a>),
     Sweep(SweepWords<'a>),
     Check { file: &'a str },
@@ -98,7 +114,9 @@ impl<'a> Asked<'a> {
             Asked::Trace(words) => Some(words.file),
             Asked::Full { file } => Some(*file),
             Asked::Series(words) => Some(words.file),
-            Asked::Rates(_) | Asked::Delays(_) | Asked::Load(_) => None,
+            Asked::Busy(words) => Some(words.file),
+            Asked::Rates(_) | Asked::Load(_) => None,
+            Asked::Delays(words) => words.file,
             Asked::Sweep(words) => Some(words.file),
             Asked::Check { file } => Some(*file),
             Asked::Convert(words) => Some(words.file),
@@ -122,19 +140,30 @@ const DONE_ABOUT: &str =
     "Says when each processor had its last reply and came to the end of its script: the earliest, the latest and a table";
 
 const TRACE_ABOUT: &str =
-    "Says where a reference, or the one that it was combined into, was at each cycle";
+    "Says or draws where a reference, or the one that it was combined into, was at each cycle";
 
 const FULL_ABOUT: &str =
     "Says which queues and wait buffers were full, in the order in which they first were";
 
 const SERIES_ABOUT: &str =
-    "Tabulates what a run shows, cycle by cycle or by bins of cycles: counters, lengths of queues, stages";
+    "Tabulates or draws what a run shows, cycle by cycle or by bins of cycles: counters, lengths of queues, stages";
+
+const BUSY_ABOUT: &str =
+    "Says how busy the stages of the networks and the modules were: a table in percent";
+
+const SHARED: &str = "\
+A row has a gauge, its sum over the cycles, and how much that is of a hundred of the most that it could be. 'busy NET S' is how many
+output queues of stage S of NET held a message, of which there are as many as processors; 'served mN' how many requests module N
+served, which are one in a cycle at most.
+
+Status: 0 done; 2 the command line; 3 a file can't be read or written; 4 the project is refused; 5 no memory, or standard
+output can't be written; 7 a number outside of what there is.";
 
 const RATES_ABOUT: &str =
     "Measures references answered per cycle against the number of processors, for some shares of hot references";
 
 const DELAYS_ABOUT: &str =
-    "Measures how long references that aren't hot wait for their replies, against the share of hot ones";
+    "Measures how long references that aren't hot wait for their replies, against the share of hot ones; or draws the latencies of a file";
 
 const LOAD_ABOUT: &str =
     "Measures latency and accepted traffic against offered load, for the low network and the combining one without and with combining";
@@ -161,11 +190,12 @@ const HOT_HELP: &str =
     "How many of a hundred references are hot, up to seven numbers, each with curves of its own; without it 0";
 
 const SHELL_ABOUT: &str =
-    "Answers commands line by line, as hotspot does, and words of its own: help, show, script, save, quit";
+    "Answers commands line by line, as hotspot does, and words of its own: help, show, script, save, undo, quit, and reports: latency, done, trace, full, order all";
 
 const TALKED: &str = "\
 Where standard input is a terminal there is a prompt before each line, and a reason behind each refusal. Else nothing is written
-but answers: what 'hotspot FILE < commands' writes, where no line begins with a word of the shell's own. 'help' lists them all.
+but answers: what 'hotspot FILE < commands' writes, where no line begins with a word of the shell's own or has a
+range of processors. 'help' lists them all.
 
 Status: 0 the input ended, or quit was read; 1 a line was refused, with --strict; 2 the command line; 3 FILE or standard input
 can't be read; 4 the project is refused; 5 no memory, or standard output can't be written.";
@@ -178,7 +208,11 @@ the rate is steady. Without --csv and --out the table goes to standard output.";
 const DELAYS_MEASURED: &str = "\
 Each processor issues 256 references, at most 8 of them unanswered: of a hundred as many as --hot says add 1 to word 0, the
 others load a word of page 1, which is spread over all modules. They are drawn from --seed. The second half of the cycles is
-measured. Without --csv and --out the table goes to standard output.";
+measured. Without --csv and --out the table goes to standard output.
+
+With FILE nothing is measured: the latencies of its references, as 'lab latency FILE' tables them, are drawn as a histogram, to
+standard output without --out. --processor, --network, --from and --to say of which; --k, --hot, --cycles, --seed, --csv and
+--keep aren't taken then.";
 
 const LOAD_MEASURED: &str = "\
 In as many of a hundred cycles as the rate says a processor offers a reference, in the others none, as a seed draws them; it issues
@@ -201,7 +235,9 @@ A TEMPLATE is an edit of the workbench with braces in it: a range of numbers {A.
 {A,B,..}. Each number or word makes a row, and all of them have to make edits. --depth and --edit may be given several times:
 each with each, those of --depth before those of --edit, and the first varying slowest. Each row stands for the project of
 the file, after --setup, with the row's own edits alone. An edit that the project refuses puts 'refused N' in the place of
-the answers; 'bad N' is a question that it has no answer to.
+the answers; 'bad N' is a question that it has no answer to. With --numbers each number of an answer has a column: 'reply 7 0
+cycle' and 'reply 7 0 word'; what is no number, as 'none' or 'bad N', stands in the first of them. --plot draws such columns,
+a point for each row that has both numbers; without --csv there is no table then.
 
 Status: 0 done; 2 the command line; 3 a file can't be read or written; 4 the project is refused; 5 no memory, or standard
 output can't be written; 7 a number outside of what there is. A file is written beside its name and then renamed, so none
@@ -440,6 +476,27 @@ fn latency_command<'a>(alloc: Global) -> Result<Command<'a>, AllocError>
     let task = with_option(
         alloc,
         task,
+        "address",
+        "A",
+        "The address of the word that they were to; without it all",
+    )?;
+    let task = with_option(
+        alloc,
+        task,
+        "page",
+        "N",
+        "The page of that word, which is 256 words; without it all",
+    )?;
+    let task = with_flag(
+        alloc,
+        task,
+        "hot",
+        "Those to the hottest word of the scripts, which is the first that check names",
+    )?;
+    let task = with_flag(alloc, task, "cold", "Those to any other word")?;
+    let task = with_option(
+        alloc,
+        task,
         "from",
         "T",
         "The first cycle that shows one issued; without it 0",
@@ -471,6 +528,13 @@ fn trace_command<'a>(alloc: Global) -> Result<Command<'a>, AllocError>
         task,
         "I",
         "Its number among the references of that processor, from 0",
+    )?;
+    let task = with_option(
+        alloc,
+        task,
+        "out",
+        "TRACE.svg",
+        "Where a picture goes; without it a line to standard output",
     )?;
     Ok(task)
 }
@@ -513,7 +577,29 @@ fn series_command<'a>(alloc: Global) -> Result<Command<'a>, AllocError>
         task,
         "csv",
         "TABLE.csv",
-        "Where the table goes; without it to standard output",
+        "Where the table goes; without it and --out to standard output",
+    )?;
+    let task = with_option(
+        alloc,
+        task,
+        "out",
+        "SERIES.svg",
+        "Where a picture goes: a curve for each gauge",
+    )?;
+    Ok(task)
+}
+
+fn busy_command<'a>(alloc: Global) -> Result<Command<'a>, AllocError>
+    ensures { IfOk result (IsTask busy_task) }
+{
+    let task = with_file(alloc, named(alloc, "busy", BUSY_ABOUT, SHARED))?;
+    let task = with_option(alloc, task, "from", "T", "The first cycle; without it 0")?;
+    let task = with_option(
+        alloc,
+        task,
+        "to",
+        "T",
+        "The last cycle; without it the horizon",
     )?;
     Ok(task)
 }
@@ -594,6 +680,47 @@ fn rates_command<'a>(alloc: Global) -> Result<Command<'a>, AllocError>
     Ok(task)
 }
 
+/// A task with the arguments that say which references of a file are drawn.
+fn drawn_command<'a>(alloc: Global, task: Command<'a>) -> Result<Command<'a>, AllocError>
+    ensures { IfOk result (HasAll task.entry drawn_rules) }
+{
+    let task = with_optional(
+        alloc,
+        task,
+        "FILE",
+        "The project file whose latencies are drawn; without it loads are measured",
+    )?;
+    let task = with_option(
+        alloc,
+        task,
+        "processor",
+        "P",
+        "With FILE: the processor that issued them; without it all",
+    )?;
+    let task = with_option(
+        alloc,
+        task,
+        "network",
+        "NET",
+        "With FILE: low or comb, the network that they went over; without it both",
+    )?;
+    let task = with_option(
+        alloc,
+        task,
+        "from",
+        "T",
+        "With FILE: the first cycle that shows one issued; without it 0",
+    )?;
+    let task = with_option(
+        alloc,
+        task,
+        "to",
+        "T",
+        "With FILE: the last cycle that shows one issued; without it the horizon",
+    )?;
+    Ok(task)
+}
+
 fn delays_command<'a>(alloc: Global) -> Result<Command<'a>, AllocError>
     ensures { IfOk result (IsTask delays_task) }
 {
@@ -606,6 +733,7 @@ fn delays_command<'a>(alloc: Global) -> Result<Command<'a>, AllocError>
         SHARES_HELP,
     )?;
     let task = kept_command(alloc, task)?;
+    let task = drawn_command(alloc, task)?;
     Ok(task)
 }
 
@@ -689,6 +817,33 @@ fn sweep_command<'a>(alloc: Global) -> Result<Command<'a>, AllocError>
         "csv",
         "TABLE.csv",
         "Where the table goes; without it to standard output",
+    )?;
+    let task = with_flag(
+        alloc,
+        task,
+        "numbers",
+        "Gives each number of an answer a column of its own",
+    )?;
+    let task = with_option(
+        alloc,
+        task,
+        "plot",
+        "PICTURE.svg",
+        "Where a picture of curves goes, of the columns at --y against that at --x",
+    )?;
+    let task = with_option(
+        alloc,
+        task,
+        "x",
+        "COLUMN",
+        "The column to the right, as 'window {}'",
+    )?;
+    let task = with_any_number(
+        alloc,
+        task,
+        "y",
+        "COLUMN",
+        "A column upwards, as 'reply 7 0 cycle'; where given several times, a curve for each",
     )?;
     Ok(task)
 }
@@ -803,6 +958,7 @@ fn lab_command<'a>(alloc: Global) -> Result<Command<'a>, AllocError>
     let command = with_task(command, trace_command(alloc))?;
     let command = with_task(command, full_command(alloc))?;
     let command = with_task(command, series_command(alloc))?;
+    let command = with_task(command, busy_command(alloc))?;
     let command = with_task(command, rates_command(alloc))?;
     let command = with_task(command, delays_command(alloc))?;
     let command = with_task(command, load_command(alloc))?;
@@ -885,6 +1041,10 @@ fn latency_words<'a>(matches: &ArgMatches<'a>) -> LatencyWords<'a>
         file: file_in(matches),
         processor: text_in(matches, "processor"),
         network: text_in(matches, "network"),
+        address: text_in(matches, "address"),
+        page: text_in(matches, "page"),
+        hot: flag_in(matches, "hot"),
+        cold: flag_in(matches, "cold"),
         from: text_in(matches, "from"),
         to: text_in(matches, "to"),
     }
@@ -897,6 +1057,7 @@ fn trace_words<'a>(matches: &ArgMatches<'a>) -> TraceWords<'a>
         file: file_in(matches),
         processor: text_in(matches, "P"),
         number: text_in(matches, "I"),
+        out: text_in(matches, "out"),
     }
 }
 
@@ -926,6 +1087,16 @@ fn load_words<'a>(matches: &ArgMatches<'a>) -> LoadWords<'a>
     }
 }
 
+fn delay_words<'a>(matches: &ArgMatches<'a>) -> DelayWords<'a>
+    ensures { AreDelayWords (rows_of (found_of matches.now)) result }
+{
+    DelayWords {
+        curves: curve_words(matches),
+        file: text_in(matches, "FILE"),
+        latency: latency_words(matches),
+    }
+}
+
 fn sweep_words<'a>(alloc: Global, matches: &ArgMatches<'a>) -> Result<SweepWords<'a>, AllocError>
     ensures { IfOk result (AreSweepWords (rows_of (found_of matches.now))) }
 {
@@ -933,6 +1104,7 @@ fn sweep_words<'a>(alloc: Global, matches: &ArgMatches<'a>) -> Result<SweepWords
     let depths = all_of(alloc, matches, "depth")?;
     let edits = all_of(alloc, matches, "edit")?;
     let asks = all_of(alloc, matches, "ask")?;
+    let ys = all_of(alloc, matches, "y")?;
     Ok(SweepWords {
         file: file_in(matches),
         setups,
@@ -941,6 +1113,10 @@ fn sweep_words<'a>(alloc: Global, matches: &ArgMatches<'a>) -> Result<SweepWords
         zip: flag_in(matches, "zip"),
         asks,
         csv: text_in(matches, "csv"),
+        numbers: flag_in(matches, "numbers"),
+        plot: text_in(matches, "plot"),
+        x: text_in(matches, "x"),
+        ys,
     })
 }
 
@@ -955,7 +1131,18 @@ fn series_words<'a>(alloc: Global, matches: &ArgMatches<'a>) -> Result<SeriesWor
         to: text_in(matches, "to"),
         bin: text_in(matches, "bin"),
         csv: text_in(matches, "csv"),
+        out: text_in(matches, "out"),
     })
+}
+
+fn busy_words<'a>(matches: &ArgMatches<'a>) -> BusyWords<'a>
+    ensures { AreBusyWords (rows_of (found_of matches.now)) result }
+{
+    BusyWords {
+        file: file_in(matches),
+        from: text_in(matches, "from"),
+        to: text_in(matches, "to"),
+    }
 }
 
 fn convert_words<'a>(matches: &ArgMatches<'a>) -> ConvertWords<'a>
@@ -996,6 +1183,7 @@ fn report_asked<'a>(
             file: file_in(matches),
         }),
         "series" => Some(Asked::Series(series_words(alloc, matches)?)),
+        "busy" => Some(Asked::Busy(busy_words(matches))),
         _ => None,
     })
 }
@@ -1013,7 +1201,7 @@ fn other_asked<'a>(
         "map" => Some(Asked::Map(map_words(matches))),
         "order" => Some(Asked::Order(order_words(matches))),
         "rates" => Some(Asked::Rates(curve_words(matches))),
-        "delays" => Some(Asked::Delays(curve_words(matches))),
+        "delays" => Some(Asked::Delays(delay_words(matches))),
         "load" => Some(Asked::Load(load_words(matches))),
         "sweep" => Some(Asked::Sweep(sweep_words(alloc, matches)?)),
         "check" => Some(Asked::Check {

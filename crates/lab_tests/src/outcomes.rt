@@ -23,7 +23,8 @@ processor = 1
 entries = [\"until plain load 260 0 9 5\"]
 ";
 
-fn made<R: AllocGlobal + Threads + Sync>(
+/// What is made for these words over the bytes of their file.
+pub(crate) fn made<R: AllocGlobal + Threads + Sync>(
     rt: &R,
     words: &[&str],
     bytes: &[u8],
@@ -215,6 +216,66 @@ fn what_has_no_answer_is_told(rt: HostRuntime) -> Result<(), Fail> {
 5,bad 4,0
 ";
     assert!(rt; equal(&rt, outcome.printed.as_slice(), table.as_slice()));
+    Ok(())
+}
+
+// Word 300 is word 44 of page 1, which is spread over two modules: row 256 + 44 / 2 of module 0. Where half of the references of two processors are hot, the bound is 1 / (1 + 1/2).
+#[test]
+fn each_number_has_a_column(rt: HostRuntime) -> Result<(), Fail> {
+    let words = [
+        "sweep",
+        "two.toml",
+        "--depth",
+        "module=4..5",
+        "--ask",
+        "reply 0 9",
+        "--ask",
+        "place 300",
+        "--ask",
+        "bound 1 2 2",
+        "--numbers",
+    ];
+    let outcome = made(&rt, &words, TWO)?;
+    let table =
+        b"module,reply 0 9 cycle,reply 0 9 word,place 300 module,place 300 row,bound 1 2 2 numerator,bound 1 2 2 denominator
+4,bad 4,,0,278,2,3
+5,bad 4,,0,278,2,3
+";
+    assert!(rt; equal(&rt, outcome.printed.as_slice(), table.as_slice()));
+    Ok(())
+}
+
+// The points 1, 1 and 2, 2 of axes from 0 to 2: half of 734 pixels from 46 on, half of 300 above 386, and the corner.
+#[test]
+fn columns_are_drawn(rt: HostRuntime) -> Result<(), Fail> {
+    let words = [
+        "sweep",
+        "two.toml",
+        "--edit",
+        "word 7 {1..2}",
+        "--ask",
+        "memory 7 8",
+        "--plot",
+        "p.svg",
+        "--csv",
+        "t.csv",
+        "--x",
+        "word 7 {}",
+        "--y",
+        "memory 7 8",
+    ];
+    let outcome = made(&rt, &words, TWO)?;
+    let picture = outcome.files.first().ok_or("a picture")?;
+    let text = std::str::from_utf8(picture.bytes.as_slice())?;
+    assert!(rt; text.contains("<polyline points=\"413,236 780,86 \""));
+    let table = outcome.files.get(1).ok_or("a table")?;
+    assert!(rt;
+        equal(
+            &rt,
+            table.bytes.as_slice(),
+            b"word 7 {},memory 7 8\n1,1\n2,2\n".as_slice()
+        )
+    );
     Ok(())
 }
 
@@ -629,5 +690,81 @@ fn a_run_is_a_page(rt: HostRuntime) -> Result<(), Fail> {
     page.push_str(FOUR_DATA)?;
     page.push_str(TAIL)?;
     assert!(rt; equal(&rt, outcome.printed.as_slice(), page.as_bytes()));
+    Ok(())
+}
+
+/// Four processors load word 0 of module 0 at once, and the last one then word 301 of module 1.
+const LOADS: &[u8] = b"format = 2
+k = 2
+horizon = 40
+script = [
+{processor = 0, entries = [\"plain load 0 0\"]},
+{processor = 1, entries = [\"plain load 0 0\"]},
+{processor = 2, entries = [\"plain load 0 0\"]},
+{processor = 3, entries = [\"plain load 0 0\", \"plain load 301 0\"]},
+]
+";
+
+// Alone a reference takes 7 cycles; the module serves the four loads one after another.
+const HOT: &str = "\
+answered 4
+unanswered 0
+mean 8.50
+least 7
+p50 8
+p90 10
+p99 10
+greatest 10
+
+latency,references
+7,1
+8,1
+9,1
+10,1
+";
+
+const COLD: &str = "\
+answered 1
+unanswered 0
+mean 7.00
+least 7
+p50 7
+p90 7
+p99 7
+greatest 7
+
+latency,references
+7,1
+";
+
+// Two loads come to each of two queues of stage 0, and all four to one of stage 1, which gives one away in a cycle: 4 of 164 pairs of
+// a cycle and a queue in each stage, and one more for the load of word 301.
+const BUSY: &str = "\
+cycles 0 to 40
+
+gauge,sum,percent
+busy low 0,5,3.05
+busy low 1,5,3.05
+busy comb 0,0,0.00
+busy comb 1,0,0.00
+served m0,4,9.76
+served m1,1,2.44
+served m2,0,0.00
+served m3,0,0.00
+";
+
+const TOLD: [(&[&str], &str); 4] = [
+    (&["latency", "four.toml", "--hot"], HOT),
+    (&["latency", "four.toml", "--cold", "--page", "1"], COLD),
+    (&["latency", "four.toml", "--address", "301"], COLD),
+    (&["busy", "four.toml"], BUSY),
+];
+
+#[test]
+fn parts_of_a_run_are_told(rt: HostRuntime) -> Result<(), Fail> {
+    for (words, text) in &TOLD {
+        let outcome = made(&rt, words, LOADS)?;
+        assert!(rt; equal(&rt, outcome.printed.as_slice(), text.as_bytes()));
+    }
     Ok(())
 }

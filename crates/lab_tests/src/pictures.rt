@@ -1,4 +1,5 @@
 //! Scales, ticks, texts and documents, by numbers worked out by hand.
+use crate::outcomes::made;
 use expect::equal;
 use std::alloc::Global;
 use std::test::Fail;
@@ -260,6 +261,91 @@ fn maps_are_drawn(rt: HostRuntime) -> Result<(), Fail> {
         "<text x=\"715\" y=\"105.5\" font-size=\"12\" text-anchor=\"start\">3 full</text>",
     ] {
         assert!(rt; text.as_str().contains(part));
+    }
+    Ok(())
+}
+
+/// One processor with its module: three references in turn, each answered after three cycles.
+const ONE: &[u8] = b"format = 2
+k = 0
+horizon = 8
+window = 8
+
+[[script]]
+processor = 0
+entries = [\"plain load 5 0 3\"]
+";
+
+// The axis across goes from 2 to 4, the one up to one more than the three references.
+#[test]
+fn latencies_are_drawn(rt: HostRuntime) -> Result<(), Fail> {
+    let outcome = made(&rt, &["delays", "one.toml"], ONE)?;
+    let text = std::str::from_utf8(outcome.printed.as_slice())?;
+    for part in [
+        "<rect x=\"266.2\" y=\"161\" width=\"293.6\" height=\"225\" fill=\"#2171b5\"/>",
+        ">3 answered, 0 unanswered. Cycles: mean 3.00, p50 3, p90 3, p99 3.</text>",
+        ">one.toml: references issued in the cycles 0 to 8.</text>",
+    ] {
+        assert!(rt; text.contains(part));
+    }
+    Ok(())
+}
+
+// References are served in the cycles 3 to 5; four cycles are 183.5 pixels wide each.
+#[test]
+fn gauges_are_drawn(rt: HostRuntime) -> Result<(), Fail> {
+    let words = [
+        "series", "one.toml", "--of", "served", "--from", "2", "--to", "5", "--out", "s.svg",
+    ];
+    let outcome = made(&rt, &words, ONE)?;
+    let [file] = outcome.files.as_slice() else {
+        return Err(Fail::from("one file"));
+    };
+    let text = std::str::from_utf8(file.bytes.as_slice())?;
+    for part in [
+        "<polyline points=\"46,386 229.5,386 229.5,236 413,236 413,236 596.5,236 596.5,236 780,236 \"",
+        "<path d=\"M137.7 386m-3.5 0a",
+        ">served</text>",
+        ">one.toml: cycles 2 to 5.</text>",
+    ] {
+        assert!(rt; text.contains(part));
+    }
+    Ok(())
+}
+
+/// Two processors that add to one word at once: the second one's request is combined into the first one's.
+const TOGETHER: &[u8] = b"format = 2
+k = 1
+horizon = 20
+combine = [true]
+
+[[script]]
+processor = 0
+entries = [\"sync add 0 1\"]
+
+[[script]]
+processor = 1
+entries = [\"sync add 0 1\"]
+";
+
+// p1 1, c0.0 2 in p0.0, m0 3-4 in p0.0, c0.0 5, p1 6: six columns of 95 pixels, and three rows of 20 from 82 on.
+#[test]
+fn a_reference_is_traced(rt: HostRuntime) -> Result<(), Fail> {
+    let words = ["trace", "two.toml", "1", "0", "--out", "t.svg"];
+    let outcome = made(&rt, &words, TOGETHER)?;
+    let [file] = outcome.files.as_slice() else {
+        return Err(Fail::from("one file"));
+    };
+    let text = std::str::from_utf8(file.bytes.as_slice())?;
+    for part in [
+        ">Where p1.0 was, cycle by cycle</text>",
+        "<rect x=\"290\" y=\"82\" width=\"190\" height=\"19.6\" fill=\"#08306b\"/>",
+        "<line x1=\"290\" y1=\"91.8\" x2=\"480\" y2=\"91.8\" stroke=\"#ffd75e\"",
+        "<rect x=\"480\" y=\"102\" width=\"95\" height=\"19.6\" fill=\"#6baed6\"/>",
+        "<rect x=\"195\" y=\"154\" width=\"47.5\" height=\"12\" fill=\"#1a1a1a\"/>",
+        ">in p0.0</text>",
+    ] {
+        assert!(rt; text.contains(part));
     }
     Ok(())
 }

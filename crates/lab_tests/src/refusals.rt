@@ -52,6 +52,45 @@ fn maps_are_refused(rt: HostRuntime) -> Result<(), Fail> {
     Ok(())
 }
 
+// The last address and the last page are taken, the next ones are not.
+const UNMET: [(&[&str], u8, &str); 5] = [
+    (&["--address", "16383", "--page", "63"], 0, ""),
+    (
+        &["--address", "16384"],
+        2,
+        "lab: --address: 16384 is not an address from 0 to 16383",
+    ),
+    (
+        &["--page", "64"],
+        2,
+        "lab: --page: 64 is not a page from 0 to 63",
+    ),
+    (
+        &["--page", "1x"],
+        2,
+        "lab: --page: 1x is not a page from 0 to 63",
+    ),
+    (
+        &["--hot", "--cold"],
+        2,
+        "lab: --hot: --cold is not to be given too",
+    ),
+];
+
+#[test]
+fn latencies_are_refused(rt: HostRuntime) -> Result<(), Fail> {
+    for (more, number, line) in &UNMET {
+        let mut words = Vec::new(rt.alloc());
+        words.push("latency")?;
+        words.push("two.toml")?;
+        words.extend_from_slice(more)?;
+        let (told, text) = ending(&rt, words.as_slice(), TWO)?;
+        assert!(rt; equal(&rt, told, *number));
+        assert!(rt; equal(&rt, text.as_str(), *line));
+    }
+    Ok(())
+}
+
 #[test]
 fn curves_are_refused(rt: HostRuntime) -> Result<(), Fail> {
     let refused: [(&[&str], u8, &str); 10] = [
@@ -205,7 +244,17 @@ fn edits_are_refused(rt: HostRuntime) -> Result<(), Fail> {
 
 #[test]
 fn edits_that_do_not_fit_are_refused(rt: HostRuntime) -> Result<(), Fail> {
-    let refused: [(&[&str], u8, &str); 2] = [
+    let refused: [(&[&str], u8, &str); 4] = [
+        (
+            &["--plot", "p.svg", "--x", "place 0 row"],
+            2,
+            "lab: --plot: p.svg is not given with --x and --y",
+        ),
+        (
+            &["--plot", "p.svg", "--x", "place 0 row", "--y", "place 0"],
+            2,
+            "lab: --y: place 0 is not a column of the table",
+        ),
         (
             &["--edit", "word 7 {0..99}", "--edit", "word 8 {0..100}"],
             7,

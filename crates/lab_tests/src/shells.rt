@@ -150,3 +150,46 @@ fn a_strict_shell_ends_at_a_refusal(rt: HostRuntime) -> Result<(), Fail> {
     }
     Ok(())
 }
+
+const REPORTS: &[u8] =
+    b"done\ntrace 0 1\nfull\norder all\nlatency --processor 0 --to 3\nlatency --from 9\ntrace 2 0\nlatency --to x\ndone \xff\n";
+
+const REPORT_ANSWERS: &str = "\
+last_reply of 2: earliest 6 latest 7 spread 1
+script_end of 0: earliest none latest none spread none
+
+processor,last_reply,script_end
+0,7,
+1,6,
+p0 2, l0.0 3, m1 4-5, l0.0 6, p0 7
+full 0 of 17
+
+cycle,component,queue
+number,reference,word,issued,served,answered,old_word
+1,1.0,260,1,4,6,0
+2,0.0,5,1,4,6,0
+3,0.1,5,2,5,7,1
+answered 2
+unanswered 0
+mean 5.00
+least 5
+p50 5
+p90 5
+p99 5
+greatest 5
+
+latency,references
+5,2
+bad 2
+bad 1
+bad command
+bad command
+";
+
+#[test]
+fn a_shell_reports_a_run(rt: HostRuntime) -> Result<(), Fail> {
+    let (status, written) = held(&rt, PLAIN, REPORTS)?;
+    assert!(rt; equal(&rt, status, Some(0)));
+    assert!(rt; equal(&rt, written.as_slice(), REPORT_ANSWERS.as_bytes()));
+    Ok(())
+}

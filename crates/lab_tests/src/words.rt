@@ -61,7 +61,8 @@ fn curves_need_no_words(rt: HostRuntime) -> Result<(), Fail> {
     let Asked::Delays(delays) = &asked else {
         return Err(Fail::from("delays"));
     };
-    let told = [delays.k, delays.hot, delays.csv, delays.out, delays.keep];
+    let curves = delays.curves;
+    let told = [delays.file, curves.k, curves.csv, curves.out, curves.keep];
     compare(&rt, &told, &["-", "-", "-", "-", "-"]);
     Ok(())
 }

@@ -62,14 +62,12 @@ pub(crate) fn bench_of(alloc: Global, file: &str) -> Option<Box<Bench>> {
 
 /// A bench of a project, with no cell computed.
 fn opened(alloc: Global, project: Project) -> Option<Box<Bench>> {
-    let bench = match Bench::new(alloc, project, 0) {
-        Ok(bench) => bench,
-        Err(project) => Bench::new(alloc, project, 0).ok()?,
-    };
-    match Box::new(alloc, bench) {
-        Ok(bench) => Some(bench),
-        Err(failed) => Box::new(alloc, failed.value).ok(),
-    }
+    let bench = Bench::new(alloc, project, 0)
+        .or_else(|project| Bench::new(alloc, project, 0))
+        .ok()?;
+    Box::new(alloc, bench)
+        .or_else(|failed| Box::new(alloc, failed.value))
+        .ok()
 }
 
 /// A bench of the project of the file, with every cell computed.

@@ -19,10 +19,9 @@ const FIRST_WORD: Query = Query::Memory {
 /// The first pass of two seats.
 fn first(alloc: Global) -> Option<Pass> {
     let bench = fresh(alloc)?;
-    match open(alloc, Box::into_inner(bench), 2) {
-        Ok(pass) => Some(pass),
-        Err(bench) => open(alloc, bench, 2).ok(),
-    }
+    open(alloc, Box::into_inner(bench), 2)
+        .or_else(|bench| open(alloc, bench, 2))
+        .ok()
 }
 
 /// A refused split leaves its seat free.

@@ -48,10 +48,9 @@ fn wave<R: Threads + Sync>(
 /// A pass to a fresh bench, with seats for two workers more than are needed.
 fn opened(alloc: Global) -> Option<Pass> {
     let bench = fresh(alloc)?;
-    match open(alloc, Box::into_inner(bench), 4) {
-        Ok(pass) => Some(pass),
-        Err(bench) => open(alloc, bench, 4).ok(),
-    }
+    open(alloc, Box::into_inner(bench), 4)
+        .or_else(|bench| open(alloc, bench, 4))
+        .ok()
 }
 
 /// What comes of one worker.

@@ -9,3 +9,4 @@ pub mod Runners
 pub mod Spreading
 pub mod Tallying
 pub mod Tracing
+pub mod Utilising

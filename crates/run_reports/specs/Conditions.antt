@@ -7,6 +7,8 @@ use Rattle.omega_net.specs.declared.component.Net.TheVariants.{Low, Comb}
 use Rattle.omega_net.specs.declared.script.ScriptEntry.{ScriptEntry}
 use Rattle.omega_net.specs.declared.script.ScriptEntry.TheVariants.{Reference as ReferenceTo, Until}
 use Rattle.run_reports.specs.declared.condition.Condition.{Condition}
+use Rattle.run_reports.specs.declared.condition.Heat.{Heat}
+use Rattle.run_reports.specs.declared.condition.Heat.TheVariants.{Hot, Cold}
 use Rattle.run_reports.specs.declared.condition.Window.{Window}
 use Rattle.run_reports.specs.declared.reference.Reference.{Reference}
 
@@ -39,12 +41,12 @@ abbrev pub is_over : Option Net → Option ScriptEntry → Bool
 is_over None e = true
 is_over (Some net) e = goes_over net e
 
--- whether they are to the hot word, which is word 0, or to another one, as is asked for
-abbrev pub is_hot_as : Option Bool → Option ℕ → Bool
+-- whether they are to a word that is named as the hot one, or to another one, as is asked for
+abbrev pub is_hot_as : Option Heat → Option ℕ → Bool
 is_hot_as None a = true
-is_hot_as (Some hot) None = false
-is_hot_as (Some true) (Some a) = a == 0
-is_hot_as (Some false) (Some a) = not (a == 0)
+is_hot_as (Some heat) None = false
+is_hot_as (Some (Hot hot)) (Some a) = a == hot
+is_hot_as (Some (Cold hot)) (Some a) = not (a == hot)
 
 -- whether a cycle is in the window that is asked for, its last cycle included
 abbrev pub is_in : Option Window → ℕ → Bool

@@ -17,3 +17,4 @@ pub mod Summing
 pub mod Texts
 pub mod TraceTexts
 pub mod Traces
+pub mod Utilisation

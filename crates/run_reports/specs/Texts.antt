@@ -42,6 +42,12 @@ lower_text s = codes "least " ++ cycles_text s.least ++ codes "\np50 " ++ cycles
 abbrev pub upper_text : Summary → List ℕ
 upper_text s = codes "p99 " ++ cycles_text s.percentile_99 ++ codes "\ngreatest " ++ cycles_text s.greatest ++ codes "\n"
 
+-- the mean and the percentiles in a line
+abbrev pub figures_text : Summary → List ℕ
+figures_text s =
+    codes "mean " ++ (mean_text s.mean ++ (codes ", p50 " ++ (cycles_text s.median ++ (codes ", p90 " ++ (cycles_text s.percentile_90
+    ++ (codes ", p99 " ++ cycles_text s.percentile_99))))))
+
 -- a row of the table, where some reference took so many cycles
 abbrev pub row_text : ℕ → ℕ → List ℕ
 row_text d number = if nat_lt 0 number then decimal d ++ codes "," ++ decimal number ++ codes "\n" else []

@@ -6,7 +6,7 @@ use crate::Reference;
 use omega_net::{Net, ScriptEntry};
 use page_map::PAGE_WORDS;
 
-/// The address of the hot word.
+/// The address of the word that is hot in drawn loads.
 pub const HOT_ADDRESS: u32 = 0;
 
 /// The cycles from one to another, both included.
@@ -14,6 +14,15 @@ pub const HOT_ADDRESS: u32 = 0;
 pub struct Window {
     pub from: u32,
     pub to: u32,
+}
+
+/// Whether references are asked for that are to a word, or all others.
+#[derive(Clone, Copy, PartialEq, Eq, Debug)]
+pub enum Heat {
+    /// To the word of this address.
+    Hot(u32),
+    /// To another word.
+    Cold(u32),
 }
 
 /// Which references are asked for: those for which each part that is there holds.
@@ -27,8 +36,8 @@ pub struct Condition {
     pub page: Option<u32>,
     /// To this address.
     pub address: Option<u32>,
-    /// To the hot word, or to another one.
-    pub hot: Option<bool>,
+    /// To a hot word, or to another one.
+    pub hot: Option<Heat>,
     /// Issued in these cycles: those of the first states that show them.
     pub window: Option<Window>,
 }
@@ -102,14 +111,14 @@ fn is_over(wanted: Option<Net>, entry: Option<ScriptEntry>) -> bool
 }
 
 /// Whether an address is that of the hot word, or of another one, as is asked for.
-fn is_hot_as(wanted: Option<bool>, address: Option<u32>) -> bool
+fn is_hot_as(wanted: Option<Heat>, address: Option<u32>) -> bool
     ensures { result ≡ is_hot_as wanted address }
 {
     match (wanted, address) {
         (None, _) => true,
         (Some(_), None) => false,
-        (Some(true), Some(address)) => address == HOT_ADDRESS,
-        (Some(false), Some(address)) => address != HOT_ADDRESS,
+        (Some(Heat::Hot(hot)), Some(address)) => address == hot,
+        (Some(Heat::Cold(hot)), Some(address)) => address != hot,
     }
 }
 

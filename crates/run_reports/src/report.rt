@@ -1,7 +1,7 @@
 //! Latencies as text.
 ghost use Rattle.std.specs.Prelude.{◌≡◌, ◌++◌, IfOk, OnOk, codes, string_bytes};
 ghost use Rattle.run_reports.specs.Latencies.{AreFew};
-ghost use Rattle.run_reports.specs.Texts.{counts_text, cycles_text, lower_text, mean_text, report_text, row_text, rows_text, summary_of, upper_text};
+ghost use Rattle.run_reports.specs.Texts.{counts_text, cycles_text, figures_text, lower_text, mean_text, report_text, row_text, rows_text, summary_of, upper_text};
 
 use crate::Latencies;
 use std::alloc::{AllocError, Global};
@@ -76,6 +76,20 @@ impl fmt::Display for Cycles {
             Some(cycles) => write!(f, "{cycles}"),
             None => write!(f, "none"),
         }
+    }
+}
+
+/// The mean and the percentiles in a line, without LF.
+impl fmt::Display for Summary {
+    ghost use Rattle.std.specs.Prelude.{Some};
+
+    ghost output = { λ s. Some (figures_text s) };
+
+    fn fmt<W: fmt::Write>(&self, f: &mut fmt::Formatter<W>) -> fmt::Result {
+        let mean = Mean(self.mean);
+        let (median, most) = (Cycles(self.median), Cycles(self.percentile_90));
+        let all = Cycles(self.percentile_99);
+        write!(f, "mean {mean}, p50 {median}, p90 {most}, p99 {all}")
     }
 }
 

@@ -6,7 +6,7 @@ ghost use Rattle.machine_cells.specs.Runs.{state_in};
 ghost use Rattle.flat_row.specs.Row.{states_of};
 ghost use Rattle.run_reports.specs.GaugeTexts.{gauge_text};
 ghost use Rattle.run_reports.specs.Runners.{IsAt};
-ghost use Rattle.run_reports.specs.Series.{bin_row, bins_in, name_row, series, series_text, start_of};
+ghost use Rattle.run_reports.specs.Series.{bin_of, bin_row, bins_in, name_row, series, series_text, start_of};
 ghost use Rattle.run_reports.specs.Summing.{summed, unsummed, with_states};
 
 use crate::Window;
@@ -20,6 +20,7 @@ use omega_net::Shape;
 use project_book::Project;
 use std::alloc::{AllocError, Global};
 use std::fmt::Write;
+use std::marker::Model;
 
 /// The cycles of a window, in bins of so many each; the last bin has fewer where the window ends in it.
 #[derive(Clone, Copy, PartialEq, Eq, Debug)]
@@ -33,6 +34,29 @@ pub struct Bins {
 pub(crate) struct GaugeSum {
     pub(crate) gauge: Gauge,
     pub(crate) sum: u64,
+}
+
+/// What gauges add up to over the cycles of a bin, in turn. Contracts see the list.
+#[derive(Drop)]
+pub struct Sums {
+    sums: Vec<u64>,
+}
+
+impl Model for Sums {
+    ghost use Rattle.std.specs.Prelude.{ℕ, List};
+
+    ghost Value = { List ℕ };
+
+    ghost view = { λ s. s.sums.items };
+}
+
+impl Sums {
+    /// The sums of the gauges, in their order.
+    pub fn as_slice(&self) -> &[u64]
+        ensures { result.now ≡ self.now }
+    {
+        &self.sums
+    }
 }
 
 /// How many bins there are.
@@ -123,7 +147,7 @@ fn advance(runner: &mut Runner, project: &Project, cycle: u32) -> Result<(), NoM
 }
 
 /// The sums over so many cycles from one on.
-fn bin_sums(
+pub(crate) fn bin_sums(
     alloc: Global,
     project: &Project,
     runner: &mut Runner,
@@ -171,47 +195,117 @@ fn add_name_row(text: &mut String, shape: Shape, gauges: &[Gauge]) -> Result<(),
     write!(text, "\n")
 }
 
+/// These sums alone.
+fn sums_alone(alloc: Global, sums: &[GaugeSum]) -> Result<Sums, AllocError>
+    ensures { IfOk result (λ alone. alone ≡ map (λ s. s.sum) sums.now) }
+{
+    let mut alone = Vec::with_capacity(alloc, sums.len())?;
+    for sum in sums {
+        alone.push(sum.sum)?;
+    }
+    Ok(Sums { sums: alone })
+}
+
+/// A bin: its first cycle, and the sums over its cycles.
+fn bin_at(
+    alloc: Global,
+    project: &Project,
+    runner: &mut Runner,
+    gauges: &[Gauge],
+    bins: Bins,
+    number: u32,
+) -> Result<(u32, Sums), NoMemory>
+    requires at { IsAt project.now runner.old }
+    requires behind { runner.old.cycle ≤ start_of bins number }
+    requires there { number < bins_in bins }
+    requires size { 0 < bins.size }
+    requires forward { bins.window.from ≤ bins.window.to }
+    requires within { bins.window.to ≤ project.now.horizon }
+    ensures at { OnOk result (IsAt project.now runner.new) }
+    ensures behind { OnOk result (runner.new.cycle ≤ start_of bins (number + 1)) }
+    ensures bin { IfOk result (λ bin. bin ≡ bin_of project.now.k (state_in (run project.now)) gauges.now bins number) }
+{
+    project.is_project();
+    let first = start_of(bins, number);
+    let cycles = cycles_from(bins, first);
+    let sums = bin_sums(alloc, project, runner, gauges, first, cycles)?;
+    let alone = sums_alone(alloc, sums.as_slice())?;
+    Ok((first, alone))
+}
+
+/// What gauges show in the cycles of a window: for each bin of cycles its first cycle, and for each gauge its sum over them. It
+/// simulates the project from cycle 0, and keeps no state of it.
+///
+/// # Errors
+///
+/// Where a growth was refused. What was taken is given back.
+pub fn series_sums(
+    alloc: Global,
+    project: &Project,
+    gauges: &[Gauge],
+    bins: Bins,
+) -> Result<Vec<(u32, Sums)>, NoMemory>
+    requires size { 0 < bins.size }
+    requires forward { bins.window.from ≤ bins.window.to }
+    requires within { bins.window.to ≤ project.now.horizon }
+    ensures { IfOk result (λ v. v.items ≡ series project.now.k (state_in (run project.now)) gauges.now bins) }
+{
+    project.is_project();
+    let mut runner = Runner::start(alloc, project)?;
+    let mut all = Vec::new(alloc);
+    for number in 0..bins_in(bins) {
+        all.push(bin_at(alloc, project, &mut runner, gauges, bins, number)?)?;
+    }
+    Ok(all)
+}
+
 /// Adds sums, each behind a comma.
-fn add_sums(text: &mut String, sums: &[GaugeSum]) -> Result<(), AllocError>
-    ensures { OnOk result (string_bytes text.new ≡ string_bytes text.old ++ flat_map (λ s. codes "," ++ decimal s) (map (λ s. s.sum) sums.now)) }
+fn add_sums(text: &mut String, sums: &[u64]) -> Result<(), AllocError>
+    ensures { OnOk result (string_bytes text.new ≡ string_bytes text.old ++ flat_map (λ s. codes "," ++ decimal s) sums.now) }
 {
     for sum in sums {
-        write!(text, ",{}", sum.sum)?;
+        write!(text, ",{sum}")?;
     }
     Ok(())
 }
 
 /// Adds the row of a bin.
-fn add_bin_row(text: &mut String, first: u32, sums: &[GaugeSum]) -> Result<(), AllocError>
-    ensures { OnOk result (string_bytes text.new ≡ string_bytes text.old ++ bin_row (first, map (λ s. s.sum) sums.now)) }
+fn add_bin_row(text: &mut String, bin: &(u32, Sums)) -> Result<(), AllocError>
+    ensures { OnOk result (string_bytes text.new ≡ string_bytes text.old ++ bin_row bin.now) }
 {
+    let first = bin.0;
     write!(text, "{first}")?;
-    add_sums(text, sums)?;
+    add_sums(text, bin.1.as_slice())?;
     write!(text, "\n")
 }
 
-/// Adds the rows of all bins.
-fn add_bins(
-    alloc: Global,
-    text: &mut String,
-    project: &Project,
-    gauges: &[Gauge],
-    bins: Bins,
-) -> Result<(), NoMemory>
-    requires size { 0 < bins.size }
-    requires forward { bins.window.from ≤ bins.window.to }
-    requires within { bins.window.to ≤ project.now.horizon }
-    ensures { OnOk result (string_bytes text.new ≡ string_bytes text.old ++ flat_map bin_row (series project.now.k (state_in (run project.now)) gauges.now bins)) }
+/// Adds the rows of some bins.
+fn add_bin_rows(text: &mut String, bins: &[(u32, Sums)]) -> Result<(), AllocError>
+    ensures { OnOk result (string_bytes text.new ≡ string_bytes text.old ++ flat_map bin_row bins.now) }
 {
-    project.is_project();
-    let mut runner = Runner::start(alloc, project)?;
-    for number in 0..bins_in(bins) {
-        let first = start_of(bins, number);
-        let cycles = cycles_from(bins, first);
-        let sums = bin_sums(alloc, project, &mut runner, gauges, first, cycles)?;
-        add_bin_row(text, first, sums.as_slice())?;
+    for bin in bins {
+        add_bin_row(text, bin)?;
     }
     Ok(())
+}
+
+/// The table of bins: a row of the gauges' names, and a row for each bin, with its first cycle and its sums.
+///
+/// # Errors
+///
+/// Where a growth was refused.
+pub fn series_table(
+    alloc: Global,
+    shape: Shape,
+    gauges: &[Gauge],
+    bins: &[(u32, Sums)],
+) -> Result<String, AllocError>
+    ensures { IfOk result (λ text. string_bytes text ≡ name_row shape gauges.now ++ flat_map bin_row bins.now) }
+{
+    let mut text = String::new(alloc);
+    add_name_row(&mut text, shape, gauges)?;
+    add_bin_rows(&mut text, bins)?;
+    Ok(text)
 }
 
 /// The table of what gauges show in the cycles of a window: a row for each bin of cycles, with its first cycle, and for each
@@ -231,8 +325,6 @@ pub fn series_text(
     requires within { bins.window.to ≤ project.now.horizon }
     ensures { IfOk result (λ text. string_bytes text ≡ series_text project.now.k (state_in (run project.now)) gauges.now bins) }
 {
-    let mut text = String::new(alloc);
-    add_name_row(&mut text, project.shape(), gauges)?;
-    add_bins(alloc, &mut text, project, gauges, bins)?;
-    Ok(text)
+    let all = series_sums(alloc, project, gauges, bins)?;
+    Ok(series_table(alloc, project.shape(), gauges, all.as_slice())?)
 }

@@ -127,7 +127,8 @@ impl Pass {
         self.post.park(rt, &self.table.shared, length);
     }
 
-    /// Sleeps for so long, whatever is edited meanwhile, and nobody is made to wake it. It may also return for no reason.
+    /// Sleeps for so long, or until `wake_all` is called, whatever is edited meanwhile, and no edit is made to wake it. It may
+    /// also return for no reason.
     pub fn nap<R: Wait>(&self, rt: &R, duration: Duration) {
         let numbers = self.table.shared.peek(NUMBERS);
         self.table
@@ -135,9 +136,10 @@ impl Pass {
             .park_timeout(rt, NUMBERS, (numbers % (1 << 32)) as u32, duration);
     }
 
-    /// Wakes those who are parked on a pass of this opening.
+    /// Wakes those who are parked on a pass of this opening, or nap.
     pub fn wake_all(&self) {
         self.table.shared.wake_all(LENGTH);
+        self.table.shared.wake_all(NUMBERS);
     }
 
     /// The journal's length now, at least what this pass had seen. It doesn't wait.

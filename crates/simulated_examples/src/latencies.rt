@@ -2,7 +2,7 @@
 use crate::setups::{BASE, BUILT_IN, Setup};
 use expect::equal;
 use omega_net::Net;
-use run_reports::{Condition, Window, latencies_of, latency_text};
+use run_reports::{Condition, Heat, Window, latencies_of, latency_text};
 use std::alloc::Global;
 use std::test::Fail;
 
@@ -80,7 +80,7 @@ const SECOND: &[Condition] = &[
         ..Condition::ALL
     },
     Condition {
-        hot: Some(false),
+        hot: Some(Heat::Cold(0)),
         ..Condition::ALL
     },
     Condition {

@@ -1,11 +1,14 @@
+pub mod AxisTicks
 pub mod CellMaps
 pub mod Colours
 pub mod CurvePanels
 pub mod Drawings
 pub mod Entities
+pub mod Histograms
 pub mod Lists
 pub mod Logarithms
 pub mod Places
+pub mod Styles
 pub mod Texts
 pub mod Ticks
 pub mod Timelines

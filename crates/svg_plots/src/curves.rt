@@ -119,7 +119,7 @@ pub struct Curves<'a> {
 
 /// The places of a panel's frame and of its values.
 #[derive(Clone, Copy)]
-struct Area {
+pub(crate) struct Area {
     left: u32,
     right: u32,
     across: Scale,
@@ -133,7 +133,7 @@ const PANEL_TITLE: Writing = Writing {
 };
 
 impl Area {
-    fn x(self, value: u32) -> u32
+    pub(crate) fn x(self, value: u32) -> u32
         requires { IsInside self }
         ensures place { result ≡ placed self.across value }
         ensures within { result ≤ 100000 }
@@ -141,7 +141,7 @@ impl Area {
         self.across.place(value)
     }
 
-    fn y(self, value: u32) -> u32
+    pub(crate) fn y(self, value: u32) -> u32
         requires { IsInside self }
         ensures place { result ≡ placed self.up value }
         ensures within { result ≤ 3860 }
@@ -168,7 +168,7 @@ fn width_of(count: usize) -> u32
 }
 
 /// The area of one of so many panels.
-fn area_of(panel: &Panel<'_>, place: usize, count: usize) -> Area
+pub(crate) fn area_of(panel: &Panel<'_>, place: usize, count: usize) -> Area
     ensures area { result ≡ area_of panel.now place count }
     ensures inside { IsInside result }
 {
@@ -411,7 +411,7 @@ fn draw_each_curve(
 
 /// A panel: its title, its axes, its frame, its curves.
 #[tactic(auto, unfolding(crate::specs::CurvePanels::panel_drawn))]
-fn draw_panel(
+pub(crate) fn draw_panel(
     alloc: Global,
     picture: &mut Picture,
     area: Area,

@@ -272,7 +272,7 @@ fn draw_tick(
     )
 }
 
-const TICKS: [u8; 10] = [0, 1, 2, 3, 4, 5, 6, 7, 8, 9];
+pub(crate) const TICKS: [u8; 10] = [0, 1, 2, 3, 4, 5, 6, 7, 8, 9];
 
 fn draw_ticks(
     alloc: Global,

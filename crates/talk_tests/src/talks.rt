@@ -1,8 +1,8 @@
 //! What a session writes.
 use bench_core::Bench;
-use bench_shell::{RunFault, Writing};
+use bench_shell::{Answer, RunFault, Writing};
 use expect::equal;
-use lab_shell::{Clerk, Ended, Manner, Said, ShellWord, request, talk};
+use lab_shell::{Clerk, Ended, Manner, Said, ShellWord, lines_of_range, request, talk};
 use project_book::Project;
 use std::alloc::{AllocError, Global};
 use std::test::Fail;
@@ -12,7 +12,7 @@ use std::thread::Threads;
 struct Counting;
 
 impl Clerk for Counting {
-    ghost says = { λ _ _ _ _ _ _. Unit {0} };
+    ghost says = { λ _ _ _ _ _. Unit {0} };
 
     fn say(
         &self,
@@ -21,12 +21,15 @@ impl Clerk for Counting {
         word: ShellWord,
         _argument: &[u8],
     ) -> Result<Said, AllocError> {
+        if word == ShellWord::Save {
+            return Ok(Said::Unsaved);
+        }
+        if word == ShellWord::Latency {
+            return Ok(Said::Refused(Answer::BadCommand));
+        }
         let processors = project.processors();
         let text = format!(in alloc; "{processors} processors\n")?;
-        Ok(Said {
-            text,
-            is_bad: word == ShellWord::Save,
-        })
+        Ok(Said::Text(text))
     }
 }
 
@@ -80,7 +83,7 @@ const SESSION: &[u8] =
 
 #[test]
 fn sessions_are_answered(rt: HostRuntime) -> Result<(), Fail> {
-    let told: [(Manner, &[u8], Ended, &[u8]); 8] = [
+    let told: [(Manner, &[u8], Ended, &[u8]); 13] = [
         (
             PLAIN,
             SESSION,
@@ -123,7 +126,41 @@ fn sessions_are_answered(rt: HostRuntime) -> Result<(), Fail> {
             Ended::Refused,
             b"ok 1\nrefused 5\n",
         ),
-        (STRICT, b"save f\nshow\n", Ended::Refused, b"1 processors\n"),
+        (STRICT, b"save f\nshow\n", Ended::Refused, b"bad file\n"),
+        (
+            FOR_PEOPLE,
+            b"save f\nlatency --form 3\nlatency x\n",
+            Ended::Input,
+            b"> bad file: it can't be written\n\
+> bad command: there is no such command; is it --from?\n\
+> bad command: there is no such command; help lists them\n> ",
+        ),
+        (
+            PLAIN,
+            b"undo\nword 0 10\nentry 0 0 sync add 0 1\nentry 0 1 fence\ncut 0 0\nundo\nreply 0 0\n\
+undo\nundo\nundo\nreply 0 0\nundo\n",
+            Ended::Input,
+            b"bad command\nok 1\nok 2\nok 3\nok 4\nok 5\nok 6\nok 6 at 4 word 10\n\
+ok 7\nok 8\nok 9\nbad 4\nbad command\n",
+        ),
+        (
+            FOR_PEOPLE,
+            b"undo\nwindow 0\nwindow 2\nundo\n",
+            Ended::Input,
+            b"> bad command: there is nothing to undo\n> refused 10: a window is 1 to 8\n> ok 1\n> ok 2\n> ",
+        ),
+        (
+            PLAIN,
+            b"entry 0..1 0 sync add 0 1\ncut 0..0 0\nentry 1..0 0 fence\n",
+            Ended::Input,
+            b"ok 1\nrefused 2\nok 2\nbad command\n",
+        ),
+        (
+            STRICT,
+            b"entry 0..2 0 fence\nundo\n",
+            Ended::Refused,
+            b"ok 1\nrefused 2\n",
+        ),
     ];
     for (manner, input, want, answers) in told {
         let (ended, written) = talked(&rt, manner, input)?;
@@ -135,7 +172,7 @@ fn sessions_are_answered(rt: HostRuntime) -> Result<(), Fail> {
 
 #[test]
 fn lines_are_requests(rt: HostRuntime) {
-    let asked: [(&[u8], Option<ShellWord>); 8] = [
+    let asked: [(&[u8], Option<ShellWord>); 14] = [
         (b"quit", Some(ShellWord::Quit)),
         (b" help\t", Some(ShellWord::Help)),
         (b"help page", Some(ShellWord::HelpOn)),
@@ -144,8 +181,35 @@ fn lines_are_requests(rt: HostRuntime) {
         (b"save", None),
         (b"save a b", None),
         (b"word 0 1", None),
+        (b"latency --from 3 --to 5", Some(ShellWord::Latency)),
+        (b"order all", Some(ShellWord::OrderAll)),
+        (b"order 3", None),
+        (b"show all", None),
+        (b"undo", Some(ShellWord::Undo)),
+        (b"undo 1", None),
     ];
     for (line, want) in asked {
         assert!(rt; equal(&rt, request(line).map(|(word, _argument)| word), want));
     }
+}
+
+#[test]
+fn ranges_are_lines(rt: HostRuntime) -> Result<(), Fail> {
+    let ranged: [(&[u8], usize); 7] = [
+        (b"entry 0..63 0 fence", 64),
+        (b"entry 0..64 0 fence", 0),
+        (b"cut 3..3 0", 1),
+        (b"cut 4..3 0", 0),
+        (b"cut 1.3 0", 0),
+        (b"word 0..1 0", 0),
+        (b"entry 0 0 fence", 0),
+    ];
+    for (line, want) in ranged {
+        let lines = lines_of_range(rt.alloc(), line)?;
+        assert!(rt; equal(&rt, lines.len(), want));
+    }
+    let lines = lines_of_range(rt.alloc(), b" entry  9..10 4\tidle 2 ")?;
+    assert!(rt; equal(&rt, lines[0].as_slice(), b"entry 9 4 idle 2".as_slice()));
+    assert!(rt; equal(&rt, lines[1].as_slice(), b"entry 10 4 idle 2".as_slice()));
+    Ok(())
 }

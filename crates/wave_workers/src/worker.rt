@@ -1,9 +1,9 @@
 //! One worker.
-ghost use Rattle.std.specs.Prelude.{◌≡◌, ℕ, ◌-◌, ◌^◌, min, true, false, length};
+ghost use Rattle.std.specs.Prelude.{◌≡◌, ℕ, ◌-◌, ◌^◌, IfSome, MatchOption, min, true, false, length};
 ghost use Rattle.cell_table.specs.Claims.{NoneDue};
 ghost use Rattle.machine_cells.specs.GridRules.{rp3_rules};
 ghost use Rattle.bench_core.specs.Shown.{Shown as AnyBench};
-ghost use Rattle.wave_workers.specs.Working.{IsKept, HasLeft, HasLooked};
+ghost use Rattle.wave_workers.specs.Working.{does_nothing, IsKept, HasLeft, HasLooked};
 
 use crate::gate::Gate;
 use crate::lot::{Share, work_lot};
@@ -25,11 +25,19 @@ pub struct Plan {
     pub sleeps: bool,
 }
 
-/// How many cells the slices have together that workers settle in a turn each: who asks meanwhile waits for all of them at
-/// most, and a cell takes 0.1 to 0.5 microseconds. A slice has a whole cycle at least.
-const CELLS: u32 = 1_024;
+/// How many cells the slices have together that workers settle in a turn each, at 5 to 65 nanoseconds a cell: who asks
+/// meanwhile waits for all of them at most, which is a millisecond. What a slice costs beside its cells is one part in ten, or
+/// less. A slice has a whole cycle at least.
+const CELLS: u32 = 16_384;
 
-/// For how many microseconds nobody edits before a worker that an edit woke begins: longer than a program takes to read an
+/// For how many microseconds a worker that finds nothing to do sleeps between two looks at the journal's length. Who edits
+/// wakes no worker meanwhile, so that a question which comes at once costs what it costs without workers.
+const LOOK: u64 = 10_000;
+
+/// How often it looks so, until it sleeps until an edit wakes it: a second, after which nobody minds a waking.
+const LOOKS: u32 = 100;
+
+/// For how many microseconds nobody edits before a worker that has seen an edit begins: longer than a program takes to read an
 /// answer and ask, so that a question which comes at once finds no worker before it.
 const NAP: u64 = 1_000;
 
@@ -45,7 +53,7 @@ impl Plan {
         }
     }
 
-    /// Turns for as long as each of so many gates goes on, in which slices are settled, and sleep while nothing is due.
+    /// Turns for as long as each of so many gates goes on, in which slices are settled, and rest while nothing is due.
     pub fn attending(gates: usize) -> Plan
         ensures { result ≡ record { workers = min gates (2 ^ 32 - 1); turns = 2 ^ 64 - 1; sleeps = true } }
     {
@@ -99,14 +107,6 @@ fn watched_slice<R: Wait>(rt: &R, pass: &mut Pass, workers: u32) -> Watched
     Watched { came, length }
 }
 
-/// Sleeps while the journal has the length that it had before the turn: an edit that came since the look at the cells has
-/// changed it.
-fn sleep<R: Wait>(rt: &R, pass: &Pass, watched: Watched)
-    requires { HasLooked pass.now watched.came watched.length }
-{
-    pass.park(rt, watched.length);
-}
-
 /// Lets whoever has just edited ask first: naps for as long as edits come.
 fn hold_back<R: Wait>(rt: &R, pass: &mut Pass)
     ensures { IsKept pass.old pass.new }
@@ -122,28 +122,76 @@ fn hold_back<R: Wait>(rt: &R, pass: &mut Pass)
     }
 }
 
-/// A slice, and the sleep after one that could do nothing: until the next edit, and as long after it as edits come.
-fn slice_and_sleep<R: Wait>(rt: &R, pass: &mut Pass, workers: u32)
-    ensures { IsKept pass.old pass.new }
+/// That a worker rests until the journal has another length than the one before its last turn, which could do nothing.
+#[derive(Clone, Copy)]
+struct Rest {
+    length: u32,
+    /// How often it has looked since.
+    looks: u32,
+}
+
+/// The rest that follows a turn which could do nothing, at the length that the journal had before it.
+fn rest_after(watched: Watched) -> Option<Rest>
+    ensures { MatchOption result (does_nothing watched.came ≡ false) (λ rest. (does_nothing watched.came ≡ true) × (rest.length ≡ watched.length)) }
 {
-    let watched = watched_slice(rt, pass, workers);
     if watched.came.is_for_nothing() {
-        sleep(rt, pass, watched);
-        hold_back(rt, pass);
+        Some(Rest {
+            length: watched.length,
+            looks: 0,
+        })
+    } else {
+        None
     }
 }
 
-/// Settles slices until the gate stops it, or its turns are used up. After a turn that could do nothing it sleeps until the
-/// next edit or until it is woken, and begins once no edit has come for a millisecond.
+/// A slice, and the rest that follows one which could do nothing.
+fn slice_or_rest<R: Wait>(rt: &R, pass: &mut Pass, workers: u32) -> Option<Rest>
+    ensures kept { IsKept pass.old pass.new }
+    ensures looked { IfSome result (λ rest. (came : Came) × HasLooked pass.new came rest.length × (does_nothing came ≡ true)) }
+{
+    let watched = watched_slice(rt, pass, workers);
+    rest_after(watched)
+}
+
+/// Sleeps for a look, or behind the last one until an edit or `Pass::wake_all` wakes it.
+fn sleep<R: Wait>(rt: &R, pass: &Pass, rest: Rest) {
+    if rest.looks < LOOKS {
+        pass.nap(rt, Duration::from_micros(LOOK));
+    } else {
+        pass.park(rt, rest.length);
+    }
+}
+
+/// Sleeps, and looks: the rest that is left, none where an edit has come since.
+fn rested<R: Wait>(rt: &R, pass: &mut Pass, rest: Rest) -> Option<Rest>
+    ensures { IsKept pass.old pass.new }
+{
+    sleep(rt, pass, rest);
+    if pass.length() == rest.length {
+        return Some(Rest {
+            length: rest.length,
+            looks: rest.looks.saturating_add(1),
+        });
+    }
+    hold_back(rt, pass);
+    None
+}
+
+/// Settles slices until the gate stops it, or its turns are used up. After a turn that could do nothing the turns are looks at
+/// the journal's length, until an edit has come, and none any more for a millisecond.
 fn settle_slices<R: Wait, G: Gate>(rt: &R, pass: &mut Pass, gate: &mut G, plan: Plan)
     ensures { IsKept pass.old pass.new }
 {
     pass.base();
+    let mut rest = None;
     'turns: for number in 0..plan.turns {
         if !gate.go_on(number) {
             break;
         }
-        slice_and_sleep(rt, pass, plan.workers);
+        rest = match rest {
+            Some(rest) => rested(rt, pass, rest),
+            None => slice_or_rest(rt, pass, plan.workers),
+        };
     }
 }
 

@@ -165,10 +165,7 @@ fn fresh(alloc: Global, project: Project) -> Option<Bench>
     ensures journal { IfSome result (λ b. b.journal ≡ []) }
     ensures clock { IfSome result (λ b. b.table.clock ≡ 0) }
 {
-    match Bench::new(alloc, project, 0) {
-        Ok(bench) => Some(bench),
-        Err(_) => None,
-    }
+    Bench::new(alloc, project, 0).ok()
 }
 
 /// Serves a session on a project: with no gate, a run on a bench of its own; else a run on a pass to a bench, beside which a

@@ -2,7 +2,7 @@ use Rattle.std.proofs.Common.{◌≡◌, ◌∙◌, ◌*◌, ◌++◌, ◌∷◌
 use Rattle.std.proofs.lemmas.Result.{IfOk-weaker}
 use Rattle.svg_plots.specs.declared.curves.Curves.{Curves}
 use Rattle.svg_plots.specs.CurvePanels.{curves_text}
-use Rattle.lab_tasks.specs.CurvePictures.{even_ticks}
+use Rattle.svg_plots.specs.AxisTicks.{ticks_between}
 use Rattle.lab_tasks.specs.DelayPictures.{delay_notes, greatest_share, share_place, share_ticks, IsDelayPicture}
 use Rattle.lab_tasks.proofs.delay_picture.delay_picture.Goals as goal
 
@@ -31,7 +31,7 @@ returns c =
         across_ticks = panel.ensures.across_ticks ∙ c.as_slice-2.ensures.value ∙ c.in_ok-across.ensures ∙ ap (λ n. share_ticks n) right;
         up_title = panel.ensures.up_title;
         up = (panel.ensures.up.0, panel.ensures.up.1 ∙ ap (λ n. n * 10) top);
-        up_ticks = panel.ensures.up_ticks ∙ c.as_slice-3.ensures.value ∙ c.in_ok-up.ensures ∙ ap (λ n. even_ticks n) top;
+        up_ticks = panel.ensures.up_ticks ∙ c.as_slice-3.ensures.value ∙ c.in_ok-up.ensures ∙ ap (λ n. ticks_between 0 n) top;
         curves = panel.ensures.curves ∙ c.in_ok-curves.ensures;
       },
       is ∙ ap (λ (ns : List (List ℕ)). curves_text drawn ns) notes,

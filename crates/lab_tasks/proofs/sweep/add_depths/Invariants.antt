@@ -1,7 +1,6 @@
-use Rattle.std.proofs.Common.{◌≡◌, ◌++◌, take, codes, decimal, string_bytes}
-use Rattle.std.specs.List.{flat_map}
+use Rattle.std.proofs.Common.{◌≡◌, ◌++◌, take}
+use Rattle.lab_tasks.specs.SweepTables.{depth_words}
 use Rattle.lab_tasks.proofs.sweep.add_depths.Given as goal
 
 abbrev pub invariant-loop-setting : goal.invariant-loop-setting
-invariant-loop-setting l =
-    string_bytes l.text ≡ string_bytes l.initial.text ++ flat_map (λ setting. decimal setting.depth ++ codes ",") (take l.setting-index l.row)
+invariant-loop-setting l = l.cells.items ≡ l.initial.cells.items ++ depth_words (take l.setting-index l.row)

@@ -7,6 +7,6 @@ returns-clause-done c =
       _,
       c.into_bytes.result.items,
       c.in_ok-project.ensures.filed,
-      (c.in_ok-condition.condition, made.0, c.in_ok-condition.ensures.told, made.1, ap (λ v. v.items) c.into_bytes.ensures.value ∙ made.2),
+      (c.in_ok-condition.condition, c.in_ok-condition.ensures.told, (made.0, made.1, made.2, made.3, ap (λ v. v.items) c.into_bytes.ensures.value ∙ made.4)),
       c.in_ok-to_file_or_output.ensures,
     )

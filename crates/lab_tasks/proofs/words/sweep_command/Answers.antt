@@ -10,4 +10,8 @@ returns c =
     let four = c.in_ok-task-4.ensures _ three in
     let five = c.in_ok-task-5.ensures _ four in
     let six = c.in_ok-task-6.ensures _ five in
-    c.in_ok-task-7.ensures _ six
+    let seven = c.in_ok-task-7.ensures _ six in
+    let eight = c.in_ok-task-8.ensures _ seven in
+    let nine = c.in_ok-task-9.ensures _ eight in
+    let ten = c.in_ok-task-10.ensures _ nine in
+    c.in_ok-task-11.ensures _ ten

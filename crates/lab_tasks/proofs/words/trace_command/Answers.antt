@@ -6,4 +6,5 @@ pub returns : goal.returns
 returns c =
     let one = c.in_ok-task.ensures (new_app (codes "trace")) c.named.ensures in
     let two = c.in_ok-task-2.ensures _ one in
-    c.in_ok-task-3.ensures _ two
+    let three = c.in_ok-task-3.ensures _ two in
+    c.in_ok-task-4.ensures _ three

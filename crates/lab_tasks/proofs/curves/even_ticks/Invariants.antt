@@ -1,8 +1,0 @@
-use Rattle.std.proofs.Common.{◌≡◌}
-use Rattle.std.specs.List.{flat_map}
-use Rattle.omega_net.specs.Wires.{below}
-use Rattle.lab_tasks.specs.CurvePictures.{even_tick}
-use Rattle.lab_tasks.proofs.curves.even_ticks.Given as goal
-
-abbrev pub invariant-loop-place : goal.invariant-loop-place
-invariant-loop-place l = l.ticks.items ≡ flat_map (even_tick l.most l.step) (below l.place)

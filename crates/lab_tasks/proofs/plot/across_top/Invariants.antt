@@ -1,0 +1,7 @@
+use Rattle.std.proofs.Common.{◌≡◌, take}
+use Rattle.std.specs.List.{fold}
+use Rattle.lab_tasks.specs.PlotPictures.{across_most}
+use Rattle.lab_tasks.proofs.plot.across_top.Given as goal
+
+abbrev pub invariant-loop-curve : goal.invariant-loop-curve
+invariant-loop-curve l = l.most ≡ fold across_most 1 (take l.curve-index l.curves)

@@ -1,6 +1,0 @@
-use Rattle.std.proofs.Common.{◌≡◌, ◌++◌, map, take, string_bytes}
-use Rattle.lab_tasks.specs.Tables.{fields_text}
-use Rattle.lab_tasks.proofs.sweep.add_asks.Given as goal
-
-abbrev pub invariant-loop-place : goal.invariant-loop-place
-invariant-loop-place l = string_bytes l.text ≡ string_bytes l.initial.text ++ fields_text (map (λ ask. ask.now) (take l.place l.asks))

@@ -1,0 +1,9 @@
+use Rattle.std.proofs.Common.{codes}
+use Rattle.clap.specs.Words.{new_app}
+use Rattle.lab_tasks.proofs.words.busy_command.Goals as goal
+
+pub returns : goal.returns
+returns c =
+    let one = c.in_ok-task.ensures (new_app (codes "busy")) c.named.ensures in
+    let two = c.in_ok-task-2.ensures _ one in
+    c.in_ok-task-3.ensures _ two

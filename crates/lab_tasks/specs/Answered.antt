@@ -1,0 +1,126 @@
+-- The columns of an answer: one, or one for each of its numbers.
+use Rattle.std.specs.Prelude.{ℕ, Bool, ◌+◌, ◌==◌, if◌then◌else◌, List, [], ◌++◌, map, slice_get, slice_index, Option, None, Some, Result, Ok, Err, codes, decimal}
+use Rattle.omega_net.specs.Wires.{below}
+use Rattle.svg_plots.specs.Lists.{each}
+use Rattle.machine_cells.specs.Texts.{state_text}
+use Rattle.project_book.specs.Project.{Project}
+use Rattle.run_queries.specs.declared.query.Query.{Query}
+use Rattle.run_queries.specs.declared.query.Query.TheVariants as query
+use Rattle.run_queries.specs.declared.body.Body.{Body}
+use Rattle.run_queries.specs.declared.body.Body.TheVariants.{Reply, State, Word, Count, Profile, Tree, Level, Fraction, Place}
+use Rattle.run_queries.specs.Answers.{answer}
+use Rattle.run_queries.specs.Texts.{body_text}
+use Rattle.lab_tasks.specs.declared.answered.Form.{Form}
+
+-- whether each number has a column, for a machine of a project
+abbrev pub form_of : Project → Bool → Form
+form_of P numbers = record { numbers = numbers; k = P.k }
+
+-- ---- the names of the columns
+
+-- how many numbers the answer to a question has; a state has none, and one column for its text
+abbrev pub numbers_of : ℕ → Query → ℕ
+numbers_of k (query.Reply p n) = 2
+numbers_of k (query.State c t) = 1
+numbers_of k (query.Memory a t) = 1
+numbers_of k (query.Counter counter who from to) = 1
+numbers_of k (query.Profile net s) = 17
+numbers_of k (query.Tree net m) = k
+numbers_of k (query.Level net m t) = 1
+numbers_of k (query.Bound a b p) = 2
+numbers_of k (query.Place a) = 2
+
+-- how many columns it has
+abbrev pub width_of : Form → Query → ℕ
+width_of form q = if form.numbers then numbers_of form.k q else 1
+
+-- the first of two texts, or the other one
+abbrev pub one_of : List ℕ → List ℕ → ℕ → List ℕ
+one_of first other i = if i == 0 then first else other
+
+-- what stands behind a question in the name of a number's column: nothing where there is one column alone
+abbrev pub number_name : Query → ℕ → List ℕ
+number_name (query.Reply p n) i = one_of (codes " cycle") (codes " word") i
+number_name (query.State c t) i = []
+number_name (query.Memory a t) i = []
+number_name (query.Counter counter who from to) i = []
+number_name (query.Profile net s) i = codes " length " ++ decimal i
+number_name (query.Tree net m) i = codes " level " ++ decimal (i + 1)
+number_name (query.Level net m t) i = []
+number_name (query.Bound a b p) i = one_of (codes " numerator") (codes " denominator") i
+number_name (query.Place a) i = one_of (codes " module") (codes " row") i
+
+abbrev pub column_name : Form → List ℕ → Query → ℕ → List ℕ
+column_name form ask q i = if form.numbers then ask ++ number_name q i else ask
+
+-- the columns of a question, as it was asked, and those of all questions
+abbrev pub question_columns : Form → List ℕ → Query → List (List ℕ)
+question_columns form ask q = map (column_name form ask q) (below (width_of form q))
+
+abbrev pub columns_for : Form → List ℕ → Option Query → List (List ℕ)
+columns_for form ask None = []
+columns_for form ask (Some q) = question_columns form ask q
+
+abbrev pub columns_at : Form → List Query → ℕ → List ℕ → List (List ℕ)
+columns_at form queries i ask = columns_for form ask (slice_get queries i)
+
+abbrev pub asked_columns : Form → List Query → List (List ℕ) → List (List ℕ)
+asked_columns form queries asks = each (columns_at form queries) asks
+
+-- ---- what stands in them
+
+-- a text that stands in the first of several columns alone
+abbrev pub in_first : List ℕ → ℕ → List ℕ
+in_first text i = one_of text [] i
+
+-- the first cycle of a level, and nothing where no cycle has it
+abbrev pub first_text : Option (Option ℕ) → List ℕ
+first_text None = []
+first_text (Some None) = []
+first_text (Some (Some t)) = decimal t
+
+-- the number of an answer at a place; the text of one that has none stands at the first place
+abbrev pub number_at : Body → ℕ → Option (List ℕ)
+number_at (Reply None) i = Some (in_first (codes "none") i)
+number_at (Reply (Some r)) i = Some (one_of (decimal r.cycle) (decimal r.word) i)
+number_at (State s) i = state_text s
+number_at (Word w) i = Some (decimal w)
+number_at (Count n) i = Some (decimal n)
+number_at (Profile ns) i = Some (decimal (slice_index ns i))
+number_at (Tree tree) i = Some (first_text (slice_get tree.first.items i))
+number_at (Level n) i = Some (decimal n)
+number_at (Fraction n d) i = Some (one_of (decimal n) (decimal d) i)
+number_at (Place p) i = Some (one_of (decimal p.«module») (decimal p.row) i)
+
+-- what is said to a question, as text: its answer, or `bad N` with the number of the reason why it has none
+abbrev pub bad_text : ℕ → List ℕ
+bad_text n = codes "bad " ++ decimal n
+
+abbrev pub shown : Result Body ℕ → Option (List ℕ)
+shown (Ok body) = body_text body
+shown (Err n) = Some (bad_text n)
+
+abbrev pub number_shown : Result Body ℕ → ℕ → Option (List ℕ)
+number_shown (Ok body) i = number_at body i
+number_shown (Err n) i = Some (in_first (bad_text n) i)
+
+-- what stands in one of its columns
+abbrev pub cell_at : Form → Result Body ℕ → ℕ → Option (List ℕ)
+cell_at form says i = if form.numbers then number_shown says i else shown says
+
+abbrev pub cells_of : Form → Query → Result Body ℕ → List (Option (List ℕ))
+cells_of form q says = map (cell_at form says) (below (width_of form q))
+
+-- what a project says to a question, in its columns
+abbrev pub told_cells : Form → Project → Query → List (Option (List ℕ))
+told_cells form P q = cells_of form q (answer P q)
+
+-- where an edit is refused `refused N` stands in the first of them
+abbrev pub refused_text : ℕ → List ℕ
+refused_text n = codes "refused " ++ decimal n
+
+abbrev pub refused_cell : ℕ → ℕ → Option (List ℕ)
+refused_cell n i = Some (in_first (refused_text n) i)
+
+abbrev pub refused_cells : Form → ℕ → Query → List (Option (List ℕ))
+refused_cells form n q = map (refused_cell n) (below (width_of form q))

@@ -1,0 +1,3 @@
+pub mod LatencyPictures
+pub mod SeriesPictures
+pub mod TracePictures
