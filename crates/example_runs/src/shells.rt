@@ -5,7 +5,7 @@ use crate::pictures::is_example;
 use crate::verdict::Verdict;
 use bench_core::Bench;
 use bench_shell::Writing;
-use lab_shell::Manner;
+use lab_shell::{Manner, Voice};
 use lab_tasks::{OutFile, Shelf, hold};
 use project_book::Project;
 use std::alloc::{AllocGlobal, Global};
@@ -60,7 +60,7 @@ fn printed<R: Files + AllocGlobal + Threads + Sync>(
     typed: &[u8],
 ) -> Option<Vec<u8>> {
     let manner = Manner {
-        people: false,
+        voice: Voice::Plain,
         strict,
     };
     let alloc = rt.alloc();

@@ -51,7 +51,7 @@ pub(crate) fn state_at(
 }
 
 /// How many queues of a stage lead to a module.
-pub(crate) fn queues_at(k: u32, stage: u32) -> u32
+pub fn queues_at(k: u32, stage: u32) -> u32
     requires k { k ≤ max_k }
     requires stage { stage < k }
     ensures { result ≡ queues_at k stage }
@@ -60,7 +60,7 @@ pub(crate) fn queues_at(k: u32, stage: u32) -> u32
 }
 
 /// The line of one of these queues, by its place among them: the module's first bits come last.
-pub(crate) fn line_towards(k: u32, module: u32, stage: u32, place: u32) -> u32
+pub fn line_towards(k: u32, module: u32, stage: u32, place: u32) -> u32
     requires k { k ≤ max_k }
     requires stage { stage < k }
     requires there { «module» < lines k }

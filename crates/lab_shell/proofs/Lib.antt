@@ -1,5 +1,6 @@
 mod Reading
 mod Talking
 mod Hinting
+mod Reasoning
 mod Ranging
 mod Undoing

@@ -5,7 +5,7 @@ use Rattle.line_words.specs.Words.{words_of}
 
 -- the words of commands, those of the shell first
 unfoldable pub names_text : List ℕ
-names_text = codes "quit help show script save undo latency done trace full entry cut word page depth wait combine window horizon reply state memory counter profile tree level bound place order low-forward low-reverse comb-forward comb-reverse module on off sync plain until fence idle load add and or min max store store-if-zero issued answered served combined waiting all low comb --processor --network --address --page --hot --cold --from --to"
+names_text = codes "quit help show script save undo latency done trace full busy series entry cut word page depth wait combine window horizon reply state memory counter profile tree level bound place order low-forward low-reverse comb-forward comb-reverse module on off sync plain until fence idle load add and or min max store store-if-zero issued answered served combined waiting all low comb --processor --network --address --page --hot --cold --from --to --of --bin queue stage"
 
 -- how many letters of a word are wrong, missing or too many beside a name
 abbrev pub slips : List ℕ → List ℕ → ℕ

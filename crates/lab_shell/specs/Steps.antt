@@ -30,14 +30,14 @@ pub record Line1 (says : Says) (m : Manner) (s : Session) (read written : List �
   pub line : Line
   pub answer : List ℕ
   pub is_line : lines_of read ≡ line ∷ []
-  pub is_written : written ≡ prompt m.people ++ answer
+  pub is_written : written ≡ prompt m.voice ++ answer
   pub one : One says m s line answer t stop
 
 -- what one turn did that went on, and one that ended the session so
 abbrev pub TurnOf : Says → Manner → Option (List ℕ) → Option (List ℕ) → Session → List ℕ → List ℕ → Session → Option Ended → Type 0
 TurnOf says m reader reader' s read written t None = Splits read × Line1 says m s read written t None
 TurnOf says m reader reader' s read written t (Some how) =
-    ((how ≡ ended.Input) × (read ≡ []) × (written ≡ prompt m.people) × (t ≡ s) × IsAllRead how reader reader')
+    ((how ≡ ended.Input) × (read ≡ []) × (written ≡ prompt m.voice) × (t ≡ s) × IsAllRead how reader reader')
     ⊎ (Line1 says m s read written t (Some how) × IsAllRead how reader reader')
 
 abbrev pub Turned : Says → Manner → Option (List ℕ) → Option (List ℕ) → Option (List ℕ) → Option (List ℕ) → Session → Session → Option Ended → Type 0

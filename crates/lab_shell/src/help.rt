@@ -13,8 +13,9 @@ Questions:
 Reports:
   latency [--processor P] [--network low|comb] [--address A] [--page N] [--hot|--cold]
     [--from T] [--to T]
-  done                  trace P I             full
-  order all
+  busy [--from T] [--to T]
+  series --of GAUGE [--of GAUGE ..] [--from T] [--to T] [--bin N]
+  done                  trace P I             full                  order all
 Of the shell:
   show                  script P              save F                undo
   help                  help COMMAND          quit
@@ -107,6 +108,16 @@ to the hottest word or to all others, issued in the cycles from T to T; without 
             "trace P I: where reference I of processor P, from 0, or the one that it was combined into, was at each cycle\n",
         "full" =>
             "full: which queues and wait buffers were full, in the order in which they first were\n",
+        "busy" => "\
+busy [--from T] [--to T]: how busy each stage of each network and each module was in the cycles from T to T, in percent;
+without these in all
+",
+        "series" => "\
+series --of GAUGE [--of GAUGE ..] [--from T] [--to T] [--bin N]: what the run shows at each of the cycles from T to T, or
+summed over bins of N of them: a table with a column for each gauge
+GAUGE is issued, answered, served, combined or waiting, with or without a component behind it, as served m0; or queue l0.0 f0,
+stage low 1, busy low 1
+",
         _ => return None,
     })
 }
@@ -122,7 +133,7 @@ fn shell_usage(word: &[u8]) -> Option<&'static str> {
         "undo" =>
             "undo: takes back the last edit of this session that was accepted and not yet taken back, by edits that make it what it was\n",
         "help" => "help, help COMMAND: all commands, or what one does\n",
-        "quit" => "quit: ends the session\n",
+        "quit" => "quit: ends the session, where input is a terminal\n",
         _ => return None,
     })
 }

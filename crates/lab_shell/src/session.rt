@@ -11,12 +11,15 @@ ghost use Rattle.line_words.specs.Words.{words_of};
 ghost use Rattle.lab_shell.specs.Hints.{slip_of};
 ghost use Rattle.lab_shell.specs.Sessions.{after_line, held};
 ghost use Rattle.lab_shell.specs.Steps.{IsLine, Turned};
-ghost use Rattle.lab_shell.specs.Talks.{IsDrained, answer_text, answer_to, line_at, no_command_text, people_text, prompt, is_refused, lines_in, request_in, said_text, stop_at, stop_of, told_text, unsaved_text, Clerked, HelpsOn, InTurn, Obeyed, ObeyedAs, One, Requested, Talked, TalksPlainly};
+ghost use Rattle.lab_shell.specs.Json.{answer_object, seated, text_object};
+ghost use Rattle.lab_shell.specs.Reasons.{told_line};
+ghost use Rattle.lab_shell.specs.Talks.{IsDrained, answer_text, answer_to, closing, line_at, no_command_text, opening, people_text, prompt, is_refused, lines_in, refused_text, request_in, said_text, several, spoken, stop_at, stop_of, told_text, unsaved_text, Clerked, Helps, HelpsOn, InTurn, Obeyed, ObeyedAs, One, Requested, Talked, TalksPlainly};
 
 use crate::clerk::{Clerk, Said};
 use crate::help::{HELP, usage};
 use crate::hint::slip;
-use crate::manner::{Ended, Manner};
+use crate::json::{answer_object, text_object};
+use crate::manner::{Ended, Manner, Seat, Voice};
 use crate::range::lines_of_range;
 use crate::reason::told_line;
 use crate::undo::{edit_in, edited, undone};
@@ -80,13 +83,13 @@ fn without_end(line: &[u8]) -> (&[u8], bool)
 }
 
 /// Writes the line of an answer, for people with the reason behind it.
-pub(crate) fn put_answer<W: Sink>(
+fn put_line<W: Sink>(
     alloc: Global,
     people: bool,
     answer: &Answer,
     writer: &mut W,
 ) -> Result<(), RunFault>
-    ensures ok { OnOk result (Appends (W.contents writer.old) (W.contents writer.new) (answer_text people answer.now)) }
+    ensures ok { OnOk result (Appends (W.contents writer.old) (W.contents writer.new) (told_line people answer.now)) }
     ensures cause { HasCause result ⊥ (W.has_failed writer.new ≡ true) ⊥ (Unit {0}) ⊥ }
     ensures same_reference { W.lender writer.new ≡ W.lender writer.old }
 {
@@ -95,6 +98,43 @@ pub(crate) fn put_answer<W: Sink>(
         Err(_) => return Err(RunFault::Memory),
     };
     write_bytes(writer, text.as_bytes())
+}
+
+/// Writes an answer as an object.
+fn put_object<W: Sink>(
+    alloc: Global,
+    seat: Seat,
+    answer: &Answer,
+    writer: &mut W,
+) -> Result<(), RunFault>
+    ensures ok { OnOk result (Appends (W.contents writer.old) (W.contents writer.new) (seated seat (answer_object answer.now))) }
+    ensures cause { HasCause result ⊥ (W.has_failed writer.new ≡ true) ⊥ (Unit {0}) ⊥ }
+    ensures same_reference { W.lender writer.new ≡ W.lender writer.old }
+{
+    let object = match answer_object(alloc, seat, answer) {
+        Ok(object) => object,
+        Err(_) => return Err(RunFault::Memory),
+    };
+    write_bytes(writer, object.as_slice())
+}
+
+/// Writes an answer.
+pub(crate) fn put_answer<W: Sink>(
+    alloc: Global,
+    voice: Voice,
+    seat: Seat,
+    answer: &Answer,
+    writer: &mut W,
+) -> Result<(), RunFault>
+    ensures ok { OnOk result (Appends (W.contents writer.old) (W.contents writer.new) (answer_text voice seat answer.now)) }
+    ensures cause { HasCause result ⊥ (W.has_failed writer.new ≡ true) ⊥ (Unit {0}) ⊥ }
+    ensures same_reference { W.lender writer.new ≡ W.lender writer.old }
+{
+    match voice {
+        Voice::Plain => put_line(alloc, false, answer, writer),
+        Voice::People => put_line(alloc, true, answer, writer),
+        Voice::Json => put_object(alloc, seat, answer, writer),
+    }
 }
 
 /// Writes that a line is no command, but has a word that may be this name.
@@ -122,7 +162,7 @@ fn put_no_command<W: Sink>(alloc: Global, line: &[u8], writer: &mut W) -> Result
 {
     match slip(alloc, line) {
         Ok(Some(name)) => put_name(name, writer),
-        Ok(None) => put_answer(alloc, true, &Answer::BadCommand, writer),
+        Ok(None) => put_line(alloc, true, &Answer::BadCommand, writer),
         Err(_) => Err(RunFault::Memory),
     }
 }
@@ -140,7 +180,7 @@ fn put_for_people<W: Sink>(
     ensures same_reference { W.lender writer.new ≡ W.lender writer.old }
 {
     if !is_whole {
-        return put_answer(alloc, true, answer, writer);
+        return put_line(alloc, true, answer, writer);
     }
     match answer {
         Answer::BadCommand => put_no_command(alloc, line, writer),
@@ -150,27 +190,27 @@ fn put_for_people<W: Sink>(
         | Answer::Refused(_)
         | Answer::Bad(_)
         | Answer::BadLine
-        | Answer::BadCut => put_answer(alloc, true, answer, writer),
+        | Answer::BadCut => put_line(alloc, true, answer, writer),
     }
 }
 
 /// Writes what a line is answered that is no request.
 fn put_told<W: Sink>(
     alloc: Global,
-    people: bool,
+    voice: Voice,
+    seat: Seat,
     line: &[u8],
     is_whole: bool,
     answer: &Answer,
     writer: &mut W,
 ) -> Result<(), RunFault>
-    ensures ok { OnOk result (Appends (W.contents writer.old) (W.contents writer.new) (told_text people (line_at is_whole line.now) answer.now)) }
+    ensures ok { OnOk result (Appends (W.contents writer.old) (W.contents writer.new) (told_text voice seat (line_at is_whole line.now) answer.now)) }
     ensures cause { HasCause result ⊥ (W.has_failed writer.new ≡ true) ⊥ (Unit {0}) ⊥ }
     ensures same_reference { W.lender writer.new ≡ W.lender writer.old }
 {
-    if people {
-        put_for_people(alloc, line, is_whole, answer, writer)
-    } else {
-        put_answer(alloc, false, answer, writer)
+    match voice {
+        Voice::People => put_for_people(alloc, line, is_whole, answer, writer),
+        Voice::Plain | Voice::Json => put_answer(alloc, voice, seat, answer, writer),
     }
 }
 
@@ -244,6 +284,7 @@ fn obeyed<T: Threads + Sync, W: Sink>(
     rt: &T,
     alloc: Global,
     manner: Manner,
+    seat: Seat,
     bench: &mut Bench,
     undos: &mut Undos,
     line: &[u8],
@@ -251,7 +292,7 @@ fn obeyed<T: Threads + Sync, W: Sink>(
     writer: &mut W,
 ) -> Result<Option<Ended>, RunFault>
     ensures ok { IfOk result (λ stop. (answer : List ℕ) × Appends (W.contents writer.old) (W.contents writer.new) answer
-        × Obeyed manner (held (store_of bench.old) undos.old) (line_at is_whole line.now) answer (held (store_of bench.new) undos.new) stop) }
+        × Obeyed manner seat (held (store_of bench.old) undos.old) (line_at is_whole line.now) answer (held (store_of bench.new) undos.new) stop) }
     ensures cause { HasCause result ⊥ (W.has_failed writer.new ≡ true) ⊥ (Unit {0}) (bench.new.table.clock ≡ 2 ^ 64 - 1) }
     ensures same_reference { W.lender writer.new ≡ W.lender writer.old }
 {
@@ -260,7 +301,7 @@ fn obeyed<T: Threads + Sync, W: Sink>(
         Err(fault) => return Err(fault),
     };
     let stop = stop_of(manner, is_whole, !is_taken(&answer));
-    match put_told(alloc, manner.people, line, is_whole, &answer, writer) {
+    match put_told(alloc, manner.voice, seat, line, is_whole, &answer, writer) {
         Ok(()) => Ok(stop),
         Err(fault) => Err(fault),
     }
@@ -287,27 +328,85 @@ fn in_turn<T: Threads + Sync, W: Sink>(
     writer: &mut W,
 ) -> Result<Option<Ended>, RunFault>
     ensures ok { IfOk result (λ stop. (answer : List ℕ) × Appends (W.contents writer.old) (W.contents writer.new) answer
-        × InTurn manner (held (store_of bench.old) undos.old) (map (λ l. l.items) lines.now) answer (held (store_of bench.new) undos.new) stop) }
+        × InTurn manner Seat.First (held (store_of bench.old) undos.old) (map (λ l. l.items) lines.now) answer (held (store_of bench.new) undos.new) stop) }
     ensures cause { HasCause result ⊥ (W.has_failed writer.new ≡ true) ⊥ (Unit {0}) (bench.new.table.clock ≡ 2 ^ 64 - 1) }
     ensures same_reference { W.lender writer.new ≡ W.lender writer.old }
 {
+    let mut seat = Seat::First;
     for line in lines {
         match obeyed(
             rt,
             alloc,
             manner,
+            seat,
             bench,
             undos,
             line.as_slice(),
             true,
             writer,
         ) {
-            Ok(None) => {}
+            Ok(None) => seat = Seat::Later,
             Ok(Some(ended)) => return Ok(Some(ended)),
             Err(fault) => return Err(fault),
         }
     }
     Ok(None)
+}
+
+/// Writes what stands before several answers to one line.
+pub(crate) fn put_opening<W: Sink>(voice: Voice, writer: &mut W) -> Result<(), RunFault>
+    ensures ok { OnOk result (Appends (W.contents writer.old) (W.contents writer.new) (opening voice)) }
+    ensures cause { HasCause result ⊥ (W.has_failed writer.new ≡ true) ⊥ ⊥ ⊥ }
+    ensures same_reference { W.lender writer.new ≡ W.lender writer.old }
+{
+    let text = match voice {
+        Voice::Plain | Voice::People => "",
+        Voice::Json => "{\"answers\":[",
+    };
+    write_bytes(writer, text.as_bytes())
+}
+
+/// Writes what stands behind several answers to one line.
+pub(crate) fn put_closing<W: Sink>(voice: Voice, writer: &mut W) -> Result<(), RunFault>
+    ensures ok { OnOk result (Appends (W.contents writer.old) (W.contents writer.new) (closing voice)) }
+    ensures cause { HasCause result ⊥ (W.has_failed writer.new ≡ true) ⊥ ⊥ ⊥ }
+    ensures same_reference { W.lender writer.new ≡ W.lender writer.old }
+{
+    let text = match voice {
+        Voice::Plain | Voice::People => "",
+        Voice::Json => "]}\n",
+    };
+    write_bytes(writer, text.as_bytes())
+}
+
+/// Obeys these commands in turn, as they are written for one line: how that ends the session.
+#[tactic(auto, using(crate::proofs::Ranging::all_between))]
+fn all_obeyed<T: Threads + Sync, W: Sink>(
+    rt: &T,
+    alloc: Global,
+    manner: Manner,
+    bench: &mut Bench,
+    undos: &mut Undos,
+    lines: &[Vec<u8>],
+    writer: &mut W,
+) -> Result<Option<Ended>, RunFault>
+    ensures ok { IfOk result (λ stop. (answers : List ℕ) × Appends (W.contents writer.old) (W.contents writer.new) (several manner.voice answers)
+        × InTurn manner Seat.First (held (store_of bench.old) undos.old) (map (λ l. l.items) lines.now) answers (held (store_of bench.new) undos.new) stop) }
+    ensures cause { HasCause result ⊥ (W.has_failed writer.new ≡ true) ⊥ (Unit {0}) (bench.new.table.clock ≡ 2 ^ 64 - 1) }
+    ensures same_reference { W.lender writer.new ≡ W.lender writer.old }
+{
+    match put_opening(manner.voice, writer) {
+        Ok(()) => {}
+        Err(fault) => return Err(fault),
+    }
+    let stop = match in_turn(rt, alloc, manner, bench, undos, lines, writer) {
+        Ok(stop) => stop,
+        Err(fault) => return Err(fault),
+    };
+    match put_closing(manner.voice, writer) {
+        Ok(()) => Ok(stop),
+        Err(fault) => Err(fault),
+    }
 }
 
 /// Obeys a line that is no request, or each of the lines that it stands for: how that ends the session.
@@ -331,42 +430,97 @@ fn obeyed_as<T: Threads + Sync, W: Sink>(
         Err(_) => return Err(RunFault::Memory),
     };
     if lines.is_empty() {
-        obeyed(rt, alloc, manner, bench, undos, line, is_whole, writer)
+        obeyed(
+            rt,
+            alloc,
+            manner,
+            Seat::Alone,
+            bench,
+            undos,
+            line,
+            is_whole,
+            writer,
+        )
     } else {
-        in_turn(rt, alloc, manner, bench, undos, lines.as_slice(), writer)
+        all_obeyed(rt, alloc, manner, bench, undos, lines.as_slice(), writer)
     }
 }
 
 /// Writes that a file wasn't written.
-fn put_unsaved<W: Sink>(people: bool, writer: &mut W) -> Result<(), RunFault>
-    ensures ok { OnOk result (Appends (W.contents writer.old) (W.contents writer.new) (unsaved_text people)) }
+fn put_unsaved<W: Sink>(voice: Voice, writer: &mut W) -> Result<(), RunFault>
+    ensures ok { OnOk result (Appends (W.contents writer.old) (W.contents writer.new) (unsaved_text voice)) }
     ensures cause { HasCause result ⊥ (W.has_failed writer.new ≡ true) ⊥ ⊥ ⊥ }
     ensures same_reference { W.lender writer.new ≡ W.lender writer.old }
 {
-    let text = if people {
-        "bad file: it can't be written\n"
-    } else {
-        "bad file\n"
+    let text = match voice {
+        Voice::Plain => "bad file\n",
+        Voice::People => "bad file: it can't be written\n",
+        Voice::Json => "{\"bad\":\"file\",\"why\":\"it can't be written\"}\n",
     };
     write_bytes(writer, text.as_bytes())
+}
+
+/// Writes a text as an object.
+fn put_text_object<W: Sink>(alloc: Global, text: &[u8], writer: &mut W) -> Result<(), RunFault>
+    ensures ok { OnOk result (Appends (W.contents writer.old) (W.contents writer.new) (text_object text.now)) }
+    ensures cause { HasCause result ⊥ (W.has_failed writer.new ≡ true) ⊥ (Unit {0}) ⊥ }
+    ensures same_reference { W.lender writer.new ≡ W.lender writer.old }
+{
+    let object = match text_object(alloc, text) {
+        Ok(object) => object,
+        Err(_) => return Err(RunFault::Memory),
+    };
+    write_bytes(writer, object.as_slice())
+}
+
+/// Writes a text that is said to a request.
+fn put_text<W: Sink>(
+    alloc: Global,
+    voice: Voice,
+    text: &[u8],
+    writer: &mut W,
+) -> Result<(), RunFault>
+    ensures ok { OnOk result (Appends (W.contents writer.old) (W.contents writer.new) (spoken voice text.now)) }
+    ensures cause { HasCause result ⊥ (W.has_failed writer.new ≡ true) ⊥ (Unit {0}) ⊥ }
+    ensures same_reference { W.lender writer.new ≡ W.lender writer.old }
+{
+    match voice {
+        Voice::Plain | Voice::People => write_bytes(writer, text),
+        Voice::Json => put_text_object(alloc, text, writer),
+    }
+}
+
+/// Writes that a request is refused.
+fn put_refused<W: Sink>(
+    alloc: Global,
+    voice: Voice,
+    words: &[u8],
+    answer: &Answer,
+    writer: &mut W,
+) -> Result<(), RunFault>
+    ensures ok { OnOk result (Appends (W.contents writer.old) (W.contents writer.new) (refused_text voice (words_of words.now) answer.now)) }
+    ensures cause { HasCause result ⊥ (W.has_failed writer.new ≡ true) ⊥ (Unit {0}) ⊥ }
+    ensures same_reference { W.lender writer.new ≡ W.lender writer.old }
+{
+    put_told(alloc, voice, Seat::Alone, words, true, answer, writer)
 }
 
 /// Writes what a clerk said to some words.
 fn put_said<W: Sink>(
     alloc: Global,
-    people: bool,
+    voice: Voice,
     words: &[u8],
     said: &Said,
     writer: &mut W,
 ) -> Result<(), RunFault>
-    ensures ok { OnOk result (Appends (W.contents writer.old) (W.contents writer.new) (said_text people (words_of words.now) said.now)) }
+    ensures ok { OnOk result (Appends (W.contents writer.old) (W.contents writer.new) (said_text voice (words_of words.now) said.now)) }
     ensures cause { HasCause result ⊥ (W.has_failed writer.new ≡ true) ⊥ (Unit {0}) ⊥ }
     ensures same_reference { W.lender writer.new ≡ W.lender writer.old }
 {
     match said {
-        Said::Text(text) => write_bytes(writer, text.as_bytes()),
-        Said::Refused(answer) => put_told(alloc, people, words, true, answer, writer),
-        Said::Unsaved => put_unsaved(people, writer),
+        Said::Text(text) => put_text(alloc, voice, text.as_bytes(), writer),
+        Said::Refused(answer) => put_refused(alloc, voice, words, answer, writer),
+        Said::Unsaved => put_unsaved(voice, writer),
     }
 }
 
@@ -401,7 +555,7 @@ fn clerked<C: Clerk, W: Sink>(
         Ok(said) => said,
         Err(_) => return Err(RunFault::Memory),
     };
-    match put_said(alloc, manner.people, argument, &said, writer) {
+    match put_said(alloc, manner.voice, argument, &said, writer) {
         Ok(()) => Ok(stop_at(manner, is_refused(&said))),
         Err(fault) => Err(fault),
     }
@@ -420,11 +574,17 @@ fn helped_on<W: Sink>(
     ensures same_reference { W.lender writer.new ≡ W.lender writer.old }
 {
     match usage(word) {
-        Some(text) => match write_bytes(writer, text.as_bytes()) {
+        Some(text) => match put_text(alloc, manner.voice, text.as_bytes(), writer) {
             Ok(()) => Ok(None),
             Err(fault) => Err(fault),
         },
-        None => match put_answer(alloc, manner.people, &Answer::BadCommand, writer) {
+        None => match put_answer(
+            alloc,
+            manner.voice,
+            Seat::Alone,
+            &Answer::BadCommand,
+            writer,
+        ) {
             Ok(()) => Ok(stop_at(manner, true)),
             Err(fault) => Err(fault),
         },
@@ -432,12 +592,13 @@ fn helped_on<W: Sink>(
 }
 
 /// Writes all commands.
-fn helped<W: Sink>(writer: &mut W) -> Result<Option<Ended>, RunFault>
-    ensures ok { IfOk result (λ stop. (answer : List ℕ) × Appends (W.contents writer.old) (W.contents writer.new) answer × (stop ≡ None)) }
-    ensures cause { HasCause result ⊥ (W.has_failed writer.new ≡ true) ⊥ ⊥ ⊥ }
+fn helped<W: Sink>(alloc: Global, manner: Manner, writer: &mut W) -> Result<Option<Ended>, RunFault>
+    ensures ok { IfOk result (λ stop. (answer : List ℕ) × Appends (W.contents writer.old) (W.contents writer.new) answer
+        × Helps manner answer stop) }
+    ensures cause { HasCause result ⊥ (W.has_failed writer.new ≡ true) ⊥ (Unit {0}) ⊥ }
     ensures same_reference { W.lender writer.new ≡ W.lender writer.old }
 {
-    match write_bytes(writer, HELP.as_bytes()) {
+    match put_text(alloc, manner.voice, HELP.as_bytes(), writer) {
         Ok(()) => Ok(None),
         Err(fault) => Err(fault),
     }
@@ -461,7 +622,7 @@ fn requested<C: Clerk, W: Sink>(
 {
     match word {
         ShellWord::Quit => Ok(Some(Ended::Quit)),
-        ShellWord::Help => helped(writer),
+        ShellWord::Help => helped(alloc, manner, writer),
         ShellWord::HelpOn => helped_on(alloc, manner, first_word(argument), writer),
         ShellWord::Show
         | ShellWord::Script
@@ -470,6 +631,8 @@ fn requested<C: Clerk, W: Sink>(
         | ShellWord::Done
         | ShellWord::Trace
         | ShellWord::Full
+        | ShellWord::Busy
+        | ShellWord::Series
         | ShellWord::OrderAll => clerked(
             alloc, manner, clerk, bench, undos, word, argument, writer,
         ),
@@ -478,8 +641,8 @@ fn requested<C: Clerk, W: Sink>(
 }
 
 /// The request that a line is, with the words behind the first one.
-fn asked(line: &[u8], is_whole: bool) -> Option<(ShellWord, &[u8])>
-    ensures { MatchOption result (request_in (line_at is_whole line.now) ≡ None) (λ p. request_in (line_at is_whole line.now) ≡ Some (p.0, words_of p.1.now)) }
+fn asked(people: bool, line: &[u8], is_whole: bool) -> Option<(ShellWord, &[u8])>
+    ensures { MatchOption result (request_in people (line_at is_whole line.now) ≡ None) (λ p. request_in people (line_at is_whole line.now) ≡ Some (p.0, words_of p.1.now)) }
 {
     if !is_whole {
         return None;
@@ -487,7 +650,7 @@ fn asked(line: &[u8], is_whole: bool) -> Option<(ShellWord, &[u8])>
     if line.len() > LONGEST {
         return None;
     }
-    request(line)
+    request(people, line)
 }
 
 /// Answers a line: how it ends the session.
@@ -507,7 +670,7 @@ fn line_done<T: Threads + Sync, C: Clerk, W: Sink>(
     ensures cause { HasCause result ⊥ (W.has_failed writer.new ≡ true) ⊥ (Unit {0}) (bench.new.table.clock ≡ 2 ^ 64 - 1) }
     ensures same_reference { W.lender writer.new ≡ W.lender writer.old }
 {
-    match asked(line, is_whole) {
+    match asked(manner.voice.is_people(), line, is_whole) {
         Some((word, argument)) => requested(
             alloc, manner, clerk, bench, undos, word, argument, writer,
         ),
@@ -516,13 +679,13 @@ fn line_done<T: Threads + Sync, C: Clerk, W: Sink>(
 }
 
 /// Writes the prompt where people read, and hands on all that was written.
-fn put_prompt<W: Sink>(people: bool, writer: &mut W) -> Result<(), RunFault>
-    ensures ok { OnOk result (Appends (W.contents writer.old) (W.contents writer.new) (prompt people)) }
+fn put_prompt<W: Sink>(voice: Voice, writer: &mut W) -> Result<(), RunFault>
+    ensures ok { OnOk result (Appends (W.contents writer.old) (W.contents writer.new) (prompt voice)) }
     ensures flushed { OnOk result (W.is_flushed writer.new ≡ true) }
     ensures cause { HasCause result ⊥ (W.has_failed writer.new ≡ true) ⊥ ⊥ ⊥ }
     ensures same_reference { W.lender writer.new ≡ W.lender writer.old }
 {
-    let text = if people { PROMPT } else { "" };
+    let text = if voice.is_people() { PROMPT } else { "" };
     match write_bytes(writer, text.as_bytes()) {
         Ok(()) => hand_on(writer),
         Err(fault) => Err(fault),
@@ -545,7 +708,7 @@ fn turn<T: Threads + Sync, C: Clerk, R: BufRead, W: Sink>(
     ensures cause { HasCause result (Unit {0}) (W.has_failed writer.new ≡ true) ⊥ (Unit {0}) (bench.new.table.clock ≡ 2 ^ 64 - 1) }
     ensures same_reference { W.lender writer.new ≡ W.lender writer.old }
 {
-    match put_prompt(manner.people, writer) {
+    match put_prompt(manner.voice, writer) {
         Ok(()) => {}
         Err(fault) => return Err(fault),
     }
@@ -576,7 +739,7 @@ fn talk_over<T: Threads + Sync, C: Clerk, R: BufRead, W: Sink>(
     requires { undos.old ≡ [] }
     ensures talks { IfOk result (Talked (C.says clerk.now) manner (R.remaining reader.old) (R.remaining reader.new)
         (W.contents writer.old) (W.contents writer.new) (store_of bench.old) (store_of bench.new)) }
-    ensures plain { manner.people ≡ false → OnOk result (TalksPlainly (R.remaining reader.old) (R.remaining reader.new)
+    ensures plain { manner.voice ≡ Voice.Plain → OnOk result (TalksPlainly (R.remaining reader.old) (R.remaining reader.new)
         (W.contents writer.old) (W.contents writer.new) (store_of bench.old) (store_of bench.new)) }
     ensures cause { HasCause result (Unit {0}) (W.has_failed writer.new ≡ true) ⊥ (Unit {0}) (bench.new.table.clock ≡ 2 ^ 64 - 1) }
     ensures same_writer { W.lender writer.new ≡ W.lender writer.old }
@@ -596,8 +759,8 @@ fn talk_over<T: Threads + Sync, C: Clerk, R: BufRead, W: Sink>(
     Err(RunFault::Read)
 }
 
-/// Answers each line that comes, until the input ends, `quit` is read, or in a strict session a line is refused. What was
-/// written is flushed before more is read, and at the end. A line takes as much memory as it has bytes. Threads take part
+/// Answers each line that comes, until the input ends, people type `quit`, or in a strict session a line is refused. What
+/// was written is flushed before more is read, and at the end. A line takes as much memory as it has bytes. Threads take part
 /// in reports alone.
 ///
 /// # Errors
@@ -615,7 +778,7 @@ pub fn talk<T: Threads + Sync, C: Clerk, R: BufRead, W: Sink>(
 ) -> Result<Ended, RunFault>
     ensures talks { IfOk result (Talked (C.says clerk.now) manner (R.remaining reader.old) (R.remaining reader.new)
         (W.contents writer.old) (W.contents writer.new) (store_of bench.old) (store_of bench.new)) }
-    ensures plain { manner.people ≡ false → OnOk result (TalksPlainly (R.remaining reader.old) (R.remaining reader.new)
+    ensures plain { manner.voice ≡ Voice.Plain → OnOk result (TalksPlainly (R.remaining reader.old) (R.remaining reader.new)
         (W.contents writer.old) (W.contents writer.new) (store_of bench.old) (store_of bench.new)) }
     ensures cause { HasCause result (Unit {0}) (W.has_failed writer.new ≡ true) ⊥ (Unit {0}) (bench.new.table.clock ≡ 2 ^ 64 - 1) }
     ensures same_writer { W.lender writer.new ≡ W.lender writer.old }

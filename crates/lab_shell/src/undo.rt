@@ -1,18 +1,19 @@
 //! Edits that are taken back.
-ghost use Rattle.std.specs.Prelude.{◌≡◌, ℕ, ◌-◌, ◌^◌, ◌&&◌, List, true, not, None, Some, IfOk, OnOk, OnErr, MatchOption};
+ghost use Rattle.std.specs.Prelude.{◌≡◌, ℕ, ◌-◌, ◌^◌, ◌&&◌, [], ◌∷◌, List, true, not, None, Some, IfOk, OnOk, OnErr, MatchOption};
 ghost use Rattle.std.specs.Io.KnownBytes.{Appends};
-ghost use Rattle.std.specs.List.{flat_map, list_all};
+ghost use Rattle.std.specs.List.{list_all};
 ghost use Rattle.project_book.specs.declared.edit.Edit.{Edit as AnyEdit};
 ghost use Rattle.commands.specs.declared.command.Command.{Command as AnyCommand};
 ghost use Rattle.bench_shell.specs.Cause.{HasCause};
+ghost use Rattle.bench_shell.specs.declared.answer.Answer.{Answer as AnyAnswer};
 ghost use Rattle.bench_shell.specs.Output.{after, command_in, is_ok, reply};
 ghost use Rattle.bench_shell.specs.Own.{edit_of};
 ghost use Rattle.bench_shell.specs.Store.{store_of};
 ghost use Rattle.lab_shell.specs.Sessions.{after_edits, has_room, held, noted, replies};
-ghost use Rattle.lab_shell.specs.Talks.{answer_text, nothing_text, Undone};
+ghost use Rattle.lab_shell.specs.Talks.{answer_text, answers_text, nothing_text, several, Undone};
 
-use crate::manner::{Ended, Manner};
-use crate::session::{is_taken, put_answer, stop_at};
+use crate::manner::{Ended, Manner, Seat, Voice};
+use crate::session::{is_taken, put_answer, put_closing, put_opening, stop_at};
 use bench_core::Bench;
 use bench_shell::{Answer, Desk, RunFault, Sink, write_bytes};
 use commands::Command;
@@ -88,15 +89,15 @@ fn has_room(bench: &Bench, edits: &[Edit]) -> bool
 }
 
 /// Writes that there is nothing to take back.
-fn put_nothing<W: Sink>(people: bool, writer: &mut W) -> Result<(), RunFault>
-    ensures ok { OnOk result (Appends (W.contents writer.old) (W.contents writer.new) (nothing_text people)) }
+fn put_nothing<W: Sink>(voice: Voice, writer: &mut W) -> Result<(), RunFault>
+    ensures ok { OnOk result (Appends (W.contents writer.old) (W.contents writer.new) (nothing_text voice)) }
     ensures cause { HasCause result ⊥ (W.has_failed writer.new ≡ true) ⊥ ⊥ ⊥ }
     ensures same_reference { W.lender writer.new ≡ W.lender writer.old }
 {
-    let text = if people {
-        "bad command: there is nothing to undo\n"
-    } else {
-        "bad command\n"
+    let text = match voice {
+        Voice::Plain => "bad command\n",
+        Voice::People => "bad command: there is nothing to undo\n",
+        Voice::Json => "{\"bad\":\"command\",\"why\":\"there is nothing to undo\"}\n",
     };
     write_bytes(writer, text.as_bytes())
 }
@@ -104,12 +105,13 @@ fn put_nothing<W: Sink>(people: bool, writer: &mut W) -> Result<(), RunFault>
 /// Makes an edit, and writes what it is answered: whether it was accepted.
 fn remade<W: Sink>(
     alloc: Global,
-    people: bool,
+    voice: Voice,
+    seat: Seat,
     bench: &mut Bench,
     edit: Edit,
     writer: &mut W,
 ) -> Result<bool, RunFault>
-    ensures ok { OnOk result (Appends (W.contents writer.old) (W.contents writer.new) (answer_text people (reply (store_of bench.old) (Some (AnyCommand.Edit edit))))) }
+    ensures ok { OnOk result (Appends (W.contents writer.old) (W.contents writer.new) (answer_text voice seat (reply (store_of bench.old) (Some (AnyCommand.Edit edit))))) }
     ensures store { OnOk result (store_of bench.new ≡ after (store_of bench.old) (Some (AnyCommand.Edit edit))) }
     ensures taken { IfOk result (λ taken. taken ≡ is_ok (reply (store_of bench.old) (Some (AnyCommand.Edit edit)))) }
     ensures cause { HasCause result ⊥ (W.has_failed writer.new ≡ true) ⊥ (Unit {0}) (bench.new.table.clock ≡ 2 ^ 64 - 1) }
@@ -119,7 +121,7 @@ fn remade<W: Sink>(
         Ok(answer) => answer,
         Err(fault) => return Err(fault),
     };
-    match put_answer(alloc, people, &answer, writer) {
+    match put_answer(alloc, voice, seat, &answer, writer) {
         Ok(()) => Ok(is_taken(&answer)),
         Err(fault) => Err(fault),
     }
@@ -135,26 +137,80 @@ fn both(one: bool, other: bool) -> bool
 #[tactic(auto, using(crate::proofs::Undoing::first_none, crate::proofs::Undoing::first_more, crate::proofs::Undoing::all_written, crate::proofs::Undoing::all_after, crate::proofs::Undoing::all_taken))]
 fn all_remade<W: Sink>(
     alloc: Global,
-    people: bool,
+    voice: Voice,
     bench: &mut Bench,
     edits: &[Edit],
     writer: &mut W,
 ) -> Result<bool, RunFault>
-    ensures ok { OnOk result (Appends (W.contents writer.old) (W.contents writer.new) (flat_map (answer_text people) (replies (store_of bench.old) edits.now))) }
+    ensures ok { OnOk result (Appends (W.contents writer.old) (W.contents writer.new) (answers_text voice Seat.First (replies (store_of bench.old) edits.now))) }
     ensures store { OnOk result (store_of bench.new ≡ after_edits (store_of bench.old) edits.now) }
     ensures taken { IfOk result (λ taken. taken ≡ list_all is_ok (replies (store_of bench.old) edits.now)) }
     ensures cause { HasCause result ⊥ (W.has_failed writer.new ≡ true) ⊥ (Unit {0}) (bench.new.table.clock ≡ 2 ^ 64 - 1) }
     ensures same_reference { W.lender writer.new ≡ W.lender writer.old }
 {
     let mut all = true;
+    let mut seat = Seat::First;
     for edit in edits {
-        let taken = match remade(alloc, people, bench, *edit, writer) {
+        let taken = match remade(alloc, voice, seat, bench, *edit, writer) {
             Ok(taken) => taken,
             Err(fault) => return Err(fault),
         };
         all = both(all, taken);
+        seat = Seat::Later;
     }
     Ok(all)
+}
+
+/// Answers that the journal has no room for what takes the last edit back.
+fn put_full<W: Sink>(alloc: Global, voice: Voice, writer: &mut W) -> Result<(), RunFault>
+    ensures ok { OnOk result (Appends (W.contents writer.old) (W.contents writer.new) (several voice (answers_text voice Seat.First (AnyAnswer.Refused 1 ∷ [])))) }
+    ensures cause { HasCause result ⊥ (W.has_failed writer.new ≡ true) ⊥ (Unit {0}) ⊥ }
+    ensures same_reference { W.lender writer.new ≡ W.lender writer.old }
+{
+    match put_opening(voice, writer) {
+        Ok(()) => {}
+        Err(fault) => return Err(fault),
+    }
+    match put_answer(
+        alloc,
+        voice,
+        Seat::First,
+        &Answer::Refused(JOURNAL_FULL),
+        writer,
+    ) {
+        Ok(()) => {}
+        Err(fault) => return Err(fault),
+    }
+    put_closing(voice, writer)
+}
+
+/// Makes edits in turn, and writes what they are answered as that is written for one line: whether all were accepted.
+#[tactic(auto, using(crate::proofs::Undoing::between))]
+fn put_remade<W: Sink>(
+    alloc: Global,
+    voice: Voice,
+    bench: &mut Bench,
+    edits: &[Edit],
+    writer: &mut W,
+) -> Result<bool, RunFault>
+    ensures ok { OnOk result (Appends (W.contents writer.old) (W.contents writer.new) (several voice (answers_text voice Seat.First (replies (store_of bench.old) edits.now)))) }
+    ensures store { OnOk result (store_of bench.new ≡ after_edits (store_of bench.old) edits.now) }
+    ensures taken { IfOk result (λ taken. taken ≡ list_all is_ok (replies (store_of bench.old) edits.now)) }
+    ensures cause { HasCause result ⊥ (W.has_failed writer.new ≡ true) ⊥ (Unit {0}) (bench.new.table.clock ≡ 2 ^ 64 - 1) }
+    ensures same_reference { W.lender writer.new ≡ W.lender writer.old }
+{
+    match put_opening(voice, writer) {
+        Ok(()) => {}
+        Err(fault) => return Err(fault),
+    }
+    let taken = match all_remade(alloc, voice, bench, edits, writer) {
+        Ok(taken) => taken,
+        Err(fault) => return Err(fault),
+    };
+    match put_closing(voice, writer) {
+        Ok(()) => Ok(taken),
+        Err(fault) => Err(fault),
+    }
 }
 
 /// Takes back the last edit of a session that was accepted and not yet taken back: how that ends the session.
@@ -172,18 +228,18 @@ pub(crate) fn undone<W: Sink>(
     ensures same_reference { W.lender writer.new ≡ W.lender writer.old }
 {
     let Some(edits) = undos.last() else {
-        return match put_nothing(manner.people, writer) {
+        return match put_nothing(manner.voice, writer) {
             Ok(()) => Ok(stop_at(manner, true)),
             Err(fault) => Err(fault),
         };
     };
     if !has_room(bench, edits) {
-        return match put_answer(alloc, manner.people, &Answer::Refused(JOURNAL_FULL), writer) {
+        return match put_full(alloc, manner.voice, writer) {
             Ok(()) => Ok(stop_at(manner, true)),
             Err(fault) => Err(fault),
         };
     }
-    match all_remade(alloc, manner.people, bench, edits, writer) {
+    match put_remade(alloc, manner.voice, bench, edits, writer) {
         Ok(taken) => {
             undos.drop_last();
             Ok(stop_at(manner, !taken))

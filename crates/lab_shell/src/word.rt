@@ -8,7 +8,7 @@ use line_words::split_word;
 /// What the shell is asked for itself.
 #[derive(Clone, Copy, PartialEq, Eq, Debug)]
 pub enum ShellWord {
-    /// `quit`: the session ends.
+    /// `quit`, where people type: the session ends.
     Quit,
     /// `help`: all commands.
     Help,
@@ -30,15 +30,19 @@ pub enum ShellWord {
     Trace,
     /// `full`: which queues were full.
     Full,
+    /// `busy ..`: how busy stages and modules were.
+    Busy,
+    /// `series ..`: what the run shows, cycle by cycle.
+    Series,
     /// `order all`: the table of all references in their one order.
     OrderAll,
 }
 
 /// What a word asks for that stands alone.
-fn alone(word: &[u8]) -> Option<ShellWord>
-    ensures { result ≡ alone word.now }
+fn alone(people: bool, word: &[u8]) -> Option<ShellWord>
+    ensures { result ≡ alone people word.now }
 {
-    if word == b"quit".as_slice() {
+    if people && word == b"quit".as_slice() {
         Some(ShellWord::Quit)
     } else if word == b"help".as_slice() {
         Some(ShellWord::Help)
@@ -78,6 +82,10 @@ fn report_named(word: &[u8]) -> Option<ShellWord>
         Some(ShellWord::Trace)
     } else if word == b"full".as_slice() {
         Some(ShellWord::Full)
+    } else if word == b"busy".as_slice() {
+        Some(ShellWord::Busy)
+    } else if word == b"series".as_slice() {
+        Some(ShellWord::Series)
     } else {
         None
     }
@@ -90,11 +98,11 @@ fn is_order_all(word: &[u8], argument: &[u8]) -> bool
 }
 
 /// What a word asks for that is no report, with these words behind it.
-fn asked_by(word: &[u8], behind: &[u8]) -> Option<ShellWord>
-    ensures { result ≡ asked_by word.now (words_of behind.now) }
+fn asked_by(people: bool, word: &[u8], behind: &[u8]) -> Option<ShellWord>
+    ensures { result ≡ asked_by people word.now (words_of behind.now) }
 {
     let Some((argument, more)) = split_word(behind) else {
-        return alone(word);
+        return alone(people, word);
     };
     if split_word(more).is_some() {
         return None;
@@ -106,21 +114,22 @@ fn asked_by(word: &[u8], behind: &[u8]) -> Option<ShellWord>
 }
 
 /// What a word asks for with these words behind it.
-fn word_of(word: &[u8], behind: &[u8]) -> Option<ShellWord>
-    ensures { result ≡ word_of word.now (words_of behind.now) }
+fn word_of(people: bool, word: &[u8], behind: &[u8]) -> Option<ShellWord>
+    ensures { result ≡ word_of people word.now (words_of behind.now) }
 {
     match report_named(word) {
         Some(report) => Some(report),
-        None => asked_by(word, behind),
+        None => asked_by(people, word, behind),
     }
 }
 
-/// What a line asks the shell for, with the words behind its first one. None where it is no request.
-pub fn request(line: &[u8]) -> Option<(ShellWord, &[u8])>
-    ensures { MatchOption result (request_of (words_of line.now) ≡ None) (λ p. request_of (words_of line.now) ≡ Some (p.0, words_of p.1.now)) }
+/// What a line asks the shell for, where people type it or not, with the words behind its first one. None where it is no
+/// request.
+pub fn request(people: bool, line: &[u8]) -> Option<(ShellWord, &[u8])>
+    ensures { MatchOption result (request_of people (words_of line.now) ≡ None) (λ p. request_of people (words_of line.now) ≡ Some (p.0, words_of p.1.now)) }
 {
     let (first, behind) = split_word(line)?;
-    let word = word_of(first, behind)?;
+    let word = word_of(people, first, behind)?;
     Some((word, behind))
 }
 

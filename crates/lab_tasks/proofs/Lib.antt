@@ -1,6 +1,7 @@
 pub mod Adding
 pub mod Answering
 pub mod ColumnSteps
+pub mod ComparedRows
 pub mod EditRows
 pub mod Fields
 pub mod Given
@@ -10,8 +11,11 @@ pub mod Hottest
 pub mod Listing
 pub mod Lines
 pub mod Lists
+pub mod Phrasing
 pub mod Printing
+pub mod RowCells
 pub mod RowCounts
+pub mod RowPlaces
 pub mod Rows
 pub mod Settings
 pub mod Stages

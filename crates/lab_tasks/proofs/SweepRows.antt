@@ -1,19 +1,18 @@
 -- The rows of a table, one after another, on one bench.
 use Rattle.std.proofs.Common.{◌≡◌, ℕ, ◌+◌, ◌-◌, ◌<◌, ◌≤◌, List, [], ◌∷◌, ◌++◌, length, map, take, get_or, refl, sym, ap, subst, ◌∙◌, arith}
-use Rattle.std.specs.Prelude.{Some}
 use Rattle.std.specs.List.{flat_map, AllZip, AllByRecursion}
 use Rattle.std.proofs.lemmas.List.{take_more, take_all, get_or-map, length-map}
 use Rattle.std.proofs.lemmas.List.Elements.{All-from_recursion}
 use Rattle.omega_net.specs.Wires.{below}
 use Rattle.project_book.specs.declared.edit.Depths.{Depths}
 use Rattle.project_book.specs.Project.{Project}
-use Rattle.run_queries.specs.declared.query.Query.{Query}
 use Rattle.lab_tasks.specs.declared.answered.Form.{Form}
+use Rattle.lab_tasks.specs.declared.asking.Asking.{Asking}
 use Rattle.lab_tasks.specs.declared.swept.Swept.{Swept}
 use Rattle.lab_tasks.specs.declared.swept.Setting.{Setting}
 use Rattle.lab_tasks.specs.Sweeps.{rows_of, with_settings}
-use Rattle.lab_tasks.specs.Answered.{told_cells}
 use Rattle.lab_tasks.specs.SweepTables.{depth_words, IsRow}
+use Rattle.lab_tasks.specs.Tellings.{AreTold}
 use Rattle.lab_tasks.proofs.WordByWord.{zip-push}
 use Rattle.lab_tasks.proofs.Settings.{queues, with_settings-twice}
 
@@ -72,16 +71,16 @@ row-read items read all i v row e lt is at =
     (omega arith, at ∙ ap items is ∙ sym (get_or-map items read i v [] lt) ∙ ap (λ (rows : List (List Setting)). get_or rows i []) e)
 
 -- a row that is told
-pub row-done : (form : Form) (all : List Swept) (P B C : Project) (queries : List Query) (i : ℕ) (row : List Setting) (cells : List (List ℕ)) (rows more : List (List (List ℕ)))
-    → (i < length (rows_of all)) × (row ≡ get_or (rows_of all) i []) → SameWhereSet (swept_queues all) B P → AllZip (IsRow form P queries) (take i (rows_of all)) rows
-    → IsRow form B queries row cells → C ≡ with_settings B row → more ≡ rows ++ cells ∷ []
-    → SameWhereSet (swept_queues all) C P × AllZip (IsRow form P queries) (take (i + 1) (rows_of all)) more
-row-done form all P B C queries i row cells rows more at same before told is pushed =
+pub row-done : (form : Form) (all : List Swept) (P B C : Project) (askings : List Asking) (i : ℕ) (row : List Setting) (cells : List (List ℕ)) (rows more : List (List (List ℕ)))
+    → (i < length (rows_of all)) × (row ≡ get_or (rows_of all) i []) → SameWhereSet (swept_queues all) B P → AllZip (IsRow form P askings) (take i (rows_of all)) rows
+    → IsRow form B askings row cells → C ≡ with_settings B row → more ≡ rows ++ cells ∷ []
+    → SameWhereSet (swept_queues all) C P × AllZip (IsRow form P askings) (take (i + 1) (rows_of all)) more
+row-done form all P B C askings i row cells rows more at same before told is pushed =
     let sets : queues row ≡ swept_queues all = ap queues at.1 ∙ row-sets all i [] at.0 in
-    let here : IsRow form P queries row cells =
-    subst (λ (Q : Project). map Some cells ≡ map Some (depth_words row) ++ flat_map (told_cells form Q) queries) (same row sets) told in (
+    let here : IsRow form P askings row cells =
+    subst (λ (Q : Project). AreTold form Q askings (depth_words row) cells) (same row sets) told in (
       same-next (swept_queues all) B C P row same sets is,
-      rows-more (IsRow form P queries) (rows_of all) rows more i [] cells at.0 before (subst (λ (r : List Setting). IsRow form P queries r cells) at.1 here) pushed,
+      rows-more (IsRow form P askings) (rows_of all) rows more i [] cells at.0 before (subst (λ (r : List Setting). IsRow form P askings r cells) at.1 here) pushed,
     )
 
 -- no row is left

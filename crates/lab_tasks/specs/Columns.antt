@@ -1,5 +1,5 @@
 -- The columns of a map: one for each cycle of a window, or for several.
-use Rattle.std.specs.Prelude.{ℕ, zero, suc, ◌+◌, ◌-◌, ◌/◌, min, max, Bool, List, [], ◌∷◌, length, take, drop}
+use Rattle.std.specs.Prelude.{ℕ, zero, suc, ◌+◌, ◌-◌, ◌/◌, min, max, nat_lt, if◌then◌else◌, Bool, List, [], ◌∷◌, length, take, drop}
 use Rattle.std.specs.List.{fold, list_any}
 use Rattle.experiments.specs.declared.map.Window.{Window}
 
@@ -28,3 +28,16 @@ greatest_columns w numbers = columns_of greatest_of (cycles_a_column w) (columns
 
 abbrev pub any_columns : Window → List Bool → List Bool
 any_columns w flags = columns_of any_of (cycles_a_column w) (columns_in w) flags
+
+-- how far a number is from the one in the middle; the first of those that are farthest from it, itself of none
+abbrev pub distance : ℕ → ℕ → ℕ
+distance middle n = (n - middle) + (middle - n)
+
+abbrev pub farther : ℕ → ℕ → ℕ → ℕ
+farther middle far n = if nat_lt (distance middle far) (distance middle n) then n else far
+
+abbrev pub farthest_of : ℕ → List ℕ → ℕ
+farthest_of middle ns = fold (farther middle) middle ns
+
+abbrev pub farthest_columns : ℕ → Window → List ℕ → List ℕ
+farthest_columns middle w numbers = columns_of (farthest_of middle) (cycles_a_column w) (columns_in w) numbers

@@ -31,7 +31,7 @@ abbrev pub task : Text → List Rule → Shape
 task name rules = record (new_shape name) { rules = rules }
 
 abbrev pub map_task : Shape
-map_task = task (codes "map") (file_rule ∷ map option_rule (codes "net" ∷ codes "module" ∷ codes "from" ∷ codes "to" ∷ codes "out" ∷ []))
+map_task = task (codes "map") (file_rule ∷ map option_rule (codes "net" ∷ codes "dir" ∷ codes "queues" ∷ codes "module" ∷ codes "from" ∷ codes "to" ∷ codes "out" ∷ codes "compare" ∷ []))
 
 abbrev pub order_task : Shape
 order_task = task (codes "order") (file_rule ∷ map option_rule (codes "from" ∷ codes "to" ∷ codes "out" ∷ []))
@@ -101,7 +101,7 @@ abbrev pub page_task : Shape
 page_task = task (codes "page") (file_rule ∷ map option_rule (codes "from" ∷ codes "to" ∷ codes "out" ∷ []))
 
 abbrev pub shell_task : Shape
-shell_task = task (codes "shell") (optional_rule (codes "FILE") ∷ flag_rule (codes "strict") ∷ [])
+shell_task = task (codes "shell") (optional_rule (codes "FILE") ∷ flag_rule (codes "strict") ∷ flag_rule (codes "json") ∷ [])
 
 -- the tasks
 abbrev pub tasks : List Shape

@@ -15,7 +15,7 @@ use Rattle.lab_tasks.specs.declared.tables.DelayPoint.{DelayPoint}
 use Rattle.lab_tasks.specs.declared.load_plan.LoadPlan.{LoadPlan}
 use Rattle.lab_tasks.specs.declared.load_table.LoadPoint.{LoadPoint}
 use Rattle.lab_tasks.specs.declared.words.Asked.{Asked}
-use Rattle.lab_tasks.specs.declared.words.Asked.TheVariants.{Map, Order, Latency, Done as Completed, Trace, Full, Series, Busy, Rates, Delays, Load as Loaded, Sweep, Check, Convert, Page, Shell}
+use Rattle.lab_tasks.specs.declared.words.Asked.TheVariants.{Map, Compare, Order, Latency, Done as Completed, Trace, Full, Series, Busy, Rates, Delays, Load as Loaded, Sweep, Check, Convert, Page, Shell}
 use Rattle.lab_tasks.specs.declared.words.MapWords.{MapWords}
 use Rattle.lab_tasks.specs.declared.words.CurveWords.{CurveWords}
 use Rattle.lab_tasks.specs.declared.words.DelayWords.{DelayWords}
@@ -31,7 +31,7 @@ use Rattle.lab_tasks.specs.Gauged.{AreSeriesTexts, IsNoSeries}
 use Rattle.lab_tasks.specs.Latencies.{IsLatencyDrawn, IsLatencyText, IsNoCondition}
 use Rattle.lab_tasks.specs.Orders.{IsOrderText, IsNoOrder}
 use Rattle.lab_tasks.specs.MachinePages.{IsNoPage, IsPageText}
-use Rattle.lab_tasks.specs.MapPictures.{IsMapDrawn}
+use Rattle.lab_tasks.specs.DrawnMaps.{IsMapDrawn}
 use Rattle.lab_tasks.specs.Either.{other_told, IsOther}
 use Rattle.lab_tasks.specs.Elsewhere.{elsewhere}
 use Rattle.lab_tasks.specs.DelayPictures.{IsDelayPicture}
@@ -62,7 +62,7 @@ IsMadeOf bytes name IsText outcome =
 -- a picture of what the words ask for; and it is told where all references of the file are on the other network
 abbrev pub IsMapMade : MapWords → List ℕ → Outcome → Type 0
 IsMapMade words bytes outcome =
-    (P : Project) × (plan : MapPlan) × (text : List ℕ) × (filed bytes ≡ Ok P) × IsMap P words plan × IsMapDrawn P plan text
+    (P : Project) × (plan : MapPlan) × (text : List ℕ) × (filed bytes ≡ Ok P) × IsMap P.k P.horizon words plan × IsMapDrawn P plan text
     × IsGiven (text_of words.out) text outcome × (outcome.elsewhere ≡ elsewhere P plan.net)
 
 -- a table where it is wanted, and a picture
@@ -182,7 +182,8 @@ IsConverted P text = (text ≡ project_text P) × (filed text ≡ Ok P)
 abbrev pub IsOver : ConvertWords → End → Type 0
 IsOver words e = (is_over words ≡ true) × Refuses (codes "--out") words.file.now 2 (codes "is the file that is read; --force writes over it") e
 
--- what is done for what is asked, with the bytes of its file; a session of the shell has no outcome
+-- what is done for what is asked, with the bytes of its file; a session of the shell has no outcome, and two files are compared by
+-- `IsComparison`
 abbrev pub IsDone : Asked → List ℕ → Outcome → Type 0
 IsDone (Map words) bytes outcome = IsMapMade words bytes outcome
 IsDone (Order words) bytes outcome = IsMadeOf bytes (text_of words.out) (IsOrderText words) outcome
@@ -199,6 +200,7 @@ IsDone (Sweep words) bytes outcome = IsSweepMade words bytes outcome
 IsDone (Check file) bytes outcome = IsMadeOf bytes None IsSummary outcome
 IsDone (Convert words) bytes outcome = (is_over words ≡ false) × IsMadeOf bytes (text_of words.out) IsConverted outcome
 IsDone (Page words) bytes outcome = IsMadeOf bytes (text_of words.out) (IsPageText words) outcome
+IsDone (Compare words) bytes outcome = ⊥
 IsDone (Shell words) bytes outcome = ⊥
 
 -- the bytes are refused as a project, by their fault
@@ -220,7 +222,7 @@ AreDelaysNotMade words bytes e =
 
 -- why what is asked isn't done
 abbrev pub IsNotDone : Asked → List ℕ → End → Type 0
-IsNotDone (Map words) bytes e = IsNotMade bytes (λ P. IsNoMap P words e) e
+IsNotDone (Map words) bytes e = IsNotMade bytes (λ P. IsNoMap P.k P.horizon words e) e
 IsNotDone (Order words) bytes e = IsNotMade bytes (λ P. IsNoOrder P words e) e
 IsNotDone (Latency words) bytes e = IsNotMade bytes (λ P. IsNoCondition P words e) e
 IsNotDone (Completed file) bytes e = IsNotMade bytes (λ P. ⊥) e
@@ -235,4 +237,5 @@ IsNotDone (Sweep words) bytes e = IsNotMade bytes (IsNoSweep words e) e
 IsNotDone (Check file) bytes e = IsNotMade bytes (λ P. ⊥) e
 IsNotDone (Convert words) bytes e = IsOver words e ⊎ ((is_over words ≡ false) × IsNotMade bytes (λ P. ⊥) e)
 IsNotDone (Page words) bytes e = IsNotMade bytes (λ P. IsNoPage P words e) e
+IsNotDone (Compare words) bytes e = e ≡ end.Words
 IsNotDone (Shell words) bytes e = e ≡ end.Words

@@ -5,20 +5,22 @@ use Rattle.project_book.specs.declared.edit.Edit.TheVariants.{Depth}
 use Rattle.project_book.specs.declared.fault.EditFault.{EditFault}
 use Rattle.project_book.specs.Faults.{number_of}
 use Rattle.project_book.specs.Project.{Project}
-use Rattle.run_queries.specs.declared.query.Query.{Query}
 use Rattle.edit_templates.specs.declared.step.Axis.{Axis}
 use Rattle.edit_templates.specs.Templates.{Template, template_of, ways}
 use Rattle.edit_templates.specs.Steps.{Step, each, first_length, followed, in_turn}
 use Rattle.edit_templates.specs.Lines.{axis_of}
 use Rattle.edit_templates.specs.Edited.{after_edits}
 use Rattle.lab_tasks.specs.declared.answered.Form.{Form}
+use Rattle.lab_tasks.specs.declared.asking.Asking.{Asking}
 use Rattle.lab_tasks.specs.declared.end.End.{End}
 use Rattle.lab_tasks.specs.declared.swept.Swept.{Swept}
 use Rattle.lab_tasks.specs.declared.swept.Setting.{Setting}
-use Rattle.lab_tasks.specs.Answered.{asked_columns, form_of, refused_cells, told_cells}
+use Rattle.lab_tasks.specs.Answered.{asked_columns, form_of, refused_cells}
 use Rattle.lab_tasks.specs.Ends.{RefusesForm, RefusesRange}
-use Rattle.lab_tasks.specs.Sweeps.{rows_of, IsSwept, IsAsked}
+use Rattle.lab_tasks.specs.Askings.{IsAsked}
+use Rattle.lab_tasks.specs.Sweeps.{rows_of, IsSwept}
 use Rattle.lab_tasks.specs.SweepTables.{max_rows, queue_names, HasRows, RefusesFirst, SayAll, AreNotSwept, AreNotAsked}
+use Rattle.lab_tasks.specs.Tellings.{AreTold}
 
 -- ---- what is gone through
 
@@ -85,35 +87,36 @@ are_even axes = list_all (λ axis. length axis.steps.items == first_length (axes
 
 -- ---- the table
 
--- what the project after some edits says to each question, or `refused N` with the number of the reason why one of the edits is refused
-abbrev pub after_cells : Form → List Query → Result Project EditFault → List (Option (List ℕ))
-after_cells form queries (Ok Q) = flat_map (told_cells form Q) queries
-after_cells form queries (Err fault) = flat_map (refused_cells form (number_of fault)) queries
+-- behind some words stands what the project after some edits says to each question and report, or `refused N` with the number of the reason
+-- why one of the edits is refused
+abbrev pub IsAfter : Form → List Asking → Result Project EditFault → List (List ℕ) → List (List ℕ) → Type 0
+IsAfter form askings (Ok Q) words cells = AreTold form Q askings words cells
+IsAfter form askings (Err fault) words cells = map Some cells ≡ map Some words ++ flat_map (refused_cells form (number_of fault)) askings
 
--- a row: the words that are put in, then what the project after the row's edits says to each question
-abbrev pub IsEditRow : Form → Project → List Query → Step → List (List ℕ) → Type 0
-IsEditRow form P queries step cells = map Some cells ≡ map Some step.0 ++ after_cells form queries (after_edits P step.1)
+-- a row: the words that are put in, then what the project after the row's edits says
+abbrev pub IsEditRow : Form → Project → List Asking → Step → List (List ℕ) → Type 0
+IsEditRow form P askings step cells = IsAfter form askings (after_edits P step.1) step.0 cells
 
 -- the first row: the names of the queues and of the braces, then the columns of the questions
 abbrev pub axes_names : List Axis → List (List ℕ)
 axes_names axes = flat_map (λ axis. map string_bytes axis.names.items) axes
 
-abbrev pub edit_header : Form → List Swept → List Axis → List Query → List (List ℕ) → List (List ℕ)
-edit_header form swept axes queries asks = queue_names swept ++ (axes_names axes ++ asked_columns form queries asks)
+abbrev pub edit_header : Form → List Swept → List Axis → List Asking → List (List ℕ) → List (List ℕ)
+edit_header form swept axes askings asks = queue_names swept ++ (axes_names axes ++ asked_columns form askings asks)
 
 -- the table: the depths and the edits that the words sweep, and the answers to the questions that the words ask, of which each number has a column of
 -- its own or not
 pub record IsEditTable (P : Project) (numbers zip : Bool) (depths edits asks : List (List ℕ)) (table : List (List (List ℕ))) : Type 0 where
   pub swept : List Swept
   pub axes : List Axis
-  pub queries : List Query
+  pub askings : List Asking
   pub are_swept : AllZip IsSwept depths swept
   pub are_edits : AllZip (IsAxis P.k) edits axes
-  pub are_asked : AllZip (IsAsked P) asks queries
+  pub are_asked : AllZip (IsAsked P) asks askings
   pub even : (zip && not (are_even axes)) ≡ false
   pub few : row_count zip swept axes ≤ max_rows
   pub rows :
-      HasRows (IsEditRow (form_of P numbers) P queries) (edit_header (form_of P numbers) swept axes queries asks) (sweep_steps zip swept axes) table
+      HasRows (IsEditRow (form_of P numbers) P askings) (edit_header (form_of P numbers) swept axes askings asks) (sweep_steps zip swept axes) table
 
 -- the edits aren't of one length, or there are too many rows
 abbrev pub AreUneven : Project → Bool → List (List ℕ) → End → Type 0

@@ -7,15 +7,16 @@ use Rattle.project_file.specs.Faults.{number_of}
 use Rattle.experiments.specs.declared.fault.Fault.{Fault}
 use Rattle.experiments.specs.declared.fault.Fault.TheVariants as fault
 use Rattle.lab_tasks.specs.declared.end.Reason.{Reason}
-use Rattle.lab_tasks.specs.declared.end.Reason.TheVariants.{Form, Within, Backwards, Refused, RefusedEdit, Source}
+use Rattle.lab_tasks.specs.declared.end.Reason.TheVariants.{Form, Within, Backwards, Refused, RefusedEdit, Source, NoProject, OtherSize}
 use Rattle.lab_tasks.specs.declared.end.End.{End}
 use Rattle.lab_tasks.specs.declared.end.End.TheVariants.{Done, Words, Word, NotRead, NotWritten, Project, Memory, Spent, Output}
 
--- a word that isn't written as it should, or names the file that is read, is one of the command line; the others have numbers outside
--- of what there is
+-- a word that isn't written as it should, or names the file that is read, is one of the command line; one may name a file that is no
+-- project; the others have numbers outside of what there is
 abbrev pub status_for : Reason → ℕ
 status_for (Form wanted) = 2
 status_for Source = 2
+status_for (NoProject fault) = 4
 status_for _ = 7
 
 abbrev pub status_of : End → ℕ
@@ -56,6 +57,8 @@ reason_text Backwards = codes "ends before it begins"
 reason_text (Refused n) = codes "is answered bad " ++ decimal n
 reason_text (RefusedEdit n) = codes "is answered refused " ++ decimal n
 reason_text Source = codes "is the file that is read; --force writes over it"
+reason_text (NoProject fault) = codes "is refused as a project: " ++ decimal (number_of fault)
+reason_text (OtherSize k) = codes "is not of k " ++ decimal k
 
 -- the line on standard error
 abbrev pub end_text : End → List ℕ

@@ -20,7 +20,6 @@ use Rattle.svg_plots.specs.declared.map.CellRow.{CellRow}
 use Rattle.svg_plots.specs.declared.map.Crossing.{Crossing}
 use Rattle.svg_plots.specs.declared.map.ShadeKey.{ShadeKey}
 use Rattle.svg_plots.specs.declared.tick.Tick.{Tick}
-use Rattle.svg_plots.specs.CellMaps.{map_text}
 use Rattle.svg_plots.specs.Lists.{each_from}
 use Rattle.svg_plots.specs.Ticks.{step_of}
 use Rattle.lab_tasks.specs.declared.plan.MapPlan.{MapPlan}
@@ -116,10 +115,11 @@ abbrev pub notes_of : Project → MapPlan → List ℕ → List (List ℕ)
 notes_of P plan name =
     caption name P.k plan.window ∷ places_note P plan.net ∷ combining_notes P plan.net ++ level_note P.k ∷ column_notes (cycles_a_column plan.window)
 
--- WHAT A MAP SHOWS, number by number; by which name its file goes there is left open
+-- WHAT A MAP OF TREE SATURATION SHOWS, number by number; by which name its file goes there is left open
 pub record IsShown (P : Project) (plan : MapPlan) (m : CellMap) : Type 0 where
   pub title : m.title ≡ map_title plan
   pub groups : m.groups.items ≡ map (group_of plan) (stages_lengths P.k plan.net plan.module (state_in (run P)) plan.window.from plan.window.to)
+  pub middle : m.middle ≡ 0
   pub most : m.most ≡ depth_of P (forward_queue plan.net)
   pub marked : m.marked ≡ depth_of P (forward_queue plan.net) - 1
   pub key : m.key.items ≡ keys_of P.k (depth_of P (forward_queue plan.net))
@@ -132,7 +132,3 @@ pub record IsShown (P : Project) (plan : MapPlan) (m : CellMap) : Type 0 where
   pub level_title : m.level_title.now ≡ codes "level"
   pub stroke_title : m.stroke_title.now ≡ codes "served"
   pub notes : (name : List ℕ) × (m.notes.items ≡ notes_of P plan name)
-
--- the document of a map that shows a run
-abbrev pub IsMapDrawn : Project → MapPlan → List ℕ → Type 0
-IsMapDrawn P plan text = (m : CellMap) × IsShown P plan m × (text ≡ map_text m)

@@ -13,6 +13,7 @@ use Rattle.lab_tasks.specs.declared.plan.CurvePlan.{CurvePlan}
 use Rattle.lab_tasks.specs.declared.plan.Measure.{Measure}
 use Rattle.lab_tasks.specs.declared.plan.Measure.TheVariants.{Answered, Served}
 use Rattle.lab_tasks.specs.Ends.{RefusesForm, RefusesBackwards}
+use Rattle.lab_tasks.specs.MapRows.{over_of, way_of, IsNoOver, IsNoWay, IsNotTaken, IsTaken}
 use Rattle.lab_tasks.specs.Numbers.{IsTold, IsUntold, AreShares, AreNoShares}
 use Rattle.lab_tasks.specs.Words.{text_of}
 
@@ -42,22 +43,25 @@ abbrev pub IsNoMeasure : Option (List ℕ) → End → Type 0
 IsNoMeasure None end = ⊥
 IsNoMeasure (Some word) end = (measure_named word ≡ None) × RefusesForm (codes "--of") word (codes "answered or served") end
 
--- the module, the first and the last cycle that the words name of a project
-abbrev pub IsModule : Project → MapWords → ℕ → Type 0
-IsModule P words n = IsTold (text_of words.module) 0 0 (lines P.k - 1) n
+-- the module that the words name of a machine of 2^k processors, and the first and the last cycle up to a horizon
+abbrev pub IsModule : ℕ → MapWords → ℕ → Type 0
+IsModule k words n = IsTold (text_of words.module) 0 0 (lines k - 1) n
 
-abbrev pub IsFrom : Project → MapWords → ℕ → Type 0
-IsFrom P words n = IsTold (text_of words.from) 0 0 P.horizon n
+abbrev pub IsFrom : ℕ → MapWords → ℕ → Type 0
+IsFrom horizon words n = IsTold (text_of words.from) 0 0 horizon n
 
-abbrev pub IsTo : Project → MapWords → ℕ → Type 0
-IsTo P words n = IsTold (text_of words.to) P.horizon 0 P.horizon n
+abbrev pub IsTo : ℕ → MapWords → ℕ → Type 0
+IsTo horizon words n = IsTold (text_of words.to) horizon 0 horizon n
 
--- what `map` draws of a project: a network, a module, and a window that doesn't end before it begins
-pub record IsMap (P : Project) (words : MapWords) (plan : MapPlan) : Type 0 where
+-- what `map` draws: of a network the queues of one way, on a module's tree or of all modules, and a window that doesn't end before it begins
+pub record IsMap (k horizon : ℕ) (words : MapWords) (plan : MapPlan) : Type 0 where
   pub net : net_of (text_of words.net) ≡ Some plan.net
-  pub number : IsModule P words plan.module
-  pub from : IsFrom P words plan.window.from
-  pub to : IsTo P words plan.window.to
+  pub way : way_of (text_of words.dir) ≡ Some plan.way
+  pub over : over_of (text_of words.queues) ≡ Some plan.over
+  pub taken : IsTaken plan.over (text_of words.module)
+  pub number : IsModule k words plan.module
+  pub from : IsFrom horizon words plan.window.from
+  pub to : IsTo horizon words plan.window.to
   pub window : plan.window.from ≤ plan.window.to
 
 -- what `rates` and `delays` measure
@@ -74,13 +78,19 @@ abbrev pub InTurn : {A : Type 0} → Type 0 → (A → Type 0) → (A → Type 0
 InTurn {A} refused told behind = refused ⊎ ((a : A) × told a × behind a)
 
 -- why words ask for no map: the first one in this order that is refused, and last a window whose two words are told
-abbrev pub IsNoMap : Project → MapWords → End → Type 0
-IsNoMap P words end =
+abbrev pub IsNoWindow : ℕ → ℕ → MapWords → End → Type 0
+IsNoWindow k horizon words end =
+    InTurn (IsUntold (codes "--module") (text_of words.module) 0 (lines k - 1) end) (IsModule k words) (λ number.
+    InTurn (IsUntold (codes "--from") (text_of words.from) 0 horizon end) (IsFrom horizon words) (λ from.
+    InTurn (IsUntold (codes "--to") (text_of words.to) 0 horizon end) (IsTo horizon words) (λ to.
+    (to < from) × RefusesBackwards (codes "--to") (unwrap_or (text_of words.to) []) end)))
+
+abbrev pub IsNoMap : ℕ → ℕ → MapWords → End → Type 0
+IsNoMap k horizon words end =
     InTurn (IsNoNet (text_of words.net) end) (λ net. net_of (text_of words.net) ≡ Some net) (λ net.
-    InTurn (IsUntold (codes "--module") (text_of words.module) 0 (lines P.k - 1) end) (IsModule P words) (λ number.
-    InTurn (IsUntold (codes "--from") (text_of words.from) 0 P.horizon end) (IsFrom P words) (λ from.
-    InTurn (IsUntold (codes "--to") (text_of words.to) 0 P.horizon end) (IsTo P words) (λ to.
-    (to < from) × RefusesBackwards (codes "--to") (unwrap_or (text_of words.to) []) end))))
+    InTurn (IsNoWay (text_of words.dir) end) (λ way. way_of (text_of words.dir) ≡ Some way) (λ way.
+    InTurn (IsNoOver (text_of words.queues) end) (λ over. over_of (text_of words.queues) ≡ Some over) (λ over.
+    IsNotTaken over (text_of words.module) end ⊎ (IsTaken over (text_of words.module) × IsNoWindow k horizon words end))))
 
 -- why words ask for no curves, and for shares also where there was no memory
 abbrev pub IsNoCurve : CurveWords → End → Type 0

@@ -13,10 +13,12 @@ use Rattle.bench_shell.specs.declared.answer.Answer.{Answer}
 use Rattle.bench_shell.specs.declared.answer.Answer.TheVariants.{Bad, BadCommand}
 use Rattle.bench_shell.specs.declared.fault.RunFault.{RunFault}
 use Rattle.bench_shell.specs.declared.fault.RunFault.TheVariants.{Read, Write, OtherEditor, Memory, Clock}
+use Rattle.lab_shell.specs.declared.manner.Voice.{Voice}
+use Rattle.lab_shell.specs.declared.manner.Voice.TheVariants as voice
 use Rattle.lab_shell.specs.declared.manner.Ended.{Ended}
 use Rattle.lab_shell.specs.declared.manner.Ended.TheVariants as ended
 use Rattle.lab_shell.specs.declared.word.ShellWord.{ShellWord}
-use Rattle.lab_shell.specs.declared.word.ShellWord.TheVariants.{Quit, Help, HelpOn, Show, Script, Save, Undo, Latency, Done, Trace, Full, OrderAll}
+use Rattle.lab_shell.specs.declared.word.ShellWord.TheVariants.{Quit, Help, HelpOn, Show, Script, Save, Undo, Latency, Done, Trace, Full, Busy, Series, OrderAll}
 use Rattle.lab_shell.specs.declared.clerk.Said.{Said}
 use Rattle.lab_shell.specs.declared.clerk.Said.TheVariants.{Text, Refused, Unsaved}
 use Rattle.lab_shell.specs.Words.{first_word}
@@ -24,7 +26,7 @@ use Rattle.lab_tasks.specs.declared.end.End.{End}
 use Rattle.lab_tasks.specs.declared.end.End.TheVariants as end
 use Rattle.lab_tasks.specs.Summaries.{IsSummary}
 use Rattle.lab_tasks.specs.Done.{IsConverted, IsNotMade}
-use Rattle.lab_tasks.specs.ShellReports.{IsReported, IsText}
+use Rattle.lab_tasks.specs.ShellReports.{IsReported, IsSeriesReported, IsText}
 
 -- the words of an entry, the edit that makes it, and the edits that make a script
 abbrev pub entry_words : Option ScriptEntry → List ℕ
@@ -66,11 +68,17 @@ IsSaid saves P Latency words said = IsReported P (codes "latency") words said
 IsSaid saves P Done words said = IsReported P (codes "done") words said
 IsSaid saves P Trace words said = IsReported P (codes "trace") words said
 IsSaid saves P Full words said = IsReported P (codes "full") words said
+IsSaid saves P Busy words said = IsReported P (codes "busy") words said
+IsSaid saves P Series words said = IsSeriesReported P words said
 IsSaid saves P OrderAll words said = IsReported P (codes "order") [] said
 IsSaid saves P Quit words said = said ≡ Unsaved
 IsSaid saves P Help words said = said ≡ Unsaved
 IsSaid saves P HelpOn words said = said ≡ Unsaved
 IsSaid saves P Undo words said = said ≡ Unsaved
+
+-- for whom a session answers: for a program where JSON is asked for, else for people at a terminal
+abbrev pub voice_of : Bool → Bool → Voice
+voice_of json at_terminal = if json then voice.Json else if at_terminal then voice.People else voice.Plain
 
 -- the status of a session that ended so
 abbrev pub status_of_session : Ended → ℕ

@@ -1,32 +1,34 @@
 -- The table of a sweep, and why there is none.
-use Rattle.std.specs.Prelude.{◌≡◌, ◌≤◌, ◌<◌, ℕ, ◌⊎◌, Bool, List, [], ◌∷◌, ◌++◌, map, length, take, slice_index_or, Some, codes, decimal}
-use Rattle.std.specs.List.{flat_map, AllZip}
+use Rattle.std.specs.Prelude.{◌≡◌, ◌≤◌, ◌<◌, ℕ, ◌⊎◌, Bool, List, [], ◌∷◌, ◌++◌, map, length, take, slice_index_or, codes, decimal}
+use Rattle.std.specs.List.{AllZip}
 use Rattle.line_words.specs.Words.{words_of}
 use Rattle.project_book.specs.Project.{Project}
 use Rattle.commands.specs.Commands.{command_of}
-use Rattle.run_queries.specs.declared.query.Query.{Query}
 use Rattle.lab_tasks.specs.declared.answered.Form.{Form}
+use Rattle.lab_tasks.specs.declared.asking.Asking.{Asking}
 use Rattle.lab_tasks.specs.declared.end.End.{End}
 use Rattle.lab_tasks.specs.declared.end.End.TheVariants.{Memory, Spent}
 use Rattle.lab_tasks.specs.declared.swept.Swept.{Swept}
 use Rattle.lab_tasks.specs.declared.swept.Setting.{Setting}
-use Rattle.lab_tasks.specs.Answered.{asked_columns, form_of, told_cells}
+use Rattle.lab_tasks.specs.Answered.{asked_columns, form_of}
 use Rattle.lab_tasks.specs.Ends.{RefusesRange}
-use Rattle.lab_tasks.specs.Sweeps.{queue_text, depths_in, IsSwept, RefusesDepths, rows_of, with_settings, IsAsked, RefusesAsk}
+use Rattle.lab_tasks.specs.Askings.{IsAsked, RefusesAsk}
+use Rattle.lab_tasks.specs.Sweeps.{queue_text, depths_in, IsSwept, RefusesDepths, rows_of, with_settings}
+use Rattle.lab_tasks.specs.Tellings.{AreTold}
 
 -- the first row: the names of the queues, then the columns of the questions
 abbrev pub queue_names : List Swept → List (List ℕ)
 queue_names swept = map (λ s. queue_text s.queue) swept
 
-abbrev pub header_cells : Form → List Swept → List Query → List (List ℕ) → List (List ℕ)
-header_cells form swept queries asks = queue_names swept ++ asked_columns form queries asks
+abbrev pub header_cells : Form → List Swept → List Asking → List (List ℕ) → List (List ℕ)
+header_cells form swept askings asks = queue_names swept ++ asked_columns form askings asks
 
 -- a row: its depths, then what the project with these depths says to each question
 abbrev pub depth_words : List Setting → List (List ℕ)
 depth_words row = map (λ s. decimal s.depth) row
 
-abbrev pub IsRow : Form → Project → List Query → List Setting → List (List ℕ) → Type 0
-IsRow form P queries row cells = map Some cells ≡ map Some (depth_words row) ++ flat_map (told_cells form (with_settings P row)) queries
+abbrev pub IsRow : Form → Project → List Asking → List Setting → List (List ℕ) → Type 0
+IsRow form P askings row cells = AreTold form (with_settings P row) askings (depth_words row) cells
 
 -- a table has a row for each of some things behind a first one
 abbrev pub HasRows : {T : Type 0} → (T → List (List ℕ) → Type 0) → List (List ℕ) → List T → List (List (List ℕ)) → Type 0
@@ -40,11 +42,11 @@ max_rows = 10000
 -- of its own or not
 pub record IsTable (P : Project) (numbers : Bool) (depths asks : List (List ℕ)) (table : List (List (List ℕ))) : Type 0 where
   pub swept : List Swept
-  pub queries : List Query
+  pub askings : List Asking
   pub are_swept : AllZip IsSwept depths swept
-  pub are_asked : AllZip (IsAsked P) asks queries
+  pub are_asked : AllZip (IsAsked P) asks askings
   pub few : length (rows_of swept) ≤ max_rows
-  pub rows : HasRows (IsRow (form_of P numbers) P queries) (header_cells (form_of P numbers) swept queries asks) (rows_of swept) table
+  pub rows : HasRows (IsRow (form_of P numbers) P askings) (header_cells (form_of P numbers) swept askings asks) (rows_of swept) table
 
 -- each of some words says something
 abbrev pub SayAll : {T : Type 0} → (List ℕ → T → Type 0) → List (List ℕ) → Type 0

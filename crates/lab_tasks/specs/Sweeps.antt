@@ -1,5 +1,5 @@
 -- The rows of a sweep.
-use Rattle.std.specs.Prelude.{◌≡◌, ◌<◌, ℕ, ◌+◌, ◌-◌, ◌&&◌, true, List, [], ◌∷◌, map, MatchBool, Option, None, Some, ◌++◌, codes, decimal}
+use Rattle.std.specs.Prelude.{◌≡◌, ◌<◌, ℕ, ◌+◌, ◌-◌, ◌&&◌, true, List, [], ◌∷◌, map, MatchBool, Option, None, Some, codes}
 use Rattle.std.specs.List.{flat_map}
 use Rattle.omega_net.specs.Wires.{below}
 use Rattle.project_book.specs.declared.edit.Depths.{Depths}
@@ -9,17 +9,11 @@ use Rattle.project_book.specs.Queues.{is_depth, least_depth}
 use Rattle.project_book.specs.Limits.{max_depth}
 use Rattle.project_book.specs.Edits.{edited}
 use Rattle.project_book.specs.Project.{Project}
-use Rattle.line_words.specs.Words.{words_of}
 use Rattle.commands.specs.Queues.{queue_named}
-use Rattle.commands.specs.Commands.{command_of}
-use Rattle.commands.specs.declared.command.Command.{Command}
-use Rattle.commands.specs.declared.command.Command.TheVariants as command
-use Rattle.run_queries.specs.declared.query.Query.{Query}
-use Rattle.run_queries.specs.Bad.{bad_query}
 use Rattle.lab_tasks.specs.declared.end.End.{End}
 use Rattle.lab_tasks.specs.declared.swept.Swept.{Swept}
 use Rattle.lab_tasks.specs.declared.swept.Setting.{Setting}
-use Rattle.lab_tasks.specs.Ends.{Refuses, RefusesForm, RefusesRange, RefusesBackwards}
+use Rattle.lab_tasks.specs.Ends.{RefusesForm, RefusesRange, RefusesBackwards}
 use Rattle.lab_tasks.specs.Numbers.{parts_at, range_of}
 
 -- the name of some queues in a table
@@ -67,16 +61,3 @@ rows_of (swept ∷ others) = flat_map (λ setting. map (λ row. setting ∷ row)
 abbrev pub with_settings : Project → List Setting → Project
 with_settings P [] = P
 with_settings P (setting ∷ others) = with_settings (edited P (Depth setting.queue setting.depth)) others
-
--- the question of a word, for a project that answers it
-abbrev pub IsAsked : Project → List ℕ → Query → Type 0
-IsAsked P word query = (command_of P.k (words_of word) ≡ Some (command.Query query)) × (bad_query P query ≡ None)
-
--- why a word asks nothing
-abbrev pub RefusesQuery : List ℕ → Option ℕ → End → Type 0
-RefusesQuery word None end = ⊥
-RefusesQuery word (Some n) end = Refuses (codes "--ask") word 7 (codes "is answered bad " ++ decimal n) end
-
-abbrev pub RefusesAsk : Project → List ℕ → Option Command → End → Type 0
-RefusesAsk P word (Some (command.Query query)) end = RefusesQuery word (bad_query P query) end
-RefusesAsk P word other end = RefusesForm (codes "--ask") word (codes "a question, as 'tree low 0'") end

@@ -4,9 +4,10 @@ use Rattle.std.specs.Option.{option_map_or}
 use Rattle.std.specs.Borrow.{Bor}
 use Rattle.clap.specs.Words.{Row, Text, all_of, first_of}
 use Rattle.lab_tasks.specs.declared.words.Asked.{Asked}
-use Rattle.lab_tasks.specs.declared.words.Asked.TheVariants.{Map, Order, Latency, Done, Trace, Full, Series, Busy, Rates, Delays, Load, Sweep, Check, Convert, Page, Shell}
+use Rattle.lab_tasks.specs.declared.words.Asked.TheVariants.{Map, Compare, Order, Latency, Done, Trace, Full, Series, Busy, Rates, Delays, Load, Sweep, Check, Convert, Page, Shell}
 use Rattle.lab_tasks.specs.declared.busy.BusyWords.{BusyWords}
 use Rattle.lab_tasks.specs.declared.words.MapWords.{MapWords}
+use Rattle.lab_tasks.specs.declared.words.CompareWords.{CompareWords}
 use Rattle.lab_tasks.specs.declared.convert.ConvertWords.{ConvertWords}
 use Rattle.lab_tasks.specs.declared.latency.LatencyWords.{LatencyWords}
 use Rattle.lab_tasks.specs.declared.order.OrderWords.{OrderWords}
@@ -39,10 +40,16 @@ file_at rows = unwrap_or (first_of (codes "FILE") rows) []
 pub record AreMapWords (rows : List Row) (words : MapWords) : Type 0 where
   pub file : words.file.now ≡ file_at rows
   pub net : text_of words.net ≡ first_of (codes "net") rows
+  pub dir : text_of words.dir ≡ first_of (codes "dir") rows
+  pub queues : text_of words.queues ≡ first_of (codes "queues") rows
   pub number : text_of words.module ≡ first_of (codes "module") rows
   pub from : text_of words.from ≡ first_of (codes "from") rows
   pub to : text_of words.to ≡ first_of (codes "to") rows
   pub out : text_of words.out ≡ first_of (codes "out") rows
+
+pub record AreCompareWords (rows : List Row) (words : CompareWords) : Type 0 where
+  pub map : AreMapWords rows words.map
+  pub other : first_of (codes "compare") rows ≡ Some words.other.now
 
 pub record AreOrderWords (rows : List Row) (words : OrderWords) : Type 0 where
   pub file : words.file.now ≡ file_at rows
@@ -123,6 +130,7 @@ pub record AreConvertWords (rows : List Row) (words : ConvertWords) : Type 0 whe
 pub record AreShellWords (rows : List Row) (words : ShellWords) : Type 0 where
   pub file : text_of words.file ≡ first_of (codes "FILE") rows
   pub strict : words.strict ≡ is_given rows (codes "strict")
+  pub json : words.json ≡ is_given rows (codes "json")
 
 -- a task is named, and its matches say this
 abbrev pub IsNamed : Option (Text × List Row) → Text → (List Row → Type 0) → Type 0
@@ -130,7 +138,8 @@ IsNamed said name Says = (rows : List Row) × (said ≡ Some (name, rows)) × Sa
 
 -- what is asked for where a task is named, and its matches hold these rows
 abbrev pub AsksFor : Option (Text × List Row) → Asked → Type 0
-AsksFor said (Map words) = IsNamed said (codes "map") (λ rows. AreMapWords rows words)
+AsksFor said (Map words) = IsNamed said (codes "map") (λ rows. AreMapWords rows words × (first_of (codes "compare") rows ≡ None))
+AsksFor said (Compare words) = IsNamed said (codes "map") (λ rows. AreCompareWords rows words)
 AsksFor said (Order words) = IsNamed said (codes "order") (λ rows. AreOrderWords rows words)
 AsksFor said (Latency words) = IsNamed said (codes "latency") (λ rows. AreLatencyWords rows words)
 AsksFor said (Done file) = IsNamed said (codes "done") (λ rows. file.now ≡ file_at rows)
@@ -149,6 +158,7 @@ AsksFor said (Shell words) = IsNamed said (codes "shell") (λ rows. AreShellWord
 
 abbrev pub file_of : Asked → Option (List ℕ)
 file_of (Map words) = Some words.file.now
+file_of (Compare words) = Some words.map.file.now
 file_of (Order words) = Some words.file.now
 file_of (Latency words) = Some words.file.now
 file_of (Done file) = Some file.now

@@ -3,10 +3,16 @@ ghost use Rattle.std.specs.Prelude.{◌≡◌, ◌++◌, IfOk, OnOk, Some, codes
 ghost use Rattle.std.specs.List.{flat_map};
 ghost use Rattle.std.specs.Option.{option_copied};
 ghost use Rattle.run_queries.specs.Texts.{body_text};
-ghost use Rattle.lab_tasks.specs.Answered.{asked_columns, bad_text, cell_at, cells_of, column_name, columns_for, first_text, in_first, number_at, number_name, number_shown, numbers_of, one_of, question_columns, refused_cells, refused_text, shown, width_of};
+ghost use Rattle.lab_tasks.specs.Answered.{asked_columns, bad_text, cell_at, cells_of, column_name, columns_for, figure_name, figures_of, first_text, in_first, number_at, number_name, number_shown, numbers_of, one_of, question_columns, refused_cells, refused_text, shown, width_of};
 
+use crate::asking::Asking;
 use crate::grid::Cell;
+use crate::report_figures::{
+    DoneName, done_figure, done_line, full_figure, full_line, full_name, latency_figure,
+    latency_line, latency_name,
+};
 use run_queries::{Body, Query};
+use run_reports::{Spread, Summary};
 use std::alloc::{AllocError, Global};
 use std::fmt;
 use std::fmt::Write;
@@ -31,17 +37,41 @@ fn numbers_of(k: u32, query: Query) -> u32
     }
 }
 
+/// How many numbers a question's answer or a report has.
+fn figures_of(k: u32, asking: Asking) -> u32
+    ensures { result ≡ figures_of k asking }
+{
+    match asking {
+        Asking::Query(query) => numbers_of(k, query),
+        Asking::Latency(_) | Asking::Done => 8,
+        Asking::Full => 4,
+    }
+}
+
 impl Form {
-    /// How many columns a question has.
-    fn width(self, query: Query) -> u32
-        ensures { result ≡ width_of self query }
+    /// How many columns a question or a report has.
+    fn width(self, asking: Asking) -> u32
+        ensures { result ≡ width_of self asking }
     {
         if self.numbers {
-            numbers_of(self.k, query)
+            figures_of(self.k, asking)
         } else {
             1
         }
     }
+}
+
+/// What is said to a question or a report.
+#[derive(Drop)]
+pub(crate) enum Says {
+    Body(Body),
+    /// There is no answer, by the number of the reason.
+    Bad(u8),
+    Latency(Summary),
+    /// Of last replies, and of ends of scripts.
+    Done(Spread, Spread),
+    /// Of the cycles at which queues first were full, and of how many queues.
+    Full(Spread, usize),
 }
 
 /// The first of two texts, or the other one.
@@ -96,76 +126,103 @@ impl fmt::Display for NumberName {
     }
 }
 
+/// The name of a number of a question's answer or of a report.
+#[derive(Clone, Copy)]
+struct FigureName {
+    asking: Asking,
+    place: u32,
+}
+
+impl fmt::Display for FigureName {
+    ghost output = { λ name. Some (figure_name name.asking name.place) };
+
+    fn fmt<W: fmt::Write>(&self, f: &mut fmt::Formatter<W>) -> fmt::Result {
+        let place = self.place;
+        match self.asking {
+            Asking::Query(query) => {
+                let name = NumberName { query, place };
+                write!(f, "{name}")
+            }
+            Asking::Latency(_) => f.write_str(latency_name(place)),
+            Asking::Done => {
+                let name = DoneName(place);
+                write!(f, "{name}")
+            }
+            Asking::Full => f.write_str(full_name(place)),
+        }
+    }
+}
+
 /// The name of a column.
 fn column_name(
     alloc: Global,
     form: Form,
     ask: &str,
-    query: Query,
+    asking: Asking,
     place: u32,
 ) -> Result<String, AllocError>
-    ensures { IfOk result (λ name. string_bytes name ≡ column_name form ask.now query place) }
+    ensures { IfOk result (λ name. string_bytes name ≡ column_name form ask.now asking place) }
 {
     if !form.numbers {
         return String::from_str(alloc, ask);
     }
-    let name = NumberName { query, place };
+    let name = FigureName { asking, place };
     format!(in alloc; "{ask}{name}")
 }
 
-/// Adds the columns of a question.
+/// Adds the columns of a question or a report.
 fn add_columns(
     alloc: Global,
     names: &mut Vec<Cell>,
     form: Form,
     ask: &str,
-    query: Query,
+    asking: Asking,
 ) -> Result<(), AllocError>
-    ensures { OnOk result (names.new.items ≡ names.old.items ++ question_columns form ask.now query) }
+    ensures { OnOk result (names.new.items ≡ names.old.items ++ question_columns form ask.now asking) }
 {
-    for place in 0..form.width(query) {
-        let name = column_name(alloc, form, ask, query, place)?;
+    for place in 0..form.width(asking) {
+        let name = column_name(alloc, form, ask, asking, place)?;
         names.push(Cell::new(name))?;
     }
     Ok(())
 }
 
-/// Adds the columns of a question, where there is one.
+/// Adds the columns of a question or a report, where there is one.
 fn add_columns_for(
     alloc: Global,
     names: &mut Vec<Cell>,
     form: Form,
     ask: &str,
-    query: Option<Query>,
+    asking: Option<Asking>,
 ) -> Result<(), AllocError>
-    ensures { OnOk result (names.new.items ≡ names.old.items ++ columns_for form ask.now query) }
+    ensures { OnOk result (names.new.items ≡ names.old.items ++ columns_for form ask.now asking) }
 {
-    match query {
-        Some(query) => add_columns(alloc, names, form, ask, query),
+    match asking {
+        Some(asking) => add_columns(alloc, names, form, ask, asking),
         None => Ok(()),
     }
 }
 
-/// The question at a place.
-fn query_at(queries: &[Query], place: usize) -> Option<Query>
-    ensures { result ≡ slice_get queries.now place }
+/// What is asked at a place.
+fn asking_at(askings: &[Asking], place: usize) -> Option<Asking>
+    ensures { result ≡ slice_get askings.now place }
 {
-    queries.get(place).copied()
+    askings.get(place).copied()
 }
 
-/// Adds the columns of all questions.
+/// Adds the columns of all questions and reports.
 pub(crate) fn add_asked(
     alloc: Global,
     names: &mut Vec<Cell>,
     form: Form,
-    queries: &[Query],
+    askings: &[Asking],
     asks: &[&str],
 ) -> Result<(), AllocError>
-    ensures { OnOk result (names.new.items ≡ names.old.items ++ asked_columns form queries.now (map (λ ask. ask.now) asks.entry.now)) }
+    ensures { OnOk result (names.new.items ≡ names.old.items ++ asked_columns form askings.now (map (λ ask. ask.now) asks.entry.now)) }
 {
     for (place, ask) in asks.iter().enumerate() {
-        let query = query_at(queries, place);
-        add_columns_for(alloc, names, form, ask, query)?;
+        let asking = asking_at(askings, place);
+        add_columns_for(alloc, names, form, ask, asking)?;
     }
     Ok(())
 }
@@ -184,13 +241,16 @@ fn bad_word(alloc: Global, number: u8) -> Result<String, AllocError>
     format!(in alloc; "bad {number}")
 }
 
-/// The text of what is said to a question.
-fn said(alloc: Global, says: &Result<Body, u8>) -> Result<String, AllocError>
+/// The text of what is said.
+fn said(alloc: Global, says: &Says) -> Result<String, AllocError>
     ensures { IfOk result (λ text. shown says.now ≡ Some (string_bytes text)) }
 {
     match says {
-        Ok(body) => printed(alloc, body),
-        Err(number) => bad_word(alloc, *number),
+        Says::Body(body) => printed(alloc, body),
+        Says::Bad(number) => bad_word(alloc, *number),
+        Says::Latency(summary) => latency_line(alloc, summary),
+        Says::Done(replies, ends) => done_line(alloc, replies, ends),
+        Says::Full(fulls, queues) => full_line(alloc, fulls, *queues),
     }
 }
 
@@ -230,26 +290,29 @@ fn number_in(alloc: Global, body: &Body, place: u32) -> Result<String, AllocErro
     }
 }
 
-/// What is said to a question, in one of the columns of its numbers.
-fn number_said(alloc: Global, says: &Result<Body, u8>, place: u32) -> Result<String, AllocError>
+/// What stands in a column where there is no answer.
+fn bad_in(alloc: Global, number: u8, place: u32) -> Result<String, AllocError>
+    ensures { IfOk result (λ text. string_bytes text ≡ in_first (bad_text number) place) }
+{
+    let bad = bad_word(alloc, number)?;
+    in_first(alloc, bad.as_str(), place)
+}
+
+/// What is said, in one of the columns of its numbers.
+fn number_said(alloc: Global, says: &Says, place: u32) -> Result<String, AllocError>
     ensures { IfOk result (λ text. number_shown says.now place ≡ Some (string_bytes text)) }
 {
     match says {
-        Ok(body) => number_in(alloc, body, place),
-        Err(number) => {
-            let bad = bad_word(alloc, *number)?;
-            in_first(alloc, bad.as_str(), place)
-        }
+        Says::Body(body) => number_in(alloc, body, place),
+        Says::Bad(number) => bad_in(alloc, *number, place),
+        Says::Latency(summary) => latency_figure(alloc, summary, place),
+        Says::Done(replies, ends) => done_figure(alloc, replies, ends, place),
+        Says::Full(fulls, queues) => full_figure(alloc, fulls, *queues, place),
     }
 }
 
-/// What stands in one of the columns of a question.
-fn cell_in(
-    alloc: Global,
-    form: Form,
-    says: &Result<Body, u8>,
-    place: u32,
-) -> Result<String, AllocError>
+/// What stands in one of the columns of a question or a report.
+fn cell_in(alloc: Global, form: Form, says: &Says, place: u32) -> Result<String, AllocError>
     ensures { IfOk result (λ text. cell_at form says.now place ≡ Some (string_bytes text)) }
 {
     if form.numbers {
@@ -259,17 +322,17 @@ fn cell_in(
     }
 }
 
-/// Adds what is said to a question, in its columns.
+/// Adds what is said to a question or a report, in its columns.
 pub(crate) fn add_said(
     alloc: Global,
     cells: &mut Vec<Cell>,
     form: Form,
-    query: Query,
-    says: &Result<Body, u8>,
+    asking: Asking,
+    says: &Says,
 ) -> Result<(), AllocError>
-    ensures { OnOk result (map Some cells.new.items ≡ map Some cells.old.items ++ cells_of form query says.now) }
+    ensures { OnOk result (map Some cells.new.items ≡ map Some cells.old.items ++ cells_of form asking says.now) }
 {
-    for place in 0..form.width(query) {
+    for place in 0..form.width(asking) {
         let cell = cell_in(alloc, form, says, place)?;
         cells.push(Cell::new(cell))?;
     }
@@ -283,7 +346,7 @@ fn refused_word(alloc: Global, number: u8) -> Result<String, AllocError>
     format!(in alloc; "refused {number}")
 }
 
-/// What stands in one of a question's columns where an edit is refused.
+/// What stands in one of the columns where an edit is refused.
 fn refused_in(alloc: Global, number: u8, place: u32) -> Result<String, AllocError>
     ensures { IfOk result (λ text. string_bytes text ≡ in_first (refused_text number) place) }
 {
@@ -291,17 +354,17 @@ fn refused_in(alloc: Global, number: u8, place: u32) -> Result<String, AllocErro
     in_first(alloc, refused.as_str(), place)
 }
 
-/// Adds the columns of a question where an edit is refused.
+/// Adds the columns of a question or a report where an edit is refused.
 fn add_refused(
     alloc: Global,
     cells: &mut Vec<Cell>,
     form: Form,
     number: u8,
-    query: Query,
+    asking: Asking,
 ) -> Result<(), AllocError>
-    ensures { OnOk result (map Some cells.new.items ≡ map Some cells.old.items ++ refused_cells form number query) }
+    ensures { OnOk result (map Some cells.new.items ≡ map Some cells.old.items ++ refused_cells form number asking) }
 {
-    for place in 0..form.width(query) {
+    for place in 0..form.width(asking) {
         let cell = refused_in(alloc, number, place)?;
         cells.push(Cell::new(cell))?;
     }
@@ -314,12 +377,12 @@ pub(crate) fn add_all_refused(
     cells: &mut Vec<Cell>,
     form: Form,
     number: u8,
-    queries: &[Query],
+    askings: &[Asking],
 ) -> Result<(), AllocError>
-    ensures { OnOk result (map Some cells.new.items ≡ map Some cells.old.items ++ flat_map (refused_cells form number) queries.now) }
+    ensures { OnOk result (map Some cells.new.items ≡ map Some cells.old.items ++ flat_map (refused_cells form number) askings.now) }
 {
-    for query in queries {
-        add_refused(alloc, cells, form, number, *query)?;
+    for asking in askings {
+        add_refused(alloc, cells, form, number, *asking)?;
     }
     Ok(())
 }

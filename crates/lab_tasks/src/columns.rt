@@ -1,6 +1,6 @@
 //! The columns of a map: one for each cycle of a window, or for several.
 ghost use Rattle.std.specs.Prelude.{◌≡◌, ◌<◌, ◌≤◌, IfOk};
-ghost use Rattle.lab_tasks.specs.Columns.{any_columns, any_of, columns_in, columns_of, cycles_a_column, greatest_columns, greatest_of};
+ghost use Rattle.lab_tasks.specs.Columns.{any_columns, any_of, columns_in, columns_of, cycles_a_column, distance, farther, farthest_columns, farthest_of, greatest_columns, greatest_of};
 
 use experiments::Window;
 use std::alloc::{AllocError, Global};
@@ -19,7 +19,7 @@ pub(crate) fn cycles_a_column(window: Window) -> u32
 }
 
 /// How many columns there are.
-fn columns_in(window: Window) -> u32
+pub(crate) fn columns_in(window: Window) -> u32
     requires window { window.from ≤ window.to }
     requires short { window.to < 1000000 }
     ensures { result ≡ columns_in window }
@@ -82,6 +82,57 @@ pub(crate) fn any_columns(
     for column in 0..columns_in(window) {
         let end = rest.len().min(each);
         columns.push(any(&rest[..end]))?;
+        rest = &rest[end..];
+    }
+    Ok(columns)
+}
+
+/// How far a number is from the one in the middle.
+fn distance(middle: u8, number: u8) -> u8
+    ensures { result ≡ distance middle number }
+{
+    number.saturating_sub(middle) + middle.saturating_sub(number)
+}
+
+/// The first of two numbers, but the second where that is farther from the one in the middle.
+fn farther(middle: u8, far: u8, number: u8) -> u8
+    ensures { result ≡ farther middle far number }
+{
+    if distance(middle, far) < distance(middle, number) {
+        number
+    } else {
+        far
+    }
+}
+
+/// The number that is farthest from the one in the middle.
+fn farthest(middle: u8, numbers: &[u8]) -> u8
+    ensures { result ≡ farthest_of middle numbers.now }
+{
+    let mut far = middle;
+    for number in numbers {
+        far = farther(middle, far, *number);
+    }
+    far
+}
+
+/// In each column the number that is farthest from the one in the middle.
+pub(crate) fn farthest_columns(
+    alloc: Global,
+    middle: u8,
+    window: Window,
+    numbers: &[u8],
+) -> Result<Vec<u8>, AllocError>
+    requires window { window.from ≤ window.to }
+    requires short { window.to < 1000000 }
+    ensures { IfOk result (λ v. v.items ≡ farthest_columns middle window numbers.now) }
+{
+    let each = cycles_a_column(window) as usize;
+    let mut columns = Vec::new(alloc);
+    let mut rest = numbers;
+    for column in 0..columns_in(window) {
+        let end = rest.len().min(each);
+        columns.push(farthest(middle, &rest[..end]))?;
         rest = &rest[end..];
     }
     Ok(columns)

@@ -3,23 +3,23 @@ ghost use Rattle.std.specs.Prelude.{◌≡◌, ◌-◌, ◌^◌, ◌≤◌, ◌+
 ghost use Rattle.std.specs.List.{AllZip};
 ghost use Rattle.edit_templates.specs.Braces.{put_text};
 ghost use Rattle.edit_templates.specs.Edited.{after_edits};
-ghost use Rattle.lab_tasks.specs.EditSweeps.{after_cells, are_even, axes_names, edit_count, edit_header, edit_steps, row_count, settings_step, sweep_steps, IsAxis, IsEditRow, IsEditTable, IsNoEditTable, AreNotEdits, RefusesEdit};
+ghost use Rattle.lab_tasks.specs.EditSweeps.{are_even, axes_names, edit_count, edit_header, edit_steps, row_count, settings_step, sweep_steps, IsAfter, IsAxis, IsEditRow, IsEditTable, IsNoEditTable, AreNotEdits, RefusesEdit};
 ghost use Rattle.lab_tasks.specs.Ends.{IsStop};
-ghost use Rattle.lab_tasks.specs.Sweeps.{rows_of, IsAsked, IsSwept};
+ghost use Rattle.lab_tasks.specs.Askings.{IsAsked};
+ghost use Rattle.lab_tasks.specs.Sweeps.{rows_of, IsSwept};
 ghost use Rattle.lab_tasks.specs.SweepTables.{max_rows, HasRows, OrMemory, OrStop};
 
 use crate::answered::{Form, add_all_refused, add_asked};
+use crate::asking::{Asking, all_askings};
 use crate::end::{End, Reason};
 use crate::grid::{Cell, Grid, Row};
-use crate::sweep::{
-    MOST_ROWS, add_queues, add_told, all_queries, all_rows, all_swept, count_rows, form_of, opened,
-};
+use crate::sweep::{MOST_ROWS, add_queues, all_rows, all_swept, count_rows, form_of, opened};
 use crate::swept::{Setting, Swept};
+use crate::telling::add_told;
 use edit_templates::{Axis, Put, Step, Template, after_edits, behind, each, in_turn};
 use experiments::Fault;
 use project_book::{Edit, EditFault, Project};
 use rayon::prelude::*;
-use run_queries::Query;
 use std::alloc::{AllocError, Global};
 use std::thread::Threads;
 
@@ -179,7 +179,7 @@ fn are_even(axes: &[Axis<'_>]) -> bool
 struct Plan<'a> {
     swept: Vec<Swept>,
     axes: Vec<Axis<'a>>,
-    queries: Vec<Query>,
+    askings: Vec<Asking>,
 }
 
 /// What the words sweep and ask.
@@ -194,7 +194,7 @@ fn edit_plan<'a>(
 ) -> Result<Plan<'a>, End<'a>>
     ensures swept { IfOk result (λ plan. AllZip IsSwept (map (λ word. word.now) depths.entry.now) plan.swept.items) }
     ensures edits { IfOk result (λ plan. AllZip (IsAxis project.now.k) (map (λ word. word.now) edits.entry.now) plan.axes.items) }
-    ensures asked { IfOk result (λ plan. AllZip (IsAsked project.now) (map (λ word. word.now) asks.entry.now) plan.queries.items) }
+    ensures asked { IfOk result (λ plan. AllZip (IsAsked project.now) (map (λ word. word.now) asks.entry.now) plan.askings.items) }
     ensures even { IfOk result (λ plan. (zip && not (are_even plan.axes.items)) ≡ false) }
     ensures few { IfOk result (λ plan. row_count zip plan.swept.items plan.axes.items ≤ max_rows) }
     ensures refused { IfErr result (OrMemory (IsNoEditTable project.now zip (map (λ word. word.now) depths.entry.now) (map (λ word. word.now) edits.entry.now) (map (λ word. word.now) asks.entry.now))) }
@@ -207,8 +207,8 @@ fn edit_plan<'a>(
         Ok(axes) => axes,
         Err(end) => return Err(end),
     };
-    let queries = match all_queries(alloc, project, asks) {
-        Ok(queries) => queries,
+    let askings = match all_askings(alloc, project, asks) {
+        Ok(askings) => askings,
         Err(end) => return Err(end),
     };
     if zip && !are_even(axes.as_slice()) {
@@ -228,7 +228,7 @@ fn edit_plan<'a>(
     Ok(Plan {
         swept,
         axes,
-        queries,
+        askings,
     })
 }
 
@@ -241,21 +241,21 @@ fn add_after<T: Threads + Sync>(
     form: Form,
     project: &Project,
     edits: &[Edit],
-    queries: &[Query],
+    askings: &[Asking],
     cells: &mut Vec<Cell>,
 ) -> Result<(), Fault>
-    ensures { OnOk result (map Some cells.new.items ≡ map Some cells.old.items ++ after_cells form queries.now (after_edits project.now edits.now)) }
+    ensures { OnOk result (IsAfter form askings.now (after_edits project.now edits.now) cells.old.items cells.new.items) }
 {
     let after = match after_edits(project, edits) {
         Ok(after) => after,
         Err(EditFault::Memory) => return Err(Fault::Memory),
         Err(fault) => {
-            add_all_refused(alloc, cells, form, fault.number(), queries)?;
+            add_all_refused(alloc, cells, form, fault.number(), askings)?;
             return Ok(());
         }
     };
     let mut bench = opened(alloc, after)?;
-    add_told(rt, alloc, form, &mut bench, queries, cells)
+    add_told(rt, alloc, form, &mut bench, askings, cells)
 }
 
 /// A word that is put in, as text.
@@ -283,13 +283,13 @@ fn edit_row<T: Threads + Sync>(
     form: Form,
     project: &Project,
     step: &Step<'_>,
-    queries: &[Query],
+    askings: &[Asking],
 ) -> Result<Row, Fault>
-    ensures { IfOk result (IsEditRow form project.now queries.now step.now) }
+    ensures { IfOk result (IsEditRow form project.now askings.now step.now) }
 {
     let mut cells = Vec::new(alloc);
     add_puts(alloc, &mut cells, step.puts())?;
-    add_after(rt, alloc, form, project, step.edits(), queries, &mut cells)?;
+    add_after(rt, alloc, form, project, step.edits(), askings, &mut cells)?;
     Ok(Row::new(cells))
 }
 
@@ -300,17 +300,17 @@ fn each_row<T: Threads + Sync>(
     form: Form,
     project: &Project,
     steps: &[Step<'_>],
-    queries: &[Query],
+    askings: &[Asking],
 ) -> Result<Result<Vec<Row>, Fault>, AllocError>
-    ensures { IfOk result (λ told. IfOk told (λ v. AllZip (IsEditRow form project.now queries.now) steps.now v.items)) }
+    ensures { IfOk result (λ told. IfOk told (λ v. AllZip (IsEditRow form project.now askings.now) steps.now v.items)) }
 {
     steps
         .par_iter()
         .with_min_len(1)
         .map(
             |step: &Step<'_>| -> Result<Row, Fault>
-                ensures { IfOk result (IsEditRow form project.entry.now queries.entry.now step.now) }
-            { edit_row(rt, alloc, form, project, step, queries) },
+                ensures { IfOk result (IsEditRow form project.entry.now askings.entry.now step.now) }
+            { edit_row(rt, alloc, form, project, step, askings) },
         )
         .collect(rt, alloc)
 }
@@ -323,12 +323,12 @@ fn edit_rows<'a, T: Threads + Sync>(
     form: Form,
     project: &Project,
     steps: &[Step<'_>],
-    queries: &[Query],
+    askings: &[Asking],
 ) -> Result<Vec<Row>, End<'a>>
-    ensures rows { IfOk result (λ v. AllZip (IsEditRow form project.now queries.now) steps.now v.items) }
+    ensures rows { IfOk result (λ v. AllZip (IsEditRow form project.now askings.now) steps.now v.items) }
     ensures refused { IfErr result IsStop }
 {
-    match each_row(rt, alloc, form, project, steps, queries)? {
+    match each_row(rt, alloc, form, project, steps, askings)? {
         Ok(rows) => Ok(rows),
         Err(fault) => Err(End::from(fault)),
     }
@@ -361,15 +361,15 @@ fn edit_header(
     form: Form,
     all: &[Swept],
     axes: &[Axis<'_>],
-    queries: &[Query],
+    askings: &[Asking],
     asks: &[&str],
 ) -> Result<Row, AllocError>
-    ensures { IfOk result (λ row. row ≡ edit_header form all.now axes.now queries.now (map (λ ask. ask.now) asks.entry.now)) }
+    ensures { IfOk result (λ row. row ≡ edit_header form all.now axes.now askings.now (map (λ ask. ask.now) asks.entry.now)) }
 {
     let mut names = Vec::new(alloc);
     add_queues(alloc, &mut names, all)?;
     add_axes(alloc, &mut names, axes)?;
-    add_asked(alloc, &mut names, form, queries, asks)?;
+    add_asked(alloc, &mut names, form, askings, asks)?;
     Ok(Row::new(names))
 }
 
@@ -384,14 +384,14 @@ fn edit_table_of<'a, T: Threads + Sync>(
     plan: &Plan<'_>,
     asks: &[&'a str],
 ) -> Result<Grid, End<'a>>
-    ensures rows { IfOk result (HasRows (IsEditRow form project.now plan.now.queries.items) (edit_header form plan.now.swept.items plan.now.axes.items plan.now.queries.items (map (λ ask. ask.now) asks.entry.now)) (sweep_steps zip plan.now.swept.items plan.now.axes.items)) }
+    ensures rows { IfOk result (HasRows (IsEditRow form project.now plan.now.askings.items) (edit_header form plan.now.swept.items plan.now.axes.items plan.now.askings.items (map (λ ask. ask.now) asks.entry.now)) (sweep_steps zip plan.now.swept.items plan.now.axes.items)) }
     ensures refused { IfErr result IsStop }
 {
     let (all, axes) = (plan.swept.as_slice(), plan.axes.as_slice());
-    let queries = plan.queries.as_slice();
-    let names = edit_header(alloc, form, all, axes, queries, asks)?;
+    let askings = plan.askings.as_slice();
+    let names = edit_header(alloc, form, all, axes, askings, asks)?;
     let steps = sweep_steps(alloc, zip, all, axes)?;
-    match edit_rows(rt, alloc, form, project, steps.as_slice(), queries) {
+    match edit_rows(rt, alloc, form, project, steps.as_slice(), askings) {
         Ok(rows) => Ok(Grid::new(names, rows)),
         Err(end) => Err(end),
     }

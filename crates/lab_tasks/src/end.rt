@@ -27,6 +27,10 @@ pub enum Reason {
     RefusedEdit(u8),
     /// It names the file that is read, which isn't to be written over.
     Source,
+    /// It names a file that is refused as a project.
+    NoProject(ProjectFault),
+    /// It names a project of a machine of another size than 2^k processors.
+    OtherSize(u32),
 }
 
 /// Why there is no outcome. It prints as its line on standard error, without LF; `Asked` and `Words` have none, since help
@@ -69,7 +73,9 @@ pub fn status(end: &End<'_>) -> u8
             Reason::Within(_, _)
             | Reason::Backwards
             | Reason::Refused(_)
-            | Reason::RefusedEdit(_) => 7,
+            | Reason::RefusedEdit(_)
+            | Reason::OtherSize(_) => 7,
+            Reason::NoProject(_) => 4,
         },
         End::NotRead(_) | End::NotWritten(_) => 3,
         End::Project(_) => 4,
@@ -103,6 +109,8 @@ impl fmt::Display for Reason {
             Reason::Refused(number) => write!(f, "is answered bad {number}"),
             Reason::RefusedEdit(number) => write!(f, "is answered refused {number}"),
             Reason::Source => write!(f, "is the file that is read; --force writes over it"),
+            Reason::NoProject(fault) => write!(f, "is refused as a project: {}", fault.number()),
+            Reason::OtherSize(k) => write!(f, "is not of k {k}"),
         }
     }
 }

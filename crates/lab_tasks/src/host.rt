@@ -1,12 +1,13 @@
 //! The program at a terminal.
+use crate::comparison::compare;
 use crate::end::{End, Reason, refusal, status};
 use crate::other_net::AllOn;
 use crate::outcome::{OutFile, Outcome};
 use crate::progress::Progress;
 use crate::series::SeriesWords;
-use crate::shell::{Shelf, ShellWords, end_after, hold, opened};
+use crate::shell::{Shelf, ShellWords, end_after, hold, opened, session_voice};
 use crate::task::perform;
-use crate::words::{Asked, CurveWords, DelayWords, SweepWords, read_words};
+use crate::words::{Asked, CompareWords, CurveWords, DelayWords, SweepWords, read_words};
 use bench_core::Bench;
 use bench_shell::{RunFault, Writing};
 use clap::Error;
@@ -333,6 +334,10 @@ fn refuse_over<'a, R: Files + AllocGlobal>(rt: &R, asked: &Asked<'a>) -> Result<
     let source = Reason::Form(NOT_SOURCE);
     match asked {
         Asked::Map(words) => refuse_file(rt, words.file, "--out", words.out, source),
+        Asked::Compare(words) => {
+            refuse_file(rt, words.map.file, "--out", words.map.out, source)?;
+            refuse_file(rt, words.other, "--out", words.map.out, source)
+        }
         Asked::Order(words) | Asked::Page(words) => {
             refuse_file(rt, words.file, "--out", words.out, source)
         }
@@ -390,11 +395,11 @@ fn bench_of(alloc: Global, project: Project) -> Option<Box<Bench>> {
 fn session<R: Host>(
     rt: &R,
     words: &ShellWords<'_>,
-    people: bool,
+    at_terminal: bool,
     bench: &mut Bench,
 ) -> Result<u8, RunFault> {
     let manner = Manner {
-        people,
+        voice: session_voice(words.json, at_terminal),
         strict: words.strict,
     };
     let mut output = io::writer(rt);
@@ -415,11 +420,11 @@ fn session<R: Host>(
 }
 
 /// A session on a project: its status.
-fn sat<R: Host>(rt: &R, words: &ShellWords<'_>, people: bool, project: Project) -> u8 {
+fn sat<R: Host>(rt: &R, words: &ShellWords<'_>, at_terminal: bool, project: Project) -> u8 {
     let Some(mut bench) = bench_of(rt.alloc(), project) else {
         return ended(rt, &End::Memory);
     };
-    match session(rt, words, people, &mut bench) {
+    match session(rt, words, at_terminal, &mut bench) {
         Ok(status) => status,
         Err(fault) => ended(rt, &end_after(fault)),
     }
@@ -432,6 +437,28 @@ fn refused_file<R: Eprint + AllocGlobal>(rt: &R, end: &End<'_>, bytes: &[u8]) ->
         tell_place(rt, bytes);
     }
     status
+}
+
+/// Compares the runs of two files, of which the first one has these bytes.
+fn compared<R: Host>(rt: &R, words: &CompareWords<'_>, bytes: &[u8]) -> u8 {
+    let other = match file_bytes(rt, words.other) {
+        Ok(other) => other,
+        Err(fault) => return ended(rt, &failed(&fault, End::NotRead(words.other))),
+    };
+    match compare(rt.alloc(), words, bytes, other.as_slice()) {
+        Ok(outcome) => delivered(rt, &outcome),
+        Err(end) => {
+            let status = refused_file(rt, &end, bytes);
+            if let End::Word {
+                reason: Reason::NoProject(_),
+                ..
+            } = end
+            {
+                tell_place(rt, other.as_slice());
+            }
+            status
+        }
+    }
 }
 
 /// Does what is asked for.
@@ -448,6 +475,9 @@ fn done<R: Host>(rt: &R, asked: &Asked<'_>, terminals: Terminals) -> u8 {
             Ok(project) => sat(rt, words, terminals.input, project),
             Err(end) => refused_file(rt, &end, bytes.as_slice()),
         };
+    }
+    if let Asked::Compare(words) = asked {
+        return compared(rt, words, bytes.as_slice());
     }
     match performed(rt, asked, bytes.as_slice(), terminals.errors) {
         Ok(outcome) => delivered(rt, &outcome),

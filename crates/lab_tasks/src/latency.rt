@@ -129,20 +129,21 @@ pub(crate) fn condition<'a>(
     })
 }
 
-/// The hot word as the words ask for it.
-fn heat<'a>(
+/// The hot word where it is asked for, or all others are.
+pub(crate) fn heat<'a>(
     alloc: Global,
-    words: &LatencyWords<'_>,
+    is_hot: bool,
+    is_cold: bool,
     project: &Project,
 ) -> Result<Option<Heat>, End<'a>>
-    ensures heat { IfOk result (IsHeat project.now words.now.hot words.now.cold) }
+    ensures heat { IfOk result (IsHeat project.now is_hot is_cold) }
     ensures memory { IsOkUnless result End.Memory }
 {
-    if !words.hot && !words.cold {
+    if !is_hot && !is_cold {
         return Ok(None);
     }
     let word = hottest_word(alloc, project)?.unwrap_or(0);
-    Ok(Some(if words.hot {
+    Ok(Some(if is_hot {
         Heat::Hot(word)
     } else {
         Heat::Cold(word)
@@ -159,7 +160,7 @@ pub(crate) fn report<'a>(
     ensures text { IfOk result (λ text. IsReport words.now project.now condition.now (string_bytes text)) }
     ensures memory { IsOkUnless result End.Memory }
 {
-    let hot = heat(alloc, words, project)?;
+    let hot = heat(alloc, words.hot, words.cold, project)?;
     let condition = Condition { hot, ..*condition };
     let latencies = latencies_of(alloc, project, &condition)?;
     Ok(latency_text(alloc, &latencies)?)
@@ -176,7 +177,7 @@ pub(crate) fn drawn<'a>(
     ensures text { IfOk result (λ text. IsDrawn words.now project.now condition.now (string_bytes text)) }
     ensures memory { IsOkUnless result End.Memory }
 {
-    let hot = heat(alloc, words, project)?;
+    let hot = heat(alloc, words.hot, words.cold, project)?;
     let condition = Condition { hot, ..*condition };
     let latencies = latencies_of(alloc, project, &condition)?;
     Ok(latency_picture(alloc, words.file, &condition, &latencies)?)

@@ -11,7 +11,8 @@
 //! [`perform`] does for each command, and why it doesn't, is in `specs/Done.antt`: how
 //! numbers, lists and ranges are read (`specs/Numbers.antt`), which word is refused first (`specs/Plans.antt`), which points
 //! are measured and that each is that of its load's run (`specs/Points.antt`), rates, means, the bound and fields of tables
-//! (`specs/Tables.antt`), the table of a sweep (`specs/SweepTables.antt`, `specs/EditSweeps.antt`), how a project is set up for it
+//! (`specs/Tables.antt`), the table of a sweep (`specs/SweepTables.antt`, `specs/EditSweeps.antt`), what is asked in it and what a
+//! project says to that (`specs/Askings.antt`, `specs/Tellings.antt`), how a project is set up for it
 //! (`specs/SetUps.antt`), what a summary counts and says
 //! (`specs/Counts.antt`, `specs/Summaries.antt`), the text of a converted file (`specs/ProjectTexts.antt`), which project
 //! files are kept (`specs/Kept.antt`), the statuses and lines (`specs/Ends.antt`), the pictures of `rates`, `delays` and
@@ -22,9 +23,13 @@
 #![tactic(auto)]
 
 mod answered;
+mod asking;
 mod busy;
 mod check;
 mod columns;
+mod compared_map;
+mod compared_rows;
+mod comparison;
 mod completion;
 mod convert;
 mod curves;
@@ -45,18 +50,23 @@ mod load_plan;
 mod load_points;
 mod load_table;
 mod map;
+mod map_rows;
 mod numbers;
 mod order;
 mod order_picture;
 mod other_net;
 mod outcome;
 mod page;
+mod phrases;
 mod plan;
 mod plot;
 mod points;
 mod progress;
 mod rate_picture;
 mod rates;
+mod report_figures;
+mod row_cells;
+mod row_map;
 mod series;
 mod setup;
 mod shell;
@@ -65,10 +75,12 @@ mod sweep;
 mod swept;
 mod tables;
 mod task;
+mod telling;
 mod trace;
 mod words;
 
 pub use busy::BusyWords;
+pub use comparison::compare;
 pub use convert::ConvertWords;
 pub use end::{End, Reason, refusal, status};
 pub use host::{Terminals, program};
@@ -77,7 +89,9 @@ pub use order::OrderWords;
 pub use outcome::{OutFile, Outcome};
 pub use progress::{Progress, Silent};
 pub use series::SeriesWords;
-pub use shell::{Shelf, ShellClerk, ShellWords, hold, session_status};
+pub use shell::{Shelf, ShellClerk, ShellWords, hold, session_status, session_voice};
 pub use task::perform;
 pub use trace::TraceWords;
-pub use words::{Asked, CurveWords, DelayWords, LoadWords, MapWords, SweepWords, read_words};
+pub use words::{
+    Asked, CompareWords, CurveWords, DelayWords, LoadWords, MapWords, SweepWords, read_words,
+};

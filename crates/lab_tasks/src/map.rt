@@ -2,12 +2,15 @@
 ghost use Rattle.std.specs.Prelude.{◌≡◌, ◌<◌, ◌≤◌, ◌+◌, ◌-◌, ◌*◌, ◌++◌, IfOk, IsOkUnless, OnOk, map, string_bytes};
 ghost use Rattle.omega_net.specs.Numbers.{lines};
 ghost use Rattle.svg_plots.specs.Lists.{each_from};
-ghost use Rattle.lab_tasks.specs.MapPictures.{caption, cell_words, column_note, column_notes, combining_notes, crossing_of, first_column, group_of, key_of, keys_of, level_note, map_title, net_letter, net_words, notes_of, place_words, places_note, row_of, switch_label, tick_at, ticks_of, IsMapDrawn, IsShown};
+ghost use Rattle.lab_tasks.specs.DrawnMaps.{IsMapDrawn, IsMapOf};
+ghost use Rattle.lab_tasks.specs.MapPictures.{caption, cell_words, column_note, column_notes, combining_notes, crossing_of, first_column, group_of, key_of, keys_of, level_note, map_title, net_letter, net_words, notes_of, place_words, places_note, row_of, switch_label, tick_at, ticks_of, IsShown};
 
 use crate::check::{CombPlaces, LowPlaces, OtherPlaces, add_switches};
 use crate::columns::{any_columns, cycles_a_column, greatest_columns};
 use crate::end::End;
+use crate::map_rows::{Over, Way};
 use crate::plan::MapPlan;
+use crate::row_map::row_map;
 use experiments::{QueueLengths, StageLengths, Window, saturation_map};
 use omega_net::Net;
 use project_book::{Depths, Project};
@@ -192,7 +195,7 @@ fn add_tick(ticks: &mut Vec<Tick>, window: Window, step: u32, place: u32) -> Res
 
 /// The numbers of cycles.
 #[tactic(auto, using(crate::proofs::Listing::flat_next))]
-fn ticks_of(alloc: Global, window: Window) -> Result<Vec<Tick>, AllocError>
+pub(crate) fn ticks_of(alloc: Global, window: Window) -> Result<Vec<Tick>, AllocError>
     requires window { window.from ≤ window.to }
     requires short { window.to < 1000000 }
     ensures { IfOk result (λ v. v.items ≡ ticks_of window) }
@@ -205,7 +208,7 @@ fn ticks_of(alloc: Global, window: Window) -> Result<Vec<Tick>, AllocError>
     Ok(ticks)
 }
 
-fn key_of(alloc: Global, marked: u8, number: u8) -> Result<ShadeKey, AllocError>
+pub(crate) fn key_of(alloc: Global, marked: u8, number: u8) -> Result<ShadeKey, AllocError>
     ensures { IfOk result (λ key. key ≡ key_of marked number) }
 {
     let text = if number >= marked {
@@ -220,7 +223,7 @@ fn key_of(alloc: Global, marked: u8, number: u8) -> Result<ShadeKey, AllocError>
 }
 
 /// The lengths that a queue can have, where there is one.
-fn keys_of(alloc: Global, k: u32, most: u8) -> Result<Vec<ShadeKey>, AllocError>
+pub(crate) fn keys_of(alloc: Global, k: u32, most: u8) -> Result<Vec<ShadeKey>, AllocError>
     requires { most < 255 }
     ensures { IfOk result (λ v. v.items ≡ keys_of k most) }
 {
@@ -234,7 +237,7 @@ fn keys_of(alloc: Global, k: u32, most: u8) -> Result<Vec<ShadeKey>, AllocError>
     Ok(keys)
 }
 
-fn net_words(net: Net) -> &'static str
+pub(crate) fn net_words(net: Net) -> &'static str
     ensures { result.now ≡ net_words net }
 {
     match net {
@@ -263,7 +266,7 @@ fn base_name(path: &str) -> &str {
 const NAME_LENGTH: usize = 40;
 
 /// The name of a file, cut where it is long.
-fn short_name(alloc: Global, path: &str) -> Result<String, AllocError> {
+pub(crate) fn short_name(alloc: Global, path: &str) -> Result<String, AllocError> {
     let name = base_name(path);
     let mut short = String::new(alloc);
     for (place, character) in name.chars().enumerate() {
@@ -296,7 +299,7 @@ fn caption(alloc: Global, name: &str, k: u32, window: Window) -> Result<Label, A
     Ok(Label::from_string(text))
 }
 
-fn places_note(alloc: Global, project: &Project, net: Net) -> Result<Label, AllocError>
+pub(crate) fn places_note(alloc: Global, project: &Project, net: Net) -> Result<Label, AllocError>
     ensures { IfOk result (λ label. label ≡ places_note project.now net) }
 {
     let window = project.window();
@@ -319,7 +322,7 @@ fn places_note(alloc: Global, project: &Project, net: Net) -> Result<Label, Allo
 }
 
 /// Adds which stages combine, where the network is the combining one.
-fn add_combining_note(
+pub(crate) fn add_combining_note(
     alloc: Global,
     notes: &mut Vec<Label>,
     project: &Project,
@@ -387,7 +390,7 @@ fn notes_of(
     Ok(notes)
 }
 
-/// What the picture of a project's run shows, whose file has this name.
+/// What the picture of tree saturation shows of a project's run, whose file has this name.
 fn cell_map<'a>(
     alloc: Global,
     file: &str,
@@ -409,6 +412,7 @@ fn cell_map<'a>(
         across: "cycle",
         ticks: ticks_of(alloc, plan.window)?,
         groups: groups_of(alloc, plan, map.stages.as_slice())?,
+        middle: 0,
         most,
         marked: most.saturating_sub(1),
         key: keys_of(alloc, project.k(), most)?,
@@ -420,6 +424,25 @@ fn cell_map<'a>(
         stroke_title: "served",
         notes: notes_of(alloc, name.as_str(), project, plan)?,
     })
+}
+
+/// What the picture of a project's run shows, whose file has this name.
+fn map_of<'a>(
+    alloc: Global,
+    file: &str,
+    project: &Project,
+    plan: MapPlan,
+) -> Result<CellMap, End<'a>>
+    requires there { plan.«module» < lines project.now.k }
+    requires window { plan.window.from ≤ plan.window.to }
+    requires within { plan.window.to ≤ project.now.horizon }
+    ensures shown { IfOk result (IsMapOf plan.way plan.over project.now plan) }
+    ensures memory { IsOkUnless result End.Memory }
+{
+    match (plan.way, plan.over) {
+        (Way::Forward, Over::Tree) => cell_map(alloc, file, project, plan),
+        (Way::Reverse, Over::Tree) | (_, Over::Modules) => row_map(alloc, file, project, plan),
+    }
 }
 
 /// The picture of a project's run, whose file has this name.
@@ -435,6 +458,6 @@ pub(crate) fn map_picture<'a>(
     ensures drawn { IfOk result (λ text. IsMapDrawn project.now plan (string_bytes text)) }
     ensures memory { IsOkUnless result End.Memory }
 {
-    let map = cell_map(alloc, file, project, plan)?;
+    let map = map_of(alloc, file, project, plan)?;
     Ok(draw_map(alloc, &map)?)
 }

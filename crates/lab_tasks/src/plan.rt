@@ -3,15 +3,17 @@ ghost use Rattle.std.specs.Prelude.{◌≡◌, ◌<◌, ◌≤◌, IfErr, IfOk, 
 ghost use Rattle.omega_net.specs.Numbers.{lines};
 ghost use Rattle.page_map.specs.Limits.{max_k};
 ghost use Rattle.lab_tasks.specs.Numbers.{AreNoShares, AreShares, are_hundredths, IsTold, IsUntold};
-ghost use Rattle.lab_tasks.specs.Plans.{measure_of, net_of, IsCurves, IsMap, IsNoCurve, IsNoMap, IsNoMeasure, IsNoNet};
+ghost use Rattle.lab_tasks.specs.MapRows.{over_of, way_of, IsNoOver, IsNoWay, IsNotTaken, IsTaken};
+ghost use Rattle.lab_tasks.specs.Plans.{measure_of, net_of, IsCurves, IsFrom, IsMap, IsModule, IsNoCurve, IsNoMap, IsNoMeasure, IsNoNet, IsNoWindow, IsTo};
 ghost use Rattle.lab_tasks.specs.Words.{text_of};
 
 use crate::end::{End, Reason};
+use crate::map_rows::{Over, Way, over_at, refuse_module, way_at};
 use crate::numbers::list_in;
 use crate::words::{CurveWords, MapWords};
 use experiments::{MOST_CYCLES, Window};
 use line_words::number;
-use omega_net::Net;
+use omega_net::{Net, Shape};
 use page_map::MAX_K;
 use project_book::Project;
 use std::alloc::Global;
@@ -50,6 +52,9 @@ pub(crate) fn number_at<'a>(
 #[derive(Clone, Copy)]
 pub(crate) struct MapPlan {
     pub net: Net,
+    pub way: Way,
+    pub over: Over,
+    /// Of one tree alone.
     pub module: u32,
     pub window: Window,
 }
@@ -70,17 +75,17 @@ fn net_at<'a>(word: Option<&'a str>) -> Result<Net, End<'a>>
     }
 }
 
-/// What is to be drawn of a project: a module that it has, and cycles up to its horizon.
-pub(crate) fn map_plan<'a>(words: &MapWords<'a>, project: &Project) -> Result<MapPlan, End<'a>>
-    ensures told { IfOk result (IsMap project.now words.now) }
-    ensures refused { IfErr result (IsNoMap project.now words.now) }
-    ensures there { IfOk result (λ plan. plan.«module» < lines project.now.k) }
-    ensures window { IfOk result (λ plan. plan.window.from ≤ plan.window.to) }
-    ensures within { IfOk result (λ plan. plan.window.to ≤ project.now.horizon) }
+/// A module of a machine, and the cycles of a window up to a horizon.
+fn place_at<'a>(words: &MapWords<'a>, shape: Shape, horizon: u32) -> Result<(u32, Window), End<'a>>
+    ensures number { IfOk result (λ p. IsModule shape words.now p.0) }
+    ensures from { IfOk result (λ p. IsFrom horizon words.now p.1.from) }
+    ensures to { IfOk result (λ p. IsTo horizon words.now p.1.to) }
+    ensures refused { IfErr result (IsNoWindow shape horizon words.now) }
+    ensures there { IfOk result (λ p. p.0 < lines shape) }
+    ensures window { IfOk result (λ p. p.1.from ≤ p.1.to) }
+    ensures within { IfOk result (λ p. p.1.to ≤ horizon) }
 {
-    let horizon = project.horizon();
-    let net = net_at(words.net)?;
-    let most = project.processors().saturating_sub(1);
+    let most = shape.lines().saturating_sub(1);
     let module = number_at("--module", words.module, 0, 0, most)?;
     let from = number_at("--from", words.from, 0, 0, horizon)?;
     let to = number_at("--to", words.to, horizon, 0, horizon)?;
@@ -91,10 +96,32 @@ pub(crate) fn map_plan<'a>(words: &MapWords<'a>, project: &Project) -> Result<Ma
             reason: Reason::Backwards,
         });
     }
+    Ok((module, Window { from, to }))
+}
+
+/// What is to be drawn of a machine's run up to a horizon: a module that it has, and cycles up to then.
+pub(crate) fn map_plan<'a>(
+    words: &MapWords<'a>,
+    shape: Shape,
+    horizon: u32,
+) -> Result<MapPlan, End<'a>>
+    ensures told { IfOk result (IsMap shape horizon words.now) }
+    ensures refused { IfErr result (IsNoMap shape horizon words.now) }
+    ensures there { IfOk result (λ plan. plan.«module» < lines shape) }
+    ensures window { IfOk result (λ plan. plan.window.from ≤ plan.window.to) }
+    ensures within { IfOk result (λ plan. plan.window.to ≤ horizon) }
+{
+    let net = net_at(words.net)?;
+    let way = way_at(words.dir)?;
+    let over = over_at(words.queues)?;
+    refuse_module(over, words.module)?;
+    let place = place_at(words, shape, horizon)?;
     Ok(MapPlan {
         net,
-        module,
-        window: Window { from, to },
+        way,
+        over,
+        module: place.0,
+        window: place.1,
     })
 }
 

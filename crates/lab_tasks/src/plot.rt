@@ -1,13 +1,15 @@
 //! The picture of a sweep: columns of its table against another one.
 ghost use Rattle.std.specs.Prelude.{◌≡◌, ◌+◌, ◌*◌, ◌/◌, ◌%◌, ◌<◌, ◌≤◌, ◌++◌, ◌∷◌, [], IfErr, IfOk, OnOk, codes, decimal, fold, length, map, position, slice_index_or, string_bytes};
 ghost use Rattle.std.specs.List.{flat_map, AllZip};
+ghost use Rattle.line_words.specs.Numbers.{number_of};
 ghost use Rattle.lab_tasks.specs.Grids.{names_of, rows_of};
-ghost use Rattle.lab_tasks.specs.PlotPictures.{across_most, across_top, cell_number, column_of, plot_curve, plot_curves, plot_note, plot_tick, plot_ticks, plot_title, row_spot, up_most, up_title, up_top, AreNoColumns, IsColumn, IsNoColumn, IsNoPlot, IsPanelDrawn, IsPlot, IsPlotPanel, IsPlotPicture};
+ghost use Rattle.lab_tasks.specs.PlotPictures.{across_column, across_most, across_top, axis_fine, cell_number, column_fine, column_of, hundredths_in, in_hundredths, is_fine, part_of, plot_curve, plot_curves, plot_note, plot_tick, plot_ticks, plot_title, row_spot, scaled, unit_of, up_most, up_title, up_top, AreNoColumns, IsColumn, IsNoColumn, IsNoPlot, IsPanelDrawn, IsPlot, IsPlotPanel, IsPlotPicture, IsScaledPicture};
 ghost use Rattle.lab_tasks.specs.SweepTables.{OrMemory};
 ghost use Rattle.lab_tasks.specs.Words.{text_of};
 
 use crate::end::{End, Reason};
 use crate::grid::{Grid, Row};
+use crate::numbers::parts_at;
 use line_words::number;
 use std::alloc::{AllocError, Global};
 use svg_plots::{
@@ -65,15 +67,98 @@ fn cell_at(row: &Row, column: usize) -> &str
     }
 }
 
+/// A column that is drawn, in whole numbers or in hundredths.
+#[derive(Clone, Copy)]
+struct Column {
+    place: usize,
+    fine: bool,
+}
+
+/// The hundredths of a number with this part behind its point.
+fn in_hundredths(whole: Option<u32>, part: Option<u32>) -> Option<u32>
+    ensures { result ≡ in_hundredths whole part }
+{
+    let (whole, part) = (whole?, part?);
+    let hundredths = u64::from(whole) * 100 + u64::from(part);
+    if hundredths <= u64::from(u32::MAX) {
+        Some(hundredths as u32)
+    } else {
+        None
+    }
+}
+
+/// The two digits behind a point.
+fn part_of(digits: &[u8]) -> Option<u32>
+    ensures { result ≡ part_of digits.now }
+{
+    if digits.len() == 2 {
+        number(digits)
+    } else {
+        None
+    }
+}
+
+/// The hundredths of a number that a text is.
+fn hundredths_in(text: &[u8]) -> Option<u32>
+    ensures { result ≡ hundredths_in text.now }
+{
+    match parts_at(text, b'.') {
+        Some((whole, part)) => in_hundredths(number(whole), part_of(part)),
+        None => in_hundredths(number(text), Some(0)),
+    }
+}
+
+/// Whether a text is a number, but no whole one.
+fn is_fine(text: &[u8]) -> bool
+    ensures { result ≡ is_fine text.now }
+{
+    number(text).is_none() && hundredths_in(text).is_some()
+}
+
+/// Whether a column has such a number.
+fn column_fine(rows: &[Row], column: usize) -> bool
+    ensures { result ≡ column_fine rows.now column }
+{
+    rows.iter()
+        .any(|row| is_fine(cell_at(row, column).as_bytes()))
+}
+
+/// Whether one of some columns has.
+fn axis_fine(rows: &[Row], columns: &[usize]) -> bool
+    ensures { result ≡ axis_fine rows.now columns.now }
+{
+    columns.iter().any(|column| column_fine(rows, *column))
+}
+
+/// The number that a text is, in hundredths or whole.
+fn scaled(fine: bool, text: &[u8]) -> Option<u32>
+    ensures { result ≡ scaled fine text.now }
+{
+    if fine {
+        hundredths_in(text)
+    } else {
+        number(text)
+    }
+}
+
+/// How many of what is drawn are 1.
+fn unit_of(fine: bool) -> u32
+    ensures unit { result ≡ unit_of fine }
+    ensures some { 1 ≤ result }
+    ensures few { result ≤ 100 }
+{
+    if fine { 100 } else { 1 }
+}
+
 /// The number in a column of a row.
-fn number_at(row: &Row, column: usize) -> Option<u32>
+fn number_at(row: &Row, column: Column) -> Option<u32>
     ensures { result ≡ cell_number column row.now }
 {
-    number(cell_at(row, column).as_bytes())
+    scaled(column.fine, cell_at(row, column.place).as_bytes())
 }
 
 /// Adds the point of a row, where it has both numbers.
-fn add_spot(spots: &mut Vec<(u32, u32)>, row: &Row, x: usize, y: usize) -> Result<(), AllocError>
+fn add_spot(spots: &mut Vec<(u32, u32)>, row: &Row, x: Column, y: Column) -> Result<(), AllocError>
     ensures { OnOk result (spots.new.items ≡ spots.old.items ++ row_spot x y row.now) }
 {
     let Some(across) = number_at(row, x) else {
@@ -87,7 +172,12 @@ fn add_spot(spots: &mut Vec<(u32, u32)>, row: &Row, x: usize, y: usize) -> Resul
 }
 
 /// The points of all rows.
-fn spots_of(alloc: Global, rows: &[Row], x: usize, y: usize) -> Result<Vec<(u32, u32)>, AllocError>
+fn spots_of(
+    alloc: Global,
+    rows: &[Row],
+    x: Column,
+    y: Column,
+) -> Result<Vec<(u32, u32)>, AllocError>
     ensures { IfOk result (λ v. v.items ≡ flat_map (row_spot x y) rows.now) }
 {
     let mut spots = Vec::new(alloc);
@@ -102,13 +192,13 @@ fn plot_curve(
     alloc: Global,
     names: &Row,
     rows: &[Row],
-    x: usize,
+    x: Column,
     place: usize,
-    y: usize,
+    y: Column,
 ) -> Result<Curve, AllocError>
     ensures { IfOk result (λ curve. curve ≡ plot_curve names.now rows.now x place y) }
 {
-    let label = Label::new(alloc, cell_at(names, y))?;
+    let label = Label::new(alloc, cell_at(names, y.place))?;
     let spots = spots_of(alloc, rows, x, y)?;
     Ok(Curve {
         label,
@@ -124,14 +214,16 @@ fn plot_curves(
     alloc: Global,
     names: &Row,
     rows: &[Row],
-    x: usize,
+    x: Column,
+    fine: bool,
     ys: &[usize],
 ) -> Result<Vec<Curve>, AllocError>
-    ensures { IfOk result (λ v. v.items ≡ plot_curves names.now rows.now x ys.now) }
+    ensures { IfOk result (λ v. v.items ≡ plot_curves names.now rows.now x fine ys.now) }
 {
     let mut curves = Vec::new(alloc);
     for (place, y) in ys.iter().enumerate() {
-        let curve = plot_curve(alloc, names, rows, x, place, *y)?;
+        let y = Column { place: *y, fine };
+        let curve = plot_curve(alloc, names, rows, x, place, y)?;
         curves.push(curve)?;
     }
     Ok(curves)
@@ -182,31 +274,40 @@ fn up_top(curves: &[Curve]) -> u32
 }
 
 /// Adds a tick that is within the top.
-fn add_tick(ticks: &mut Vec<Tick>, top: u32, step: u32, place: u32) -> Result<(), AllocError>
-    requires { place < 9 }
-    ensures { OnOk result (ticks.new.items ≡ ticks.old.items ++ plot_tick top step place) }
+fn add_tick(
+    ticks: &mut Vec<Tick>,
+    unit: u32,
+    top: u32,
+    step: u32,
+    place: u32,
+) -> Result<(), AllocError>
+    requires place { place < 9 }
+    requires some { 1 ≤ unit }
+    requires few { unit ≤ 100 }
+    ensures { OnOk result (ticks.new.items ≡ ticks.old.items ++ plot_tick unit top step place) }
 {
     let number = u64::from(place) * u64::from(step);
-    if number > u64::from(top) {
+    let value = number * u64::from(unit);
+    if value > u64::from(top) {
         return Ok(());
     }
-    let number = number as u32;
     ticks.push(Tick {
-        value: number,
-        number,
+        value: value as u32,
+        number: number as u32,
     })?;
     Ok(())
 }
 
 /// Ticks from 0 up to the top.
 #[tactic(auto, using(crate::proofs::Listing::flat_next))]
-fn plot_ticks(alloc: Global, top: u32) -> Result<Vec<Tick>, AllocError>
-    ensures { IfOk result (λ v. v.items ≡ plot_ticks top) }
+fn plot_ticks(alloc: Global, fine: bool, top: u32) -> Result<Vec<Tick>, AllocError>
+    ensures { IfOk result (λ v. v.items ≡ plot_ticks fine top) }
 {
-    let step = tick_step(top, 8);
+    let unit = unit_of(fine);
+    let step = tick_step(top / unit, 8);
     let mut ticks = Vec::new(alloc);
     for place in 0..9u32 {
-        add_tick(&mut ticks, top, step, place)?;
+        add_tick(&mut ticks, unit, top, step, place)?;
     }
     Ok(ticks)
 }
@@ -224,21 +325,22 @@ fn up_title<'a>(names: &'a Row, ys: &[usize]) -> &'a str
 /// The panel, up to these numbers.
 fn plot_panel<'a>(
     names: &'a Row,
-    x: usize,
+    x: Column,
+    fine: bool,
     ys: &[usize],
     curves: Vec<Curve>,
     across: &'a [Tick],
     up: &'a [Tick],
 ) -> Panel<'a>
-    requires across { across.now ≡ plot_ticks (across_top curves.items) }
-    requires up { up.now ≡ plot_ticks (up_top curves.items) }
-    ensures { IsPlotPanel names.now x ys.now curves.items result }
+    requires across { across.now ≡ plot_ticks x.fine (across_top curves.items) }
+    requires up { up.now ≡ plot_ticks fine (up_top curves.items) }
+    ensures { IsPlotPanel names.now x fine ys.now curves.items result }
 {
     let (far, high) = (across_top(curves.as_slice()), up_top(curves.as_slice()));
     Panel {
         title: "",
         across: Axis {
-            title: cell_at(names, x),
+            title: cell_at(names, x.place),
             from: 0,
             to: far,
             ticks: across,
@@ -287,6 +389,37 @@ fn panel_drawn(
     draw_curves(alloc, &drawn, notes.as_slice())
 }
 
+/// The picture of some columns, each axis in whole numbers or in hundredths.
+fn scaled_picture(
+    alloc: Global,
+    file: &str,
+    table: &Grid,
+    x: Column,
+    fine: bool,
+    ys: &[usize],
+) -> Result<String, AllocError>
+    ensures { IfOk result (λ text. IsScaledPicture file.now table.now x fine ys.now (string_bytes text)) }
+{
+    let (names, rows) = (table.names(), table.rows());
+    let curves = plot_curves(alloc, names, rows, x, fine, ys)?;
+    let across = plot_ticks(alloc, x.fine, across_top(curves.as_slice()))?;
+    let up = plot_ticks(alloc, fine, up_top(curves.as_slice()))?;
+    let title = title_of(alloc, file)?;
+    let note = note_of(alloc, rows)?;
+    let panel = plot_panel(names, x, fine, ys, curves, across.as_slice(), up.as_slice());
+    panel_drawn(alloc, title.as_str(), panel, note.as_str())
+}
+
+/// The column across.
+fn across_column(rows: &[Row], x: usize) -> Column
+    ensures { result ≡ across_column rows.now x }
+{
+    Column {
+        place: x,
+        fine: axis_fine(rows, [x].as_slice()),
+    }
+}
+
 /// The picture of some columns.
 fn plot_picture(
     alloc: Global,
@@ -297,14 +430,9 @@ fn plot_picture(
 ) -> Result<String, AllocError>
     ensures { IfOk result (λ text. IsPlotPicture file.now table.now x ys.now (string_bytes text)) }
 {
-    let (names, rows) = (table.names(), table.rows());
-    let curves = plot_curves(alloc, names, rows, x, ys)?;
-    let across = plot_ticks(alloc, across_top(curves.as_slice()))?;
-    let up = plot_ticks(alloc, up_top(curves.as_slice()))?;
-    let title = title_of(alloc, file)?;
-    let note = note_of(alloc, rows)?;
-    let panel = plot_panel(names, x, ys, curves, across.as_slice(), up.as_slice());
-    panel_drawn(alloc, title.as_str(), panel, note.as_str())
+    let rows = table.rows();
+    let x = across_column(rows, x);
+    scaled_picture(alloc, file, table, x, axis_fine(rows, ys), ys)
 }
 
 /// The picture of the columns that the words at `--x` and `--y` name, for the file at `--plot`.

@@ -9,7 +9,7 @@ ghost use Rattle.bench_shell.specs.Store.{store_of};
 ghost use Rattle.line_words.specs.Words.{words_of};
 ghost use Rattle.lab_shell.specs.Talks.{Talked, TalksPlainly};
 ghost use Rattle.lab_shell.specs.Words.{first_word};
-ghost use Rattle.lab_tasks.specs.Shells.{entry_line, entry_words, script_answer, script_said, status_of_session, Gives, IsEndAfter, IsNotOpened, IsOpened, IsSaid, IsSaved};
+ghost use Rattle.lab_tasks.specs.Shells.{entry_line, entry_words, script_answer, script_said, status_of_session, voice_of, Gives, IsEndAfter, IsNotOpened, IsOpened, IsSaid, IsSaved};
 ghost use Rattle.lab_tasks.specs.ShellReports.{IsText};
 ghost use Rattle.lab_tasks.specs.Summaries.{IsSummary};
 ghost use Rattle.lab_tasks.specs.Words.{text_of};
@@ -18,11 +18,11 @@ use crate::check::summary;
 use crate::convert::convert_file;
 use crate::end::End;
 use crate::outcome::OutFile;
-use crate::shell_report::reported;
+use crate::shell_report::{reported, series_reported};
 use crate::task::project_in;
 use bench_core::Bench;
 use bench_shell::{Answer, RunFault, Sink};
-use lab_shell::{Clerk, Ended, Manner, Said, ShellWord, first_word, talk};
+use lab_shell::{Clerk, Ended, Manner, Said, ShellWord, Voice, first_word, talk};
 use line_words::number;
 use omega_net::ScriptEntry;
 use project_book::{EntryText, Project};
@@ -38,6 +38,8 @@ pub struct ShellWords<'a> {
     pub file: Option<&'a str>,
     /// The first refusal ends the session.
     pub strict: bool,
+    /// Each line is answered by one object of JSON.
+    pub json: bool,
 }
 
 /// Where files are written by name.
@@ -184,11 +186,26 @@ impl<S: Shelf> Clerk for ShellClerk<'_, S> {
             ShellWord::Done => reported(alloc, "done", argument, project),
             ShellWord::Trace => reported(alloc, "trace", argument, project),
             ShellWord::Full => reported(alloc, "full", argument, project),
+            ShellWord::Busy => reported(alloc, "busy", argument, project),
+            ShellWord::Series => series_reported(alloc, argument, project),
             ShellWord::OrderAll => reported(alloc, "order", b"".as_slice(), project),
             ShellWord::Quit | ShellWord::Help | ShellWord::HelpOn | ShellWord::Undo => {
                 Ok(Said::Unsaved)
             }
         }
+    }
+}
+
+/// For whom a session answers, which is asked for JSON or not, where standard input is a terminal or not.
+pub fn session_voice(json: bool, at_terminal: bool) -> Voice
+    ensures { result ≡ voice_of json at_terminal }
+{
+    if json {
+        Voice::Json
+    } else if at_terminal {
+        Voice::People
+    } else {
+        Voice::Plain
     }
 }
 
@@ -231,7 +248,7 @@ pub fn hold<T: Threads + Sync, S: Shelf, R: BufRead, W: Sink>(
     ensures talks { IfOk result (λ status. (how : Ended) × (status ≡ status_of_session how)
         × Talked (IsSaid (S.saves shelf.now)) manner (R.remaining reader.old) (R.remaining reader.new)
         (W.contents writer.old) (W.contents writer.new) (store_of bench.old) (store_of bench.new) how) }
-    ensures plain { manner.people ≡ false → OnOk result (TalksPlainly (R.remaining reader.old) (R.remaining reader.new)
+    ensures plain { manner.voice ≡ Voice.Plain → OnOk result (TalksPlainly (R.remaining reader.old) (R.remaining reader.new)
         (W.contents writer.old) (W.contents writer.new) (store_of bench.old) (store_of bench.new)) }
     ensures cause { HasCause result (Unit {0}) (W.has_failed writer.new ≡ true) ⊥ (Unit {0}) (bench.new.table.clock ≡ 2 ^ 64 - 1) }
     ensures same_writer { W.lender writer.new ≡ W.lender writer.old }

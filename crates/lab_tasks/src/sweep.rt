@@ -1,26 +1,25 @@
 //! One depth after another on one bench.
 ghost use Rattle.std.specs.Prelude.{◌≡◌, ◌+◌, ◌-◌, ◌^◌, ◌<◌, ◌≤◌, ◌∷◌, ◌++◌, IfErr, IfOk, OnOk, Some, decimal, length, map, min, string_bytes};
 ghost use Rattle.std.specs.List.{flat_map, AllZip};
-ghost use Rattle.line_words.specs.Words.{words_of};
 ghost use Rattle.bench_core.specs.Shown.{project_of};
 ghost use Rattle.commands.specs.Queues.{queue_named};
-ghost use Rattle.commands.specs.Commands.{command_of};
 ghost use Rattle.lab_tasks.specs.Ends.{IsStop};
-ghost use Rattle.lab_tasks.specs.Sweeps.{queue_text, depths_in, IsSwept, RefusesDepths, rows_of, settings_of, with_settings, IsAsked, RefusesAsk};
-ghost use Rattle.lab_tasks.specs.Answered.{form_of, told_cells};
-ghost use Rattle.lab_tasks.specs.SweepTables.{depth_words, header_cells, queue_names, HasRows, IsRow, IsTable, AreNotSwept, AreNotAsked, IsNoTable, OrMemory, OrStop};
+ghost use Rattle.lab_tasks.specs.Askings.{IsAsked};
+ghost use Rattle.lab_tasks.specs.Sweeps.{queue_text, depths_in, IsSwept, RefusesDepths, rows_of, settings_of, with_settings};
+ghost use Rattle.lab_tasks.specs.Answered.{form_of};
+ghost use Rattle.lab_tasks.specs.SweepTables.{depth_words, header_cells, max_rows, queue_names, HasRows, IsRow, IsTable, AreNotSwept, IsNoTable, OrMemory, OrStop};
 
-use crate::answered::{Form, add_asked, add_said};
+use crate::answered::{Form, add_asked};
+use crate::asking::{Asking, all_askings};
 use crate::end::{End, Reason};
 use crate::grid::{Cell, Grid, Row};
 use crate::numbers::{parts_at, range_in};
 use crate::swept::{Setting, Swept};
+use crate::telling::add_told;
 use bench_core::Bench;
-use commands::Command;
-use experiments::{Fault, sweep_row, told_or_bad};
+use experiments::{Fault, sweep_row};
 use grid_law::NoMemory;
 use project_book::{Depths, Edit, MAX_DEPTH, Project};
-use run_queries::Query;
 use std::alloc::{AllocError, Global};
 use std::thread::Threads;
 
@@ -99,44 +98,6 @@ pub(crate) fn all_swept<'a>(alloc: Global, words: &[&'a str]) -> Result<Vec<Swep
     for word in words {
         match swept_in(word) {
             Ok(swept) => all.push(swept)?,
-            Err(end) => return Err(end),
-        }
-    }
-    Ok(all)
-}
-
-/// The question of a word, which the project has to answer.
-fn query_in<'a>(project: &Project, word: &'a str) -> Result<Query, End<'a>>
-    ensures asked { IfOk result (IsAsked project.now word.entry.now) }
-    ensures refused { IfErr result (RefusesAsk project.now word.entry.now (command_of project.now.k (words_of word.entry.now))) }
-{
-    let refused = |reason: Reason| End::Word {
-        option: "--ask",
-        word,
-        reason,
-    };
-    match Command::parse(project.shape(), word.as_bytes()) {
-        Some(Command::Query(query)) => match query.bad(project) {
-            None => Ok(query),
-            Some(number) => Err(refused(Reason::Refused(number))),
-        },
-        _ => Err(refused(Reason::Form("a question, as 'tree low 0'"))),
-    }
-}
-
-/// The questions of the words, in turn.
-pub(crate) fn all_queries<'a>(
-    alloc: Global,
-    project: &Project,
-    words: &[&'a str],
-) -> Result<Vec<Query>, End<'a>>
-    ensures asked { IfOk result (λ all. AllZip (IsAsked project.now) (map (λ word. word.now) words.entry.now) all.items) }
-    ensures refused { IfErr result (OrMemory (AreNotAsked project.now (map (λ word. word.now) words.entry.now))) }
-{
-    let mut all = Vec::new(alloc);
-    for word in words {
-        match query_in(project, word) {
-            Ok(query) => all.push(query)?,
             Err(end) => return Err(end),
         }
     }
@@ -236,14 +197,14 @@ fn header(
     alloc: Global,
     form: Form,
     all: &[Swept],
-    queries: &[Query],
+    askings: &[Asking],
     asks: &[&str],
 ) -> Result<Row, AllocError>
-    ensures { IfOk result (λ row. row ≡ header_cells form all.now queries.now (map (λ ask. ask.now) asks.entry.now)) }
+    ensures { IfOk result (λ row. row ≡ header_cells form all.now askings.now (map (λ ask. ask.now) asks.entry.now)) }
 {
     let mut names = Vec::new(alloc);
     add_queues(alloc, &mut names, all)?;
-    add_asked(alloc, &mut names, form, queries, asks)?;
+    add_asked(alloc, &mut names, form, askings, asks)?;
     Ok(Row::new(names))
 }
 
@@ -276,28 +237,6 @@ fn add_depths(alloc: Global, cells: &mut Vec<Cell>, row: &[Setting]) -> Result<(
     Ok(())
 }
 
-/// Adds what the bench's project says to each question.
-pub(crate) fn add_told<T: Threads + Sync>(
-    rt: &T,
-    alloc: Global,
-    form: Form,
-    bench: &mut Bench,
-    queries: &[Query],
-    cells: &mut Vec<Cell>,
-) -> Result<(), Fault>
-    ensures told { OnOk result (map Some cells.new.items ≡ map Some cells.old.items ++ flat_map (told_cells form (project_of bench.old)) queries.now) }
-    ensures project { project_of bench.new ≡ project_of bench.old }
-{
-    for query in queries {
-        let says = match told_or_bad(rt, bench, *query) {
-            Ok(says) => says,
-            Err(fault) => return Err(fault),
-        };
-        add_said(alloc, cells, form, *query, &says)?;
-    }
-    Ok(())
-}
-
 /// Gives the queues of a row their depths.
 fn set_row<T: Threads + Sync>(
     rt: &T,
@@ -324,15 +263,15 @@ fn row_told<T: Threads + Sync>(
     form: Form,
     bench: &mut Bench,
     row: &[Setting],
-    queries: &[Query],
+    askings: &[Asking],
 ) -> Result<Row, Fault>
-    ensures row { IfOk result (IsRow form (project_of bench.old) queries.now row.now) }
+    ensures row { IfOk result (IsRow form (project_of bench.old) askings.now row.now) }
     ensures project { OnOk result (project_of bench.new ≡ with_settings (project_of bench.old) row.now) }
 {
     let mut cells = Vec::new(alloc);
     set_row(rt, alloc, bench, row)?;
     add_depths(alloc, &mut cells, row)?;
-    add_told(rt, alloc, form, bench, queries, &mut cells)?;
+    add_told(rt, alloc, form, bench, askings, &mut cells)?;
     Ok(Row::new(cells))
 }
 
@@ -344,15 +283,15 @@ fn rows_told<'a, T: Threads + Sync>(
     form: Form,
     bench: &mut Bench,
     all: &[Swept],
-    queries: &[Query],
+    askings: &[Asking],
 ) -> Result<Vec<Row>, End<'a>>
-    ensures rows { IfOk result (λ v. AllZip (IsRow form (project_of bench.old) queries.now) (rows_of all.now) v.items) }
+    ensures rows { IfOk result (λ v. AllZip (IsRow form (project_of bench.old) askings.now) (rows_of all.now) v.items) }
     ensures refused { IfErr result IsStop }
 {
     let rows = all_rows(alloc, all)?;
     let mut told = Vec::new(alloc);
     for settings in rows.as_slice() {
-        let row = row_told(rt, alloc, form, bench, settings.as_slice(), queries)?;
+        let row = row_told(rt, alloc, form, bench, settings.as_slice(), askings)?;
         told.push(row)?;
     }
     Ok(told)
@@ -366,6 +305,23 @@ pub(crate) fn opened(alloc: Global, project: Project) -> Result<Box<Bench>, NoMe
     Box::new(alloc, bench).ok().ok_or(NoMemory)
 }
 
+/// All rows: what the project is told with the depths of each, on a bench of its own.
+#[tactic(auto, using(crate::proofs::Stops::is_stop_memory))]
+fn rows_on_bench<'a, T: Threads + Sync>(
+    rt: &T,
+    alloc: Global,
+    project: Project,
+    form: Form,
+    all: &[Swept],
+    askings: &[Asking],
+) -> Result<Vec<Row>, End<'a>>
+    ensures rows { IfOk result (λ v. AllZip (IsRow form project askings.now) (rows_of all.now) v.items) }
+    ensures refused { IfErr result IsStop }
+{
+    let mut bench = opened(alloc, project)?;
+    rows_told(rt, alloc, form, &mut bench, all, askings)
+}
+
 /// The table of what is swept and asked.
 #[tactic(auto, using(crate::proofs::Stops::is_stop_memory))]
 fn table_of<'a, T: Threads + Sync>(
@@ -374,18 +330,59 @@ fn table_of<'a, T: Threads + Sync>(
     project: Project,
     form: Form,
     all: &[Swept],
-    queries: &[Query],
+    askings: &[Asking],
     asks: &[&'a str],
 ) -> Result<Grid, End<'a>>
-    ensures rows { IfOk result (HasRows (IsRow form project queries.now) (header_cells form all.now queries.now (map (λ ask. ask.now) asks.entry.now)) (rows_of all.now)) }
+    ensures rows { IfOk result (HasRows (IsRow form project askings.now) (header_cells form all.now askings.now (map (λ ask. ask.now) asks.entry.now)) (rows_of all.now)) }
     ensures refused { IfErr result IsStop }
 {
-    let names = header(alloc, form, all, queries, asks)?;
-    let mut bench = opened(alloc, project)?;
-    match rows_told(rt, alloc, form, &mut bench, all, queries) {
-        Ok(rows) => Ok(Grid::new(names, rows)),
-        Err(end) => Err(end),
+    let rows = match rows_on_bench(rt, alloc, project, form, all, askings) {
+        Ok(rows) => rows,
+        Err(end) => return Err(end),
+    };
+    let names = header(alloc, form, all, askings, asks)?;
+    Ok(Grid::new(names, rows))
+}
+
+/// What is swept and asked.
+#[derive(Drop)]
+struct Plan {
+    swept: Vec<Swept>,
+    askings: Vec<Asking>,
+}
+
+/// What the words sweep and ask.
+#[tactic(auto, using(crate::proofs::Stops::or_memory_by))]
+fn depth_plan<'a>(
+    alloc: Global,
+    project: &Project,
+    depths: &[&'a str],
+    asks: &[&'a str],
+) -> Result<Plan, End<'a>>
+    ensures swept { IfOk result (λ plan. AllZip IsSwept (map (λ word. word.now) depths.entry.now) plan.swept.items) }
+    ensures asked { IfOk result (λ plan. AllZip (IsAsked project.now) (map (λ word. word.now) asks.entry.now) plan.askings.items) }
+    ensures few { IfOk result (λ plan. length (rows_of plan.swept.items) ≤ max_rows) }
+    ensures refused { IfErr result (OrMemory (IsNoTable project.now (map (λ word. word.now) depths.entry.now) (map (λ word. word.now) asks.entry.now))) }
+{
+    let all = match all_swept(alloc, depths) {
+        Ok(all) => all,
+        Err(end) => return Err(end),
+    };
+    let askings = match all_askings(alloc, project, asks) {
+        Ok(askings) => askings,
+        Err(end) => return Err(end),
+    };
+    if count_rows(all.as_slice()) > MOST_ROWS {
+        return Err(End::Word {
+            option: "--depth",
+            word: "each with each",
+            reason: Reason::Within(1, MOST_ROWS),
+        });
     }
+    Ok(Plan {
+        swept: all,
+        askings,
+    })
 }
 
 /// The table of a sweep over a project.
@@ -401,29 +398,18 @@ pub(crate) fn sweep_table<'a, T: Threads + Sync>(
     ensures table { IfOk result (IsTable project numbers (map (λ word. word.now) depths.entry.now) (map (λ word. word.now) asks.entry.now)) }
     ensures refused { IfErr result (OrStop (IsNoTable project (map (λ word. word.now) depths.entry.now) (map (λ word. word.now) asks.entry.now))) }
 {
-    let all = match all_swept(alloc, depths) {
-        Ok(all) => all,
+    let plan = match depth_plan(alloc, &project, depths, asks) {
+        Ok(plan) => plan,
         Err(end) => return Err(end),
     };
-    let queries = match all_queries(alloc, &project, asks) {
-        Ok(queries) => queries,
-        Err(end) => return Err(end),
-    };
-    if count_rows(all.as_slice()) > MOST_ROWS {
-        return Err(End::Word {
-            option: "--depth",
-            word: "each with each",
-            reason: Reason::Within(1, MOST_ROWS),
-        });
-    }
     let form = form_of(&project, numbers);
     table_of(
         rt,
         alloc,
         project,
         form,
-        all.as_slice(),
-        queries.as_slice(),
+        plan.swept.as_slice(),
+        plan.askings.as_slice(),
         asks,
     )
 }

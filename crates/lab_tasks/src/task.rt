@@ -94,7 +94,7 @@ fn add_file(
 }
 
 /// The bytes as the file of that name, or without a name on standard output.
-fn to_file_or_output(
+pub(crate) fn to_file_or_output(
     alloc: Global,
     name: Option<&str>,
     bytes: Vec<u8>,
@@ -124,10 +124,10 @@ pub(crate) fn project_in<'a>(alloc: Global, bytes: &[u8]) -> Result<Project, End
 #[tactic(auto, using(crate::proofs::Stops::not_made))]
 fn map<'a>(alloc: Global, words: &MapWords<'a>, bytes: &[u8]) -> Result<Outcome, End<'a>>
     ensures done { IfOk result (IsMapMade words.now bytes.now) }
-    ensures refused { IfErr result (λ end. IsNotMade bytes.now (λ P. IsNoMap P words.now end) end) }
+    ensures refused { IfErr result (λ end. IsNotMade bytes.now (λ P. IsNoMap P.k P.horizon words.now end) end) }
 {
     let project = project_in(alloc, bytes)?;
-    let plan = map_plan(words, &project)?;
+    let plan = map_plan(words, project.shape(), project.horizon())?;
     let text = map_picture(alloc, words.file, &project, plan)?;
     let mut outcome = to_file_or_output(alloc, words.out, text.into_bytes())?;
     outcome.elsewhere = elsewhere(&project, plan.net);
@@ -548,7 +548,8 @@ fn page<'a>(alloc: Global, words: &OrderWords<'a>, bytes: &[u8]) -> Result<Outco
 ///
 /// # Errors
 ///
-/// The project that is refused, a word that is, or a growth. A session of the shell is no task: `Words`.
+/// The project that is refused, a word that is, or a growth. A session of the shell is no task, and two files are compared by
+/// `compare`: `Words`.
 pub fn perform<'a, T: Threads + Sync, P: Progress>(
     rt: &T,
     alloc: Global,
@@ -584,7 +585,7 @@ pub fn perform<'a, T: Threads + Sync, P: Progress>(
         }
         Asked::Convert(words) => convert(alloc, words, bytes),
         Asked::Page(words) => page(alloc, words, bytes),
-        // A session isn't made at once.
-        Asked::Shell(_) => Err(End::Words),
+        // A session isn't made at once, and two files are compared by `compare`.
+        Asked::Compare(_) | Asked::Shell(_) => Err(End::Words),
     }
 }

@@ -1,5 +1,5 @@
 //! The words behind the program's name.
-ghost use Rattle.std.specs.Prelude.{◌≡◌, [], IfNone, IfOk, IfSome, Some, false, map};
+ghost use Rattle.std.specs.Prelude.{◌≡◌, [], codes, IfNone, IfOk, IfSome, Some, false, map};
 ghost use Rattle.std.specs.Option.{option_map_or};
 ghost use Rattle.clap.specs.Matches.{matched_of, raw_values};
 ghost use Rattle.clap.specs.Walk.{texts};
@@ -22,10 +22,19 @@ use std::alloc::{AllocError, Global};
 pub struct MapWords<'a> {
     pub file: &'a str,
     pub net: Option<&'a str>,
+    pub dir: Option<&'a str>,
+    pub queues: Option<&'a str>,
     pub module: Option<&'a str>,
     pub from: Option<&'a str>,
     pub to: Option<&'a str>,
     pub out: Option<&'a str>,
+}
+
+/// What `map` is told where it compares two files.
+#[derive(Clone, Copy)]
+pub struct CompareWords<'a> {
+    pub map: MapWords<'a>,
+    pub other: &'a str,
 }
 
 /// What `rates` and `delays` are told.
@@ -82,6 +91,7 @@ pub struct SweepWords<'a> {
 #[derive(Drop)]
 pub enum Asked<'a> {
     Map(MapWords<'a>),
+    Compare(CompareWords<'a>),
     Order(OrderWords<'a>),
     Latency(LatencyWords<'a>),
     Done { file: &'a str },
@@ -108,6 +118,7 @@ impl<'a> Asked<'a> {
     {
         match self {
             Asked::Map(words) => Some(words.file),
+            Asked::Compare(words) => Some(words.map.file),
             Asked::Order(words) => Some(words.file),
             Asked::Latency(words) => Some(words.file),
             Asked::Done { file } => Some(*file),
@@ -128,7 +139,8 @@ impl<'a> Asked<'a> {
 
 const FILE_HELP: &str = "The project file";
 
-const MAP_ABOUT: &str = "Draws tree saturation: the queues towards a module, cycle by cycle";
+const MAP_ABOUT: &str =
+    "Draws queues cycle by cycle: tree saturation towards a module, replies, or those of all modules";
 
 const ORDER_ABOUT: &str =
     "Draws or tabulates the one order of all references: when each was issued, served and answered";
@@ -190,14 +202,16 @@ const HOT_HELP: &str =
     "How many of a hundred references are hot, up to seven numbers, each with curves of its own; without it 0";
 
 const SHELL_ABOUT: &str =
-    "Answers commands line by line, as hotspot does, and words of its own: help, show, script, save, undo, quit, and reports: latency, done, trace, full, order all";
+    "Answers commands line by line, as hotspot does, and words of its own: help, show, script, save, undo, and reports: latency, done, trace, full, order all";
 
 const TALKED: &str = "\
-Where standard input is a terminal there is a prompt before each line, and a reason behind each refusal. Else nothing is written
-but answers: what 'hotspot FILE < commands' writes, where no line begins with a word of the shell's own or has a
-range of processors. 'help' lists them all.
+Where standard input is a terminal there is a prompt before each line, and a reason behind each refusal, and 'quit' ends the
+session. Else nothing is written but answers: what 'hotspot FILE < commands' writes, where no line begins with a word of the
+shell's own or has a range of processors. 'help' lists them all. With --json there is no prompt, and for each line one object:
+{\"ok\":V,..} with the version and the answer's parts by name, {\"refused\":N,\"why\":\"..\"}, {\"bad\":..,\"why\":\"..\"}, {\"text\":\"..\"} of a
+request, or {\"answers\":[..]} where a line stands for several.
 
-Status: 0 the input ended, or quit was read; 1 a line was refused, with --strict; 2 the command line; 3 FILE or standard input
+Status: 0 the input ended, or somebody typed quit; 1 a line was refused, with --strict; 2 the command line; 3 FILE or standard input
 can't be read; 4 the project is refused; 5 no memory, or standard output can't be written.";
 
 const RATES_MEASURED: &str = "\
@@ -237,7 +251,8 @@ each with each, those of --depth before those of --edit, and the first varying s
 the file, after --setup, with the row's own edits alone. An edit that the project refuses puts 'refused N' in the place of
 the answers; 'bad N' is a question that it has no answer to. With --numbers each number of an answer has a column: 'reply 7 0
 cycle' and 'reply 7 0 word'; what is no number, as 'none' or 'bad N', stands in the first of them. --plot draws such columns,
-a point for each row that has both numbers; without --csv there is no table then.
+a point for each row that has both numbers; without --csv there is no table then. --ask 'latency ..', with words of lab latency,
+and --ask done and --ask full ask for the figures of these reports: 'latency mean', 'done last_reply latest' are columns.
 
 Status: 0 done; 2 the command line; 3 a file can't be read or written; 4 the project is refused; 5 no memory, or standard
 output can't be written; 7 a number outside of what there is. A file is written beside its name and then renamed, so none
@@ -411,9 +426,23 @@ fn map_command<'a>(alloc: Global) -> Result<Command<'a>, AllocError>
     let task = with_option(
         alloc,
         task,
+        "dir",
+        "DIR",
+        "forward, for requests, or reverse, for replies; without it forward",
+    )?;
+    let task = with_option(
+        alloc,
+        task,
+        "queues",
+        "QUEUES",
+        "tree, those on the way of one module, or module, those of all modules; without it tree",
+    )?;
+    let task = with_option(
+        alloc,
+        task,
         "module",
         "M",
-        "The module, from 0; without it 0",
+        "The module of the tree, from 0; without it 0",
     )?;
     let task = with_option(alloc, task, "from", "T", "The first cycle; without it 0")?;
     let task = with_option(
@@ -429,6 +458,13 @@ fn map_command<'a>(alloc: Global) -> Result<Command<'a>, AllocError>
         "out",
         "MAP.svg",
         "Where the picture goes; without it to standard output",
+    )?;
+    let task = with_option(
+        alloc,
+        task,
+        "compare",
+        "B.toml",
+        "Another project file: the picture shows how much longer queues are in its run",
     )?;
     Ok(task)
 }
@@ -809,7 +845,7 @@ fn sweep_command<'a>(alloc: Global) -> Result<Command<'a>, AllocError>
         task,
         "ask",
         "QUESTION",
-        "A question of the workbench, as 'tree low 0'",
+        "A question of the workbench, as 'tree low 0', or a report of numbers: 'latency ..', 'done' or 'full'",
     )?;
     let task = with_option(
         alloc,
@@ -912,6 +948,12 @@ fn shell_command<'a>(alloc: Global) -> Result<Command<'a>, AllocError>
         task,
         "strict",
         "Ends with status 1 at the first line that is refused",
+    )?;
+    let task = with_flag(
+        alloc,
+        task,
+        "json",
+        "Answers each line by one object of JSON in a line, for programs",
     )?;
     Ok(task)
 }
@@ -1016,10 +1058,23 @@ fn map_words<'a>(matches: &ArgMatches<'a>) -> MapWords<'a>
     MapWords {
         file: file_in(matches),
         net: text_in(matches, "net"),
+        dir: text_in(matches, "dir"),
+        queues: text_in(matches, "queues"),
         module: text_in(matches, "module"),
         from: text_in(matches, "from"),
         to: text_in(matches, "to"),
         out: text_in(matches, "out"),
+    }
+}
+
+/// A map of one file, or of two.
+fn map_asked<'a>(matches: &ArgMatches<'a>) -> Asked<'a>
+    ensures { AsksFor (Some (codes "map", rows_of (found_of matches.now))) result }
+{
+    let map = map_words(matches);
+    match text_in(matches, "compare") {
+        None => Asked::Map(map),
+        Some(other) => Asked::Compare(CompareWords { map, other }),
     }
 }
 
@@ -1161,6 +1216,7 @@ fn shell_words<'a>(matches: &ArgMatches<'a>) -> ShellWords<'a>
     ShellWords {
         file: text_in(matches, "FILE"),
         strict: flag_in(matches, "strict"),
+        json: flag_in(matches, "json"),
     }
 }
 
@@ -1198,7 +1254,7 @@ fn other_asked<'a>(
     ensures none { IfOk result (λ o. IfNone o (IsNoneOf other_tasks name.now)) }
 {
     Ok(match name {
-        "map" => Some(Asked::Map(map_words(matches))),
+        "map" => Some(map_asked(matches)),
         "order" => Some(Asked::Order(order_words(matches))),
         "rates" => Some(Asked::Rates(curve_words(matches))),
         "delays" => Some(Asked::Delays(delay_words(matches))),

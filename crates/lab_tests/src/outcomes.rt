@@ -245,6 +245,95 @@ fn each_number_has_a_column(rt: HostRuntime) -> Result<(), Fail> {
     Ok(())
 }
 
+// The references of processor 0 to word 5 take five cycles each, from cycles 1 and 2; the third one has no reply by cycle 8. Processor 1 tries word 260 once by cycle 5, and again by 8.
+#[test]
+fn reports_are_asked(rt: HostRuntime) -> Result<(), Fail> {
+    let words = [
+        "sweep",
+        "two.toml",
+        "--edit",
+        "horizon {0,6}",
+        "--ask",
+        "latency --processor 0",
+        "--ask",
+        "latency --to 1",
+        "--ask",
+        "done",
+        "--ask",
+        "full",
+    ];
+    let outcome = made(&rt, &words, TWO)?;
+    let table = b"horizon {},latency --processor 0,latency --to 1,done,full
+0,mean none p50 none p90 none p99 none unanswered 0,bad 2,last_reply of 0 earliest none latest none spread none script_end of 0 earliest none latest none spread none,full 0 of 17 first none last none
+6,mean 5.00 p50 5 p90 5 p99 5 unanswered 2,mean 5.00 p50 5 p90 5 p99 5 unanswered 0,last_reply of 2 earliest 6 latest 6 spread 0 script_end of 0 earliest none latest none spread none,full 0 of 17 first none last none
+";
+    assert!(rt; equal(&rt, outcome.printed.as_slice(), table.as_slice()));
+    Ok(())
+}
+
+// Word 260 is the hottest, and processor 0 has not come to it; the project refuses the second horizon.
+#[test]
+fn figures_have_columns(rt: HostRuntime) -> Result<(), Fail> {
+    let words = [
+        "sweep",
+        "two.toml",
+        "--edit",
+        "horizon {6,2001}",
+        "--ask",
+        "latency --cold",
+        "--ask",
+        "latency --hot --processor 0",
+        "--ask",
+        "done",
+        "--numbers",
+    ];
+    let outcome = made(&rt, &words, TWO)?;
+    let text = std::str::from_utf8(outcome.printed.as_slice())?;
+    assert!(rt;
+        text.starts_with(
+            "horizon {},latency --cold answered,latency --cold unanswered,latency --cold mean,latency --cold least,latency --cold p50,latency --cold p90,latency --cold p99,latency --cold greatest,"
+        )
+    );
+    assert!(rt;
+        text.contains(
+            ",done last_reply processors,done last_reply earliest,done last_reply latest,done last_reply spread,done script_end processors,done script_end earliest,done script_end latest,done script_end spread\n"
+        )
+    );
+    assert!(rt;
+        text.contains(
+            "\n6,1,2,5.00,5,5,5,5,5,0,0,,,,,,,2,6,6,0,0,,,\n2001,refused 12,,,,,,,,refused 12,,,,,,,,refused 12,,,,,,,\n"
+        )
+    );
+    Ok(())
+}
+
+// The mean 5.00 stands where 5 does: on an axis of 500 hundredths, at its top; 7 of 8 across is 46 and 7/8 of 734 pixels.
+#[test]
+fn means_are_drawn(rt: HostRuntime) -> Result<(), Fail> {
+    let words = [
+        "sweep",
+        "two.toml",
+        "--edit",
+        "horizon {7..8}",
+        "--ask",
+        "latency",
+        "--plot",
+        "p.svg",
+        "--x",
+        "horizon {}",
+        "--y",
+        "latency mean",
+        "--y",
+        "latency unanswered",
+    ];
+    let outcome = made(&rt, &words, TWO)?;
+    let picture = outcome.files.first().ok_or("a picture")?;
+    let text = std::str::from_utf8(picture.bytes.as_slice())?;
+    assert!(rt; text.contains("<polyline points=\"688.2,86 780,86 \""));
+    assert!(rt; text.contains("<polyline points=\"688.2,206 780,206 \""));
+    Ok(())
+}
+
 // The points 1, 1 and 2, 2 of axes from 0 to 2: half of 734 pixels from 46 on, half of 300 above 386, and the corner.
 #[test]
 fn columns_are_drawn(rt: HostRuntime) -> Result<(), Fail> {

@@ -228,6 +228,7 @@ fn map_of(
             },
         ]?,
         groups,
+        middle: 0,
         most: 4,
         marked: 3,
         key,
@@ -262,6 +263,91 @@ fn maps_are_drawn(rt: HostRuntime) -> Result<(), Fail> {
     ] {
         assert!(rt; text.as_str().contains(part));
     }
+    Ok(())
+}
+
+/// Two cells: two below the middle, and one above it.
+fn lower_and_higher(alloc: Global) -> Result<Vec<CellGroup>, Fail> {
+    let row = CellRow {
+        label: Label::new(alloc, "l0.0")?,
+        cells: Cells::from_vec(vec![in alloc; 0, 3]?),
+    };
+    let group = CellGroup {
+        label: Label::new(alloc, "stage 0")?,
+        rows: CellRows::from_vec(vec![in alloc; row]?),
+    };
+    Ok(vec![in alloc; group]?)
+}
+
+// Without levels and crossings the cells begin at 48. Of two steps down the second is the darkest orange, with a dark line; of two
+// up the first is in the middle of the blue ones.
+#[test]
+fn differences_are_drawn(rt: HostRuntime) -> Result<(), Fail> {
+    let alloc = rt.alloc();
+    let map = CellMap {
+        title: Label::new(alloc, "queues")?,
+        across: "cycle",
+        ticks: Vec::new(alloc),
+        groups: lower_and_higher(alloc)?,
+        middle: 2,
+        most: 4,
+        marked: 5,
+        key: Vec::new(alloc),
+        crossings: Vec::new(alloc),
+        levels: vec![in alloc; 0, 0]?,
+        level_title: "",
+        highest: 0,
+        strokes: Vec::new(alloc),
+        stroke_title: "",
+        notes: Vec::new(alloc),
+    };
+    let text = draw_map(alloc, &map)?;
+    for part in [
+        "<rect x=\"100\" y=\"48\" width=\"285\" height=\"19.6\" fill=\"#d94801\"/>",
+        "<line x1=\"100\" y1=\"57.8\" x2=\"385\" y2=\"57.8\" stroke=\"#1a1a1a\"",
+        "<rect x=\"385\" y=\"48\" width=\"285\" height=\"19.6\" fill=\"#6baed6\"/>",
+    ] {
+        assert!(rt; text.as_str().contains(part));
+    }
+    assert!(rt; !text.as_str().contains("<polyline"));
+    Ok(())
+}
+
+/// Four processors and their modules.
+const FOUR: &[u8] = b"format = 2\nk = 2\nhorizon = 8\n";
+
+// Replies from module 2 pass switch 1 of the last stage, and both switches of the first one, each by both inputs.
+#[test]
+fn the_way_back_is_drawn(rt: HostRuntime) -> Result<(), Fail> {
+    let words = ["map", "four.toml", "--dir", "reverse", "--module", "2"];
+    let outcome = made(&rt, &words, FOUR)?;
+    let text = std::str::from_utf8(outcome.printed.as_slice())?;
+    for part in [
+        ">l1.1 r0<",
+        ">l1.1 r1<",
+        ">l0.0 r0<",
+        ">l0.0 r1<",
+        ">l0.1 r0<",
+        ">l0.1 r1<",
+        ">served<",
+    ] {
+        assert!(rt; text.contains(part));
+    }
+    assert!(rt; !text.contains(">l1.0 r0<"));
+    assert!(rt; !text.contains(">level<"));
+    Ok(())
+}
+
+// Of 4 places a module's queue is full with 4 requests.
+#[test]
+fn modules_are_drawn(rt: HostRuntime) -> Result<(), Fail> {
+    let outcome = made(&rt, &["map", "four.toml", "--queues", "module"], FOUR)?;
+    let text = std::str::from_utf8(outcome.printed.as_slice())?;
+    for part in [">m0<", ">m3<", ">3<", ">4 full<", ">Full: no place free.<"] {
+        assert!(rt; text.contains(part));
+    }
+    assert!(rt; !text.contains(">m4<"));
+    assert!(rt; !text.contains(">3 full<"));
     Ok(())
 }
 
@@ -328,7 +414,7 @@ processor = 1
 entries = [\"sync add 0 1\"]
 ";
 
-// p1 1, c0.0 2 in p0.0, m0 3-4 in p0.0, c0.0 5, p1 6: six columns of 95 pixels, and three rows of 20 from 82 on.
+// p1 1, c0.0 2 in p0.0, m0 3-4 in p0.0, c0.0 5, p1 6: six columns of 95 pixels, and three rows of 20 from 48 on.
 #[test]
 fn a_reference_is_traced(rt: HostRuntime) -> Result<(), Fail> {
     let words = ["trace", "two.toml", "1", "0", "--out", "t.svg"];
@@ -339,10 +425,10 @@ fn a_reference_is_traced(rt: HostRuntime) -> Result<(), Fail> {
     let text = std::str::from_utf8(file.bytes.as_slice())?;
     for part in [
         ">Where p1.0 was, cycle by cycle</text>",
-        "<rect x=\"290\" y=\"82\" width=\"190\" height=\"19.6\" fill=\"#08306b\"/>",
-        "<line x1=\"290\" y1=\"91.8\" x2=\"480\" y2=\"91.8\" stroke=\"#ffd75e\"",
-        "<rect x=\"480\" y=\"102\" width=\"95\" height=\"19.6\" fill=\"#6baed6\"/>",
-        "<rect x=\"195\" y=\"154\" width=\"47.5\" height=\"12\" fill=\"#1a1a1a\"/>",
+        "<rect x=\"290\" y=\"48\" width=\"190\" height=\"19.6\" fill=\"#08306b\"/>",
+        "<line x1=\"290\" y1=\"57.8\" x2=\"480\" y2=\"57.8\" stroke=\"#ffd75e\"",
+        "<rect x=\"480\" y=\"68\" width=\"95\" height=\"19.6\" fill=\"#6baed6\"/>",
+        "<rect x=\"195\" y=\"120\" width=\"47.5\" height=\"12\" fill=\"#1a1a1a\"/>",
         ">in p0.0</text>",
     ] {
         assert!(rt; text.contains(part));

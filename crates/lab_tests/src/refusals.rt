@@ -1,8 +1,9 @@
 //! Words that no task takes: how the program ends, and what it says.
 use expect::equal;
-use lab_tasks::{Silent, perform, read_words, status};
+use lab_tasks::{Asked, Silent, compare, perform, read_words, status};
 use machine_page::is_short;
 use omega_net::Shape;
+use std::io::Eprint;
 use std::test::Fail;
 use std::thread::Threads;
 
@@ -24,8 +25,23 @@ fn ending<R: AllocGlobal + Threads + Sync>(
 
 #[test]
 fn maps_are_refused(rt: HostRuntime) -> Result<(), Fail> {
-    let refused: [(&[&str], u8, &str); 6] = [
+    let refused: [(&[&str], u8, &str); 9] = [
         (&["--net", "high"], 2, "lab: --net: high is not low or comb"),
+        (
+            &["--dir", "back"],
+            2,
+            "lab: --dir: back is not forward or reverse",
+        ),
+        (
+            &["--queues", "all"],
+            2,
+            "lab: --queues: all is not tree or module",
+        ),
+        (
+            &["--queues", "module", "--module", "0"],
+            2,
+            "lab: --module: 0 is not taken with --queues module",
+        ),
         (&["--module", "1x"], 2, "lab: --module: 1x is not a number"),
         (
             &["--module", "2"],
@@ -46,6 +62,41 @@ fn maps_are_refused(rt: HostRuntime) -> Result<(), Fail> {
         words.push("two.toml")?;
         words.extend_from_slice(more)?;
         let (told, text) = ending(&rt, words.as_slice(), TWO)?;
+        assert!(rt; equal(&rt, told, number));
+        assert!(rt; equal(&rt, text.as_str(), line));
+    }
+    Ok(())
+}
+
+/// How a comparison with a second file ends.
+fn comparing<R: AllocGlobal + Eprint>(rt: &R, other: &[u8]) -> Result<(u8, String), Fail> {
+    let words = ["map", "two.toml", "--compare", "b.toml"];
+    let Asked::Compare(words) = read_words(rt.alloc(), &words)? else {
+        return Err(Fail::from("a comparison"));
+    };
+    match compare(rt.alloc(), &words, TWO, other) {
+        Ok(_) => Ok((0, String::new(rt.alloc()))),
+        Err(end) => Ok((status(&end), format!(in rt.alloc(); "{end}")?)),
+    }
+}
+
+#[test]
+fn comparisons_are_refused(rt: HostRuntime) -> Result<(), Fail> {
+    let refused: [(&[u8], u8, &str); 3] = [
+        (TWO, 0, ""),
+        (
+            b"format = 2\nk = 2\nhorizon = 8\n",
+            7,
+            "lab: --compare: b.toml is not of k 1",
+        ),
+        (
+            b"format = 2\nk = 7\nhorizon = 8\n",
+            4,
+            "lab: --compare: b.toml is refused as a project: 7",
+        ),
+    ];
+    for (other, number, line) in refused {
+        let (told, text) = comparing(&rt, other)?;
         assert!(rt; equal(&rt, told, number));
         assert!(rt; equal(&rt, text.as_str(), line));
     }
@@ -179,7 +230,28 @@ fn sweeps_are_refused(rt: HostRuntime) -> Result<(), Fail> {
             "horizon 5",
             2,
             "--ask: horizon 5",
-            "is not a question, as 'tree low 0'",
+            "is not a question, as 'tree low 0', or a report of numbers, as 'latency'",
+        ),
+        (
+            "module=2..3",
+            "latency --proc 0",
+            2,
+            "--ask: latency --proc 0",
+            "is not a question, as 'tree low 0', or a report of numbers, as 'latency'",
+        ),
+        (
+            "module=2..3",
+            "latency --processor 2",
+            7,
+            "--ask: latency --processor 2",
+            "is answered bad 1",
+        ),
+        (
+            "module=2..3",
+            "latency --from 5 --to 4",
+            7,
+            "--ask: latency --from 5 --to 4",
+            "is answered bad 5",
         ),
         (
             "module=2..3",

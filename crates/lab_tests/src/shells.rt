@@ -2,8 +2,8 @@
 use bench_core::Bench;
 use bench_shell::Writing;
 use expect::equal;
-use lab_shell::Manner;
-use lab_tasks::{OutFile, Shelf, hold};
+use lab_shell::{Manner, Voice};
+use lab_tasks::{OutFile, Shelf, hold, session_voice};
 use project_file::read_project;
 use std::alloc::Global;
 use std::test::Fail;
@@ -89,7 +89,7 @@ const SESSION: &[u8] =
     b"script 0\nscript 1\nscript 2\nsave cut.toml\ncut 1 0\nwindow 1\nsave cut.toml\nshow\nscript x\nsave\n";
 
 const PLAIN: Manner = Manner {
-    people: false,
+    voice: Voice::Plain,
     strict: false,
 };
 
@@ -122,7 +122,7 @@ fn a_shell_says_what_its_project_is(rt: HostRuntime) -> Result<(), Fail> {
 }
 
 const PEOPLE: Manner = Manner {
-    people: true,
+    voice: Voice::People,
     strict: true,
 };
 
@@ -186,10 +186,111 @@ bad command
 bad command
 ";
 
+/// A word behind `--of` goes on to the next one that begins with a dash.
+const GAUGES: &[u8] =
+    b"busy --to 5\nseries --of served m1 --of queue  l0.0 f1 --from 2 --to 7 --bin 3\nseries --of served m2\nseries --of waiting --csv F\nbusy --from 9\nseries --of waiting --from 5 --to 4\n";
+
+const GAUGE_ANSWERS: &str = "\
+cycles 0 to 5
+
+gauge,sum,percent
+busy low 0,3,25.00
+busy comb 0,0,0.00
+served m0,1,16.67
+served m1,2,33.33
+cycle,served m1,queue l0.0 f1
+2,1,2
+5,1,1
+bad command
+bad command
+bad 2
+bad 5
+";
+
+#[test]
+fn a_shell_reads_gauges_of_several_words(rt: HostRuntime) -> Result<(), Fail> {
+    let (status, written) = held(&rt, PLAIN, GAUGES)?;
+    assert!(rt; equal(&rt, status, Some(0)));
+    assert!(rt; equal(&rt, written.as_slice(), GAUGE_ANSWERS.as_bytes()));
+    Ok(())
+}
+
 #[test]
 fn a_shell_reports_a_run(rt: HostRuntime) -> Result<(), Fail> {
     let (status, written) = held(&rt, PLAIN, REPORTS)?;
     assert!(rt; equal(&rt, status, Some(0)));
     assert!(rt; equal(&rt, written.as_slice(), REPORT_ANSWERS.as_bytes()));
     Ok(())
+}
+
+const JSON: Manner = Manner {
+    voice: Voice::Json,
+    strict: false,
+};
+
+/// Each kind of question, two edits that are refused, and requests.
+const ASKED: &[u8] = b"\
+window 9
+reply 0 0
+reply 0 2
+reply 0 3
+state l0.0 3
+memory 5 8
+counter answered all 0 8
+profile low 0
+tree low 1
+level low 1 8
+depth low-forward 2
+tree low 1
+level low 1 2
+bound 1 4 8
+place 260
+order 260
+order 16384
+cut 0..1 0
+undo
+script 1
+save cut.toml
+trace 0 0
+";
+
+const OBJECTS: &str = "\
+{\"refused\":10,\"why\":\"a window is 1 to 8\"}
+{\"ok\":0,\"cycle\":6,\"word\":0}
+{\"ok\":0,\"cycle\":null,\"word\":null}
+{\"ok\":0,\"cycle\":null,\"word\":null}
+{\"ok\":0,\"state\":\"low f0 [] f1 [0.1>1:2=add:1] turn 0 1 r0 [] r1 [] rturn 0 0\"}
+{\"ok\":0,\"word\":2}
+{\"ok\":0,\"count\":3}
+{\"ok\":0,\"profile\":[12,6,0,0,0,0,0,0,0,0,0,0,0,0,0,0,0]}
+{\"ok\":0,\"first\":[null]}
+{\"ok\":0,\"level\":0}
+{\"ok\":1}
+{\"ok\":1,\"first\":[2]}
+{\"ok\":1,\"level\":1}
+{\"ok\":1,\"numerator\":4,\"denominator\":11}
+{\"ok\":1,\"module\":0,\"row\":258}
+{\"ok\":1,\"order\":[{\"processor\":1,\"reference\":0}]}
+{\"bad\":3,\"why\":\"an address is below 16384\"}
+{\"answers\":[{\"ok\":2},{\"ok\":3}]}
+{\"answers\":[{\"ok\":4}]}
+{\"text\":\"entry 1 0 until plain load 260 0 9 5\\n\"}
+{\"bad\":\"file\",\"why\":\"it can't be written\"}
+{\"text\":\"none\\n\"}
+";
+
+#[test]
+fn a_shell_answers_a_program(rt: HostRuntime) -> Result<(), Fail> {
+    let (status, written) = held(&rt, JSON, ASKED)?;
+    assert!(rt; equal(&rt, status, Some(0)));
+    assert!(rt; equal(&rt, written.as_slice(), OBJECTS.as_bytes()));
+    Ok(())
+}
+
+#[test]
+fn a_program_is_asked_for_before_a_terminal(rt: HostRuntime) {
+    assert!(rt; equal(&rt, session_voice(true, true), Voice::Json));
+    assert!(rt; equal(&rt, session_voice(true, false), Voice::Json));
+    assert!(rt; equal(&rt, session_voice(false, true), Voice::People));
+    assert!(rt; equal(&rt, session_voice(false, false), Voice::Plain));
 }

@@ -20,6 +20,9 @@ fn words_of_a_map_are_taken(rt: HostRuntime) -> Result<(), Fail> {
         "map",
         "a.toml",
         "--net=comb",
+        "--dir",
+        "reverse",
+        "--queues=tree",
         "--module",
         "3",
         "--from",
@@ -33,8 +36,9 @@ fn words_of_a_map_are_taken(rt: HostRuntime) -> Result<(), Fail> {
     let Asked::Map(map) = &asked else {
         return Err(Fail::from("a map"));
     };
-    let told = [asked.file(), map.net, map.module, map.from, map.to, map.out];
-    compare(&rt, &told, &["a.toml", "comb", "3", "4", "9", "b.svg"]);
+    let first = [asked.file(), map.net, map.dir, map.queues, map.module];
+    compare(&rt, &first, &["a.toml", "comb", "reverse", "tree", "3"]);
+    compare(&rt, &[map.from, map.to, map.out], &["4", "9", "b.svg"]);
     Ok(())
 }
 
@@ -243,12 +247,13 @@ fn ends_have_statuses_and_lines(rt: HostRuntime) -> Result<(), Fail> {
 
 #[test]
 fn words_of_a_shell_are_taken(rt: HostRuntime) -> Result<(), Fail> {
-    let asked = read_words(rt.alloc(), &["shell", "a.toml", "--strict"])?;
+    let asked = read_words(rt.alloc(), &["shell", "a.toml", "--strict", "--json"])?;
     let Asked::Shell(shell) = &asked else {
         return Err(Fail::from("a shell"));
     };
     compare(&rt, &[asked.file(), shell.file], &["a.toml", "a.toml"]);
     assert!(rt; shell.strict);
+    assert!(rt; shell.json);
     Ok(())
 }
 
@@ -260,5 +265,6 @@ fn a_shell_needs_no_words(rt: HostRuntime) -> Result<(), Fail> {
     };
     compare(&rt, &[asked.file(), shell.file], &["-", "-"]);
     assert!(rt; !shell.strict);
+    assert!(rt; !shell.json);
     Ok(())
 }

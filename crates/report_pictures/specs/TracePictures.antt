@@ -124,6 +124,7 @@ trace_notes name spans =
 pub record IsTraceMap (k : ℕ) (name : List ℕ) (x : Tag) (spans : List Span) (m : CellMap) : Type 0 where
   pub title : m.title ≡ trace_title x
   pub groups : m.groups.items ≡ groups_of k (carriers_of x spans) spans (places_of spans)
+  pub middle : m.middle ≡ 0
   pub most : m.most ≡ min (length (carriers_of x spans)) 255
   pub marked : m.marked ≡ 2
   pub key : m.key.items ≡ each (key_of x) (carriers_of x spans)

@@ -431,6 +431,7 @@ fn map_of(
 ) -> CellMap
     ensures title { result.title ≡ string_bytes title }
     ensures groups { result.groups.items ≡ groups.items }
+    ensures middle { result.middle ≡ 0 }
     ensures most { result.most ≡ most }
     ensures marked { result.marked ≡ 2 }
     ensures key { result.key.items ≡ key.items }
@@ -448,6 +449,7 @@ fn map_of(
         across: "cycle",
         ticks,
         groups,
+        middle: 0,
         most,
         marked: 2,
         key,

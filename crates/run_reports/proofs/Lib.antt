@@ -1,4 +1,5 @@
 pub mod Below
+pub mod Columns
 pub mod Figuring
 pub mod Filling
 pub mod Gauging

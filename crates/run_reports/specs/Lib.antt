@@ -8,6 +8,7 @@ pub mod FullTexts
 pub mod GaugeTexts
 pub mod Gauges
 pub mod Latencies
+pub mod Lengths
 pub mod Logs
 pub mod Marking
 pub mod References

@@ -118,7 +118,7 @@ fn count_at(counter: Counter, states: &[MachineState], place: u32) -> u8
 }
 
 /// The length of a queue of the machine.
-fn length_in(queue: PartQueue, states: &[MachineState]) -> u8
+pub(crate) fn length_in(queue: PartQueue, states: &[MachineState]) -> u8
     ensures { result ≡ queue_length queue.part (slice_get states.now queue.place) }
 {
     match states.get(queue.place as usize) {

@@ -17,6 +17,7 @@
 //! - [`Gauge`]: a number that each cycle shows, as how many references were answered or how long a queue is, and
 //!   [`gauge_named`] by its text; [`series_sums`]: such numbers cycle by cycle or by bins of
 //!   cycles ([`Bins`], [`Sums`]); [`series_table`] and [`series_text`]: these as a table.
+//! - [`lengths_over`]: how long some queues are at each cycle of a window ([`Lengths`]).
 //! - [`busy_text`]: how busy the stages of the networks and the modules were in a window of cycles, as a table.
 //!
 //! The crate stands on `flat_row` for a run that is stepped cycle by cycle and not kept, and on `machine_cells` and `project_book`
@@ -34,6 +35,7 @@ mod full_report;
 mod gauge;
 mod gauge_text;
 mod latency;
+mod lengths;
 mod reference;
 mod report;
 mod runner;
@@ -51,6 +53,7 @@ pub use full_report::full_text;
 pub use gauge::Gauge;
 pub use gauge_text::gauge_named;
 pub use latency::{Latencies, latencies_of};
+pub use lengths::{Lengths, lengths_over};
 pub use reference::{Reference, references};
 pub use report::{Summary, latency_text};
 pub use runner::Runner;

@@ -133,7 +133,7 @@ fn add_cycle(
 }
 
 /// Goes on to a cycle, which is within the horizon.
-fn advance(runner: &mut Runner, project: &Project, cycle: u32) -> Result<(), NoMemory>
+pub(crate) fn advance(runner: &mut Runner, project: &Project, cycle: u32) -> Result<(), NoMemory>
     requires at { IsAt project.now runner.old }
     requires behind { runner.old.cycle ≤ cycle }
     requires within { cycle ≤ project.now.horizon }

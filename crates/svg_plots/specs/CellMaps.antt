@@ -1,13 +1,13 @@
 -- A MAP OF CELLS AS A DRAWING: a title, the labels of the crossings, a stepped line of levels, the cells, strokes, the numbers of the
 -- columns, the key of the shades, lines of text. Places are in tenths of a pixel; the columns lie between 1000 and 6700.
-use Rattle.std.specs.Prelude.{ℕ, ◌+◌, ◌-◌, ◌*◌, ◌/◌, ◌≤◌, ◌==◌, nat_le, min, max, Bool, if◌then◌else◌, List, [], ◌∷◌, ◌++◌, length, sum_by, true, false, codes, decimal, Option, None, Some}
+use Rattle.std.specs.Prelude.{ℕ, ◌+◌, ◌-◌, ◌*◌, ◌/◌, ◌≤◌, ◌==◌, nat_le, nat_lt, min, max, Bool, if◌then◌else◌, List, [], ◌∷◌, ◌++◌, length, sum_by, true, false, codes, decimal, Option, None, Some}
 use Rattle.std.specs.List.{flat_map}
 use Rattle.svg_plots.specs.Places.{place_of}
 use Rattle.svg_plots.specs.Lists.{each, each_from, few_of}
 use Rattle.svg_plots.specs.Writings.{spot, plain, small, tiny, title_writing, frame_stroke, group_stroke, note_drawn}
 use Rattle.svg_plots.specs.Drawings.{drawing_text}
 use Rattle.svg_plots.specs.declared.colour.Colour.{Colour}
-use Rattle.svg_plots.specs.declared.colour.Colour.TheVariants.{Ink, Light, Vermilion, Shade}
+use Rattle.svg_plots.specs.declared.colour.Colour.TheVariants.{Ink, Light, Vermilion, Shade, Warm}
 use Rattle.svg_plots.specs.declared.element.Anchor.TheVariants.{Start, Middle, End}
 use Rattle.svg_plots.specs.declared.element.Element.{Element}
 use Rattle.svg_plots.specs.declared.element.Element.TheVariants.{Line, Cell, Frame, Words, Path}
@@ -29,12 +29,15 @@ rows_in groups = sum_by (λ group. length group.rows) groups
 abbrev pub row_height : ℕ → ℕ
 row_height rows = max 90 (min 200 (2600 / max rows 1))
 
--- from top to bottom: a line for each crossing's label, 9 pixels for each level and at least 18, the rows
+-- from top to bottom: a line for each crossing's label, 9 pixels for each level and at least 18, and some more, where there are levels, the rows
 abbrev pub levels_at : CellMap → ℕ
 levels_at m = 480 + 140 * few_of (length m.crossings.items)
 
+abbrev pub levels_height : ℕ → ℕ
+levels_height highest = if highest == 0 then 0 else 90 * max highest 2 + 160
+
 abbrev pub cells_at : CellMap → ℕ
-cells_at m = levels_at m + 90 * max m.highest 2 + 160
+cells_at m = levels_at m + levels_height m.highest
 
 abbrev pub layout_of : CellMap → Layout
 layout_of m = record {
@@ -67,21 +70,24 @@ unfoldable pub runs : List ℕ → List Run
 runs [] = []
 runs (n ∷ ns) = runs_from 0 n 0 (n ∷ ns)
 
--- A NUMBER'S SHADE: from white for 0 to the darkest for the greatest number
-abbrev pub shade_of : ℕ → ℕ → Colour
-shade_of most number = Shade (place_of 0 most 0 16 number)
+-- A NUMBER'S SHADE: from white for the one in the middle to the darkest for the greatest number, and to the darkest orange for 0
+abbrev pub shade_of : CellMap → ℕ → Colour
+shade_of m number =
+    if nat_lt number m.middle then Warm (place_of 0 m.middle 0 16 (m.middle - number))
+    else Shade (place_of 0 (m.most - m.middle) 0 16 (number - m.middle))
 
--- a light line where a number is at least the one that is marked
-unfoldable pub full_drawn : CellMap → ℕ → ℕ → ℕ → ℕ → List Element
-full_drawn m number left right y =
-    if nat_le m.marked number then Line (spot left y) (spot right y) (record { colour = Light; width = 10; dashed = false }) ∷ [] else []
+-- a dark line where a number is below the one in the middle, a light one where it is at least the one that is marked
+unfoldable pub mark_drawn : CellMap → ℕ → ℕ → ℕ → ℕ → List Element
+mark_drawn m number left right y =
+    if nat_lt number m.middle then Line (spot left y) (spot right y) (record { colour = Ink; width = 10; dashed = false }) ∷ []
+    else (if nat_le m.marked number then Line (spot left y) (spot right y) (record { colour = Light; width = 10; dashed = false }) ∷ [] else [])
 
--- THE CELLS of a run in a row: a rectangle over its columns in the shade of its number; nothing for 0
+-- THE CELLS of a run in a row: a rectangle over its columns in the shade of its number; nothing for the one in the middle
 unfoldable pub run_drawn : CellMap → Layout → ℕ → Run → List Element
 run_drawn m l top run =
-    if run.number == 0 then []
-    else Cell (spot (x_at l run.from) top) (x_at l run.to - x_at l run.from) (l.row - 4) (shade_of m.most run.number)
-    ∷ full_drawn m run.number (x_at l run.from) (x_at l run.to) (top + (l.row - 4) / 2)
+    if run.number == m.middle then []
+    else Cell (spot (x_at l run.from) top) (x_at l run.to - x_at l run.from) (l.row - 4) (shade_of m run.number)
+    ∷ mark_drawn m run.number (x_at l run.from) (x_at l run.to) (top + (l.row - 4) / 2)
 
 -- a row at its place among all rows, with its label left of it
 unfoldable pub row_drawn : CellMap → Layout → ℕ → CellRow → List Element
@@ -143,9 +149,9 @@ tick_drawn l tick =
 -- an entry of the key: a framed square of its number's shade, and its label
 unfoldable pub key_drawn : CellMap → Layout → ℕ → ShadeKey → List Element
 key_drawn m l at key =
-    Cell (spot 6850 (l.cells + 140 * few_of at)) 240 110 (shade_of m.most key.number)
+    Cell (spot 6850 (l.cells + 140 * few_of at)) 240 110 (shade_of m key.number)
     ∷ Frame (spot 6850 (l.cells + 140 * few_of at)) (spot 7090 (l.cells + 140 * few_of at + 110)) group_stroke
-    ∷ full_drawn m key.number 6850 7090 (l.cells + 140 * few_of at + 55)
+    ∷ mark_drawn m key.number 6850 7090 (l.cells + 140 * few_of at + 55)
     ++ Words (spot 7150 (l.cells + 140 * few_of at + 95)) (plain Start) key.label ∷ []
 
 -- the parts one after another

@@ -1,7 +1,7 @@
 -- Colours as they are written: red, green and blue, each by two hexadecimal digits.
 use Rattle.std.specs.Prelude.{ℕ, ◌==◌, if◌then◌else◌, List, codes}
 use Rattle.svg_plots.specs.declared.colour.Colour.{Colour}
-use Rattle.svg_plots.specs.declared.colour.Colour.TheVariants.{Ink, Grey, Pale, Light, Black, Orange, SkyBlue, Green, Blue, Vermilion, Purple, Shade}
+use Rattle.svg_plots.specs.declared.colour.Colour.TheVariants.{Ink, Grey, Pale, Light, Black, Orange, SkyBlue, Green, Blue, Vermilion, Purple, Shade, Warm}
 
 -- the shades, from white to dark blue
 unfoldable pub shade_text : ℕ → List ℕ
@@ -24,6 +24,27 @@ shade_text n =
     else (if n == 15 then codes "#084184"
     else codes "#08306b")))))))))))))))
 
+-- and from white to orange
+unfoldable pub warm_text : ℕ → List ℕ
+warm_text n =
+    if n == 0 then codes "#ffffff"
+    else (if n == 1 then codes "#fff6ed"
+    else (if n == 2 then codes "#feecda"
+    else (if n == 3 then codes "#fee3c8"
+    else (if n == 4 then codes "#fedbb8"
+    else (if n == 5 then codes "#fdd3a8"
+    else (if n == 6 then codes "#fdc894"
+    else (if n == 7 then codes "#fdbb80"
+    else (if n == 8 then codes "#fdae6b"
+    else (if n == 9 then codes "#fda259"
+    else (if n == 10 then codes "#fd9548"
+    else (if n == 11 then codes "#fc8837"
+    else (if n == 12 then codes "#f77b28"
+    else (if n == 13 then codes "#f26e18"
+    else (if n == 14 then codes "#eb610e"
+    else (if n == 15 then codes "#e25408"
+    else codes "#d94801")))))))))))))))
+
 unfoldable pub colour_text : Colour → List ℕ
 colour_text Ink = codes "#1a1a1a"
 colour_text Grey = codes "#9a9a9a"
@@ -37,3 +58,4 @@ colour_text Blue = codes "#0072b2"
 colour_text Vermilion = codes "#d55e00"
 colour_text Purple = codes "#cc79a7"
 colour_text (Shade n) = shade_text n
+colour_text (Warm n) = warm_text n

@@ -1,6 +1,6 @@
 //! Colours by name.
 ghost use Rattle.std.specs.Prelude.{◌≡◌, Some};
-ghost use Rattle.svg_plots.specs.Colours.{colour_text, shade_text};
+ghost use Rattle.svg_plots.specs.Colours.{colour_text, shade_text, warm_text};
 
 use std::fmt;
 
@@ -23,6 +23,9 @@ pub enum Colour {
     Purple,
     /// From white, 0, to dark blue, 16; each is darker than the one before, in print too.
     Shade(u8),
+    /// From white, 0, to orange, 16; each is darker than the one before, in print too, and none so dark that a fine dark line is lost
+    /// on it.
+    Warm(u8),
 }
 
 /// A shade as it is written.
@@ -51,6 +54,32 @@ fn shade(number: u8) -> &'static str
     }
 }
 
+/// A shade of orange as it is written.
+#[tactic(auto, unfolding(crate::specs::Colours::warm_text))]
+fn warm(number: u8) -> &'static str
+    ensures { result.now ≡ warm_text number }
+{
+    match number {
+        0 => "#ffffff",
+        1 => "#fff6ed",
+        2 => "#feecda",
+        3 => "#fee3c8",
+        4 => "#fedbb8",
+        5 => "#fdd3a8",
+        6 => "#fdc894",
+        7 => "#fdbb80",
+        8 => "#fdae6b",
+        9 => "#fda259",
+        10 => "#fd9548",
+        11 => "#fc8837",
+        12 => "#f77b28",
+        13 => "#f26e18",
+        14 => "#eb610e",
+        15 => "#e25408",
+        _ => "#d94801",
+    }
+}
+
 #[tactic(auto, unfolding(crate::specs::Colours::colour_text))]
 fn written(colour: Colour) -> &'static str
     ensures { result.now ≡ colour_text colour }
@@ -68,6 +97,7 @@ fn written(colour: Colour) -> &'static str
         Colour::Vermilion => "#d55e00",
         Colour::Purple => "#cc79a7",
         Colour::Shade(number) => shade(number),
+        Colour::Warm(number) => warm(number),
     }
 }
 

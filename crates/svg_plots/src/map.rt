@@ -1,8 +1,9 @@
 //! Rows of cells over a line of time.
 ghost use Rattle.std.specs.Prelude.{◌≡◌, ◌<◌, ◌≤◌, ◌+◌, ◌-◌, ◌*◌, ◌/◌, ◌^◌, ◌++◌, IfOk, OnOk, max, min, sum_by, string_bytes};
 ghost use Rattle.std.specs.List.{flat_map};
+ghost use Rattle.svg_plots.specs.Places.{place_of};
 ghost use Rattle.svg_plots.specs.Lists.{each, each_from, few_of};
-ghost use Rattle.svg_plots.specs.CellMaps.{rows_in, row_height, layout_of, x_at, row_at, runs, shade_of, full_drawn, run_drawn, row_drawn, group_drawn, groups_drawn, level_at, level_words, step_drawn, levels_drawn, crossing_drawn, stroke_drawn, tick_drawn, key_drawn, cells_drawn, strokes_drawn, columns_drawn, notes_at, map_elements, map_height, map_text, IsFit};
+ghost use Rattle.svg_plots.specs.CellMaps.{rows_in, row_height, layout_of, x_at, row_at, runs, shade_of, mark_drawn, run_drawn, row_drawn, group_drawn, groups_drawn, level_at, level_words, step_drawn, levels_drawn, crossing_drawn, stroke_drawn, tick_drawn, key_drawn, levels_height, cells_drawn, strokes_drawn, columns_drawn, notes_at, map_elements, map_height, map_text, IsFit};
 
 use crate::writings::{FRAME, GROUP, TITLE, WIDTH, draw_notes, few, plain, small, tiny};
 use crate::{Anchor, Colour, Label, Picture, Scale, Spot, Stroke, Tick};
@@ -105,12 +106,15 @@ pub struct CellMap {
     pub across: &'static str,
     pub ticks: Vec<Tick>,
     pub groups: Vec<CellGroup>,
+    /// The number of cells that are left white: 0, but where cells are of differences. Those of lower ones are orange, and have a
+    /// dark line.
+    pub middle: u8,
     /// The greatest number that a cell can have, and the least at which it is marked.
     pub most: u8,
     pub marked: u8,
     pub key: Vec<ShadeKey>,
     pub crossings: Vec<Crossing>,
-    /// The level at each column, what it is, and the greatest one; no line where that is 0.
+    /// The level at each column, what it is, and the greatest one; no line, and no room for one, where that is 0.
     pub levels: Vec<u8>,
     pub level_title: &'static str,
     pub highest: u8,
@@ -119,6 +123,13 @@ pub struct CellMap {
     pub stroke_title: &'static str,
     pub notes: Vec<Label>,
 }
+
+/// What marks a cell of a number below the middle: dark on light.
+const LOWER: Stroke = Stroke {
+    colour: Colour::Ink,
+    width: 10,
+    dashed: false,
+};
 
 /// What marks a full cell: light on dark.
 const MARKED: Stroke = Stroke {
@@ -178,12 +189,15 @@ fn row_height(rows: u32) -> u32
     (2_600 / rows.max(1)).min(200).max(90)
 }
 
-/// The height of so many levels, with room for the numbers of the lowest and the highest one.
+/// The height of so many levels, with room for the numbers of the lowest and the highest one, and between them and the cells.
 fn levels_height(highest: u8) -> u32
-    ensures height { result ≡ 90 * max highest 2 }
-    ensures most { result ≤ 22950 }
+    ensures height { result ≡ levels_height highest }
+    ensures most { result ≤ 23110 }
 {
-    90 * u32::from(highest).max(2)
+    if highest == 0 {
+        return 0;
+    }
+    90 * u32::from(highest).max(2) + 160
 }
 
 fn layout_of(map: &CellMap) -> Layout
@@ -193,7 +207,7 @@ fn layout_of(map: &CellMap) -> Layout
     let rows = rows_in(map.groups.as_slice());
     let row = row_height(rows);
     let levels = 480 + 140 * few(map.crossings.as_slice().len());
-    let cells = levels + levels_height(map.highest) + 160;
+    let cells = levels + levels_height(map.highest);
     Layout {
         columns: map.levels.as_slice().len().min(100_000) as u32,
         levels,
@@ -228,9 +242,9 @@ impl Layout {
     }
 }
 
-/// The shade of a number.
-fn shade(most: u8, number: u8) -> Colour
-    ensures { result ≡ shade_of most number }
+/// The place of a number among 16 shades behind white, of which the last one is that of the greatest number.
+fn shade_place(most: u8, number: u8) -> u8
+    ensures { result ≡ place_of 0 most 0 16 number }
 {
     let shades = Scale {
         from: 0,
@@ -238,7 +252,19 @@ fn shade(most: u8, number: u8) -> Colour
         start: 0,
         end: 16,
     };
-    Colour::Shade(shades.place(u32::from(number)) as u8)
+    shades.place(u32::from(number)) as u8
+}
+
+/// The shade of a number.
+fn shade(map: &CellMap, number: u8) -> Colour
+    ensures { result ≡ shade_of map.now number }
+{
+    let middle = map.middle;
+    if number < middle {
+        Colour::Warm(shade_place(middle, middle - number))
+    } else {
+        Colour::Shade(shade_place(map.most.saturating_sub(middle), number - middle))
+    }
 }
 
 /// The runs of equal numbers in a row.
@@ -271,8 +297,8 @@ fn runs_of(alloc: Global, row: &[u8]) -> Result<Vec<Run>, AllocError>
 }
 
 /// The mark of a number that is to be marked.
-#[tactic(auto, unfolding(crate::specs::CellMaps::full_drawn))]
-fn draw_full(
+#[tactic(auto, unfolding(crate::specs::CellMaps::mark_drawn))]
+fn draw_mark(
     picture: &mut Picture,
     map: &CellMap,
     number: u8,
@@ -280,15 +306,19 @@ fn draw_full(
     right: u32,
     y: u32,
 ) -> Result<(), AllocError>
-    ensures { OnOk result (picture.new ≡ picture.old ++ full_drawn map.now number left right y) }
+    ensures { OnOk result (picture.new ≡ picture.old ++ mark_drawn map.now number left right y) }
 {
+    let (from, to) = (Spot { x: left, y }, Spot { x: right, y });
+    if number < map.middle {
+        return picture.line(from, to, LOWER);
+    }
     if number < map.marked {
         return Ok(());
     }
-    picture.line(Spot { x: left, y }, Spot { x: right, y }, MARKED)
+    picture.line(from, to, MARKED)
 }
 
-/// The cells of a run; empty ones aren't drawn.
+/// The cells of a run; those of the number in the middle aren't drawn.
 #[tactic(auto, unfolding(crate::specs::CellMaps::run_drawn))]
 fn draw_run(
     picture: &mut Picture,
@@ -301,7 +331,7 @@ fn draw_run(
     requires top { top ≤ 400000 }
     ensures { OnOk result (picture.new ≡ picture.old ++ run_drawn map.now layout top run) }
 {
-    if run.number == 0 {
+    if run.number == map.middle {
         return Ok(());
     }
     let (left, right) = (layout.x(run.from), layout.x(run.to));
@@ -310,9 +340,9 @@ fn draw_run(
         Spot { x: left, y: top },
         right.saturating_sub(left),
         inner,
-        shade(map.most, run.number),
+        shade(map, run.number),
     )?;
-    draw_full(picture, map, run.number, left, right, top + inner / 2)
+    draw_mark(picture, map, run.number, left, right, top + inner / 2)
 }
 
 /// A row of cells with its label.
@@ -712,9 +742,9 @@ fn draw_key(
         x: 7_090,
         y: y + 110,
     };
-    picture.cell(from, 240, 110, shade(map.most, key.number))?;
+    picture.cell(from, 240, 110, shade(map, key.number))?;
     picture.frame(from, to, GROUP)?;
-    draw_full(picture, map, key.number, 6_850, 7_090, y + 55)?;
+    draw_mark(picture, map, key.number, 6_850, 7_090, y + 55)?;
     picture.words(
         Spot {
             x: 7_150,

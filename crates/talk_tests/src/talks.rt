@@ -2,14 +2,17 @@
 use bench_core::Bench;
 use bench_shell::{Answer, RunFault, Writing};
 use expect::equal;
-use lab_shell::{Clerk, Ended, Manner, Said, ShellWord, lines_of_range, request, talk};
+use lab_shell::{Clerk, Ended, Manner, Said, ShellWord, Voice, lines_of_range, request, talk};
 use project_book::Project;
 use std::alloc::{AllocError, Global};
 use std::test::Fail;
 use std::thread::Threads;
 
-/// Somebody who says how many processors there are, and refuses to save.
+/// Somebody who says how many processors there are, to `done` an odd text, and refuses to save.
 struct Counting;
+
+/// A quote, a backslash, a byte that is no sign, and a letter of two bytes.
+const ODD: &str = "\"a\\b\"\u{1b}\u{e9}\n";
 
 impl Clerk for Counting {
     ghost says = { λ _ _ _ _ _. Unit {0} };
@@ -26,6 +29,10 @@ impl Clerk for Counting {
         }
         if word == ShellWord::Latency {
             return Ok(Said::Refused(Answer::BadCommand));
+        }
+        if word == ShellWord::Done {
+            let text = format!(in alloc; "{ODD}")?;
+            return Ok(Said::Text(text));
         }
         let processors = project.processors();
         let text = format!(in alloc; "{processors} processors\n")?;
@@ -64,17 +71,27 @@ fn talked<R: AllocGlobal + Threads + Sync>(
 }
 
 const PLAIN: Manner = Manner {
-    people: false,
+    voice: Voice::Plain,
     strict: false,
 };
 
 const FOR_PEOPLE: Manner = Manner {
-    people: true,
+    voice: Voice::People,
     strict: false,
 };
 
 const STRICT: Manner = Manner {
-    people: false,
+    voice: Voice::Plain,
+    strict: true,
+};
+
+const JSON: Manner = Manner {
+    voice: Voice::Json,
+    strict: false,
+};
+
+const STRICT_JSON: Manner = Manner {
+    voice: Voice::Json,
     strict: true,
 };
 
@@ -83,12 +100,13 @@ const SESSION: &[u8] =
 
 #[test]
 fn sessions_are_answered(rt: HostRuntime) -> Result<(), Fail> {
-    let told: [(Manner, &[u8], Ended, &[u8]); 13] = [
+    let told: [(Manner, &[u8], Ended, &[u8]); 14] = [
         (
             PLAIN,
             SESSION,
-            Ended::Quit,
-            b"ok 1\nok 2\n1 processors\nok 2 at 4 word 10\nquit: ends the session\nbad command\nbad 4\n",
+            Ended::Input,
+            b"ok 1\nok 2\n1 processors\nok 2 at 4 word 10\nquit: ends the session, where input is a terminal\nbad command\nbad 4\n\
+bad command\nok 3\n",
         ),
         (
             FOR_PEOPLE,
@@ -127,6 +145,7 @@ fn sessions_are_answered(rt: HostRuntime) -> Result<(), Fail> {
             b"ok 1\nrefused 5\n",
         ),
         (STRICT, b"save f\nshow\n", Ended::Refused, b"bad file\n"),
+        (STRICT, b"quit\nshow\n", Ended::Refused, b"bad command\n"),
         (
             FOR_PEOPLE,
             b"save f\nlatency --form 3\nlatency x\n",
@@ -170,9 +189,79 @@ ok 7\nok 8\nok 9\nbad 4\nbad command\n",
     Ok(())
 }
 
+/// A line for each line, whatever that is answered.
+#[test]
+fn objects_are_answered(rt: HostRuntime) -> Result<(), Fail> {
+    let told: [(Manner, &[u8], Ended, &[u8]); 5] = [
+        (
+            JSON,
+            b"word 0 10\nentry 0..1 0 sync add 0 1\nreply 0 0\nreply 0 1\nundo\nundo\nundo\nquit\nword 0 1",
+            Ended::Input,
+            b"{\"ok\":1}\n\
+{\"answers\":[{\"ok\":2},{\"refused\":2,\"why\":\"there is no such processor\"}]}\n\
+{\"ok\":2,\"cycle\":4,\"word\":10}\n\
+{\"bad\":4,\"why\":\"the processor issues no such reference by the horizon\"}\n\
+{\"answers\":[{\"ok\":3}]}\n\
+{\"answers\":[{\"ok\":4}]}\n\
+{\"bad\":\"command\",\"why\":\"there is nothing to undo\"}\n\
+{\"bad\":\"command\",\"why\":\"there is no such command; help lists them\"}\n\
+{\"bad\":\"cut\",\"why\":\"the input ends within the line\"}\n",
+        ),
+        (
+            JSON,
+            b"entry 0 0 fence\nentry 0 1 fence\nentry 0 2 fence\ncut 0 1\nundo\n",
+            Ended::Input,
+            b"{\"ok\":1}\n{\"ok\":2}\n{\"ok\":3}\n{\"ok\":4}\n{\"answers\":[{\"ok\":5},{\"ok\":6}]}\n",
+        ),
+        (
+            JSON,
+            b"help quit\nhelp wrod\nshow\ndone\nsave f\nlatency x\n",
+            Ended::Input,
+            b"{\"text\":\"quit: ends the session, where input is a terminal\\n\"}\n\
+{\"bad\":\"command\",\"why\":\"there is no such command; help lists them\"}\n\
+{\"text\":\"1 processors\\n\"}\n\
+{\"text\":\"\\\"a\\\\b\\\"\\u001b\xc3\xa9\\n\"}\n\
+{\"bad\":\"file\",\"why\":\"it can't be written\"}\n\
+{\"bad\":\"command\",\"why\":\"there is no such command; help lists them\"}\n",
+        ),
+        (
+            STRICT_JSON,
+            b"entry 0..2 0 fence\nundo\n",
+            Ended::Refused,
+            b"{\"answers\":[{\"ok\":1},{\"refused\":2,\"why\":\"there is no such processor\"}]}\n",
+        ),
+        (JSON, b"", Ended::Input, b""),
+    ];
+    for (manner, input, want, answers) in told {
+        let (ended, written) = talked(&rt, manner, input)?;
+        assert!(rt; equal(&rt, ended, Ok(want)));
+        assert!(rt; equal(&rt, written.as_slice(), answers));
+    }
+    Ok(())
+}
+
+#[test]
+fn a_long_line_is_an_object(rt: HostRuntime) -> Result<(), Fail> {
+    let mut line = Vec::new(rt.alloc());
+    for _ in 0..4097 {
+        line.push(b'a')?;
+    }
+    line.push(b'\n')?;
+    let (ended, written) = talked(&rt, JSON, line.as_slice())?;
+    assert!(rt; equal(&rt, ended, Ok(Ended::Input)));
+    assert!(rt;
+        equal(
+            &rt,
+            written.as_slice(),
+            b"{\"bad\":\"line\",\"why\":\"a line has at most 4096 bytes\"}\n".as_slice()
+        )
+    );
+    Ok(())
+}
+
 #[test]
 fn lines_are_requests(rt: HostRuntime) {
-    let asked: [(&[u8], Option<ShellWord>); 14] = [
+    let asked: [(&[u8], Option<ShellWord>); 16] = [
         (b"quit", Some(ShellWord::Quit)),
         (b" help\t", Some(ShellWord::Help)),
         (b"help page", Some(ShellWord::HelpOn)),
@@ -182,6 +271,8 @@ fn lines_are_requests(rt: HostRuntime) {
         (b"save a b", None),
         (b"word 0 1", None),
         (b"latency --from 3 --to 5", Some(ShellWord::Latency)),
+        (b"busy", Some(ShellWord::Busy)),
+        (b"series --of served m0", Some(ShellWord::Series)),
         (b"order all", Some(ShellWord::OrderAll)),
         (b"order 3", None),
         (b"show all", None),
@@ -189,8 +280,10 @@ fn lines_are_requests(rt: HostRuntime) {
         (b"undo 1", None),
     ];
     for (line, want) in asked {
-        assert!(rt; equal(&rt, request(line).map(|(word, _argument)| word), want));
+        assert!(rt; equal(&rt, request(true, line).map(|(word, _argument)| word), want));
     }
+    assert!(rt; equal(&rt, request(false, b"quit").is_none(), true));
+    assert!(rt; equal(&rt, request(false, b"show").is_some(), true));
 }
 
 #[test]

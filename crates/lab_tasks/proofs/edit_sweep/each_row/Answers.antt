@@ -16,5 +16,5 @@ returns g c =
     let slice = ap (λ it. (min_len_base {P = Iter Step} it).slice.now) c.map.ensures.base ∙ ap (λ it. it.slice.now) c.with_min_len.ensures.base ∙ c.par_iter.ensures in
     IfOk-then c.collect.result _ _ c.collect.ensures (λ v h.
     let chain = rw c.map.ensures.f at h.1 in
-    all-told Fault (IsEditRow c.args.form c.args.project.now c.args.queries.now) _ c.args.steps.now h.0 v h.2
-    (slice-AllZip chain.0 c.args.steps.now (chain.1 ∙ slice) (λ (step : Step) (r : Result Row Fault). IfOk r (IsEditRow c.args.form c.args.project.now c.args.queries.now step)) h.0 chain.2))
+    all-told Fault (IsEditRow c.args.form c.args.project.now c.args.askings.now) _ c.args.steps.now h.0 v h.2
+    (slice-AllZip chain.0 c.args.steps.now (chain.1 ∙ slice) (λ (step : Step) (r : Result Row Fault). IfOk r (IsEditRow c.args.form c.args.project.now c.args.askings.now step)) h.0 chain.2))

@@ -1,52 +1,32 @@
-use Rattle.std.proofs.Common.{◌≡◌, ◌-◌, ℕ, List, [], Option, Some, None, inl, inr, refl, ap, ◌∙◌, subst, rules, codes, Bor}
-use Rattle.std.specs.Prelude.{unwrap_or}
+use Rattle.std.proofs.Common.{inl, inr}
 use Rattle.std.proofs.lemmas.Result.{err_from_is_err_and}
-use Rattle.omega_net.specs.Numbers.{lines}
-use Rattle.lab_tasks.specs.declared.end.End.{End}
-use Rattle.lab_tasks.specs.Numbers.{IsTold, IsUntold}
-use Rattle.lab_tasks.specs.Words.{text_of}
 use Rattle.lab_tasks.proofs.plan.map_plan.Goals as goal
 
--- a word is refused for the same limits
-untold_at : (word : Option (List ℕ)) (m n : ℕ) (end : End) → m ≡ n → IsUntold (codes "--to") word 0 m end → IsUntold (codes "--to") word 0 n end
-untold_at word m n end same h = subst (λ most. IsUntold (codes "--to") word 0 most end) same h
+pub returns-in_err-over-clause-refused : goal.returns-in_err-over-clause-refused
+returns-in_err-over-clause-refused c =
+    let p = err_from_is_err_and c.from_residual-in_err-over.result c.from_residual-in_err-over.ensures.1 in
+    rw (p.1, p.2) (inr (c.in_ok-net.net, c.in_ok-net.ensures.net, inr (c.in_ok-way.way, c.in_ok-way.ensures.way, inl c.in_err-over.ensures.none)))
 
-pub returns-in_err-to-clause-refused : goal.returns-in_err-to-clause-refused
-returns-in_err-to-clause-refused c =
-    let p = err_from_is_err_and c.from_residual-in_err-to.result c.from_residual-in_err-to.ensures.1 in
-    let words = c.args.words.now in
-    let last : c.saturating_sub-most.result ≡ lines c.args.project.now.k - 1 = search rules in
-    let horizon : c.horizon-horizon.result ≡ c.args.project.now.horizon = search rules in
-    let number = subst (λ m. IsTold (text_of words.module) 0 0 m c.in_ok-module.module) last c.in_ok-module.ensures.told in
-    let from = subst (λ m. IsTold (text_of words.from) 0 0 m c.in_ok-from.from) horizon c.in_ok-from.ensures.told in
-    let to = untold_at (text_of words.to) _ _ _ horizon c.in_err-to.ensures.untold in
-    rw (p.1, p.2) (inr (c.in_ok-net.net, c.in_ok-net.ensures.net, inr (c.in_ok-module.module, number, inr (c.in_ok-from.from, from, inl to))))
+pub returns-in_err-refuse_module-clause-refused : goal.returns-in_err-refuse_module-clause-refused
+returns-in_err-refuse_module-clause-refused c =
+    let p = err_from_is_err_and c.from_residual-in_err-refuse_module.result c.from_residual-in_err-refuse_module.ensures.1 in
+    rw (p.1, p.2)
+    (inr (
+      c.in_ok-net.net,
+      c.in_ok-net.ensures.net,
+      inr (c.in_ok-way.way, c.in_ok-way.ensures.way, inr (c.in_ok-over.over, c.in_ok-over.ensures.over, inl c.in_err-refuse_module.ensures.refused)),
+    ))
 
--- the text of a word, or none
-word_text : (word : Option (Bor (List ℕ))) (none given : Bor (List ℕ)) → given ≡ unwrap_or word none → none.now ≡ []
-    → given.now ≡ unwrap_or (text_of word) []
-word_text None none given is empty = ap (λ w. w.now) is ∙ empty
-word_text (Some word) none given is empty = ap (λ w. w.now) is
-
-pub returns-then-to-from-clause-refused : goal.returns-then-to-from-clause-refused
-returns-then-to-from-clause-refused c =
-    let words = c.args.words.now in
-    let word = word_text words.to _ c.unwrap_or.result c.unwrap_or.ensures refl in
-    let last : c.saturating_sub-most.result ≡ lines c.args.project.now.k - 1 = search rules in
-    let horizon : c.horizon-horizon.result ≡ c.args.project.now.horizon = search rules in
-    let number = subst (λ m. IsTold (text_of words.module) 0 0 m c.in_ok-module.module) last c.in_ok-module.ensures.told in
-    let from = subst (λ m. IsTold (text_of words.from) 0 0 m c.in_ok-from.from) horizon c.in_ok-from.ensures.told in
-    let to = subst (λ m. IsTold (text_of words.to) m 0 m c.in_ok-to.to) horizon c.in_ok-to.ensures.told in
-    inr (
+pub returns-in_err-place-clause-refused : goal.returns-in_err-place-clause-refused
+returns-in_err-place-clause-refused c =
+    let p = err_from_is_err_and c.from_residual-in_err-place.result c.from_residual-in_err-place.ensures.1 in
+    rw (p.1, p.2)
+    (inr (
       c.in_ok-net.net,
       c.in_ok-net.ensures.net,
       inr (
-        c.in_ok-module.module,
-        number,
-        inr (
-          c.in_ok-from.from,
-          from,
-          inr (c.in_ok-to.to, to, (c.if-to-from.true, (refl, word, refl, refl))),
-        ),
+        c.in_ok-way.way,
+        c.in_ok-way.ensures.way,
+        inr (c.in_ok-over.over, c.in_ok-over.ensures.over, inr (c.in_ok-refuse_module.ensures.taken, c.in_err-place.ensures.refused)),
       ),
-    )
+    ))

@@ -5,4 +5,4 @@ use Rattle.lab_tasks.specs.PlotPictures.{plot_tick}
 use Rattle.lab_tasks.proofs.plot.plot_ticks.Given as goal
 
 abbrev pub invariant-loop-place : goal.invariant-loop-place
-invariant-loop-place l = l.ticks.items ≡ flat_map (plot_tick l.top l.step) (below l.place)
+invariant-loop-place l = l.ticks.items ≡ flat_map (plot_tick l.unit l.top l.step) (below l.place)

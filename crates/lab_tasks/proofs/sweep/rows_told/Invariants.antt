@@ -9,5 +9,5 @@ use Rattle.lab_tasks.proofs.sweep.rows_told.Given as goal
 abbrev pub invariant-loop-settings : goal.invariant-loop-settings
 invariant-loop-settings g l = record {
   bench : SameWhereSet (swept_queues l.all) (project_of l.bench) (project_of l.fn.bench);
-  rows : AllZip (IsRow l.form (project_of l.fn.bench) l.queries) (take l.settings-index (rows_of l.all)) l.told.items;
+  rows : AllZip (IsRow l.form (project_of l.fn.bench) l.askings) (take l.settings-index (rows_of l.all)) l.told.items;
 }

@@ -9,4 +9,7 @@ returns c =
     let three = c.in_ok-task-3.ensures _ two in
     let four = c.in_ok-task-4.ensures _ three in
     let five = c.in_ok-task-5.ensures _ four in
-    c.in_ok-task-6.ensures _ five
+    let six = c.in_ok-task-6.ensures _ five in
+    let seven = c.in_ok-task-7.ensures _ six in
+    let eight = c.in_ok-task-8.ensures _ seven in
+    c.in_ok-task-9.ensures _ eight

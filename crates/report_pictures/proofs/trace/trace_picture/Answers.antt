@@ -24,6 +24,7 @@ returns c =
         groups = m.ensures.groups ∙ c.in_ok-groups.ensures
             ∙ ap₂ (λ (cs : List Tag) (ps : List ℕ). groups_of k cs spans ps) carriers places;
         most = m.ensures.most ∙ c.most_of-most.ensures ∙ ap (λ (cs : List Tag). min (length cs) 255) carriers;
+        middle = m.ensures.middle;
         marked = m.ensures.marked;
         key = m.ensures.key ∙ c.in_ok-key.ensures ∙ ap (λ (cs : List Tag). each (key_of x) cs) carriers;
         crossings = m.ensures.crossings;
