@@ -6,13 +6,14 @@ use Rattle.run_queries.specs.declared.query.Query.{Query}
 use Rattle.run_queries.specs.declared.query.Query.TheVariants.{State, Memory as MemoryAt}
 use Rattle.run_queries.specs.declared.body.Body.{Body}
 use Rattle.run_queries.specs.Bad.{bad_query}
+use Rattle.run_queries.specs.Reach.{reach}
 use Rattle.run_queries.specs.Answers.{found_in}
 use Rattle.bench_core.specs.declared.asked.Asked.{Asked}
 use Rattle.bench_core.specs.declared.asked.Asked.TheVariants.{Answer, Pending, BadQuery, Memory}
 use Rattle.bench_core.specs.Shown.{Shown, project_of, version_of}
 use Rattle.bench_core.specs.Events.{Event, Opening}
 use Rattle.bench_core.specs.Stands.{Stands}
-use Rattle.bench_core.specs.Asks.{pending, told, told_unless, asked, MayWant, AsksAs, TellsRun, LooksAtCell}
+use Rattle.bench_core.specs.Asks.{pending, told, told_unless, asked, MayWant, AsksAs, TellsRun, IsOneCell}
 use Rattle.bench_core.specs.Answers.{AnswersRun}
 use Rattle.bench_core.proofs.Answered.{answer_told}
 use Rattle.bench_core.proofs.Standing.{project_is, version_is}
@@ -35,7 +36,7 @@ may_want zero v body = tt
 may_want (suc n) v body = tt
 
 -- want of memory while the due cells were counted
-pub asks_wanting : (b : Shown) (q : Query) → bad_query (project_of b) q ≡ None → LooksAtCell q → AsksAs b q Memory
+pub asks_wanting : (b : Shown) (q : Query) → bad_query (project_of b) q ≡ None → IsOneCell (reach (project_of b) q) → AsksAs b q Memory
 asks_wanting b (State c t) good h = rw good (may_want (pending b (State c t)) _ _)
 asks_wanting b (MemoryAt a t) good h = rw good (may_want (pending b (MemoryAt a t)) _ _)
 asks_wanting b _ good h = absurd h

@@ -1,16 +1,23 @@
 -- Looking up what a query asks for.
-use Rattle.std.proofs.Common.{◌≡◌, ℕ, suc, ◌<◌, ◌≤◌, ◌∙◌, sym, subst, refl, arith, None}
+use Rattle.std.proofs.Common.{◌≡◌, ℕ, suc, ◌<◌, ◌≤◌, ◌∙◌, sym, subst, refl, arith, true, List, None, Some}
+use Rattle.std.specs.Prelude.{nat_lt}
+use Rattle.std.proofs.lemmas.Bool.{lt-ltb}
+use Rattle.page_map.specs.Limits.{address_count}
+use Rattle.omega_net.specs.declared.message.Tag.{Tag}
 use Rattle.omega_net.specs.Numbers.{components}
 use Rattle.machine_cells.specs.Run.{run}
 use Rattle.machine_cells.specs.Runs.{state_in}
 use Rattle.machine_cells.proofs.Runs.{runs_are_one}
 use Rattle.run_queries.specs.declared.query.Query.{Query}
-use Rattle.run_queries.specs.declared.query.Query.TheVariants.{Reply, State, Memory}
+use Rattle.run_queries.specs.declared.query.Query.TheVariants.{Reply, State, Memory, Order}
 use Rattle.run_queries.specs.Bad.{bad_query}
 use Rattle.run_queries.specs.Answers.{found_in}
-use Rattle.run_queries.proofs.Good.{good_reply, good_state, good_memory}
+use Rattle.run_queries.proofs.Good.{good_reply, good_state, good_memory, good_order}
 use Rattle.run_queries.proofs.Stretches.{same_issued, same_reply}
+use Rattle.run_queries.specs.declared.body.Body.TheVariants as body
+use Rattle.serial_order.specs.Order.{order_of}
 use Rattle.bench_core.specs.declared.asked.Asked.{Asked}
+use Rattle.bench_core.specs.declared.asked.Asked.TheVariants as asked
 use Rattle.bench_core.specs.Shown.{Shown, project_of, version_of, held}
 use Rattle.bench_core.specs.Asks.{module_of, TellsAs, TellsRun, HoldsRunTo, IsUpToDate}
 
@@ -41,3 +48,17 @@ module _ (b : Shown) where
   word_told a t result good ready =
       let ok = good_memory (project_of b) a t good in
       says (Memory a t) result (rw (ready.1 ∙ sym (runs_are_one (project_of b) t (module_of (project_of b) a) ok.cycle ready.0)) refl)
+
+  -- an order is that of the run, and there is one for each address that is there
+  pub order_listed : (a : ℕ) (tags : List Tag) → order_of (project_of b) a ≡ Some tags → TellsRun b (Order a) (asked.Answer (version_of b) (body.Order tags))
+  order_listed a tags is = rw is refl
+
+  pub order_there : (a : ℕ) → bad_query (project_of b) (Order a) ≡ None → order_of (project_of b) a ≡ None → ⊥
+  order_there a good none =
+      let small : nat_lt a address_count ≡ true = lt-ltb a address_count (good_order (project_of b) a good) in
+      let e : _ = rw small at none in cc
+
+  pub order_wants : (a : ℕ) → bad_query (project_of b) (Order a) ≡ None → TellsRun b (Order a) asked.Memory
+  order_wants a good =
+      let small : nat_lt a address_count ≡ true = lt-ltb a address_count (good_order (project_of b) a good) in
+      rw small tt

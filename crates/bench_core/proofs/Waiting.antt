@@ -14,10 +14,12 @@ use Rattle.cell_table.proofs.Counted.{count_to_same, count_cone_same, count_to_n
 use Rattle.machine_cells.specs.GridRules.{rp3_rules}
 use Rattle.project_book.specs.Project.{Project}
 use Rattle.run_queries.specs.declared.query.Query.{Query}
-use Rattle.run_queries.specs.declared.query.Query.TheVariants.{Reply, State, Memory as MemoryAt, Counter, Profile, Tree, Level, Bound, Place}
+use Rattle.run_queries.specs.declared.reach.Reach.{Reach}
+use Rattle.run_queries.specs.declared.reach.Reach.TheVariants.{Nothing, State, Word, To}
+use Rattle.run_queries.specs.Reach.{last_of, reach}
 use Rattle.bench_core.specs.declared.asked.Asked.{Asked}
 use Rattle.bench_core.specs.Shown.{Shown, IsBench, project_of}
-use Rattle.bench_core.specs.Asks.{module_of, waits, last_cycle, IsUpTo, pending, asked, asked_at, IsOrWants, AsksAs}
+use Rattle.bench_core.specs.Asks.{module_of, waits_for, waits, last_cycle, IsUpTo, pending, asked, asked_at, IsOrWants, AsksAs}
 use Rattle.bench_core.specs.Events.{Event, Opening, version_after, project_after, on_table, table_start}
 use Rattle.bench_core.specs.Stands.{Stands}
 use Rattle.bench_core.specs.Answers.{pending_after, AsksRun}
@@ -25,36 +27,35 @@ use Rattle.bench_core.proofs.Standing.{project_is, horizon_now, version_is}
 
 -- tests that are the same for each cell that is there
 module _ (P : Project) (f g : ℕ → ℕ → Bool) (same : (t c : ℕ) → t ≤ P.horizon → c < components P.k → f t c ≡ g t c) where
+  same_for : (r : Reach) → waits_for P f r ≡ waits_for P g r
+  same_for Nothing = refl
+  same_for (State c t) = count_cone_same rp3_rules P P.horizon f g same t c
+  same_for (Word a t) = count_cone_same rp3_rules P P.horizon f g same t (module_of P a)
+  same_for (To t) = count_to_same rp3_rules P P.horizon f g same t
+
   waits_same : (q : Query) → waits P f q ≡ waits P g q
-  waits_same (State c t) = count_cone_same rp3_rules P P.horizon f g same t c
-  waits_same (MemoryAt a t) = count_cone_same rp3_rules P P.horizon f g same t (module_of P a)
-  waits_same (Counter counter who from to) = count_to_same rp3_rules P P.horizon f g same to
-  waits_same (Level net m t) = count_to_same rp3_rules P P.horizon f g same t
-  waits_same (Bound x y p) = refl
-  waits_same (Place a) = refl
-  waits_same _ = count_to_same rp3_rules P P.horizon f g same P.horizon
+  waits_same q = same_for (reach P q)
 
 module _ (P : Project) (f : ℕ → ℕ → Bool) (none : (t c : ℕ) → t ≤ P.horizon → c < components P.k → f t c ≡ false) where
-  waits_none : (q : Query) → waits P f q ≡ 0
-  waits_none (State c t) = count_cone_none rp3_rules P P.horizon f none t c
-  waits_none (MemoryAt a t) = count_cone_none rp3_rules P P.horizon f none t (module_of P a)
-  waits_none (Counter counter who from to) = count_to_none rp3_rules P P.horizon f none to
-  waits_none (Level net m t) = count_to_none rp3_rules P P.horizon f none t
-  waits_none (Bound x y p) = refl
-  waits_none (Place a) = refl
-  waits_none _ = count_to_none rp3_rules P P.horizon f none P.horizon
+  none_for : (r : Reach) → waits_for P f r ≡ 0
+  none_for Nothing = refl
+  none_for (State c t) = count_cone_none rp3_rules P P.horizon f none t c
+  none_for (Word a t) = count_cone_none rp3_rules P P.horizon f none t (module_of P a)
+  none_for (To t) = count_to_none rp3_rules P P.horizon f none t
 
--- what is due behind a query's last cycle counts for nothing
+  waits_none : (q : Query) → waits P f q ≡ 0
+  waits_none q = none_for (reach P q)
+
+-- what is due behind the last cycle counts for nothing
+module _ (P : Project) (f g : ℕ → ℕ → Bool) (last : ℕ) (same : (t c : ℕ) → t ≤ last → f t c ≡ g t c) where
+  last_for : (r : Reach) → IsUpTo (last_of r) last → waits_for P f r ≡ waits_for P g r
+  last_for Nothing up_to = refl
+  last_for (State c t) up_to = count_cone_last rp3_rules P P.horizon last f g same t c up_to
+  last_for (Word a t) up_to = count_cone_last rp3_rules P P.horizon last f g same t (module_of P a) up_to
+  last_for (To t) up_to = count_to_last rp3_rules P P.horizon last f g same t up_to
+
 pub waits_to : (P : Project) (q : Query) (f g : ℕ → ℕ → Bool) (last : ℕ) → IsUpTo (last_cycle P q) last → ((t c : ℕ) → t ≤ last → f t c ≡ g t c) → waits P f q ≡ waits P g q
-waits_to P (State c t) f g last up_to same = count_cone_last rp3_rules P P.horizon last f g same t c up_to
-waits_to P (MemoryAt a t) f g last up_to same = count_cone_last rp3_rules P P.horizon last f g same t (module_of P a) up_to
-waits_to P (Counter counter who from to) f g last up_to same = count_to_last rp3_rules P P.horizon last f g same to up_to
-waits_to P (Level net m t) f g last up_to same = count_to_last rp3_rules P P.horizon last f g same t up_to
-waits_to P (Bound x y p) f g last up_to same = refl
-waits_to P (Place a) f g last up_to same = refl
-waits_to P (Reply p n) f g last up_to same = count_to_last rp3_rules P P.horizon last f g same P.horizon up_to
-waits_to P (Profile net s) f g last up_to same = count_to_last rp3_rules P P.horizon last f g same P.horizon up_to
-waits_to P (Tree net m) f g last up_to same = count_to_last rp3_rules P P.horizon last f g same P.horizon up_to
+waits_to P q f g last up_to same = last_for P f g last same (reach P q) up_to
 
 -- the marks up to a cycle
 abbrev due_within : ℕ → (ℕ → ℕ → Bool) → ℕ → ℕ → Bool

@@ -9,7 +9,10 @@ use Rattle.machine_cells.specs.Run.{run as machine_run}
 use Rattle.machine_cells.specs.Runs.{state_in}
 use Rattle.project_book.specs.Project.{Project, place_in}
 use Rattle.run_queries.specs.declared.query.Query.{Query}
-use Rattle.run_queries.specs.declared.query.Query.TheVariants.{Reply, State, Memory as MemoryAt, Counter, Profile, Tree, Level, Bound, Place}
+use Rattle.run_queries.specs.declared.query.Query.TheVariants.{Order}
+use Rattle.run_queries.specs.declared.reach.Reach.{Reach}
+use Rattle.run_queries.specs.declared.reach.Reach.TheVariants.{Nothing, State, Word, To}
+use Rattle.run_queries.specs.Reach.{last_of, reach}
 use Rattle.run_queries.specs.declared.body.Body.{Body}
 use Rattle.run_queries.specs.Bad.{bad_query}
 use Rattle.run_queries.specs.Answers.{found_in, answer}
@@ -21,31 +24,21 @@ use Rattle.bench_core.specs.Shown.{Shown, project_of, version_of, held}
 abbrev pub module_of : Project → ℕ → ℕ
 module_of P a = lines P.k + (place_in P a).«module»
 
--- how many cells that pass the test the answer waits for: those in the cone of the component's or the module's cell for a
--- state or a word; those up to its last cycle for a counter or a level; all of the run for a reply, a profile or a tree;
--- none for what doesn't look at the run
+-- how many of these cells, and of those that they rest on, pass the test: those in the cone of the component's or the module's cell,
+-- or all up to a cycle
+abbrev pub waits_for : Project → (ℕ → ℕ → Bool) → Reach → ℕ
+waits_for P test Nothing = 0
+waits_for P test (State c t) = count_cone rp3_rules P P.horizon test t c
+waits_for P test (Word a t) = count_cone rp3_rules P P.horizon test t (module_of P a)
+waits_for P test (To t) = count_to rp3_rules P P.horizon test t
+
+-- how many cells that pass the test the answer waits for
 abbrev pub waits : Project → (ℕ → ℕ → Bool) → Query → ℕ
-waits P test (Reply p n) = count_to rp3_rules P P.horizon test P.horizon
-waits P test (State c t) = count_cone rp3_rules P P.horizon test t c
-waits P test (MemoryAt a t) = count_cone rp3_rules P P.horizon test t (module_of P a)
-waits P test (Counter counter who from to) = count_to rp3_rules P P.horizon test to
-waits P test (Profile net s) = count_to rp3_rules P P.horizon test P.horizon
-waits P test (Tree net m) = count_to rp3_rules P P.horizon test P.horizon
-waits P test (Level net m t) = count_to rp3_rules P P.horizon test t
-waits P test (Bound x y p) = 0
-waits P test (Place a) = 0
+waits P test q = waits_for P test (reach P q)
 
 -- the last cycle of the cells that the answer waits for; none where it waits for no cell
 abbrev pub last_cycle : Project → Query → Option ℕ
-last_cycle P (Reply p n) = Some P.horizon
-last_cycle P (State c t) = Some t
-last_cycle P (MemoryAt a t) = Some t
-last_cycle P (Counter counter who from to) = Some to
-last_cycle P (Profile net s) = Some P.horizon
-last_cycle P (Tree net m) = Some P.horizon
-last_cycle P (Level net m t) = Some t
-last_cycle P (Bound x y p) = None
-last_cycle P (Place a) = None
+last_cycle P q = last_of (reach P q)
 
 -- there is no such cycle, or it is at most that one
 abbrev pub IsUpTo : Option ℕ → ℕ → Type 0
@@ -103,22 +96,23 @@ TellsRun b q result = TellsAs (version_of b) (found_in (state_in (machine_run (p
 abbrev pub HoldsRunTo : Shown → ℕ → Type 0
 HoldsRunTo b end = (t c : ℕ) → t ≤ end → c < components (project_of b).k → held b.table t c ≡ Some (run rp3_rules (project_of b) t c)
 
--- the cells that the answer looks at hold the run
-abbrev pub IsUpToDate : Shown → Query → Type 0
-IsUpToDate b (Reply p n) = HoldsRunTo b (project_of b).horizon
-IsUpToDate b (State c t) = held b.table t c ≡ Some (run rp3_rules (project_of b) t c)
-IsUpToDate b (MemoryAt a t) =
+-- these cells hold the run
+abbrev pub HoldsRunAt : Shown → Reach → Type 0
+HoldsRunAt b Nothing = Unit {0}
+HoldsRunAt b (State c t) = held b.table t c ≡ Some (run rp3_rules (project_of b) t c)
+HoldsRunAt b (Word a t) =
     (module_of (project_of b) a < components (project_of b).k)
     × (held b.table t (module_of (project_of b) a) ≡ Some (run rp3_rules (project_of b) t (module_of (project_of b) a)))
-IsUpToDate b (Counter counter who from to) = HoldsRunTo b to
-IsUpToDate b (Profile net s) = HoldsRunTo b (project_of b).horizon
-IsUpToDate b (Tree net m) = HoldsRunTo b (project_of b).horizon
-IsUpToDate b (Level net m t) = HoldsRunTo b t
-IsUpToDate b (Bound x y p) = Unit {0}
-IsUpToDate b (Place a) = Unit {0}
+HoldsRunAt b (To t) = HoldsRunTo b t
 
--- the query is about one cell
-abbrev pub LooksAtCell : Query → Type 0
-LooksAtCell (State c t) = Unit {0}
-LooksAtCell (MemoryAt a t) = Unit {0}
-LooksAtCell _ = ⊥
+-- the cells that the answer looks at hold the run; an order is read from a run of its own where they don't
+abbrev pub IsUpToDate : Shown → Query → Type 0
+IsUpToDate b (Order a) = Unit {0}
+IsUpToDate b q = HoldsRunAt b (reach (project_of b) q)
+
+-- that is one cell
+abbrev pub IsOneCell : Reach → Type 0
+IsOneCell Nothing = ⊥
+IsOneCell (State c t) = Unit {0}
+IsOneCell (Word a t) = Unit {0}
+IsOneCell (To t) = ⊥

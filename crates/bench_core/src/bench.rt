@@ -29,13 +29,30 @@ use whole_rows::MachineRow;
 
 /// A project, its run as far as it was computed, the edits that were accepted, the answers that were told last, once
 /// a counter or a profile was asked, the counters, and the rows by which cells are settled.
-#[derive(Drop)]
 pub struct Bench {
     table: Table<Rp3>,
     counters: Counters,
     journal: Vec<Noted>,
     recent: Recent,
     rows: Beside<MachineRow>,
+}
+
+// Not derived: whoever drops a bench calls this, and proves nothing of its parts anew.
+impl Drop for Bench {
+    fn drop(self) {
+        let Bench {
+            table,
+            counters,
+            journal,
+            recent,
+            rows,
+        } = self;
+        drop(table);
+        drop(counters);
+        drop(journal);
+        drop(recent);
+        drop(rows);
+    }
 }
 
 impl Model for Bench {

@@ -1,26 +1,24 @@
 -- The output for an input: a line for each line.
 use Rattle.std.specs.Prelude.{◌≡◌, ◌⊎◌, ℕ, ◌+◌, ◌<◌, ◌≤◌, Bool, true, false, List, [], ◌∷◌, ◌++◌, length, Option, None, Some, Result, Ok, Err, nat_lt, if◌then◌else◌}
 use Rattle.std.specs.Io.KnownBytes.{Appends, Consumes, IsAtEnd}
-use Rattle.page_map.specs.Limits.{address_count}
 use Rattle.project_book.specs.Edits.{accepts}
 use Rattle.project_book.specs.Faults.{number_of}
 use Rattle.project_book.specs.declared.fault.EditFault.{EditFault}
 use Rattle.line_words.specs.Words.{words_of}
 use Rattle.commands.specs.Commands.{command_of}
 use Rattle.commands.specs.declared.command.Command.{Command}
-use Rattle.commands.specs.declared.command.Command.TheVariants.{Edit, Query, Order}
+use Rattle.commands.specs.declared.command.Command.TheVariants.{Edit, Query}
 use Rattle.run_queries.specs.Bad.{bad_query}
 use Rattle.run_queries.specs.Answers.{answer}
 use Rattle.run_queries.specs.declared.body.Body.{Body}
-use Rattle.omega_net.specs.declared.message.Tag.{Tag}
-use Rattle.serial_order.specs.Order.{order_of}
+use Rattle.bench_core.specs.Told.{MayFindSpent}
 use Rattle.bench_shell.specs.Lines.{Line, Whole, Cut, lines_of}
 use Rattle.bench_shell.specs.Store.{Store, version_in, edited_store}
 use Rattle.bench_shell.specs.Text.{line_text}
 use Rattle.bench_shell.specs.declared.fault.RunFault.{RunFault}
 use Rattle.bench_shell.specs.declared.fault.RunFault.TheVariants.{Memory, Clock}
 use Rattle.bench_shell.specs.declared.answer.Answer.{Answer}
-use Rattle.bench_shell.specs.declared.answer.Answer.TheVariants.{Accepted, Refused, Told as Says, Ordered, Bad, BadLine, BadCut, BadCommand}
+use Rattle.bench_shell.specs.declared.answer.Answer.TheVariants.{Accepted, Refused, Told as Says, Bad, BadLine, BadCut, BadCommand}
 
 abbrev pub edit_reply : Result (Unit {0}) EditFault → ℕ → Answer
 edit_reply (Ok done) v = Accepted v
@@ -34,23 +32,16 @@ abbrev pub query_reply : ℕ → Result Body ℕ → Answer
 query_reply v (Ok body) = Says v body
 query_reply v (Err n) = Bad n
 
--- the list of an address; an address that isn't there is bad 3
-abbrev pub order_reply : ℕ → Option (List Tag) → Answer
-order_reply v (Some tags) = Ordered v tags
-order_reply v None = Bad 3
-
 -- what a command is answered with, and the store after it
 abbrev pub reply : Store → Option Command → Answer
 reply s None = BadCommand
 reply s (Some (Edit e)) = edit_reply (accepts s.project (version_in s) e) (version_in s + 1)
 reply s (Some (Query q)) = query_reply (version_in s) (answer s.project q)
-reply s (Some (Order a)) = order_reply (version_in s) (order_of s.project a)
 
 abbrev pub after : Store → Option Command → Store
 after s None = s
 after s (Some (Edit e)) = edit_after (accepts s.project (version_in s) e) s (edited_store s e)
 after s (Some (Query q)) = s
-after s (Some (Order a)) = s
 
 -- the command that a line is
 abbrev pub command_in : Store → List ℕ → Option Command
@@ -86,18 +77,17 @@ abbrev pub AnswersAll : Option (List ℕ) → Option (List ℕ) → Option (List
 AnswersAll reader reader' writer writer' s t =
     (read : List ℕ) × Consumes reader reader' read × IsAtEnd reader' × Appends writer writer' (output s read) × (t ≡ store_after s read)
 
--- a command that can find the clock at its last value: an edit that is accepted, a query whose own numbers give no reason
--- against it
+-- a command that can find the clock at its last value: an edit that is accepted, a query that may find it so
 abbrev pub TakesClock : Store → Option Command → Type 0
 TakesClock s (Some (Edit e)) = accepts s.project (version_in s) e ≡ Ok tt
-TakesClock s (Some (Query q)) = bad_query s.project q ≡ None
+TakesClock s (Some (Query q)) = MayFindSpent s.project q
 TakesClock s _ = ⊥
 
--- one that can find no memory: the same, an edit only where the clock isn't spent, and an order of an address that is there
+-- one that can find no memory: an edit that is accepted, where the clock isn't spent, and a query whose own numbers give no reason
+-- against it
 abbrev pub TakesMemory : Type 0 → Store → Option Command → Type 0
 TakesMemory spent s (Some (Edit e)) = (accepts s.project (version_in s) e ≡ Ok tt) × (spent → ⊥)
 TakesMemory spent s (Some (Query q)) = bad_query s.project q ≡ None
-TakesMemory spent s (Some (Order a)) = a < address_count
 TakesMemory spent s None = ⊥
 
 -- a command for which a run may stop with this fault
@@ -109,7 +99,6 @@ MayStop spent fault s c = Unit {0}
 -- an answer with a body, which may be long
 abbrev pub has_body : Answer → Bool
 has_body (Says v body) = true
-has_body (Ordered v tags) = true
 has_body _ = false
 
 -- the first line is whole, with such bytes
@@ -157,7 +146,6 @@ AnswersPart spent fault reader reader' writer writer' s t =
 abbrev pub is_ok : Answer → Bool
 is_ok (Accepted v) = true
 is_ok (Says v body) = true
-is_ok (Ordered v tags) = true
 is_ok _ = false
 
 abbrev pub none_ok : List Answer → Bool

@@ -10,9 +10,6 @@ use Rattle.bench_core.specs.Told.{TellsAt, RefusesAt}
 use Rattle.bench_core.specs.declared.noted.Noted.{Noted}
 use Rattle.bench_core.specs.declared.told.Told.{Told}
 use Rattle.bench_core.specs.declared.told.Told.TheVariants as told
-use Rattle.serial_order.specs.Answers.{AnswersOrder}
-use Rattle.serial_order.specs.declared.ordered.Ordered.{Ordered}
-use Rattle.serial_order.specs.declared.ordered.Ordered.TheVariants.{NoOrder}
 
 -- a project, the number under which its edits are noted, and the journal of those that were accepted, the oldest first
 pub record Store : Type 0 where
@@ -43,15 +40,6 @@ IsToldAt version (told.Answer v body) = v ≡ version
 IsToldAt version (told.BadQuery n) = ⊥
 IsToldAt version told.ClockSpent = ⊥
 IsToldAt version told.Memory = ⊥
-
--- what is answered for the order of an address, with the version
-abbrev pub Orders : Store → ℕ → ℕ × Ordered → Type 0
-Orders s a r = (r.0 ≡ version_in s) × AnswersOrder s.project a r.1
-
--- there always is an order
-abbrev pub HasOrder : ℕ × Ordered → Type 0
-HasOrder (v, NoOrder) = ⊥
-HasOrder _ = Unit {0}
 
 -- what a bench stands for as a desk: its edits are noted under 0, as those of one editor alone are
 abbrev pub store_of : Shown → Store

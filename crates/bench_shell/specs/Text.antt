@@ -3,15 +3,13 @@ use Rattle.std.specs.Prelude.{ℕ, List, [], ◌∷◌, ◌++◌, Option, Some, 
 use Rattle.std.specs.Option.{unwrap_or}
 use Rattle.std.specs.Fmt.{◌++?◌}
 use Rattle.run_queries.specs.Texts.{body_text}
-use Rattle.serial_order.specs.Texts.{order_text}
 use Rattle.bench_shell.specs.declared.answer.Answer.{Answer}
-use Rattle.bench_shell.specs.declared.answer.Answer.TheVariants.{Accepted, Refused, Told, Ordered, Bad, BadLine, BadCut, BadCommand}
+use Rattle.bench_shell.specs.declared.answer.Answer.TheVariants.{Accepted, Refused, Told, Bad, BadLine, BadCut, BadCommand}
 
 abbrev pub text_of : Answer → Option (List ℕ)
 text_of (Accepted v) = Some (codes "ok " ++ decimal v)
 text_of (Refused n) = Some (codes "refused " ++ decimal n)
 text_of (Told v b) = Some (codes "ok ") ++? Some (decimal v) ++? Some (codes " ") ++? body_text b
-text_of (Ordered v tags) = Some (codes "ok " ++ decimal v ++ codes " " ++ order_text tags)
 text_of (Bad n) = Some (codes "bad " ++ decimal n)
 text_of BadLine = Some (codes "bad line")
 text_of BadCut = Some (codes "bad cut")

@@ -6,7 +6,6 @@ ghost use Rattle.bench_shell.specs.Output.{has_body};
 use arrayvec::ArrayString;
 use itoa::Buffer;
 use run_queries::Body;
-use serial_order::Tags;
 use std::fmt;
 
 /// Room for the line of each answer that has no body.
@@ -21,8 +20,6 @@ pub enum Answer {
     Refused(u8),
     /// A query, with the present version.
     Told(u32, Body),
-    /// A serial order, with the present version.
-    Ordered(u32, Tags),
     /// A refused query, with its number.
     Bad(u8),
     /// More than 4,096 bytes.
@@ -43,7 +40,6 @@ impl fmt::Display for Answer {
             Answer::Accepted(version) => write!(f, "ok {version}"),
             Answer::Refused(number) => write!(f, "refused {number}"),
             Answer::Told(version, body) => write!(f, "ok {version} {body}"),
-            Answer::Ordered(version, tags) => write!(f, "ok {version} {tags}"),
             Answer::Bad(number) => write!(f, "bad {number}"),
             Answer::BadLine => write!(f, "bad line"),
             Answer::BadCut => write!(f, "bad cut"),
@@ -89,7 +85,7 @@ impl Answer {
             Answer::BadLine => Some(worded("bad line")),
             Answer::BadCut => Some(worded("bad cut")),
             Answer::BadCommand => Some(worded("bad command")),
-            Answer::Told(..) | Answer::Ordered(..) => None,
+            Answer::Told(..) => None,
         }
     }
 }

@@ -3,16 +3,14 @@ ghost use Rattle.std.specs.Prelude.{◌≡◌, ℕ, ◌+◌, ◌≤◌, IfOk, On
 ghost use Rattle.page_map.specs.Limits.{max_k};
 
 use bench_core::Told;
-use grid_law::NoMemory;
 use project_book::{Edit, EditFault};
 use run_queries::Query;
-use serial_order::Ordered;
 use std::thread::Threads;
 
 /// What takes edits and is asked. Others may edit beside it.
 pub trait Desk {
     ghost use Rattle.std.specs.Thread.{IsSync};
-    ghost use Rattle.bench_shell.specs.Store.{Store, version_in, edited_store, EditGives, Tells, IsToldAt, Orders, HasOrder};
+    ghost use Rattle.bench_shell.specs.Store.{Store, version_in, edited_store, EditGives, Tells, IsToldAt};
 
     /// The project and the journal, where nobody else has edited.
     ghost store: { Self → Store };
@@ -59,18 +57,5 @@ pub trait Desk {
         // So does an answer at the version of the edits of this desk alone.
         ensures alone { IsToldAt (version_in (store self.old)) result → is_alone self.new }
         ensures spent { result ≡ Told.ClockSpent → clock_is_spent self.new }
-        ensures same { store self.new ≡ store self.old };
-
-    /// The references to the word of an address in their serial order, with the version.
-    ///
-    /// # Errors
-    ///
-    /// Where a growth was refused.
-    fn order(&mut self, address: u32) -> Result<(u32, Ordered), NoMemory>
-        ensures earlier { is_alone self.new → is_alone self.old }
-        ensures told { is_alone self.new → IfOk result (Orders (store self.old) address) }
-        ensures always { IfOk result HasOrder }
-        // So does an answer at the version of the edits of this desk alone.
-        ensures alone { IfOk result (λ r. r.0 ≡ version_in (store self.old) → is_alone self.new) }
         ensures same { store self.new ≡ store self.old };
 }

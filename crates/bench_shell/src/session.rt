@@ -18,17 +18,11 @@ use crate::fault::RunFault;
 use crate::held::Held;
 use bench_core::Told;
 use commands::Command;
-use grid_law::NoMemory;
 use omega_net::Shape;
-use page_map::ADDRESSES;
 use project_book::EditFault;
-use serial_order::Ordered;
 use std::alloc::Global;
 use std::io::{Read, Write};
 use std::thread::Threads;
-
-/// The number that an address which isn't there is answered.
-const NO_ADDRESS: u8 = 3;
 
 /// Writes all of the bytes.
 ///
@@ -153,18 +147,6 @@ fn obey<T: Threads + Sync, D: Desk>(
             Told::BadQuery(number) => Ok(Answer::Bad(number)),
             Told::ClockSpent => Err(RunFault::Clock),
             Told::Memory => Err(RunFault::Memory),
-        },
-        Some(Command::Order(address)) if address >= ADDRESSES => Ok(Answer::Bad(NO_ADDRESS)),
-        Some(Command::Order(address)) => match desk.order(address) {
-            Ok((found, Ordered::Order(tags))) => {
-                if found != *version {
-                    return Err(RunFault::OtherEditor);
-                }
-                Ok(Answer::Ordered(found, tags))
-            }
-            Ok((_, Ordered::NoOrder)) => unreachable!(),
-            Ok((_, Ordered::BadAddress)) => Ok(Answer::Bad(NO_ADDRESS)),
-            Ok((_, Ordered::Memory)) | Err(NoMemory) => Err(RunFault::Memory),
         },
     }
 }

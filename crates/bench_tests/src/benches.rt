@@ -8,7 +8,6 @@ use monitor_sums::Counter;
 use omega_net::Net;
 use project_book::Edit;
 use run_queries::Query;
-use serial_order::Ordered;
 use std::alloc::Global;
 use std::io::Eprint;
 use std::test::Fail;
@@ -275,32 +274,29 @@ fn questions_have_a_last_cycle(rt: HostRuntime) -> Result<(), Fail> {
     Ok(())
 }
 
-/// The order of word 0, as text.
-fn ordered(alloc: Global, bench: &Bench) -> Result<String, Fail> {
-    match bench.order(0) {
-        Ordered::Order(tags) => Ok(format!(in alloc; "{tags}")?),
-        _ => Err(Fail::from("no order")),
-    }
+/// How many cells are due.
+fn due(bench: &Bench) -> u64 {
+    bench.cells().due_to(bench.project().horizon())
 }
 
-/// Whether this is the order of word 0.
-fn is_order<R: Eprint>(rt: &R, alloc: Global, bench: &Bench, wanted: &str) -> Result<bool, Fail> {
-    let found = ordered(alloc, bench)?;
-    Ok(equal(rt, found.as_str(), wanted))
-}
-
-/// The order is told whether or not cells are due.
+/// The order is told whether or not cells are due. Where many are, they stay due; where few are, they are settled.
 #[test]
 fn an_order_due_or_settled(rt: HostRuntime) -> Result<(), Fail> {
     let alloc = rt.alloc();
-    let mut bench = settled(alloc)?;
+    let order = Query::Order { address: 0 };
+    let mut bench = fresh(alloc)?;
     for edit in [add(0, 1), add(1, 2), Edit::Horizon(5)] {
         bench.edit(0, edit)?;
     }
-    assert!(rt; is_order(&rt, alloc, &bench, "order 0.0 1.0")?);
+    let before = due(&bench);
+    assert!(rt; tells(&rt, alloc, &mut bench, order, "3 order 0.0 1.0")?);
+    assert!(rt; due(&bench) == before && before > 0);
     settle(&mut bench)?;
-    assert!(rt; is_order(&rt, alloc, &bench, "order 0.0 1.0")?);
+    assert!(rt; tells(&rt, alloc, &mut bench, order, "3 order 0.0 1.0")?);
+    bench.edit(0, Edit::Horizon(6))?;
+    assert!(rt; tells(&rt, alloc, &mut bench, order, "4 order 0.0 1.0")?);
+    assert!(rt; equal(&rt, due(&bench), 0));
     bench.edit(0, Edit::Horizon(3))?;
-    assert!(rt; is_order(&rt, alloc, &bench, "order")?);
+    assert!(rt; tells(&rt, alloc, &mut bench, order, "5 order")?);
     Ok(())
 }

@@ -6,7 +6,7 @@
 //! that read it. So a cell is computed only if it is new or something that it read has changed.
 //!
 //! Due cells are computed in one of two ways. `settle` computes them all, by cycle and then
-//! component, `settle_to` those up to a cycle, and `settle_watched` tells a `Watcher` of each. Or they are claimed, computed
+//! component, `settle_to` those up to a cycle, and `settle_rows` tells a `Watcher` of each. Or they are claimed, computed
 //! elsewhere, and given back:
 //!
 //! ```text

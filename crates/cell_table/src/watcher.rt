@@ -4,8 +4,8 @@ use crate::{Cell, CellRange, Table};
 use grid_law::Grid;
 
 /// Who is told of each state that is stored, right afterwards, and whether it is another one than the
-/// cell held: `Table::settle_watched` and `settle_watched_to` tell it, and so may whoever calls `Table::give`. Of cycles that
-/// are settled together it is told at once.
+/// cell held: `Table::settle_rows` and `settle_rows_to` tell it, and so may whoever calls `Table::give`. Of cycles that are
+/// settled together it is told at once.
 pub trait Watcher<G: Grid> {
     ghost use Rattle.cell_table.specs.Seen.{Seen};
     ghost use Rattle.cell_table.specs.Gives.{IsStored, HoldsSame};

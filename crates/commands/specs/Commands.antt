@@ -10,8 +10,8 @@ use Rattle.run_queries.specs.declared.query.Query.TheVariants as query
 use Rattle.commands.specs.declared.command.Command.{Command}
 use Rattle.commands.specs.declared.command.Command.TheVariants as command
 use Rattle.commands.specs.declared.keyword.Keyword.{Keyword}
-use Rattle.commands.specs.declared.keyword.Keyword.TheVariants.{Entry, Cut, Word, Page, Depth, Wait, Combine, Window, Horizon, Reply, State, Memory, Counter, Profile, Tree, Level, Bound, Place}
-use Rattle.commands.specs.Keywords.{keyword_of, is_query, is_order}
+use Rattle.commands.specs.declared.keyword.Keyword.TheVariants.{Entry, Cut, Word, Page, Depth, Wait, Combine, Window, Horizon, Reply, State, Memory, Counter, Profile, Tree, Level, Bound, Place, Order}
+use Rattle.commands.specs.Keywords.{keyword_of, is_query}
 use Rattle.commands.specs.Numbers.{both, one_number, two_numbers, three_numbers}
 use Rattle.commands.specs.Components.{component_named}
 use Rattle.commands.specs.Reports.{counter_query, in_net, level_query}
@@ -67,13 +67,13 @@ query_of k Tree words = option_map (λ x. query.Tree x.0 x.1) (in_net words)
 query_of k Level words = level_query words
 query_of k Bound words = option_map (λ x. query.Bound x.0 x.1.0 x.1.1) (three_numbers words)
 query_of k Place words = option_map query.Place (one_number words)
+query_of k Order words = option_map query.Order (one_number words)
 query_of k _ words = None
 
--- the command of a keyword and the words behind it: `order A`, a query or an edit
+-- the command of a keyword and the words behind it: a query or an edit
 abbrev pub command_for : ℕ → Keyword → List (List ℕ) → Option Command
 command_for k keyword words =
-    if is_order keyword then option_map command.Order (one_number words)
-    else if is_query keyword then option_map command.Query (query_of k keyword words)
+    if is_query keyword then option_map command.Query (query_of k keyword words)
     else option_map command.Edit (edit_of keyword words)
 
 abbrev pub command_at : ℕ → Option Keyword → List (List ℕ) → Option Command

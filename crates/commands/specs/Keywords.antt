@@ -42,9 +42,5 @@ is_query Tree = true
 is_query Level = true
 is_query Bound = true
 is_query Place = true
+is_query Order = true
 is_query _ = false
-
--- whether its command asks for a serial order
-abbrev pub is_order : Keyword → Bool
-is_order Order = true
-is_order _ = false

@@ -5,7 +5,6 @@ ghost use Rattle.commands.specs.Commands.{command_of, command_for};
 
 use crate::edits::read_edit;
 use crate::keyword::Keyword;
-use crate::numbers::one_number;
 use crate::queries::read_query;
 use line_words::split_word;
 use omega_net::Shape;
@@ -17,8 +16,6 @@ use run_queries::Query;
 pub enum Command {
     Edit(Edit),
     Query(Query),
-    /// The serial order of the references to the word of an address.
-    Order(u32),
 }
 
 impl Command {
@@ -37,9 +34,7 @@ impl Command {
 fn read_command(shape: Shape, keyword: Keyword, line: &[u8]) -> Option<Command>
     ensures { result ≡ command_for shape keyword (words_of line.now) }
 {
-    if keyword.is_order() {
-        Some(Command::Order(one_number(line)?))
-    } else if keyword.is_query() {
+    if keyword.is_query() {
         Some(Command::Query(read_query(shape, keyword, line)?))
     } else {
         Some(Command::Edit(read_edit(keyword, line)?))

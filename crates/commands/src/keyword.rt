@@ -1,6 +1,6 @@
 //! The first words of commands.
 ghost use Rattle.std.specs.Prelude.{◌≡◌};
-ghost use Rattle.commands.specs.Keywords.{keyword_name, keyword_of, is_query, is_order};
+ghost use Rattle.commands.specs.Keywords.{keyword_name, keyword_of, is_query};
 
 /// The first word of a command.
 #[derive(Clone, Copy, PartialEq, Eq, Debug)]
@@ -92,14 +92,8 @@ impl Keyword {
                 | Keyword::Level
                 | Keyword::Bound
                 | Keyword::Place
+                | Keyword::Order
         )
-    }
-
-    /// Whether its command asks for a serial order.
-    pub fn is_order(self) -> bool
-        ensures { result ≡ is_order self }
-    {
-        matches!(self, Keyword::Order)
     }
 
     /// The keyword that a word is, if it is one.

@@ -42,6 +42,9 @@ pub(crate) fn read_query(shape: Shape, keyword: Keyword, line: &[u8]) -> Option<
         Keyword::Place => Some(Query::Place {
             address: one_number(line)?,
         }),
+        Keyword::Order => Some(Query::Order {
+            address: one_number(line)?,
+        }),
         _ => None,
     }
 }

@@ -3,26 +3,15 @@ use Rattle.std.proofs.Common.{◌≡◌, ℕ, List, [], ◌∷◌, ◌++◌, ref
 use Rattle.std.specs.Prelude.{Option, None, Some, IfSome, codes}
 use Rattle.std.specs.Option.{unwrap_or}
 use Rattle.std.specs.Fmt.{◌++?◌}
-use Rattle.machine_cells.specs.declared.state.MachineState.{MachineState}
-use Rattle.machine_cells.specs.Texts.{state_text}
-use Rattle.run_queries.specs.declared.body.Body.TheVariants as body
 use Rattle.bench_shell.specs.declared.answer.Answer.{Answer}
-use Rattle.bench_shell.specs.declared.answer.Answer.TheVariants.{Told, BadCommand}
-use Rattle.bench_shell.proofs.Printing.{Shows, both, answer_shows}
+use Rattle.bench_shell.specs.declared.answer.Answer.TheVariants.{BadCommand}
+use Rattle.run_queries.proofs.Printing.{Shows, both}
 use Rattle.lab_shell.specs.Reasons.{behind, reason_of}
 use Rattle.lab_shell.specs.Json.{answer_object, quoted, refusal}
 
 pub behind_shows : (text : Option (List ℕ)) (reason : List ℕ) → Shows text → Shows (behind text reason)
 behind_shows text [] shows = shows
 behind_shows text (b ∷ bs) shows = both text (Some (codes ": " ++ b ∷ bs)) shows (codes ": " ++ b ∷ bs, refl)
-
-last : (a b c : List ℕ) (o : Option (List ℕ)) → Shows (Some a ++? Some b ++? Some c ++? o) → Shows o
-last a b c (Some t) h = (t, refl)
-last a b c None h = let e = h.1 in cc
-
--- a state prints, since an answer with it does
-pub state_shows : (s : MachineState) → Shows (state_text s)
-state_shows s = last (codes "ok ") _ (codes " ") (state_text s) (answer_shows (Told 0 (body.State s)))
 
 -- the bytes that are written of a text
 pub written : (o : Option (List ℕ)) (bytes : List ℕ) → Shows o → IfSome o (λ bs. bytes ≡ bs) → bytes ≡ unwrap_or o []

@@ -5,9 +5,9 @@ use Rattle.std.specs.List.{flat_map}
 use Rattle.omega_net.specs.declared.message.Tag.{Tag}
 use Rattle.machine_cells.specs.Texts.{state_text}
 use Rattle.run_queries.specs.declared.body.Body.{Body}
-use Rattle.run_queries.specs.declared.body.Body.TheVariants.{Reply, State, Word, Count, Profile, Tree, Level, Fraction, Place}
+use Rattle.run_queries.specs.declared.body.Body.TheVariants.{Reply, State, Word, Count, Profile, Tree, Level, Fraction, Place, Order}
 use Rattle.bench_shell.specs.declared.answer.Answer.{Answer}
-use Rattle.bench_shell.specs.declared.answer.Answer.TheVariants.{Accepted, Refused, Told, Ordered, Bad, BadLine, BadCut, BadCommand}
+use Rattle.bench_shell.specs.declared.answer.Answer.TheVariants.{Accepted, Refused, Told, Bad, BadLine, BadCut, BadCommand}
 use Rattle.lab_shell.specs.declared.manner.Seat.{Seat}
 use Rattle.lab_shell.specs.declared.manner.Seat.TheVariants.{Alone, First, Later}
 use Rattle.lab_shell.specs.Reasons.{refused_reason, bad_reason, reason_of}
@@ -64,6 +64,7 @@ body_fields (Tree tree) = field (codes "first") (array or_null tree.first.items)
 body_fields (Level n) = field (codes "level") (decimal n)
 body_fields (Fraction n d) = fields (field (codes "numerator") (decimal n)) (field (codes "denominator") (decimal d))
 body_fields (Place p) = fields (field (codes "module") (decimal p.module)) (field (codes "row") (decimal p.row))
+body_fields (Order tags) = field (codes "order") (array tag_object tags)
 
 -- a refusal, with its number or its word, and why
 abbrev pub refusal : List ℕ → List ℕ → List ℕ → List ℕ
@@ -73,7 +74,6 @@ refusal name value why = object (fields (field name value) (field (codes "why") 
 abbrev pub answer_object : Answer → List ℕ
 answer_object (Accepted v) = object (field (codes "ok") (decimal v))
 answer_object (Told v body) = object (fields (field (codes "ok") (decimal v)) (body_fields body))
-answer_object (Ordered v tags) = object (fields (field (codes "ok") (decimal v)) (field (codes "order") (array tag_object tags)))
 answer_object (Refused n) = refusal (codes "refused") (decimal n) (refused_reason n)
 answer_object (Bad n) = refusal (codes "bad") (decimal n) (bad_reason n)
 answer_object BadLine = refusal (codes "bad") (quoted (codes "line")) (reason_of BadLine)

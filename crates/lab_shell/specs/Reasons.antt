@@ -4,7 +4,7 @@ use Rattle.std.specs.Option.{unwrap_or}
 use Rattle.std.specs.Fmt.{◌++?◌}
 use Rattle.bench_shell.specs.Text.{text_of, line_text}
 use Rattle.bench_shell.specs.declared.answer.Answer.{Answer}
-use Rattle.bench_shell.specs.declared.answer.Answer.TheVariants.{Accepted, Refused, Told, Ordered, Bad, BadLine, BadCut, BadCommand}
+use Rattle.bench_shell.specs.declared.answer.Answer.TheVariants.{Accepted, Refused, Told, Bad, BadLine, BadCut, BadCommand}
 
 -- by the number of a refused edit, and of a query that has no answer
 abbrev pub refused_reason : ℕ → List ℕ
@@ -37,7 +37,6 @@ bad_reason n =
 abbrev pub reason_of : Answer → List ℕ
 reason_of (Accepted v) = []
 reason_of (Told v body) = []
-reason_of (Ordered v tags) = []
 reason_of (Refused n) = refused_reason n
 reason_of (Bad n) = bad_reason n
 reason_of BadLine = codes "a line has at most 4096 bytes"

@@ -12,7 +12,6 @@ use crate::reason::{bad_reason, reason_of, refused_reason};
 use bench_shell::Answer;
 use omega_net::Tag;
 use run_queries::{Body, Received, SharedState};
-use serial_order::Tags;
 use std::alloc::{AllocError, Global};
 
 /// A digit in base 16.
@@ -300,6 +299,7 @@ fn add_body(alloc: Global, out: &mut Vec<u8>, body: &Body) -> Result<(), AllocEr
             "row",
             u64::from(place.row),
         ),
+        Body::Order(tags) => add_list(alloc, out, "order", tags.as_slice()),
     }
 }
 
@@ -327,22 +327,6 @@ fn add_told(alloc: Global, out: &mut Vec<u8>, version: u32, body: &Body) -> Resu
     add_ok(alloc, out, version)?;
     out.push(b',')?;
     add_body(alloc, out, body)?;
-    out.push(b'}')?;
-    Ok(())
-}
-
-/// Adds a serial order.
-fn add_ordered(
-    alloc: Global,
-    out: &mut Vec<u8>,
-    version: u32,
-    tags: &Tags,
-) -> Result<(), AllocError>
-    ensures { OnOk result (out.new.items ≡ out.old.items ++ answer_object (AnyAnswer.Ordered version tags.now)) }
-{
-    add_ok(alloc, out, version)?;
-    out.push(b',')?;
-    add_list(alloc, out, "order", tags.as_slice())?;
     out.push(b'}')?;
     Ok(())
 }
@@ -388,7 +372,6 @@ fn add_answer(alloc: Global, out: &mut Vec<u8>, answer: &Answer) -> Result<(), A
     match answer {
         Answer::Accepted(version) => add_accepted(alloc, out, *version),
         Answer::Told(version, body) => add_told(alloc, out, *version, body),
-        Answer::Ordered(version, tags) => add_ordered(alloc, out, *version, tags),
         Answer::Refused(number) => {
             add_refused(alloc, out, "refused", *number, refused_reason(*number))
         }

@@ -47,7 +47,7 @@ pub(crate) fn reason_of(answer: &Answer) -> &'static str
     ensures { result.now ≡ reason_of answer.now }
 {
     match answer {
-        Answer::Accepted(_) | Answer::Told(..) | Answer::Ordered(..) => "",
+        Answer::Accepted(_) | Answer::Told(..) => "",
         Answer::Refused(number) => refused_reason(*number),
         Answer::Bad(number) => bad_reason(*number),
         Answer::BadLine => "a line has at most 4096 bytes",

@@ -186,7 +186,6 @@ fn put_for_people<W: Sink>(
         Answer::BadCommand => put_no_command(alloc, line, writer),
         Answer::Accepted(_)
         | Answer::Told(..)
-        | Answer::Ordered(..)
         | Answer::Refused(_)
         | Answer::Bad(_)
         | Answer::BadLine
@@ -246,7 +245,7 @@ pub(crate) fn is_taken(answer: &Answer) -> bool
     ensures { result ≡ is_ok answer.now }
 {
     match answer {
-        Answer::Accepted(_) | Answer::Told(..) | Answer::Ordered(..) => true,
+        Answer::Accepted(_) | Answer::Told(..) => true,
         Answer::Refused(_)
         | Answer::Bad(_)
         | Answer::BadLine

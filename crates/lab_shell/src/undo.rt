@@ -30,7 +30,7 @@ pub(crate) fn edit_in(bench: &Bench, line: &[u8]) -> Option<Edit>
 {
     match Command::parse(bench.project().shape(), line) {
         Some(Command::Edit(edit)) => Some(edit),
-        Some(Command::Query(_)) | Some(Command::Order(_)) | None => None,
+        Some(Command::Query(_)) | None => None,
     }
 }
 

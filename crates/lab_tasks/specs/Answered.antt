@@ -7,8 +7,9 @@ use Rattle.project_book.specs.Project.{Project}
 use Rattle.run_queries.specs.declared.query.Query.{Query}
 use Rattle.run_queries.specs.declared.query.Query.TheVariants as query
 use Rattle.run_queries.specs.declared.body.Body.{Body}
-use Rattle.run_queries.specs.declared.body.Body.TheVariants.{Reply, State, Word, Count, Profile, Tree, Level, Fraction, Place}
+use Rattle.run_queries.specs.declared.body.Body.TheVariants.{Reply, State, Word, Count, Profile, Tree, Level, Fraction, Place, Order}
 use Rattle.run_queries.specs.Texts.{body_text}
+use Rattle.serial_order.specs.Texts.{order_text}
 use Rattle.lab_tasks.specs.declared.answered.Form.{Form}
 use Rattle.lab_tasks.specs.declared.answered.Says.{Says}
 use Rattle.lab_tasks.specs.declared.answered.Says.TheVariants as says
@@ -22,7 +23,7 @@ form_of P numbers = record { numbers = numbers; k = P.k }
 
 -- ---- the names of the columns
 
--- how many numbers the answer to a question has; a state has none, and one column for its text
+-- how many numbers the answer to a question has; a state and an order have none, and one column for their text
 abbrev pub numbers_of : ℕ → Query → ℕ
 numbers_of k (query.Reply p n) = 2
 numbers_of k (query.State c t) = 1
@@ -33,6 +34,7 @@ numbers_of k (query.Tree net m) = k
 numbers_of k (query.Level net m t) = 1
 numbers_of k (query.Bound a b p) = 2
 numbers_of k (query.Place a) = 2
+numbers_of k (query.Order a) = 1
 
 -- how many numbers a question's answer or a report has
 abbrev pub figures_of : ℕ → Asking → ℕ
@@ -60,6 +62,7 @@ number_name (query.Tree net m) i = codes " level " ++ decimal (i + 1)
 number_name (query.Level net m t) i = []
 number_name (query.Bound a b p) i = one_of (codes " numerator") (codes " denominator") i
 number_name (query.Place a) i = one_of (codes " module") (codes " row") i
+number_name (query.Order a) i = []
 
 abbrev pub figure_name : Asking → ℕ → List ℕ
 figure_name (asking.Query q) i = number_name q i
@@ -108,6 +111,7 @@ number_at (Tree tree) i = Some (first_text (slice_get tree.first.items i))
 number_at (Level n) i = Some (decimal n)
 number_at (Fraction n d) i = Some (one_of (decimal n) (decimal d) i)
 number_at (Place p) i = Some (one_of (decimal p.«module») (decimal p.row) i)
+number_at (Order tags) i = Some (order_text tags)
 
 -- what is said, as text: the answer to a question, the figures of a report in a line, or `bad N` with the number of the reason why
 -- there is none

@@ -34,6 +34,7 @@ fn numbers_of(k: u32, query: Query) -> u32
         Query::Tree { .. } => k,
         Query::State { .. } | Query::Memory { .. } => 1,
         Query::Counter { .. } | Query::Level { .. } => 1,
+        Query::Order { .. } => 1,
     }
 }
 
@@ -122,6 +123,7 @@ impl fmt::Display for NumberName {
             Query::Place { .. } => f.write_str(one_of(" module", " row", place)),
             Query::State { .. } | Query::Memory { .. } => Ok(()),
             Query::Counter { .. } | Query::Level { .. } => Ok(()),
+            Query::Order { .. } => Ok(()),
         }
     }
 }
@@ -274,7 +276,7 @@ fn number_in(alloc: Global, body: &Body, place: u32) -> Result<String, AllocErro
             let (cycle, word) = (u64::from(received.cycle), u64::from(received.word));
             number_of(alloc, cycle, word, place)
         }
-        Body::State(_) => printed(alloc, body),
+        Body::State(_) | Body::Order(_) => printed(alloc, body),
         Body::Word(word) => format!(in alloc; "{word}"),
         Body::Count(count) => format!(in alloc; "{count}"),
         Body::Profile(counts) => {

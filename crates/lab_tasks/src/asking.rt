@@ -147,7 +147,6 @@ fn refused_as<'a>(word: &'a str, answer: Answer) -> End<'a>
         Answer::Accepted(_)
         | Answer::Refused(_)
         | Answer::Told(_, _)
-        | Answer::Ordered(_, _)
         | Answer::BadLine
         | Answer::BadCut
         | Answer::BadCommand => Reason::Form(WANTED),
@@ -188,7 +187,7 @@ fn asking_in<'a>(alloc: Global, project: &Project, word: &'a str) -> Result<Aski
 {
     match Command::parse(project.shape(), word.as_bytes()) {
         Some(Command::Query(query)) => query_at(project, word, query),
-        Some(Command::Edit(_) | Command::Order(_)) | None => report_at(alloc, project, word),
+        Some(Command::Edit(_)) | None => report_at(alloc, project, word),
     }
 }
 

@@ -268,6 +268,7 @@ pub(crate) fn asked<R: Threads + Sync>(rt: &R, alloc: Global) -> bool {
         },
         Query::Bound { a: 1, b: 10, p: 2 },
         Query::Place { address: 300 },
+        Query::Order { address: 0 },
     ];
     let mut all = true;
     for query in queries {

@@ -7,8 +7,13 @@ use Rattle.omega_net.specs.Numbers.{lines, components}
 use Rattle.omega_net.specs.declared.component.Net.{Net}
 use Rattle.monitor_sums.specs.declared.counter.Counter.{Counter as WhichCounter}
 use Rattle.project_book.specs.Project.{Project}
-use Rattle.run_queries.specs.declared.query.Query.TheVariants.{Reply, State, Memory, Counter, Profile, Tree, Level, Place}
+use Rattle.run_queries.specs.declared.query.Query.TheVariants.{Reply, State, Memory, Counter, Profile, Tree, Level, Place, Order}
+use Rattle.run_queries.specs.declared.query.Query.{Query}
+use Rattle.run_queries.specs.declared.query.Query.TheVariants.{Bound}
+use Rattle.run_queries.specs.declared.reach.Reach.{Reach}
+use Rattle.run_queries.specs.declared.reach.Reach.TheVariants as reached
 use Rattle.run_queries.specs.Bad.{is_who, bad_query}
+use Rattle.run_queries.specs.Reach.{reach}
 
 pub record GoodState (P : Project) (c t : ℕ) : Type 0 where
   pub component : c < components P.k
@@ -36,6 +41,9 @@ good_memory P a t h = grind (arith, nat_tests)
 pub good_place : (P : Project) (a : ℕ) → bad_query P (Place a) ≡ None → a < address_count
 good_place P a h = grind (arith, nat_tests)
 
+pub good_order : (P : Project) (a : ℕ) → bad_query P (Order a) ≡ None → a < address_count
+good_order P a h = grind (arith, nat_tests)
+
 pub good_reply : (P : Project) (p n : ℕ) → bad_query P (Reply p n) ≡ None → p < components P.k
 good_reply P p n h = let lt : p < lines P.k = grind (arith, nat_tests) in omega arith
 
@@ -54,3 +62,22 @@ good_tree P net m h = grind (arith, nat_tests)
 
 pub good_level : (P : Project) (net : Net) (m t : ℕ) → bad_query P (Level net m t) ≡ None → GoodLevel P m t
 good_level P net m t h = grind (arith, nat_tests)
+
+-- cells that are there
+abbrev pub IsReached : Project → Reach → Type 0
+IsReached P reached.Nothing = Unit {0}
+IsReached P (reached.State c t) = GoodState P c t
+IsReached P (reached.Word a t) = GoodMemory P a t
+IsReached P (reached.To t) = t ≤ P.horizon
+
+pub good_reach : (P : Project) (q : Query) → bad_query P q ≡ None → IsReached P (reach P q)
+good_reach P (Reply p n) h = omega arith
+good_reach P (State c t) h = good_state P c t h
+good_reach P (Memory a t) h = good_memory P a t h
+good_reach P (Counter counter who from to) h = (good_counter P counter who from to h).within
+good_reach P (Profile net s) h = omega arith
+good_reach P (Tree net m) h = omega arith
+good_reach P (Level net m t) h = (good_level P net m t h).cycle
+good_reach P (Bound a b p) h = tt
+good_reach P (Place a) h = tt
+good_reach P (Order a) h = omega arith

@@ -3,13 +3,12 @@ use Rattle.std.proofs.Common.{rules, ◌≡◌, ℕ, Bool, true, refl, ap, Optio
 use Rattle.std.specs.Prelude.{◌==◌, ◌&&◌}
 use Rattle.std.specs.Option.{option_eq}
 use Rattle.std.proofs.lemmas.Bool.{false≢true}
-use Rattle.std.proofs.lemmas.Bool.Decides.{Decides-and, Decides-eqb}
+use Rattle.std.proofs.lemmas.Bool.Decides.{Decides-eqb}
 use denote.Enum.Bare.{same_true}
-use Rattle.omega_net.specs.declared.component.Net.{Net}
 use Rattle.omega_net.specs.contracts.component.Net.{the_type as the_net}
 use Rattle.monitor_sums.specs.contracts.counter.Counter.{the_type as the_counter}
 use Rattle.run_queries.specs.declared.query.Query.{Query}
-use Rattle.run_queries.specs.declared.query.Query.TheVariants.{Reply, State, Memory, Counter, Profile, Tree, Level, Bound, Place}
+use Rattle.run_queries.specs.declared.query.Query.TheVariants.{Reply, State, Memory, Counter, Profile, Tree, Level, Bound, Place, Order}
 use Rattle.run_queries.specs.contracts.query.QueryPartialEq.TheImpl as queries
 
 number : (x y : ℕ) → (x == y) ≡ true → x ≡ y
@@ -45,4 +44,5 @@ same_query (Level n x y) (Level n' x' y') h =
 same_query (Bound x y z) (Bound x' y' z') h =
     let e = and_true _ _ h in let f = and_true _ _ e.1 in let p = number x x' e.0 in let q = number y y' f.0 in let r = number z z' f.1 in cc
 same_query (Place x) (Place x') h = ap (λ a. Place a) (number x x' h)
+same_query (Order x) (Order x') h = ap (λ a. Order a) (number x x' h)
 same_query _ _ h = absurd (false≢true h)

@@ -1,8 +1,9 @@
 -- What is answered to a query of a project: a look-up in its run, or the first reason against it.
-use Rattle.std.specs.Prelude.{ℕ, zero, suc, ◌+◌, ◌==◌, nat_le, nat_lt, Bool, false, if◌then◌else◌, Option, None, Some, Result, Ok, Err}
+use Rattle.std.specs.Prelude.{ℕ, zero, suc, ◌+◌, ◌==◌, nat_le, nat_lt, Bool, false, if◌then◌else◌, List, Option, None, Some, Result, Ok, Err}
 use Rattle.std.specs.Option.{option_map, unwrap_or}
 use Rattle.page_map.specs.Limits.{address_count}
 use Rattle.omega_net.specs.declared.message.Reply.{Reply}
+use Rattle.omega_net.specs.declared.message.Tag.{Tag}
 use Rattle.omega_net.specs.Numbers.{lines, components}
 use Rattle.omega_net.specs.Ports.{message_at}
 use Rattle.mem_module.specs.Memory.{word_at}
@@ -16,11 +17,12 @@ use Rattle.monitor_sums.specs.Sums.{sum_of, profile_of}
 use Rattle.saturation.specs.Levels.{level}
 use Rattle.saturation.specs.Trees.{tree}
 use Rattle.saturation.specs.Bound.{bound}
+use Rattle.serial_order.specs.Order.{order_of}
 use Rattle.run_queries.specs.Bad.{bad_query}
 use Rattle.run_queries.specs.declared.query.Query.{Query}
-use Rattle.run_queries.specs.declared.query.Query.TheVariants.{Reply as ReplyTo, State as StateOf, Memory as MemoryAt, Counter as CountOf, Profile as ProfileOf, Tree as TreeOf, Level as LevelOf, Bound as BoundOf, Place as PlaceOf}
+use Rattle.run_queries.specs.declared.query.Query.TheVariants.{Reply as ReplyTo, State as StateOf, Memory as MemoryAt, Counter as CountOf, Profile as ProfileOf, Tree as TreeOf, Level as LevelOf, Bound as BoundOf, Place as PlaceOf, Order as OrderOf}
 use Rattle.run_queries.specs.declared.body.Body.{Body}
-use Rattle.run_queries.specs.declared.body.Body.TheVariants.{Reply as Replied, State as Is, Word as Holds, Count as Counts, Profile as HasProfile, Tree as Grows, Level as IsAt, Fraction as IsFraction, Place as StandsAt}
+use Rattle.run_queries.specs.declared.body.Body.TheVariants.{Reply as Replied, State as Is, Word as Holds, Count as Counts, Profile as HasProfile, Tree as Grows, Level as IsAt, Fraction as IsFraction, Place as StandsAt, Order as IsOrder}
 use Rattle.run_queries.specs.declared.body.Received.{Received}
 
 -- whether a processor issued a reference in the last step
@@ -65,7 +67,13 @@ abbrev pub fraction : Option (ℕ × ℕ) → Result Body ℕ
 fraction (Some x) = Ok (IsFraction x.0 x.1)
 fraction None = Err 6
 
--- what these states, by cycle and component, say to a query; 4 where the processor has issued no such reference
+-- an order; 3 where there is no such address
+abbrev pub listed : Option (List Tag) → Result Body ℕ
+listed (Some tags) = Ok (IsOrder tags)
+listed None = Err 3
+
+-- what these states, by cycle and component, say to a query; 4 where the processor has issued no such reference; an order is
+-- that of the run, whatever the states
 abbrev pub found_in : (ℕ → ℕ → Option MachineState) → Project → Query → Result Body ℕ
 found_in at P (ReplyTo p n) =
     if nat_lt n (issued (λ t. at t p) (suc P.horizon)) then Ok (Replied (first_reply (λ t. at t p) n (suc P.horizon))) else Err 4
@@ -77,6 +85,7 @@ found_in at P (TreeOf net m) = Ok (Grows (tree P net m at))
 found_in at P (LevelOf net m t) = Ok (IsAt (level P net m (at t)))
 found_in at P (BoundOf a b p) = fraction (bound a b p)
 found_in at P (PlaceOf a) = Ok (StandsAt (place_in P a))
+found_in at P (OrderOf a) = listed (order_of P a)
 
 abbrev pub unless : Option ℕ → Result Body ℕ → Result Body ℕ
 unless None says = says

@@ -5,7 +5,7 @@ use Rattle.omega_net.specs.Numbers.{lines, components}
 use Rattle.saturation.specs.Bound.{bound}
 use Rattle.project_book.specs.Project.{Project}
 use Rattle.run_queries.specs.declared.query.Query.{Query}
-use Rattle.run_queries.specs.declared.query.Query.TheVariants.{Reply, State, Memory, Counter, Profile, Tree, Level, Bound, Place}
+use Rattle.run_queries.specs.declared.query.Query.TheVariants.{Reply, State, Memory, Counter, Profile, Tree, Level, Bound, Place, Order}
 
 -- all components, or one that is there
 abbrev pub is_who : ℕ → Option ℕ → Bool
@@ -28,3 +28,4 @@ bad_query P (Tree net m) = if nat_lt m (lines P.k) then None else Some 1
 bad_query P (Level net m t) = if nat_lt m (lines P.k) then (if nat_le t P.horizon then None else Some 2) else Some 1
 bad_query P (Bound a b p) = if is_some (bound a b p) then None else Some 6
 bad_query P (Place a) = if nat_lt a address_count then None else Some 3
+bad_query P (Order a) = if nat_lt a address_count then None else Some 3

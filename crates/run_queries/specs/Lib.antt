@@ -1,3 +1,4 @@
 pub mod Bad
 pub mod Answers
+pub mod Reach
 pub mod Texts

@@ -3,9 +3,10 @@ use Rattle.std.specs.Prelude.{ℕ, List, [], ◌∷◌, ◌++◌, Option, None, 
 use Rattle.omega_net.specs.Texts.{place_text}
 use Rattle.machine_cells.specs.Texts.{state_text}
 use Rattle.saturation.specs.Texts.{tree_text}
+use Rattle.serial_order.specs.Texts.{order_text}
 use Rattle.run_queries.specs.declared.body.Received.{Received}
 use Rattle.run_queries.specs.declared.body.Body.{Body}
-use Rattle.run_queries.specs.declared.body.Body.TheVariants.{Reply, State, Word, Count, Profile, Tree, Level, Fraction, Place}
+use Rattle.run_queries.specs.declared.body.Body.TheVariants.{Reply, State, Word, Count, Profile, Tree, Level, Fraction, Place, Order}
 
 -- a reply: `at T word W`
 abbrev pub received_text : Received → List ℕ
@@ -22,7 +23,7 @@ spaced_text [] = []
 spaced_text (n ∷ ns) = decimal n ++ later_text ns
 
 -- an answer: `at T word W`, or `none` where no reply was received; a state's text; a word, a count or a level; numbers;
--- a tree's text; a fraction, `N/D`; a place, `M:R`
+-- a tree's text; a fraction, `N/D`; a place, `M:R`; an order, `order` and its tags
 abbrev pub body_text : Body → Option (List ℕ)
 body_text (Reply None) = Some (codes "none")
 body_text (Reply (Some r)) = Some (received_text r)
@@ -34,3 +35,4 @@ body_text (Tree tree) = Some (tree_text tree)
 body_text (Level n) = Some (decimal n)
 body_text (Fraction n d) = Some (decimal n ++ codes "/" ++ decimal d)
 body_text (Place p) = Some (place_text p)
+body_text (Order tags) = Some (order_text tags)

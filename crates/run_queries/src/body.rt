@@ -9,6 +9,7 @@ use grid_law::NoMemory;
 use machine_cells::MachineState;
 use page_map::Place;
 use saturation::Tree;
+use serial_order::Tags;
 use std::fmt;
 use std::marker::Model;
 use std::sync::Arc;
@@ -89,10 +90,13 @@ pub enum Body {
     /// Numerator and denominator, not reduced.
     Fraction(u64, u64),
     Place(Place),
+    /// The references to a word, in their serial order.
+    Order(Tags),
 }
 
 impl Body {
-    /// The same answer once more: a state gets one more owner and is not copied, a tree's levels are copied.
+    /// The same answer once more: a state gets one more owner and is not copied, a tree's levels and the tags of an order are
+    /// copied.
     ///
     /// # Errors
     ///
@@ -111,6 +115,7 @@ impl Body {
             Body::Level(level) => Body::Level(*level),
             Body::Fraction(numerator, denominator) => Body::Fraction(*numerator, *denominator),
             Body::Place(place) => Body::Place(*place),
+            Body::Order(tags) => Body::Order(tags.copied()?),
         })
     }
 }
@@ -126,7 +131,7 @@ impl fmt::Display for SharedState {
 }
 
 /// `at T word W`, or `none` where no reply was received; a state's text; a word, a count or a level in
-/// decimal; 17 numbers; a tree's text; a fraction as `N/D`; a place as `M:R`.
+/// decimal; 17 numbers; a tree's text; a fraction as `N/D`; a place as `M:R`; an order as `order` and its tags.
 impl fmt::Display for Body {
     ghost output = { body_text };
 
@@ -145,6 +150,7 @@ impl fmt::Display for Body {
             Body::Level(level) => write!(f, "{level}"),
             Body::Fraction(numerator, denominator) => write!(f, "{numerator}/{denominator}"),
             Body::Place(place) => write!(f, "{place}"),
+            Body::Order(tags) => write!(f, "{tags}"),
         }
     }
 }

@@ -63,6 +63,10 @@ pub enum Query {
     Place {
         address: u32,
     },
+    /// The serial order of the references to the word of an address.
+    Order {
+        address: u32,
+    },
 }
 
 /// Whether a component is there, where one is asked for.
@@ -104,8 +108,8 @@ impl Query {
                 if module >= project.processors() => { Some(1) }
             Query::State { cycle, .. } | Query::Memory { cycle, .. } | Query::Level { cycle, .. }
                 if cycle > project.horizon() => { Some(2) }
-            Query::Memory { address, .. } | Query::Place { address } if address >= ADDRESSES =>
-                Some(3),
+            Query::Memory { address, .. } | Query::Place { address } | Query::Order { address }
+                if address >= ADDRESSES => { Some(3) }
             Query::Counter { from, to, .. } => bad_window(project, from, to),
             Query::Bound { a, b, p } if bound(a, b, p).is_none() => Some(6),
             _ => None,

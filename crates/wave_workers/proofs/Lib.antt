@@ -1,1 +1,2 @@
 mod Working
+mod Settling

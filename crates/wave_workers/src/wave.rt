@@ -1,20 +1,12 @@
 //! Waves: the due cells of one cycle, computed at once by several threads.
-ghost use Rattle.std.specs.Prelude.{◌≡◌, ℕ, ◌-◌, ◌^◌, ◌<◌, ◌≤◌, ◌+◌, IfOk, IfErr, IfNone, IfSome, OnOk, OnErr, Err, List, All, vec_len};
+ghost use Rattle.std.specs.Prelude.{◌≡◌, ◌-◌, ◌^◌, ◌<◌, ◌≤◌, ◌+◌, IfOk, IfNone, IfSome, OnErr, Err, All, vec_len};
 ghost use Rattle.std.specs.Thread.{IsSync, IsSend};
 ghost use Rattle.cell_table.specs.Settling.{NoneDueBefore, SettlesNext, IsSettled, IsSpent, computed_of, IsClockSpent};
 ghost use Rattle.cell_table.specs.Waves.{IsReady, IsWork};
-ghost use Rattle.cell_table.specs.Events.{Event as TableEvent};
-ghost use Rattle.machine_cells.specs.declared.state.MachineState.{MachineState as CellState};
 ghost use Rattle.machine_cells.specs.GridRules.{rp3_rules};
-ghost use Rattle.project_book.specs.Project.{Project as ProjectValue};
-ghost use Rattle.project_book.specs.declared.slot.Slot.{Slot as ReadSlot};
-ghost use Rattle.run_queries.specs.declared.query.Query.{Query as AnyQuery};
 ghost use Rattle.bench_core.specs.Shown.{project_of};
-ghost use Rattle.bench_core.specs.Asks.{pending};
-ghost use Rattle.bench_core.specs.Events.{Event, Opening};
-ghost use Rattle.bench_core.specs.Stands.{Stands};
-ghost use Rattle.bench_core.specs.Answers.{Settles, SettlesFirst};
 ghost use Rattle.wave_workers.specs.Working.{unstored};
+ghost use Rattle.wave_workers.specs.Settling.{IsSettledAs};
 
 use crate::gate::{Gate, Ungated};
 use bench_core::Bench;
@@ -152,18 +144,7 @@ fn settle_by_waves<R: Threads + Sync, G: Gate + Send>(
     bench: &mut Bench,
     gates: &mut [G],
 ) -> Result<Settled, SettleFault>
-    ensures headline_settles { IfOk result (λ s. (done : List (TableEvent CellState ProjectValue ReadSlot)) × ((o : Opening) (h : List Event) → Stands o bench.old h
-        → Settles o h bench.new done s.computed)) }
-    ensures after_fault { IfErr result (λ f. (done : List (TableEvent CellState ProjectValue ReadSlot)) × ((o : Opening) (h : List Event) → Stands o bench.old h
-        → SettlesFirst o h bench.new done (computed_of f))) }
-    ensures settled { OnOk result (IsSettled rp3_rules bench.new.table) }
-    ensures ready { OnOk result ((query : AnyQuery) → pending bench.new query ≡ 0) }
-    ensures project { project_of bench.new ≡ project_of bench.old }
-    ensures journal { bench.new.journal ≡ bench.old.journal }
-    ensures spent { IfErr result (λ f. IsClockSpent f → bench.new.table.clock ≡ 2 ^ 64 - 1) }
-    ensures differs { IfErr result (λ f. IsClockSpent f → IsSpent rp3_rules bench.new.table 0 0) }
-    ensures rises { bench.old.table.clock ≤ bench.new.table.clock }
-    ensures clock { bench.old.table.clock ≡ 2 ^ 64 - 1 → bench.new.table.clock ≡ 2 ^ 64 - 1 }
+    ensures { IsSettledAs bench.old bench.new result }
 {
     let mut computed: u64 = 0;
     let mut from = Cell {
@@ -215,18 +196,7 @@ pub fn settle_wave<R: Threads + Sync, G: Gate + Send + Drop>(
     gates: Vec<G>,
 ) -> Result<Settled, SettleFault>
     requires { (0 < vec_len gates) × (vec_len gates ≤ 16) }
-    ensures headline_settles { IfOk result (λ s. (done : List (TableEvent CellState ProjectValue ReadSlot)) × ((o : Opening) (h : List Event) → Stands o bench.old h
-        → Settles o h bench.new done s.computed)) }
-    ensures after_fault { IfErr result (λ f. (done : List (TableEvent CellState ProjectValue ReadSlot)) × ((o : Opening) (h : List Event) → Stands o bench.old h
-        → SettlesFirst o h bench.new done (computed_of f))) }
-    ensures settled { OnOk result (IsSettled rp3_rules bench.new.table) }
-    ensures ready { OnOk result ((query : AnyQuery) → pending bench.new query ≡ 0) }
-    ensures project { project_of bench.new ≡ project_of bench.old }
-    ensures journal { bench.new.journal ≡ bench.old.journal }
-    ensures spent { IfErr result (λ f. IsClockSpent f → bench.new.table.clock ≡ 2 ^ 64 - 1) }
-    ensures differs { IfErr result (λ f. IsClockSpent f → IsSpent rp3_rules bench.new.table 0 0) }
-    ensures rises { bench.old.table.clock ≤ bench.new.table.clock }
-    ensures clock { bench.old.table.clock ≡ 2 ^ 64 - 1 → bench.new.table.clock ≡ 2 ^ 64 - 1 }
+    ensures { IsSettledAs bench.old bench.new result }
 {
     let mut gates = gates;
     let alloc = *gates.allocator();
@@ -257,18 +227,7 @@ pub fn settle_where_it_pays<R: Threads + Sync>(
     alloc: Global,
     bench: &mut Bench,
 ) -> Result<Settled, SettleFault>
-    ensures headline_settles { IfOk result (λ s. (done : List (TableEvent CellState ProjectValue ReadSlot)) × ((o : Opening) (h : List Event) → Stands o bench.old h
-        → Settles o h bench.new done s.computed)) }
-    ensures after_fault { IfErr result (λ f. (done : List (TableEvent CellState ProjectValue ReadSlot)) × ((o : Opening) (h : List Event) → Stands o bench.old h
-        → SettlesFirst o h bench.new done (computed_of f))) }
-    ensures settled { OnOk result (IsSettled rp3_rules bench.new.table) }
-    ensures ready { OnOk result ((query : AnyQuery) → pending bench.new query ≡ 0) }
-    ensures project { project_of bench.new ≡ project_of bench.old }
-    ensures journal { bench.new.journal ≡ bench.old.journal }
-    ensures spent { IfErr result (λ f. IsClockSpent f → bench.new.table.clock ≡ 2 ^ 64 - 1) }
-    ensures differs { IfErr result (λ f. IsClockSpent f → IsSpent rp3_rules bench.new.table 0 0) }
-    ensures rises { bench.old.table.clock ≤ bench.new.table.clock }
-    ensures clock { bench.old.table.clock ≡ 2 ^ 64 - 1 → bench.new.table.clock ≡ 2 ^ 64 - 1 }
+    ensures { IsSettledAs bench.old bench.new result }
 {
     if !waves_pay(bench) {
         return bench.settle();

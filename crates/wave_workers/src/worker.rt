@@ -32,10 +32,10 @@ const CELLS: u32 = 16_384;
 
 /// For how many microseconds a worker that finds nothing to do sleeps between two looks at the journal's length. Who edits
 /// wakes no worker meanwhile, so that a question which comes at once costs what it costs without workers.
-const LOOK: u64 = 10_000;
+const LOOK: u64 = 2_000;
 
 /// How often it looks so, until it sleeps until an edit wakes it: a second, after which nobody minds a waking.
-const LOOKS: u32 = 100;
+const LOOKS: u32 = 500;
 
 /// For how many microseconds nobody edits before a worker that has seen an edit begins: longer than a program takes to read an
 /// answer and ask, so that a question which comes at once finds no worker before it.

@@ -88,7 +88,9 @@ fn queries(rt: HostRuntime) {
     assert!(rt; parse(1, b"reply 0 2".as_slice()) == Some(Command::Query(reply)));
     let place = Query::Place { address: 300 };
     assert!(rt; parse(1, b"place 300".as_slice()) == Some(Command::Query(place)));
-    assert!(rt; parse(1, b"order 16384".as_slice()) == Some(Command::Order(16384)));
+    assert!(rt;
+        parse(1, b"order 16384".as_slice()) == Some(Command::Query(Query::Order { address: 16384 }))
+    );
 }
 
 #[test]

@@ -14,13 +14,11 @@ use Rattle.bench_core.specs.declared.told.Told.TheVariants as told
 use Rattle.bench_core.specs.Shown.{Shown, project_of}
 use Rattle.bench_core.specs.Told.{TellsAt, RefusesAt}
 use Rattle.bench_core.proofs.Admitting.{admitted}
-use Rattle.serial_order.specs.Answers.{AnswersOrder}
-use Rattle.serial_order.specs.declared.ordered.Ordered.{Ordered}
 use Rattle.shared_bench.specs.Legal.{Receipt, noted, StartsWith}
 use Rattle.shared_bench.specs.Known.{Known, IsLater, TookTurn}
 use Rattle.shared_bench.specs.Answers.{project_at, project_seen, after_entries, IsMet, IsInTurn, EditsAs}
 use Rattle.shared_bench.proofs.Journals.{project_push}
-use Rattle.bench_shell.specs.Store.{Store, version_in, edited_store, EditGives, IsToldAt, Orders}
+use Rattle.bench_shell.specs.Store.{Store, version_in, edited_store, EditGives, IsToldAt}
 use Rattle.worker_sessions.specs.Seated.{entries_of, own_journal, seated_store, IsSeated}
 
 -- a list that goes on from another, and is no longer, is that one
@@ -107,13 +105,6 @@ told_at p q query (told.Answer v body) is later same told at = exact_at p q v is
 told_at p q query (told.BadQuery n) is later same told at = absurd at
 told_at p q query told.ClockSpent is later same told at = absurd at
 told_at p q query told.Memory is later same told at = absurd at
-
--- ---- an order
-
-pub orders_alone : (p q : Known) (a v : ℕ) (P : Project) (r : Ordered) → IsLater p q → q.receipts ≡ p.receipts → v ≡ length q.seen → P ≡ project_seen q → AnswersOrder P a r → q.seen ≡ own_journal q
-    → Orders (seated_store p) a (v, r)
-orders_alone p q a v P r later same seen is answers alone =
-    (seen ∙ version_alone p q later same alone, subst (λ (Q : Project). AnswersOrder Q a r) (is ∙ project_alone p q later same alone) answers)
 
 -- ---- an edit
 

@@ -6,10 +6,8 @@ ghost use Rattle.worker_sessions.specs.Seated.{seated_store};
 
 use bench_core::Told;
 use bench_shell::Desk;
-use grid_law::NoMemory;
 use project_book::{Edit, EditFault};
 use run_queries::Query;
-use serial_order::{Ordered, order};
 use shared_bench::Pass;
 use std::alloc::Global;
 use std::marker::Model;
@@ -80,13 +78,5 @@ impl<R: Wait> Desk for Seated<R> {
     /// Settles the bench as far as the answer looks, and answers it, in one turn.
     fn ask<T: Threads + Sync>(&mut self, rt: &T, query: Query) -> Told {
         self.pass.ask_with(&self.rt, rt, query)
-    }
-
-    /// Takes the project in a turn, and simulates it outside of every turn.
-    fn order(&mut self, address: u32) -> Result<(u32, Ordered), NoMemory> {
-        match self.pass.project(&self.rt) {
-            Ok((version, project)) => Ok((version, order(self.alloc, &project, address))),
-            Err(error) => Err(error),
-        }
     }
 }

@@ -3,17 +3,15 @@ ghost use Rattle.std.specs.Prelude.{◌≡◌};
 
 use bench_core::{Bench, Told};
 use bench_shell::Desk;
-use grid_law::NoMemory;
 use project_book::{Edit, EditFault};
 use run_queries::Query;
-use serial_order::Ordered;
 use std::alloc::Global;
 use std::marker::Model;
 use std::thread::Threads;
 use wave_workers::{settle_where_it_pays, waves_pay};
 
-/// A bench that several threads settle where that pays, and one where it doesn't. It is told the same, and edited and asked
-/// for orders as the bench itself: which of the two settled it shows in nothing but time. Contracts see the bench.
+/// A bench that several threads settle where that pays, and one where it doesn't. It is told the same, and edited as
+/// the bench itself: which of the two settled it shows in nothing but time. Contracts see the bench.
 #[derive(Drop)]
 pub struct Waves {
     alloc: Global,
@@ -73,10 +71,5 @@ impl Desk for Waves {
             let _ = settle_where_it_pays(rt, self.alloc, &mut self.bench);
         }
         self.bench.answer(rt, query)
-    }
-
-    /// As of a bench, by one thread.
-    fn order(&mut self, address: u32) -> Result<(u32, Ordered), NoMemory> {
-        Desk::order(&mut self.bench, address)
     }
 }

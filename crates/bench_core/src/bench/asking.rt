@@ -8,10 +8,11 @@ ghost use Rattle.machine_cells.specs.GridRules.{rp3_rules};
 ghost use Rattle.page_map.specs.Limits.{address_count};
 ghost use Rattle.project_book.specs.Project.{place_in};
 ghost use Rattle.run_queries.specs.Bad.{bad_query};
+ghost use Rattle.run_queries.specs.Reach.{reach};
 ghost use Rattle.bench_core.specs.Shown.{project_of, version_of, held};
 ghost use Rattle.bench_core.specs.Events.{Event, Opening};
 ghost use Rattle.bench_core.specs.Stands.{Stands};
-ghost use Rattle.bench_core.specs.Asks.{module_of, waits, last_cycle, IsUpTo, pending, AsksAs, TellsRun, LooksAtCell, HoldsRunTo, IsUpToDate};
+ghost use Rattle.bench_core.specs.Asks.{module_of, waits, last_cycle, IsUpTo, pending, AsksAs, TellsRun, IsOneCell, HoldsRunTo, HoldsRunAt, IsUpToDate};
 ghost use Rattle.bench_core.specs.Answers.{AnswersRun, AsksRun};
 
 use super::Bench;
@@ -21,7 +22,7 @@ use cell_table::Cell;
 use grid_law::NoMemory;
 use omega_net::Shape;
 use page_map::Place;
-use run_queries::{Body, Query};
+use run_queries::{Body, Query, Reach};
 use saturation::bound;
 use std::thread::Threads;
 
@@ -56,7 +57,7 @@ impl Bench {
     }
 
     /// What the run says to a query.
-    #[tactic(auto, using(run_queries::proofs::Good::good_place))]
+    #[tactic(auto, using(run_queries::proofs::Good::good_place, run_queries::proofs::Good::good_order))]
     fn found<R: Threads + Sync>(&mut self, rt: &R, query: Query) -> Asked
         requires good { bad_query (project_of self.old) query ≡ None }
         requires there { IsUpToDate self.old query }
@@ -89,6 +90,7 @@ impl Bench {
                 None => Asked::BadQuery(6),
             },
             Query::Place { address } => self.answered(Body::Place(self.place(address))),
+            Query::Order { address } => self.listed(address),
         }
     }
 
@@ -118,22 +120,18 @@ impl Bench {
     }
 
     /// How many due cells the answer to a query waits for.
-    #[tactic(auto, using(run_queries::proofs::Good::good_state, run_queries::proofs::Good::good_memory, run_queries::proofs::Good::good_counter, run_queries::proofs::Good::good_level))]
+    #[tactic(auto, using(run_queries::proofs::Good::good_reach))]
     fn pending(&self, query: Query) -> Result<u64, NoMemory>
         requires { bad_query (project_of self.now) query ≡ None }
         ensures count { IfOk result (λ n. n ≡ pending self.now query) }
-        ensures ready { IfOk result (λ n. n ≡ 0 → IsUpToDate self.now query) }
-        ensures err { OnErr result (LooksAtCell query) }
+        ensures ready { IfOk result (λ n. n ≡ 0 → HoldsRunAt self.now (reach (project_of self.now) query)) }
+        ensures err { OnErr result (IsOneCell (reach (project_of self.now) query)) }
     {
-        match query {
-            Query::Reply { .. } | Query::Profile { .. } | Query::Tree { .. } => {
-                Ok(self.pending_to(self.project().horizon()))
-            }
-            Query::State { component, cycle } => self.pending_cell(Cell { cycle, component }),
-            Query::Memory { address, cycle } => self.pending_cell(self.module_cell(address, cycle)),
-            Query::Counter { to, .. } => Ok(self.pending_to(to)),
-            Query::Level { cycle, .. } => Ok(self.pending_to(cycle)),
-            Query::Bound { .. } | Query::Place { .. } => Ok(0),
+        match query.reach(self.project()) {
+            Reach::Nothing => Ok(0),
+            Reach::State { component, cycle } => self.pending_cell(Cell { cycle, component }),
+            Reach::Word { address, cycle } => self.pending_cell(self.module_cell(address, cycle)),
+            Reach::To(cycle) => Ok(self.pending_to(cycle)),
         }
     }
 
@@ -145,15 +143,7 @@ impl Bench {
         ensures enough { (f g : ℕ → ℕ → Bool) (last : ℕ) → IsUpTo (last_cycle (project_of self.now) query) last → ((t c : ℕ) → t ≤ last → f t c ≡ g t c)
             → waits (project_of self.now) f query ≡ waits (project_of self.now) g query }
     {
-        match query {
-            Query::Reply { .. } | Query::Profile { .. } | Query::Tree { .. } => {
-                Some(self.project().horizon())
-            }
-            Query::State { cycle, .. } | Query::Memory { cycle, .. } | Query::Level { cycle, .. } =>
-                Some(cycle),
-            Query::Counter { to, .. } => Some(to),
-            Query::Bound { .. } | Query::Place { .. } => None,
-        }
+        query.reach(self.project()).last()
     }
 
     /// What the run says to a query: what was told of it at this version, where that is still kept, else what is found,
@@ -177,7 +167,7 @@ impl Bench {
     }
 
     // What it answers of the bench as it is; the clauses over all lists of events follow from this one.
-    #[tactic(auto, using(crate::proofs::Asking::asks_bad, crate::proofs::Asking::asks_pending, crate::proofs::Asking::asks_wanting, crate::proofs::Asking::asks_found))]
+    #[tactic(auto, using(crate::proofs::Asking::asks_bad, crate::proofs::Asking::asks_pending, crate::proofs::Asking::asks_wanting, crate::proofs::Asking::asks_found, crate::proofs::Settled::is_up_to_date))]
     fn ask_plain<R: Threads + Sync>(&mut self, rt: &R, query: Query) -> Asked
         ensures asks { AsksAs self.old query result }
         ensures unchanged { self.new ≡ self.old }
@@ -198,7 +188,7 @@ impl Bench {
     /// only in the place of an answer or of Pending.
     ///
     /// A state or a word waits for the cells that it rests on alone, a counter or a level for the cycles up to its last
-    /// one, a reply, a profile or a tree for the whole run. The first counter or profile that a bench is asked counts all
+    /// one, a reply, a profile, a tree or an order for the whole run. The first counter or profile that a bench is asked counts all
     /// its cells; stores and edits keep the counts from then on. A counter over the whole run and a profile are looked up;
     /// a counter over a window adds up its cells; a reply looks at each stretch of its processor's equal states once at
     /// most, up to where the answer is known; a tree looks at each state, in several threads. The 64 answers that were

@@ -52,14 +52,34 @@ impl Bench {
         self.project().apply(edit)
     }
 
-    // What it does to the bench as it is; the clauses over all lists of events follow from these.
+    /// Makes an edit, in the author's name: the new version, which is the number of accepted edits. The cells that read
+    /// a slot that got another value, and those that are new, become due. The clock rises by one. Where no cell was due,
+    /// the cells that are computed to settle the bench again are those past the earlier horizon, those that read in the
+    /// run a slot that got another value, and those with a near cell one cycle earlier that differs between the two runs.
+    ///
+    /// Costs what `Project::apply` does, and asks the cells that stay of each component that may read a slot that got
+    /// another value.
+    ///
+    /// # Errors
+    ///
+    /// The first that applies: JournalFull where 65,535 edits are held, then those of the project in their order, then
+    /// ClockSpent exactly where the clock is at its last value; Memory only where none of them does. Then nothing is
+    /// changed.
     #[tactic(auto, using(crate::proofs::Touching::differ, crate::proofs::Admitting::admitted_room, crate::proofs::Admitting::admitted_clock))]
-    fn edit_plain(&mut self, author: u32, edit: Edit) -> Result<u32, EditFault>
+    pub fn edit(&mut self, author: u32, edit: Edit) -> Result<u32, EditFault>
         ensures refused { (fault : EditFault) → admits self.old edit ≡ Err fault → result ≡ Err fault }
         ensures accepted { admits self.old edit ≡ Ok tt → IsOkUnless result EditFault.Memory }
         ensures admitted { OnOk result (admits self.old edit ≡ Ok tt) }
-        ensures ok { OnOk result (IsAfterEdit self.old self.new author edit) }
         ensures version { IfOk result (λ v. v ≡ version_of self.old + 1) }
+        ensures journal { OnOk result (self.new.journal ≡ self.old.journal ++ record { author = author; edit = edit } ∷ []) }
+        ensures project { OnOk result (project_of self.new ≡ edited (project_of self.old) edit) }
+        ensures clock { OnOk result (self.new.table.clock ≡ self.old.table.clock + 1) }
+        ensures ok { OnOk result (IsAfterEdit self.old self.new author edit) }
+        ensures headline_stands { OnOk result ((listed : List TouchedSlot) × ((o : Opening) (h : List Event) → Stands o self.old h
+            → Stands o self.new (Edited author edit listed ∷ h))) }
+        ensures cost { OnOk result ((o : Opening) (h : List Event) (listed : List TouchedSlot) → Stands o self.old h → Touches (project_of self.old) (edited (project_of self.old) edit) listed
+            → IsSettled rp3_rules self.old.table → (t c : ℕ) → IsThere rp3_rules self.new.table t c
+            → Costs o (Edited author edit listed ∷ h) t c ↔ CostsAnEdit rp3_rules (project_of self.old) (edited (project_of self.old) edit) listed (project_of self.old).horizon t c) }
         ensures err { OnErr result (self.new ≡ self.old) }
     {
         let (next, changed) = match self.edited(edit) {
@@ -78,37 +98,5 @@ impl Bench {
         }
         self.journal.push_reserved(Noted { author, edit });
         Ok(self.journal.len() as u32)
-    }
-
-    /// Makes an edit, in the author's name: the new version, which is the number of accepted edits. The cells that read
-    /// a slot that got another value, and those that are new, become due. The clock rises by one. Where no cell was due,
-    /// the cells that are computed to settle the bench again are those past the earlier horizon, those that read in the
-    /// run a slot that got another value, and those with a near cell one cycle earlier that differs between the two runs.
-    ///
-    /// Costs what `Project::apply` does, and asks the cells that stay of each component that may read a slot that got
-    /// another value.
-    ///
-    /// # Errors
-    ///
-    /// The first that applies: JournalFull where 65,535 edits are held, then those of the project in their order, then
-    /// ClockSpent exactly where the clock is at its last value; Memory only where none of them does. Then nothing is
-    /// changed.
-    pub fn edit(&mut self, author: u32, edit: Edit) -> Result<u32, EditFault>
-        ensures refused { (fault : EditFault) → admits self.old edit ≡ Err fault → result ≡ Err fault }
-        ensures accepted { admits self.old edit ≡ Ok tt → IsOkUnless result EditFault.Memory }
-        ensures admitted { OnOk result (admits self.old edit ≡ Ok tt) }
-        ensures version { IfOk result (λ v. v ≡ version_of self.old + 1) }
-        ensures journal { OnOk result (self.new.journal ≡ self.old.journal ++ record { author = author; edit = edit } ∷ []) }
-        ensures project { OnOk result (project_of self.new ≡ edited (project_of self.old) edit) }
-        ensures clock { OnOk result (self.new.table.clock ≡ self.old.table.clock + 1) }
-        ensures ok { OnOk result (IsAfterEdit self.old self.new author edit) }
-        ensures headline_stands { OnOk result ((listed : List TouchedSlot) × ((o : Opening) (h : List Event) → Stands o self.old h
-            → Stands o self.new (Edited author edit listed ∷ h))) }
-        ensures cost { OnOk result ((o : Opening) (h : List Event) (listed : List TouchedSlot) → Stands o self.old h → Touches (project_of self.old) (edited (project_of self.old) edit) listed
-            → IsSettled rp3_rules self.old.table → (t c : ℕ) → IsThere rp3_rules self.new.table t c
-            → Costs o (Edited author edit listed ∷ h) t c ↔ CostsAnEdit rp3_rules (project_of self.old) (edited (project_of self.old) edit) listed (project_of self.old).horizon t c) }
-        ensures err { OnErr result (self.new ≡ self.old) }
-    {
-        self.edit_plain(author, edit)
     }
 }

@@ -1,13 +1,18 @@
 //! Serial orders.
-ghost use Rattle.std.specs.Prelude.{◌≡◌};
+ghost use Rattle.std.specs.Prelude.{◌≡◌, None};
 ghost use Rattle.serial_order.specs.Answers.{AnswersOrder, AnswerExplains, AnswerIsTimely};
+ghost use Rattle.run_queries.specs.Bad.{bad_query};
+ghost use Rattle.run_queries.specs.declared.query.Query.TheVariants.{Order as OrderOf};
 ghost use Rattle.bench_core.specs.Shown.{project_of, held};
+ghost use Rattle.bench_core.specs.Asks.{TellsRun};
 
 use super::Bench;
+use crate::Asked;
 use cell_table::{Cell, Table};
 use grid_law::NoMemory;
 use machine_cells::Rp3;
 use omega_net::{Net, Request, Tag};
+use run_queries::Body;
 use serial_order::{Ordered, States, order, order_in, second_of, served_by};
 
 /// The states that a table holds.
@@ -56,5 +61,18 @@ impl Bench {
             return order_in(alloc, self.project(), &cells, address);
         }
         order(alloc, self.project(), address)
+    }
+
+    /// What the run says to a query of an order.
+    #[tactic(auto, using(crate::proofs::Looking::order_listed, crate::proofs::Looking::order_there))]
+    pub(super) fn listed(&self, address: u32) -> Asked
+        requires { bad_query (project_of self.now) (OrderOf address) ≡ None }
+        ensures { TellsRun self.now (OrderOf address) result }
+    {
+        match self.order(address) {
+            Ordered::Order(tags) => self.answered(Body::Order(tags)),
+            Ordered::NoOrder | Ordered::BadAddress => unreachable!(),
+            Ordered::Memory => Asked::Memory,
+        }
     }
 }

@@ -464,33 +464,6 @@ impl<G: Grid> Table<G> {
         self.settle_before::<M, W>(end, beside, watcher)
     }
 
-    /// `settle_to`, where `watcher` is told of what is stored as soon as it is.
-    ///
-    /// # Errors
-    ///
-    /// As `settle`. The watcher was told of just those cells that stay stored.
-    pub fn settle_watched_to<W: Watcher<G>>(
-        &mut self,
-        last: u32,
-        watcher: &mut W,
-    ) -> Result<Settled, SettleFault>
-        requires { W.keeps watcher.old self.old }
-        ensures watched { W.keeps watcher.new self.new }
-        ensures headline_settles { IfOk result (λ s. (done : List (Event G.State G.Slots G.Slot)) × ((o : Start G.Slots) (h : List (Event G.State G.Slots G.Slot)) → Stands G.rules o self.old h
-            → SettlesTo G.rules o last h self.new done s.computed)) }
-        ensures after_fault { IfErr result (λ f. (done : List (Event G.State G.Slots G.Slot)) × ((o : Start G.Slots) (h : List (Event G.State G.Slots G.Slot)) → Stands G.rules o self.old h
-            → SettlesFirstTo G.rules o last h self.new done (computed_of f))) }
-        ensures settled { OnOk result (IsSettledTo G.rules last self.new) }
-        ensures slots { self.new.slots ≡ self.old.slots }
-        ensures horizon { self.new.horizon ≡ self.old.horizon }
-        ensures rises { self.old.clock ≤ self.new.clock }
-        ensures clock { self.old.clock ≡ 2 ^ 64 - 1 → self.new.clock ≡ 2 ^ 64 - 1 }
-        ensures spent { IfErr result (λ f. IsClockSpent f → self.new.clock ≡ 2 ^ 64 - 1) }
-        ensures differs { IfErr result (λ f. IsClockSpent f → (spent : IsSpent G.rules self.new 0 0) × (spent.cell.cycle ≤ last)) }
-    {
-        self.settle_rows_to::<NoRow, W>(last, &mut Beside::none(), watcher)
-    }
-
     /// `settle`, where `watcher` is told of what is stored as soon as it is, and cycles of which many cells are due are settled by a row of
     /// all components.
     ///
@@ -520,29 +493,6 @@ impl<G: Grid> Table<G> {
         self.settle_rows_to::<M, W>(last, beside, watcher)
     }
 
-    /// `settle`, where `watcher` is told of what is stored as soon as it is.
-    ///
-    /// # Errors
-    ///
-    /// As `settle`. The watcher was told of just those cells that stay stored.
-    pub fn settle_watched<W: Watcher<G>>(&mut self, watcher: &mut W) -> Result<Settled, SettleFault>
-        requires { W.keeps watcher.old self.old }
-        ensures watched { W.keeps watcher.new self.new }
-        ensures headline_settles { IfOk result (λ s. (done : List (Event G.State G.Slots G.Slot)) × ((o : Start G.Slots) (h : List (Event G.State G.Slots G.Slot)) → Stands G.rules o self.old h
-            → Settles G.rules o h self.new done s.computed)) }
-        ensures after_fault { IfErr result (λ f. (done : List (Event G.State G.Slots G.Slot)) × ((o : Start G.Slots) (h : List (Event G.State G.Slots G.Slot)) → Stands G.rules o self.old h
-            → SettlesFirst G.rules o h self.new done (computed_of f))) }
-        ensures settled { OnOk result (IsSettled G.rules self.new) }
-        ensures slots { self.new.slots ≡ self.old.slots }
-        ensures horizon { self.new.horizon ≡ self.old.horizon }
-        ensures rises { self.old.clock ≤ self.new.clock }
-        ensures clock { self.old.clock ≡ 2 ^ 64 - 1 → self.new.clock ≡ 2 ^ 64 - 1 }
-        ensures spent { IfErr result (λ f. IsClockSpent f → self.new.clock ≡ 2 ^ 64 - 1) }
-        ensures differs { IfErr result (λ f. IsClockSpent f → IsSpent G.rules self.new 0 0) }
-    {
-        self.settle_rows::<NoRow, W>(&mut Beside::none(), watcher)
-    }
-
     /// Settles the cells up to a cycle as `settle` settles all. The cells stored are exactly those of that cycle or an
     /// earlier one that `settle` would store, each once, by cycle and then component, and `computed` is their number.
     /// Afterwards every cell up to that cycle holds the run. What is due behind it stays due, and a further call goes on.
@@ -563,7 +513,7 @@ impl<G: Grid> Table<G> {
         ensures spent { IfErr result (λ f. IsClockSpent f → self.new.clock ≡ 2 ^ 64 - 1) }
         ensures differs { IfErr result (λ f. IsClockSpent f → (spent : IsSpent G.rules self.new 0 0) × (spent.cell.cycle ≤ last)) }
     {
-        self.settle_watched_to(last, &mut Nobody)
+        self.settle_rows_to::<NoRow, Nobody>(last, &mut Beside::none(), &mut Nobody)
     }
 
     /// Computes and stores the first due cell until none is due. The cells stored are exactly those
@@ -590,6 +540,6 @@ impl<G: Grid> Table<G> {
         ensures spent { IfErr result (λ f. IsClockSpent f → self.new.clock ≡ 2 ^ 64 - 1) }
         ensures differs { IfErr result (λ f. IsClockSpent f → IsSpent G.rules self.new 0 0) }
     {
-        self.settle_watched(&mut Nobody)
+        self.settle_rows::<NoRow, Nobody>(&mut Beside::none(), &mut Nobody)
     }
 }

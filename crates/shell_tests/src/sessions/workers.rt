@@ -146,36 +146,54 @@ impl Gate for Holding {
     fn computed(&mut self, _cell: Cell) {}
 }
 
+/// A worker that waits for the reader.
+fn gates_of(
+    alloc: Global,
+    meeting: &Arc<Meeting, Global>,
+) -> std::result::Result<Vec<Holding>, Fail>
+    ensures { IfOk result (λ gates. vec_len gates ≤ 16) }
+{
+    let gate = Holding {
+        meeting: Arc::try_clone(meeting)?,
+    };
+    Ok(vec![in alloc; gate]?)
+}
+
+/// A reader that waits for the worker.
+fn reader_of(meeting: &Arc<Meeting, Global>) -> std::result::Result<Waiting<'static>, Fail> {
+    Ok(Waiting {
+        line: b"memory 0 0\n",
+        meeting: Arc::try_clone(meeting)?,
+    })
+}
+
+/// What is written where the two wait for each other.
+fn met<H: AllocGlobal + Hall>(
+    rt: &H,
+    meeting: &Arc<Meeting, Global>,
+) -> std::result::Result<Vec<u8>, Fail> {
+    let alloc = rt.alloc();
+    let gates = gates_of(alloc, meeting)?;
+    let mut reader = reader_of(meeting)?;
+    let mut writer = Vec::new(alloc);
+    let project = base(alloc, 10)?;
+    match served(rt, alloc, &mut reader, &mut writer, project, gates) {
+        Some(_) => Ok(writer),
+        None => Err(Fail::from("a fault")),
+    }
+}
+
 /// 9.1: the shell waits for its reader while the worker computes, and the worker for the shell.
 #[test]
 fn example_9_1(rt: HostRuntime) -> std::result::Result<(), Fail> {
-    let alloc = rt.alloc();
     let meeting = Arc::new(
-        alloc,
+        rt.alloc(),
         Meeting {
             asked: AtomicU64::new(0),
             computed: AtomicU64::new(0),
         },
     )?;
-    let gate = Holding {
-        meeting: Arc::try_clone(&meeting)?,
-    };
-    let mut reader = Waiting {
-        line: b"memory 0 0\n",
-        meeting: Arc::try_clone(&meeting)?,
-    };
-    let mut writer = Vec::new(alloc);
-    let gates = vec![in alloc; gate]?;
-    let left = served(
-        &rt,
-        alloc,
-        &mut reader,
-        &mut writer,
-        base(alloc, 10)?,
-        gates,
-    );
-    assert!(rt; left.is_some());
-    assert!(rt; equal(&rt, writer.as_slice(), b"ok 0 10\n".as_slice()));
+    assert!(rt; equal(&rt, met(&rt, &meeting)?.as_slice(), b"ok 0 10\n".as_slice()));
     assert!(rt; is_told(&meeting.asked) && is_told(&meeting.computed));
     Ok(())
 }

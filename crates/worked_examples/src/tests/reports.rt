@@ -129,7 +129,7 @@ fn misheard(
     None
 }
 
-/// 22, settled: component 6 and processor 2 aren't there, the last cycle is 10, the last address 16,383;
+/// 22, settled: component 6 and processor 2 aren't there, the last cycle is 10, the last address 16,383, for an order too;
 /// a window from 3 to 2 is empty, one to 11 too long, 2/1 is no fraction of references, and processor 0 issued none.
 #[test]
 fn example_22_settled(rt: HostRuntime) -> Result<(), Fail> {
@@ -141,6 +141,7 @@ fn example_22_settled(rt: HostRuntime) -> Result<(), Fail> {
         (state(6, 0), Heard::Bad(1)),
         (state(0, 11), Heard::Bad(2)),
         (far, Heard::Bad(3)),
+        (Query::Order { address: 16_384 }, Heard::Bad(3)),
         (served(3, 2), Heard::Bad(5)),
         (served(3, 11), Heard::Bad(2)),
         (Query::Bound { a: 2, b: 1, p: 4 }, Heard::Bad(6)),
@@ -153,7 +154,7 @@ fn example_22_settled(rt: HostRuntime) -> Result<(), Fail> {
 }
 
 /// 22, fresh: a processor is near itself and the two switches beside it, so its cone at cycle 1 has four
-/// cells; a counter waits for all cells up to its last cycle, a reply for all; a place for none.
+/// cells; a counter waits for all cells up to its last cycle, a reply and an order for all; a place for none.
 #[test]
 fn example_22_fresh(rt: HostRuntime) -> Result<(), Fail> {
     let place = Place {
@@ -167,6 +168,7 @@ fn example_22_fresh(rt: HostRuntime) -> Result<(), Fail> {
         (served(0, 10), Heard::Pending(66)),
         (Query::Place { address: 300 }, Heard::Place(place)),
         (Query::Reply { proc: 0, issue: 0 }, Heard::Pending(66)),
+        (Query::Order { address: 0 }, Heard::Pending(66)),
     ];
     let mut stage = Stage::opened(rt.alloc(), base(rt.alloc())?, 0)?;
     assert!(rt; equal(&rt, misheard(&rt, &mut stage.bench, &queries), None));

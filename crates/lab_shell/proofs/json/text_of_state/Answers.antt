@@ -1,5 +1,6 @@
 use Rattle.machine_cells.specs.Texts.{state_text}
-use Rattle.lab_shell.proofs.Reasoning.{state_shows, written}
+use Rattle.run_queries.proofs.Printing.{state_shows}
+use Rattle.lab_shell.proofs.Reasoning.{written}
 use Rattle.lab_shell.proofs.json.text_of_state.Goals as goal
 
 pub returns : goal.returns

@@ -1,15 +1,11 @@
-use Rattle.std.proofs.Common.{◌≡◌, ◌+◌, ◌<◌, ◌^◌, ◌∙◌, Ok, Err, All, refl, ap, sym, subst, arith}
+use Rattle.std.proofs.Common.{◌≡◌, ◌+◌, ◌<◌, ◌^◌, ◌∙◌, Err, All, refl, ap, sym, subst, arith}
 use Rattle.std.proofs.lemmas.List.Elements.{All-nil}
-use Rattle.cell_table.specs.declared.given.Settled.{Settled}
-use Rattle.cell_table.specs.declared.given.SettleFault.{SettleFault}
-use Rattle.cell_table.specs.Settling.{IsSettled, IsSpent, SettlesNext, IsAt, computed_of}
+use Rattle.cell_table.specs.Settling.{IsSettled, IsSpent, SettlesNext, IsAt, IsClockSpent}
 use Rattle.cell_table.specs.Waves.{IsWork}
-use Rattle.cell_table.proofs.Passes.{begins, of_some, of_none, few_next, goes_on, spent_first, first_settled, all_settled}
+use Rattle.cell_table.proofs.Passes.{begins, of_some, of_none, few_next, goes_on}
 use Rattle.machine_cells.specs.GridRules.{rp3_rules}
-use Rattle.machine_cells.specs.GridLaws.{rp3_laws}
 use Rattle.bench_core.specs.Shown.{Shown, project_of}
-use Rattle.bench_core.proofs.Happening.{settle_all, settle_some}
-use Rattle.bench_core.proofs.Waiting.{ready}
+use Rattle.wave_workers.proofs.Settling.{settled_as, stopped_as}
 use Rattle.wave_workers.proofs.wave.settle_by_waves.Goals as goal
 
 pub overflow_add-computed : goal.overflow_add-computed
@@ -31,25 +27,6 @@ loop-cell-preserved g c =
       journal = c.in-Ok-Some.ensures.journal ∙ c.loop-cell.invariant.journal;
     }
 
-pub returns-in-Ok-None-clause-headline_settles : goal.returns-in-Ok-None-clause-headline_settles
-returns-in-Ok-None-clause-headline_settles g c =
-    let none = of_none (IsSettled rp3_rules c.loop-cell.bench.table × (c.settle_next.new.bench ≡ c.loop-cell.bench)) c.in-Ok-None.field-0 c.in-Ok-None.field-0-is c.in-Ok-None.ensures.none in
-    let at = subst (λ (v : Shown). IsAt rp3_rules c.args.bench.now.table v.table c.loop-cell.from.cycle c.loop-cell.from.component c.loop-cell.computed) (sym none.1) c.loop-cell.invariant.at in
-    let settled = subst (λ (v : Shown). IsSettled rp3_rules v.table) (sym none.1) none.0 in
-    settle_all c.args.bench.now c.settle_next.new.bench (c.in-Ok-None.ensures.journal ∙ c.loop-cell.invariant.journal) {E = SettleFault} (Ok (record { computed = c.loop-cell.computed }))
-    (at.done, all_settled rp3_rules rp3_laws c.args.bench.now.table c.settle_next.new.bench.table c.loop-cell.from.cycle c.loop-cell.from.component c.loop-cell.computed at settled)
-
-pub returns-in-Err-clause-after_fault : goal.returns-in-Err-clause-after_fault
-returns-in-Err-clause-after_fault g c =
-    let here = subst (λ (v : Shown). IsAt rp3_rules c.args.bench.now.table v.table c.loop-cell.from.cycle c.loop-cell.from.component c.loop-cell.computed) (sym c.in-Err.ensures.err) c.loop-cell.invariant.at in
-    let at = subst (λ n. IsAt rp3_rules c.args.bench.now.table c.settle_next.new.bench.table c.loop-cell.from.cycle c.loop-cell.from.component n) (sym c.stopped.ensures.computed) here in
-    settle_some c.args.bench.now c.settle_next.new.bench (c.in-Err.ensures.journal ∙ c.loop-cell.invariant.journal) {T = Settled} (Err c.stopped.result)
-    (at.done, first_settled rp3_rules rp3_laws c.args.bench.now.table c.settle_next.new.bench.table c.loop-cell.from.cycle c.loop-cell.from.component (computed_of c.stopped.result) at)
-
-pub returns-in-Err-clause-differs : goal.returns-in-Err-clause-differs
-returns-in-Err-clause-differs g c =
-    λ spent. subst (λ (v : Shown). IsSpent rp3_rules v.table 0 0) (sym c.in-Err.ensures.err) (spent_first rp3_rules c.loop-cell.bench.table c.loop-cell.from.cycle c.loop-cell.from.component c.loop-cell.invariant.at.none_before (c.in-Err.ensures.spent (ap Err (c.stopped.ensures.spent spent))))
-
 pub loop-cell-init : goal.loop-cell-init
 loop-cell-init g c = record {
   at = begins rp3_rules c.args.bench.now.table;
@@ -57,8 +34,20 @@ loop-cell-init g c = record {
   journal = refl;
 }
 
-pub returns-in-Ok-None-clause-ready : goal.returns-in-Ok-None-clause-ready
-returns-in-Ok-None-clause-ready g c =
-    let none = of_none (IsSettled rp3_rules c.loop-cell.bench.table × (c.settle_next.new.bench ≡ c.loop-cell.bench)) c.in-Ok-None.field-0 c.in-Ok-None.field-0-is c.in-Ok-None.ensures.none in
+pub returns-in-Ok-None : goal.returns-in-Ok-None
+returns-in-Ok-None g c =
+    let from = c.loop-cell.from in
+    let next = c.settle_next.new.bench in
+    let none = of_none (IsSettled rp3_rules c.loop-cell.bench.table × (next ≡ c.loop-cell.bench)) c.in-Ok-None.field-0 c.in-Ok-None.field-0-is c.in-Ok-None.ensures.none in
+    let at = subst (λ (v : Shown). IsAt rp3_rules c.args.bench.now.table v.table from.cycle from.component c.loop-cell.computed) (sym none.1) c.loop-cell.invariant.at in
     let settled = subst (λ (v : Shown). IsSettled rp3_rules v.table) (sym none.1) none.0 in
-    ready {T = Settled} {E = SettleFault} (Ok (record { computed = c.loop-cell.computed })) c.settle_next.new.bench c.is_bench.ensures.bench settled
+    settled_as c.args.bench.now next from.cycle from.component (c.in-Ok-None.ensures.journal ∙ c.loop-cell.invariant.journal) c.loop-cell.computed at c.is_bench.ensures.bench settled
+
+pub returns-in-Err : goal.returns-in-Err
+returns-in-Err g c =
+    let from = c.loop-cell.from in
+    let next = c.settle_next.new.bench in
+    let here = subst (λ (v : Shown). IsAt rp3_rules c.args.bench.now.table v.table from.cycle from.component c.loop-cell.computed) (sym c.in-Err.ensures.err) c.loop-cell.invariant.at in
+    let at = subst (λ n. IsAt rp3_rules c.args.bench.now.table next.table from.cycle from.component n) (sym c.stopped.ensures.computed) here in
+    let spent : IsClockSpent c.stopped.result → IsSpent rp3_rules next.table from.cycle from.component = λ is. subst (λ (v : Shown). IsSpent rp3_rules v.table from.cycle from.component) (sym c.in-Err.ensures.err) (c.in-Err.ensures.spent (ap Err (c.stopped.ensures.spent is))) in
+    stopped_as c.args.bench.now next from.cycle from.component (c.in-Err.ensures.journal ∙ c.loop-cell.invariant.journal) c.stopped.result at spent

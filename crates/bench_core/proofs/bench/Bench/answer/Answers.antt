@@ -4,7 +4,7 @@ use Rattle.bench_core.specs.Shown.{project_of}
 use Rattle.bench_core.specs.declared.told.Told.TheVariants.{BadQuery}
 use Rattle.bench_core.proofs.Asking.{asks_bad}
 use Rattle.bench_core.proofs.Settled.{refused_told, tells_run}
-use Rattle.bench_core.proofs.Answering.{refused_as, other_as, reply_as}
+use Rattle.bench_core.proofs.Answering.{refused_as, is_once, other_as, reply_as, order_good}
 use Rattle.bench_core.proofs.bench.Bench.answer.Goals as goal
 
 pub returns-in-Some-clause-told : goal.returns-in-Some-clause-told
@@ -43,11 +43,30 @@ returns-in-Reply-clause-headline_tells g c =
     let told = c.answer_reply.ensures in
     tells_run c.args.self.now c.answer_reply.new.self c.args.query c.answer_reply.result told.project told.journal (returns-in-Reply-clause-told g c)
 
-pub returns-clause-settles : goal.returns-clause-settles
-returns-clause-settles g c =
-    other_as c.args.self.now c.answer_at_once.new.self c.args.query c.answer_at_once.result c.in_default-query.not-Reply c.answer_at_once.ensures.settles
+pub returns-in-Order-clause-told : goal.returns-in-Order-clause-told
+returns-in-Order-clause-told g c = rw c.in-Order.is c.answer_order.ensures.told
 
-pub returns-clause-headline_tells : goal.returns-clause-headline_tells
-returns-clause-headline_tells g c =
+pub returns-in-Order-clause-settles : goal.returns-in-Order-clause-settles
+returns-in-Order-clause-settles g c =
+    let good : bad_query (project_of c.args.self.now) c.args.query ≡ None = search rules in
+    rw c.in-Order.is (order_good c.args.self.now c.answer_order.new.self c.in-Order.address c.answer_order.result (rw c.in-Order.is at good) c.answer_order.ensures.settles)
+
+pub returns-in-Order-clause-headline_tells : goal.returns-in-Order-clause-headline_tells
+returns-in-Order-clause-headline_tells g c =
+    let told = c.answer_order.ensures in
+    tells_run c.args.self.now c.answer_order.new.self c.args.query c.answer_order.result told.project told.journal (returns-in-Order-clause-told g c)
+
+pub returns-in_default-query : goal.returns-in_default-query
+returns-in_default-query g c =
     let told = c.answer_at_once.ensures in
-    tells_run c.args.self.now c.answer_at_once.new.self c.args.query c.answer_at_once.result told.project told.journal told.told
+    record {
+      told = told.told;
+      asks = told.asks;
+      settles = other_as c.args.self.now c.answer_at_once.new.self c.args.query c.answer_at_once.result (is_once c.args.query c.in_default-query.not-Reply c.in_default-query.not-Order) told.settles;
+      project = told.project;
+      journal = told.journal;
+      spent = told.spent;
+      rises = told.rises;
+      clock = told.clock;
+      headline_tells = tells_run c.args.self.now c.answer_at_once.new.self c.args.query c.answer_at_once.result told.project told.journal told.told;
+    }

@@ -16,11 +16,11 @@ returns-in-Ok-clause-settles g c =
 
 pub returns-in-Err-clause-told : goal.returns-in-Err-clause-told
 returns-in-Err-clause-told g c =
-    rw c.told_at_fault.ensures (fault_told c.args.self.now c.settle_for.new.self c.args.query c.requires.good c.settle_for.ensures.project c.in-Err.fault).0
+    rw c.told_at_fault.ensures (fault_told c.args.self.now c.settle_for.new.self c.args.query c.requires.good c.settle_for.ensures.project c.requires.once c.in-Err.fault c.in-Err.ensures.differs).0
 
 pub returns-in-Err-clause-asks : goal.returns-in-Err-clause-asks
 returns-in-Err-clause-asks g c =
-    rw c.told_at_fault.ensures (fault_told c.args.self.now c.settle_for.new.self c.args.query c.requires.good c.settle_for.ensures.project c.in-Err.fault).1
+    rw c.told_at_fault.ensures (fault_told c.args.self.now c.settle_for.new.self c.args.query c.requires.good c.settle_for.ensures.project c.requires.once c.in-Err.fault c.in-Err.ensures.differs).1
 
 pub returns-in-Err-clause-settles : goal.returns-in-Err-clause-settles
 returns-in-Err-clause-settles g c =

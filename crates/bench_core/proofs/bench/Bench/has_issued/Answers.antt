@@ -1,4 +1,4 @@
-use Rattle.std.proofs.Common.{◌≡◌, ◌∙◌, ℕ, suc, ◌+◌, ◌-◌, ◌<◌, ◌≤◌, ◌⊎◌, inl, inr, cond, arith, Option}
+use Rattle.std.proofs.Common.{◌≡◌, ℕ, suc, ◌+◌, ◌-◌, ◌<◌, ◌≤◌, ◌⊎◌, inl, inr, cond, arith, Option}
 use Rattle.machine_cells.specs.declared.state.MachineState.{MachineState}
 use Rattle.run_queries.specs.Answers.{has_sent, issued}
 use Rattle.bench_core.specs.Shown.{held}
