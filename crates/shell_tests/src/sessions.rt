@@ -55,7 +55,7 @@ impl Write for Failing {
     }
 }
 
-/// A bench of the built-in project, in a box: a test that holds a large value costs the prover several times as much.
+/// A bench of the built-in project, in a box, which is handed over as one word.
 fn bench(alloc: Global, clock: u64) -> std::result::Result<Box<Bench>, Fail> {
     let project = Project::built_in(alloc)?;
     let bench = Bench::new(alloc, project, clock).ok().ok_or("no memory")?;

@@ -36,7 +36,7 @@ fn at(cycle: u32, component: u32) -> Cell {
     Cell { cycle, component }
 }
 
-/// The only pass to a bench, in a box: a test that holds a large value costs the prover several times as much.
+/// The only pass to a bench, in a box, which is handed over as one word.
 fn alone(alloc: Global, bench: Box<Bench>) -> Result<Box<Pass>, Fail> {
     let pass = opened(alloc, bench, 1)?;
     Ok(Box::new(alloc, pass)?)
