@@ -1,5 +1,5 @@
 -- Words to which the bits of others are added.
-use Rattle.std.proofs.Common.{eq-eqb, ◌≡◌, ℕ, zero, suc, ◌+◌, ◌-◌, ◌*◌, ◌/◌, ◌%◌, ◌^◌, ◌<◌, ◌≤◌, ◌∙◌, sym, ap, refl, subst, arith, min, max, w64, Bool, true, false, eqb, ◌||◌, ◌&&◌, ◌⊎◌, inl, inr, List, [], ◌∷◌, length, get_or, take}
+use Rattle.std.proofs.Common.{eq-eqb, ◌≡◌, ℕ, zero, suc, ◌+◌, ◌-◌, ◌*◌, ◌/◌, ◌%◌, ◌^◌, ◌<◌, ◌≤◌, ◌∙◌, sym, ap, refl, subst, arith, min, max, w64, Bool, true, false, eqb, ◌||◌, ◌&&◌, ◌⊎◌, inl, inr, List, length, get_or, take}
 use Rattle.std.proofs.Math.ListN.{set}
 use Rattle.std.specs.Int.{bit_at}
 use Rattle.std.specs.Int.Bits.{bit_and, bit_or}
@@ -170,28 +170,46 @@ count_le words n =
     let most : count_in (bits_of words n) ≤ length (bits_of words n) = count_by-le-length (λ b. b) (bits_of words n) in
     omega (arith, length_bits words n)
 
--- the words up to that one have the bits of both, all of them
-pub joined_more : (words olds other : List ℕ) (at : ℕ) → at < length words → ((c : ℕ) → c < 64 * at → bit_in words c ≡ (bit_in olds c || bit_in other c)) → ((c : ℕ) → 64 * at ≤ c → bit_in words c ≡ bit_in olds c) → (c : ℕ) → c < 64 * (at + 1) → bit_in (set words at (bit_or (get_or words at 0) (get_or other at 0))) c ≡ (bit_in olds c || bit_in other c)
-joined_more words olds other at there done rest c h = by_word (cases_lt c (64 * at))
+-- the words up to that one have the bits of both, those of the other run from a place on
+pub joined_more : (words olds other : List ℕ) (from at : ℕ) → at < length words → ((c : ℕ) → c < 64 * at → bit_in words c ≡ (bit_in olds c || bit_in other (64 * from + c))) → ((c : ℕ) → 64 * at ≤ c → bit_in words c ≡ bit_in olds c) → (c : ℕ) → c < 64 * (at + 1) → bit_in (set words at (bit_or (get_or words at 0) (get_or other (from + at) 0))) c ≡ (bit_in olds c || bit_in other (64 * from + c))
+joined_more words olds other from at there done rest c h = by_word (cases_lt c (64 * at))
   where
     w : ℕ
     w = get_or words at 0
 
     o : ℕ
-    o = get_or other at 0
+    o = get_or other (from + at) 0
 
-    in_word : c / 64 ≡ at → bit_in (set words at (bit_or w o)) c ≡ (bit_in olds c || bit_in other c)
+    in_word : c / 64 ≡ at → bit_in (set words at (bit_or w o)) c ≡ (bit_in olds c || bit_in other (64 * from + c))
     in_word e =
         let i = c % 64 in
+        let place : 64 * (from + at) + i ≡ 64 * from + c = omega (arith, e) in
         here words at (bit_or w o) c there e
         ∙ ap (λ b. eqb b 1) (bit_at_or w o i)
         ∙ either (bit_at w i) (bit_at o i) (bit_at-lt w i) (bit_at-lt o i)
-        ∙ ap (λ u. is_one (get_or words u 0) i || is_one (get_or other u 0) i) (sym e)
-        ∙ ap (λ b. b || bit_in other c) (rest c (omega (arith, e)))
+        ∙ ap (λ u. is_one (get_or words u 0) i || is_one o i) (sym e)
+        ∙ ap (λ b. b || is_one o i) (rest c (omega (arith, e)))
+        ∙ ap (λ b. bit_in olds c || b) (sym (bit_of_word other (from + at) i (omega arith)) ∙ ap (bit_in other) place)
 
-    by_word : (c < 64 * at) ⊎ (64 * at ≤ c) → bit_in (set words at (bit_or w o)) c ≡ (bit_in olds c || bit_in other c)
+    by_word : (c < 64 * at) ⊎ (64 * at ≤ c) → bit_in (set words at (bit_or w o)) c ≡ (bit_in olds c || bit_in other (64 * from + c))
     by_word (inl l) = elsewhere words at (bit_or w o) c (λ e. absurd (omega (arith, e, l))) ∙ done c l
     by_word (inr l) = in_word (omega (arith, l, h))
+
+-- the words from a place on have the bits of one word more of another run
+pub put_more : (words four : List ℕ) (from at : ℕ) → from + at < length words → ((k : ℕ) → k < 64 * at → bit_in words (64 * from + k) ≡ bit_in four k) → (k : ℕ) → k < 64 * (at + 1) → bit_in (set words (from + at) (get_or four at 0)) (64 * from + k) ≡ bit_in four k
+put_more words four from at there done k h = by_word (cases_lt k (64 * at))
+  where
+    w : ℕ
+    w = get_or four at 0
+
+    by_word : (k < 64 * at) ⊎ (64 * at ≤ k) → bit_in (set words (from + at) w) (64 * from + k) ≡ bit_in four k
+    by_word (inl l) = elsewhere words (from + at) w (64 * from + k) (λ e. absurd (omega (arith, e, l))) ∙ done k l
+    by_word (inr l) =
+        let mine : at ≡ k / 64 = omega (arith, l, h) in
+        let same : (64 * from + k) % 64 ≡ k % 64 = omega arith in
+        here words (from + at) w (64 * from + k) there (omega (arith, mine))
+        ∙ ap (is_one w) same
+        ∙ ap (λ u. is_one (get_or four u 0) (k % 64)) mine
 
 -- the bits of one word more are counted
 pub counted_more : (words : List ℕ) (at low m : ℕ) → m ≤ 64 → low < 2 ^ m → Misses 0 (get_or words at 0) low m → count_in (bits_of words (64 * at + m)) ≡ count_in (bits_of words (64 * at)) + ones low
@@ -208,12 +226,6 @@ pub taken_bits : (words : List ℕ) (n m : ℕ) → m ≤ n → bits_of words m 
 taken_bits words n m h =
     sym (bits_are words m (take m (bits_of words n)) (length-take m (bits_of words n) ∙ omega (arith, h, length_bits words n)) (λ c k. get_or-take m (bits_of words n) c false k ∙ at_bits words n c (omega (arith, h, k))))
 
--- what stands at a place hangs on no default
-pub same_get : {X : Type 0} (xs : List X) (i : ℕ) (d e : X) → i < length xs → get_or xs i d ≡ get_or xs i e
-same_get [] i d e h = absurd (omega (arith, h))
-same_get (x ∷ xs) zero d e h = refl
-same_get (x ∷ xs) (suc i) d e h = same_get xs i d e (omega (arith, h))
-
 -- marks of rows whose components are marked, one more of them
 or_swapped : (a b : Bool) → (a || b) ≡ (b || a)
 or_swapped true true = refl
@@ -222,7 +234,7 @@ or_swapped false true = refl
 or_swapped false false = refl
 
 module _ (marks : List Bool) (rows : List (List Bool)) (c : ℕ) where
-  any_over : (n m : ℕ) → n ≤ m → ((k : ℕ) → n ≤ k → k < m → is_set marks k ≡ false) → any_marks marks rows c m ≡ any_marks marks rows c n
+  pub any_over : (n m : ℕ) → n ≤ m → ((k : ℕ) → n ≤ k → k < m → is_set marks k ≡ false) → any_marks marks rows c m ≡ any_marks marks rows c n
   any_over n zero h none = let e : n ≡ 0 = omega (arith, h) in ap (any_marks marks rows c) (sym e)
   any_over n (suc m) h none = by_place (cases_lt m n) (λ l. any_over n m l (λ k i j. none k i (omega (arith, j))))
     where

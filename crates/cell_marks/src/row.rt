@@ -6,14 +6,15 @@ ghost use Rattle.cell_marks.specs.Marked.{is_set, count_in, union, row_at, any_m
 
 use crate::word::word_of;
 use crate::words::{
-    add_in, add_one, clear_all_in, clear_in, counted_in, first_in, has_in, is_union_in, join_in,
-    keep_in, remove_in, set_all_in, set_in,
+    add_in, add_one, clear_all_in, clear_in, counted_in, first_in, has_in, is_union_in, join_four,
+    keep_in, put_four, remove_in, set_all_in, set_in,
 };
 use smallvec::{SmallVec, smallvec};
 use std::alloc::{AllocError, Global};
 use std::marker::Model;
 
-/// A mark for each component, and how many are set. Four words lie in the row itself, more in a piece of memory of their own.
+/// A mark for each component, and how many are set. The words come by fours, one four for each 256 components: the first four
+/// lie in the row itself, more in a piece of memory of their own.
 #[derive(Drop)]
 pub struct Row {
     words: SmallVec<u64, 4>,
@@ -22,7 +23,7 @@ pub struct Row {
 }
 
 impl Model for Row {
-    ghost use Rattle.std.specs.Prelude.{Bool, List, ◌≡◌, ◌≤◌, ◌*◌, ◌^◌, length};
+    ghost use Rattle.std.specs.Prelude.{Bool, List, ◌≡◌, ◌≤◌, ◌+◌, ◌*◌, ◌/◌, ◌^◌, length};
     ghost use Rattle.cell_marks.specs.Bits.{bits_of};
     ghost use Rattle.cell_marks.specs.Marked.{count_in};
 
@@ -30,7 +31,7 @@ impl Model for Row {
 
     ghost view = { λ r. bits_of r.words.items r.len };
 
-    ghost invariant = { λ r. (r.len ≤ 64 * length r.words.items) × (length r.words.items ≤ 2 ^ 32) × (r.count ≡ count_in (bits_of r.words.items r.len)) };
+    ghost invariant = { λ r. (r.len / 256 * 4 + 4 ≤ length r.words.items) × (length r.words.items ≤ 2 ^ 32) × (r.count ≡ count_in (bits_of r.words.items r.len)) };
 }
 
 impl Row {
@@ -44,7 +45,7 @@ impl Row {
         ensures { IfOk result (λ r. r ≡ replicate n is_marked) }
     {
         let word = word_of(is_marked);
-        let words = smallvec![in alloc; word; n as usize / 64 + 1]?;
+        let words = smallvec![in alloc; word; n as usize / 256 * 4 + 4]?;
         Ok(Row {
             words,
             len: n,
@@ -100,6 +101,15 @@ impl Row {
     {
         let _len = self.len;
         &self.words
+    }
+
+    /// One of these words.
+    #[inline(always)]
+    fn word(&self, at: usize) -> u64
+        requires { 64 * at < length self.now }
+        ensures { (i : ℕ) → i < 64 → 64 * at + i < length self.now → nat_eq (bit_at result i) 1 ≡ is_set self.now (64 * at + i) }
+    {
+        self.words()[at]
     }
 
     /// Whether the components marked in one row or the other are just those marked here; 64 of them in one step.
@@ -222,32 +232,62 @@ impl Row {
     }
 }
 
-/// Sets the bits among the first n that a row marks.
-fn join_row(words: &mut [u64], n: u32, row: &Row)
-    requires room { n ≤ 64 * length words.old }
-    requires width { length row.now ≡ n }
-    ensures len { length words.new ≡ length words.old }
-    ensures bits { (k : ℕ) → k < n → bit_in words.new k ≡ (bit_in words.old k || is_set row.now k) }
+/// Sets the bits of four words that a row of the list marks, of a block of 256 components; none where there is no such row.
+#[inline(always)]
+fn join_row(four: &mut [u64; 4], block: u32, rows: &[Row], c: usize)
+    requires { c < length rows.now → 256 * block < length (row_at rows.now c) }
+    ensures { (k : ℕ) → k < 256 → (c < length rows.now → 256 * block + k < length (row_at rows.now c)) → bit_in four.new k ≡ (bit_in four.old k || is_set (row_at rows.now c) (256 * block + k)) }
 {
-    let _len = row.len;
-    join_in(words, &row.words, n);
+    match rows.get(c) {
+        Some(row) => {
+            let _len = row.len;
+            join_four(four, &row.words, block as usize * 4);
+        }
+        None => {}
+    }
+}
+
+/// The same of each row of the list whose own component is marked in one word of `set`.
+#[inline(always)]
+fn join_rows(four: &mut [u64; 4], block: u32, rows: &[Row], set: &Row, word: usize)
+    requires rows { length rows.now ≡ length set.now }
+    requires word { 64 * word < length set.now }
+    requires block { (c : ℕ) → c < length rows.now → 256 * block < length (row_at rows.now c) }
+    requires before { (k : ℕ) → k < 256 → ((c : ℕ) → c < length rows.now → 256 * block + k < length (row_at rows.now c)) → bit_in four.old k ≡ any_marks set.now rows.now (256 * block + k) (64 * word) }
+    ensures { (k : ℕ) → k < 256 → ((c : ℕ) → c < length rows.now → 256 * block + k < length (row_at rows.now c)) → bit_in four.new k ≡ any_marks set.now rows.now (256 * block + k) (64 * word + 64) }
+{
+    let mut rest = set.word(word);
+    while rest != 0 {
+        let c = 64 * word + rest.trailing_zeros() as usize;
+        join_row(four, block, rows, c);
+        rest &= rest - 1;
+    }
+}
+
+/// The bits of a block of 256 components that some row of the list marks, of those rows whose own component is marked in `set`.
+fn gather_four(block: u32, rows: &[Row], set: &Row) -> [u64; 4]
+    requires rows { length rows.now ≡ length set.now }
+    requires block { (c : ℕ) → c < length rows.now → 256 * block < length (row_at rows.now c) }
+    ensures { (k : ℕ) → k < 256 → ((c : ℕ) → c < length rows.now → 256 * block + k < length (row_at rows.now c)) → bit_in result k ≡ any_marks set.now rows.now (256 * block + k) (length set.now) }
+{
+    let mut four = [0; 4];
+    for word in 0..set.len().div_ceil(64) {
+        join_rows(&mut four, block, rows, set, word as usize);
+    }
+    four
 }
 
 /// Sets just the bits among the first n that some row of the list marks, of those whose own component is marked in `set`.
 fn gather_in(words: &mut [u64], n: u32, rows: &[Row], set: &Row)
-    requires room { n ≤ 64 * length words.old }
+    requires room { n / 256 * 4 + 4 ≤ length words.old }
     requires rows { length rows.now ≡ length set.now }
     requires width { (c : ℕ) → c < length set.now → length (row_at rows.now c) ≡ n }
     ensures len { length words.new ≡ length words.old }
     ensures bits { (k : ℕ) → k < n → bit_in words.new k ≡ any_marks set.now rows.now k (length set.now) }
 {
-    clear_all_in(words);
-    // The number of a component is below this one, so that of the next fits.
-    let _count = set.len();
-    let mut from = 0;
-    while let Some(c) = set.first_from(from) {
-        join_row(words, n, &rows[c as usize]);
-        from = c + 1;
+    for block in 0..n.div_ceil(256) {
+        let four = gather_four(block, rows, set);
+        put_four(words, block as usize * 4, &four);
     }
 }
 

@@ -45,6 +45,7 @@ pub mod Noted
 pub mod NotedRows
 pub mod Knowing
 pub mod Looking
+pub mod Ranging
 pub mod PutRow
 pub mod Drafted
 pub mod Begun

@@ -1,7 +1,7 @@
 -- Sets of components on the way to a row.
-use Rattle.std.proofs.Common.{◌≡◌, ℕ, ◌<◌, ◌≤◌, ◌/◌, ◌%◌, ◌∙◌, ◌⊎◌, inl, inr, sym, ap, refl, arith, Bool, true, false, ◌||◌, ◌&&◌, nat_eq, nat_lt, List, length, replicate, get_or}
+use Rattle.std.proofs.Common.{◌≡◌, ℕ, ◌<◌, ◌≤◌, ◌/◌, ◌%◌, ◌∙◌, ◌⊎◌, inl, inr, sym, ap, refl, arith, Bool, true, false, ◌||◌, ◌&&◌, nat_eq, List, length, replicate, get_or}
 use Rattle.std.proofs.Math.ListN.{set}
-use Rattle.std.proofs.lemmas.Bool.{true≢false, cases_lt, and_parts, lt-ltb}
+use Rattle.std.proofs.lemmas.Bool.{true≢false, cases_lt, and_parts}
 use Rattle.std.proofs.lemmas.List.{get_or_past, get_or-replicate, length-replicate}
 use Rattle.std.proofs.lemmas.List.FromFn.{length-map-range_with_len}
 use Rattle.std.proofs.lemmas.Nat.Bits.{bit_at-zero}
@@ -87,11 +87,3 @@ module _ (old cleared new other : List Bool) (empty : cleared ≡ replicate (len
   only_at d h =
       joined_at cleared other new joined d (omega (arith, h, long_none))
       ∙ ap (λ b. b || is_awake other d) (ap (λ m. is_awake m d) empty ∙ no_mark (length old) d)
-
--- what is marked is there
-pub marked_below : (marks : List Bool) (d n : ℕ) → length marks ≤ n → (is_awake marks d && nat_lt d n) ≡ is_awake marks d
-marked_below marks d n wide = by_mark (is_awake marks d) refl
-  where
-    by_mark : (b : Bool) → is_awake marks d ≡ b → (b && nat_lt d n) ≡ b
-    by_mark true a = lt-ltb d n (omega (arith, awake_within marks d a, wide))
-    by_mark false a = refl

@@ -1,5 +1,6 @@
 //! The cells of the components that change.
-ghost use Rattle.std.specs.Prelude.{[], ◌≡◌, ℕ, ◌≤◌, ◌&&◌, nat_le, nat_lt, OnOk, All, length, vec_capacity};
+ghost use Rattle.std.specs.Prelude.{◌≡◌, ℕ, ◌+◌, ◌*◌, ◌<◌, ◌≤◌, ◌&&◌, nat_eq, nat_le, nat_lt, OnOk, All, length, vec_capacity, vec_len};
+ghost use Rattle.std.specs.Int.{bit_at};
 ghost use Rattle.cell_table.specs.Filling.{is_awake};
 ghost use Rattle.cell_table.specs.Touches.{is_marked, IsWithin};
 
@@ -41,49 +42,44 @@ pub(crate) fn ranges_in(changes: &Row, from: u32, to: u32, ranges: &mut Vec<Cell
     ensures marked { (t c : ℕ) → is_marked ranges.new.items t c ≡ (is_awake changes.now c && (nat_le from t && nat_lt t to)) }
 {
     ranges.clear();
-    if changes.count() > changes.len() / 2 {
-        add_most(changes, from, to, ranges);
-    } else {
-        add_some(changes, from, to, ranges);
+    for word in 0..changes.len().div_ceil(64) {
+        add_word(changes, word, from, to, ranges);
     }
 }
 
-/// The same where most components change: each is asked.
-fn add_most(changes: &Row, from: u32, to: u32, ranges: &mut Vec<CellRange>)
+/// Adds those cells of the components of one word of 64, where those of the words before it are in the list.
+#[inline(always)]
+fn add_word(changes: &Row, word: u32, from: u32, to: u32, ranges: &mut Vec<CellRange>)
+    requires word { 64 * word < length changes.now }
     requires order { from ≤ to }
-    requires none { ranges.old.items ≡ [] }
-    requires room { length changes.now ≤ vec_capacity ranges.old }
+    requires room { vec_len ranges.old + length changes.now ≤ vec_capacity ranges.old + 64 * word }
+    requires within { All (IsWithin to (length changes.now)) ranges.old.items }
+    requires marked { (t c : ℕ) → is_marked ranges.old.items t c ≡ ((is_awake changes.now c && nat_lt c (64 * word)) && (nat_le from t && nat_lt t to)) }
+    ensures room { vec_len ranges.new + length changes.now ≤ vec_capacity ranges.new + 64 * word + 64 }
     ensures within { All (IsWithin to (length changes.now)) ranges.new.items }
-    ensures marked { (t c : ℕ) → is_marked ranges.new.items t c ≡ (is_awake changes.now c && (nat_le from t && nat_lt t to)) }
+    ensures marked { (t c : ℕ) → is_marked ranges.new.items t c ≡ ((is_awake changes.now c && nat_lt c (64 * word + 64)) && (nat_le from t && nat_lt t to)) }
 {
-    for component in 0..changes.len() {
-        if changes.has(component) {
-            ranges.push_reserved(CellRange {
-                component,
-                from,
-                to,
-            });
+    let count = changes.len();
+    let mut rest = word_of(changes, word);
+    while rest != 0 {
+        let component = 64 * word + rest.trailing_zeros();
+        // No component is left.
+        if component >= count {
+            return;
         }
-    }
-}
-
-/// The same where few do: each that does is sought.
-fn add_some(changes: &Row, from: u32, to: u32, ranges: &mut Vec<CellRange>)
-    requires order { from ≤ to }
-    requires none { ranges.old.items ≡ [] }
-    requires room { length changes.now ≤ vec_capacity ranges.old }
-    ensures within { All (IsWithin to (length changes.now)) ranges.new.items }
-    ensures marked { (t c : ℕ) → is_marked ranges.new.items t c ≡ (is_awake changes.now c && (nat_le from t && nat_lt t to)) }
-{
-    // The number of a component is below this one, so that of the next fits.
-    let _count = changes.len();
-    let mut next = 0;
-    while let Some(component) = changes.first_from(next) {
         ranges.push_reserved(CellRange {
             component,
             from,
             to,
         });
-        next = component + 1;
+        rest &= rest - 1;
     }
+}
+
+/// The marks of 64 components as bits; one behind the last component means nothing.
+fn word_of(changes: &Row, word: u32) -> u64
+    requires { 64 * word < length changes.now }
+    ensures { (i : ℕ) → i < 64 → 64 * word + i < length changes.now → nat_eq (bit_at result i) 1 ≡ is_awake changes.now (64 * word + i) }
+{
+    changes.words()[word as usize]
 }

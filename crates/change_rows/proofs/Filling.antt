@@ -1,10 +1,14 @@
 -- A row without words is filled.
-use Rattle.std.proofs.Common.{◌≡◌, ℕ, zero, suc, ◌+◌, ◌-◌, ◌<◌, ◌≤◌, ◌∙◌, sym, ap, refl, arith, Bool, true, false, unwrap_or, Option, Some, None, List, [], length, get_or}
+use Rattle.std.proofs.Common.{◌≡◌, ℕ, zero, suc, ◌+◌, ◌-◌, ◌<◌, ◌≤◌, ◌∙◌, ◌⊎◌, inl, inr, sym, ap, refl, subst, arith, Bool, true, false, unwrap_or, Option, Some, None, List, [], ◌∷◌, ◌++◌, length, get_or}
+use Rattle.std.proofs.lemmas.Bool.{cases_eq}
 use Rattle.change_rows.specs.Cells.{Held, no_cell, found, end_of, component_at, IsAscending}
+use Rattle.change_rows.specs.Marks.{is_in}
 use Rattle.change_rows.specs.Standing.{standing}
 use Rattle.change_rows.specs.Changes.{row_at, begins_at}
 use Rattle.change_rows.proofs.Finding.{ascends, found_at, below_end}
 use Rattle.change_rows.proofs.Standing.{at_once, begins_seam}
+use Rattle.change_rows.proofs.Editing.{pushed_same, pushed_other}
+use Rattle.change_rows.proofs.Sourcing.{not_in, member_low}
 
 -- components climb by at least one
 climbs : (cells : List Held) → IsAscending cells → (i k : ℕ) → i + k < length cells → component_at cells i + k ≤ component_at cells (i + k)
@@ -47,9 +51,23 @@ blank_stands rows seam at t width c asc len end here empty none h =
     at_once (begins_at rows seam at c) t [] (begins_seam rows seam at c t (ap (λ (r : List Held). found r c) empty) (sym here) ∙ full seam width c asc len end h ∙ ap Some none)
 
 -- what a row without words and the row behind it hold
-pub filled_kept : (still : Bool) (o : Option (List ℕ)) (before w : List ℕ) → (still ≡ false → o ≡ Some w) → (still ≡ true → o ≡ None) → (still ≡ true → w ≡ before) → unwrap_or o before ≡ w
-filled_kept true o before w written none same = ap (λ (x : Option (List ℕ)). unwrap_or x before) (none refl) ∙ sym (same refl)
-filled_kept false o before w written none same = ap (λ (x : Option (List ℕ)). unwrap_or x before) (written refl)
+pub filled_kept : (moved : Bool) (o : Option (List ℕ)) (before w : List ℕ) → (moved ≡ true → o ≡ Some w) → (moved ≡ false → o ≡ None) → (moved ≡ false → w ≡ before) → unwrap_or o before ≡ w
+filled_kept false o before w written none same = ap (λ (x : Option (List ℕ)). unwrap_or x before) (none refl) ∙ sym (same refl)
+filled_kept true o before w written none same = ap (λ (x : Option (List ℕ)). unwrap_or x before) (written refl)
 
 pub blank_kept : (o : Option (List ℕ)) (v w : List ℕ) → o ≡ Some [] → w ≡ [] → unwrap_or o v ≡ w
 blank_kept o v w e f = ap (λ (x : Option (List ℕ)). unwrap_or x v) e ∙ sym f
+
+-- a row has the cells of one component more of a set
+module _ (moved : List ℕ) (words : ℕ → List ℕ) (c next : ℕ) (row row1 : List Held) (pushed : row1 ≡ row ++ record { component = c; words = words c } ∷ []) (above : end_of row ≤ c) (member : is_in moved c ≡ true) where
+  pub filled_more : ((d : ℕ) → c + 1 ≤ d → d < next → is_in moved d ≡ false) → ((d : ℕ) → d < c → is_in moved d ≡ true → found row d ≡ Some (words d)) → (d : ℕ) → d < next → is_in moved d ≡ true → found row1 d ≡ Some (words d)
+  filled_more none before d h m = by_place (cases_eq d c)
+    where
+      by_place : (d ≡ c) ⊎ (d ≡ c → ⊥) → found row1 d ≡ Some (words d)
+      by_place (inl e) = subst (λ (k : ℕ). found row1 k ≡ Some (words k)) (sym e) (pushed_same row row1 c (words c) pushed above)
+      by_place (inr n) =
+          let low : d < c + 1 = member_low moved (c + 1) next none d h m in
+          pushed_other row row1 c (words c) pushed d n ∙ before d (omega (arith, low, n)) m
+
+  pub filled_still : ((d : ℕ) → is_in moved d ≡ false → found row d ≡ None) → (d : ℕ) → is_in moved d ≡ false → found row1 d ≡ None
+  filled_still before d m = pushed_other row row1 c (words c) pushed d (λ e. not_in moved d m (ap (is_in moved) e ∙ member)) ∙ before d m

@@ -6,7 +6,6 @@ pub mod Merging
 pub mod Laying
 pub mod Standing
 pub mod Editing
-pub mod Uniting
 pub mod Putting
 pub mod Tables
 pub mod Viewing
@@ -14,7 +13,10 @@ pub mod Growing
 pub mod Running
 pub mod FirstBit
 pub mod Members
+pub mod Joined
 pub mod Sourcing
+pub mod Noting
+pub mod Sorting
 pub mod Filling
 pub mod Begun
 pub mod Leaving

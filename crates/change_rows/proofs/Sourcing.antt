@@ -1,16 +1,15 @@
 -- A row is put from a source.
-use Rattle.std.proofs.Common.{◌≡◌, ℕ, ◌+◌, ◌<◌, ◌≤◌, ◌∙◌, ◌⊎◌, inl, inr, sym, ap, refl, subst, arith, Bool, true, false, cond, eqb, ◌&&◌, unwrap_or, Option, Some, None, List, [], ◌∷◌, length}
-use Rattle.std.specs.Option.{option_or}
+use Rattle.std.proofs.Common.{◌≡◌, ℕ, ◌+◌, ◌<◌, ◌≤◌, ◌∙◌, ◌⊎◌, inl, inr, sym, ap, refl, subst, arith, Bool, true, false, cond, eqb, ◌&&◌, unwrap_or, Option, Some, None, List, [], ◌∷◌, ◌++◌, length}
 use Rattle.std.proofs.Math.ListN.{set}
 use Rattle.std.proofs.lemmas.Bool.{cases_eq, cases_lt, eq-eqb, ne_eqb, false≢true}
-use Rattle.change_rows.specs.Cells.{Held, found, end_of, IsSplit}
+use Rattle.change_rows.specs.Cells.{Held, found, end_of}
 use Rattle.change_rows.specs.Marks.{is_in}
 use Rattle.change_rows.specs.Standing.{standing, standing_before}
 use Rattle.change_rows.specs.Changes.{row_at, begins_at}
-use Rattle.change_rows.specs.Laid.{IsLaid, IsOver, IsTold}
-use Rattle.change_rows.proofs.Editing.{absent}
+use Rattle.change_rows.specs.Laid.{IsOver, IsTold}
+use Rattle.change_rows.proofs.Editing.{absent, present, pushed_same, pushed_other}
+use Rattle.change_rows.proofs.Merging.{pushed_end}
 use Rattle.change_rows.proofs.Putting.{stands_by, put_at, alike}
-use Rattle.change_rows.proofs.Finding.{found_past}
 
 -- where nothing begins at a cell, what stood before it does
 pub stands_on : (begins : ℕ → Option (List ℕ)) (t : ℕ) → begins t ≡ None → standing begins t ≡ standing_before begins t
@@ -20,118 +19,16 @@ stands_on begins t e = stands_by begins t ∙ ap (λ (o : Option (List ℕ)). un
 pub left_out : (begins : ℕ → Option (List ℕ)) (t c : ℕ) (seam : List Held) (w : List ℕ) → end_of seam ≤ c → standing begins t ≡ w → unwrap_or (found seam c) w ≡ standing begins t
 left_out begins t c seam w above e = absent seam c w (standing begins t) above (sym e)
 
-not_in : (set : List ℕ) (d : ℕ) → is_in set d ≡ false → is_in set d ≡ true → ⊥
+pub not_in : (set : List ℕ) (d : ℕ) → is_in set d ≡ false → is_in set d ≡ true → ⊥
 not_in set d e f = false≢true (sym e ∙ f)
 
 -- members that aren't passed between two components stand before the first
-member_low : (set : List ℕ) (p q : ℕ) → ((d : ℕ) → p ≤ d → d < q → is_in set d ≡ false) → (d : ℕ) → d < q → is_in set d ≡ true → d < p
+pub member_low : (set : List ℕ) (p q : ℕ) → ((d : ℕ) → p ≤ d → d < q → is_in set d ≡ false) → (d : ℕ) → d < q → is_in set d ≡ true → d < p
 member_low set p q none d h e = by_place (cases_lt d p)
   where
     by_place : (d < p) ⊎ (p ≤ d) → d < p
     by_place (inl l) = l
     by_place (inr l) = absurd (not_in set d (none d l h) e)
-
-pub split_start : (cells : List Held) → IsSplit cells 0 0
-split_start cells = record {
-  within = omega arith;
-  below = omega arith;
-  above = λ _. omega arith;
-}
-
-module _ (rows : List (List Held)) (seam : List Held) (at t : ℕ) (members : List ℕ) (words : ℕ → List ℕ) where
-  pub laid_start : IsLaid rows seam at t members words 0 0 0 [] []
-  laid_start = record {
-    own = split_start (row_at rows t);
-    under = split_start seam;
-    kept = λ c h. absurd (omega (arith, h));
-    others = λ c h. absurd (omega (arith, h));
-    end = omega arith;
-    seam_kept = λ c h. absurd (omega (arith, h));
-    seam_only = λ c _. refl;
-    seam_end = omega arith;
-    seam_past = λ _. refl;
-  }
-
-  -- what begins at the row and is below a component is taken, and no member is among it
-  module _ (i j low c : ℕ) (row1 mid seam1 : List Held) (laid : IsLaid rows seam at t members words i j low row1 seam1)
-      (order : low ≤ c)
-      (none : (d : ℕ) → low ≤ d → d < c → is_in members d ≡ false)
-      (mid_low : (d : ℕ) → d < low → found mid d ≡ found row1 d)
-      (mid_found : (d : ℕ) → low ≤ d → d < c → found mid d ≡ option_or (found (row_at rows t) d) (found seam d)) where
-    pub member_kept : (d : ℕ) → d < c → is_in members d ≡ true → unwrap_or (found mid d) (standing_before (begins_at rows seam at d) t) ≡ words d
-    member_kept d h m =
-        let l : d < low = member_low members low c none d h m in
-        ap (λ (o : Option (List ℕ)). unwrap_or o (standing_before (begins_at rows seam at d) t)) (mid_low d l) ∙ laid.kept d l m
-
-    pub other_found : (d : ℕ) → d < c → (is_in members d ≡ true → ⊥) → found mid d ≡ option_or (found (row_at rows t) d) (found seam d)
-    other_found d h n = by_place (cases_lt d low)
-      where
-        by_place : (d < low) ⊎ (low ≤ d) → found mid d ≡ option_or (found (row_at rows t) d) (found seam d)
-        by_place (inl l) = mid_low d l ∙ laid.others d l n
-        by_place (inr l) = mid_found d l h
-
-    pub member_seam : (d : ℕ) → d < c → is_in members d ≡ true → t + 1 < length rows → found (row_at rows (t + 1)) d ≡ None → unwrap_or (found seam1 d) (words d) ≡ standing (begins_at rows seam at d) t
-    member_seam d h m = laid.seam_kept d (member_low members low c none d h m) m
-
-    pub other_seam : (d : ℕ) → (d < c → is_in members d ≡ true → ⊥) → found seam1 d ≡ None
-    other_seam d n = laid.seam_only d (λ h m. n (omega (arith, h, order)) m)
-
-    -- and that component's cell
-    module _ (i1 j1 : ℕ) (row2 seam2 : List Held)
-        (member : is_in members c ≡ true)
-        (own : IsSplit (row_at rows t) (c + 1) i1)
-        (under : IsSplit seam (c + 1) j1)
-        (kept : unwrap_or (found row2 c) (standing_before (begins_at rows seam at c) t) ≡ words c)
-        (others : (d : ℕ) → (d ≡ c → ⊥) → found row2 d ≡ found mid d)
-        (end : end_of row2 ≤ c + 1)
-        (seam_kept : t + 1 < length rows → found (row_at rows (t + 1)) c ≡ None → unwrap_or (found seam2 c) (words c) ≡ standing (begins_at rows seam at c) t)
-        (seam_others : (d : ℕ) → (d ≡ c → ⊥) → found seam2 d ≡ found seam1 d)
-        (seam_end : end_of seam2 ≤ c + 1)
-        (seam_past : (t + 1 < length rows → ⊥) → seam2 ≡ seam1) where
-      laid_kept : (d : ℕ) → (d ≡ c) ⊎ (d ≡ c → ⊥) → d < c + 1 → is_in members d ≡ true → unwrap_or (found row2 d) (standing_before (begins_at rows seam at d) t) ≡ words d
-      laid_kept d (inl e) h m = subst (λ (k : ℕ). unwrap_or (found row2 k) (standing_before (begins_at rows seam at k) t) ≡ words k) (sym e) kept
-      laid_kept d (inr n) h m = ap (λ (o : Option (List ℕ)). unwrap_or o (standing_before (begins_at rows seam at d) t)) (others d n) ∙ member_kept d (omega (arith, h, n)) m
-
-      laid_seam : (d : ℕ) → (d ≡ c) ⊎ (d ≡ c → ⊥) → d < c + 1 → is_in members d ≡ true → t + 1 < length rows → found (row_at rows (t + 1)) d ≡ None → unwrap_or (found seam2 d) (words d) ≡ standing (begins_at rows seam at d) t
-      laid_seam d (inl e) h m = subst (λ (k : ℕ). t + 1 < length rows → found (row_at rows (t + 1)) k ≡ None → unwrap_or (found seam2 k) (words k) ≡ standing (begins_at rows seam at k) t) (sym e) seam_kept
-      laid_seam d (inr n) h m = λ l e. ap (λ (o : Option (List ℕ)). unwrap_or o (words d)) (seam_others d n) ∙ member_seam d (omega (arith, h, n)) m l e
-
-      another : (d : ℕ) → (is_in members d ≡ true → ⊥) → d ≡ c → ⊥
-      another d n e = n (ap (is_in members) e ∙ member)
-
-      pub laid_more : IsLaid rows seam at t members words i1 j1 (c + 1) row2 seam2
-      laid_more = record {
-        own = own;
-        under = under;
-        kept = λ d h m. laid_kept d (cases_eq d c) h m;
-        others = λ d h n. others d (another d n) ∙ other_found d (lower d h (another d n)) n;
-        end = end;
-        seam_kept = λ d h m. laid_seam d (cases_eq d c) h m;
-        seam_only = λ d n. seam_others d (λ e. n (omega (arith, e)) (ap (is_in members) e ∙ member)) ∙ other_seam d (λ h m. n (omega (arith, h)) m);
-        seam_end = seam_end;
-        seam_past = λ n. seam_past n ∙ laid.seam_past n;
-      }
-        where
-          lower : (d : ℕ) → d < c + 1 → (d ≡ c → ⊥) → d < c
-          lower d h n = omega (arith, h, n)
-
-    -- all components are passed
-    pub laid_all : end_of mid ≤ c → end_of (row_at rows t) ≤ c → end_of seam ≤ c → IsOver rows seam at t c members words mid seam1
-    laid_all end own_wide seam_wide = record {
-      kept = member_kept;
-      others = λ d n. by_place d n (cases_lt d c);
-      end = end;
-      seam_kept = member_seam;
-      seam_only = other_seam;
-      seam_end = omega (arith, laid.seam_end, order);
-      seam_past = laid.seam_past;
-    }
-      where
-        by_place : (d : ℕ) → (d < c → is_in members d ≡ true → ⊥) → (d < c) ⊎ (c ≤ d) → found mid d ≡ option_or (found (row_at rows t) d) (found seam d)
-        by_place d n (inl h) = other_found d h (n h)
-        by_place d n (inr h) =
-            found_past mid d (omega (arith, end, h))
-            ∙ sym (ap (λ (o : Option (List ℕ)). option_or o (found seam d)) (found_past (row_at rows t) d (omega (arith, own_wide, h))) ∙ found_past seam d (omega (arith, seam_wide, h)))
 
 module _ (rows : List (List Held)) (seam : List Held) (at t : ℕ) (members : List ℕ) (words : ℕ → List ℕ) where
   pub told_start : (changed : List ℕ) → ((c : ℕ) → is_in changed c ≡ false) → IsTold rows seam at t members words 0 changed
@@ -177,6 +74,44 @@ module _ (rows : List (List Held)) (seam : List Held) (at t : ℕ) (members : Li
       others = λ d i. tells_other d (cases_eq d c) i;
       same = λ d h m i. tells_same d (cases_eq d c) h m i;
     }
+
+-- the same of a component that may be no member
+module _ (rows : List (List Held)) (seam : List Held) (at t : ℕ) (members : List ℕ) (words : ℕ → List ℕ) (c : ℕ) (changed changed1 : List ℕ) (other : Bool) (told : IsTold rows seam at t members words c changed)
+    (is_other : other ≡ true → (is_in members c ≡ true) × (standing (begins_at rows seam at c) t ≡ words c → ⊥))
+    (is_same : other ≡ false → is_in members c ≡ true → standing (begins_at rows seam at c) t ≡ words c)
+    (here : other ≡ true → is_in changed1 c ≡ true)
+    (none : other ≡ false → changed1 ≡ changed)
+    (others : (d : ℕ) → (d ≡ c → ⊥) → is_in changed1 d ≡ is_in changed d) where
+  pub told_one : IsTold rows seam at t members words (c + 1) changed1
+  told_one = by_member (is_in members c) refl other refl
+    where
+      by_member : (b : Bool) → is_in members c ≡ b → (o : Bool) → other ≡ o → IsTold rows seam at t members words (c + 1) changed1
+      by_member true m o e = told_more rows seam at t members words c changed changed1 other told m (λ f. (is_other f).1) (λ f. is_same f m) here none others
+      by_member false m true e = absurd (not_in members c m (is_other e).0)
+      by_member false m false e = subst (λ (v : List ℕ). IsTold rows seam at t members words (c + 1) v) (sym (none e)) (told_on rows seam at t members words c (c + 1) changed told (omega arith) (λ d low high. ap (is_in members) (omega (arith, low, high)) ∙ m))
+
+-- a cell more, unless its component holds its words anyway
+module _ (row row1 : List Held) (c : ℕ) (w before : List ℕ) (same : Bool) (pushed : row1 ≡ cond same row (row ++ record { component = c; words = w } ∷ [])) (above : end_of row ≤ c) where
+  pub unless_kept : (same ≡ true → before ≡ w) → unwrap_or (found row1 c) before ≡ w
+  unless_kept alike = by_same same refl
+    where
+      by_same : (b : Bool) → same ≡ b → unwrap_or (found row1 c) before ≡ w
+      by_same true e = rw (pushed ∙ ap (λ (x : Bool). cond x row (row ++ record { component = c; words = w } ∷ [])) e) (absent row c before w above (alike e))
+      by_same false e = present row1 c before w w (pushed_same row row1 c w (pushed ∙ ap (λ (x : Bool). cond x row (row ++ record { component = c; words = w } ∷ [])) e) above) refl
+
+  pub unless_others : (d : ℕ) → (d ≡ c → ⊥) → found row1 d ≡ found row d
+  unless_others d n = by_same same refl
+    where
+      by_same : (b : Bool) → same ≡ b → found row1 d ≡ found row d
+      by_same true e = ap (λ (v : List Held). found v d) (pushed ∙ ap (λ (x : Bool). cond x row (row ++ record { component = c; words = w } ∷ [])) e)
+      by_same false e = pushed_other row row1 c w (pushed ∙ ap (λ (x : Bool). cond x row (row ++ record { component = c; words = w } ∷ [])) e) d n
+
+  pub unless_end : end_of row1 ≤ c + 1
+  unless_end = by_same same refl
+    where
+      by_same : (b : Bool) → same ≡ b → end_of row1 ≤ c + 1
+      by_same true e = omega (arith, above, ap end_of (pushed ∙ ap (λ (x : Bool). cond x row (row ++ record { component = c; words = w } ∷ [])) e))
+      by_same false e = omega (arith, above, pushed_end row row1 c w (pushed ∙ ap (λ (x : Bool). cond x row (row ++ record { component = c; words = w } ∷ [])) e))
 
 -- one cell, or none
 abbrev one : ℕ → Option (List ℕ) → List Held

@@ -6,3 +6,4 @@ pub mod Rows
 pub mod Changes
 pub mod Laid
 pub mod Left
+pub mod Kinds

@@ -135,6 +135,31 @@ impl Cells {
         }
     }
 
+    /// The first word of the last cell; 0 where there is none.
+    #[inline(always)]
+    pub(crate) fn last_head(&self) -> u64
+        ensures { (front : List Held) (cell : Held) → self.now ≡ front ++ cell ∷ [] → result ≡ slice_index_or cell.words 0 0 }
+    {
+        let count = self.len();
+        if count == 0 {
+            return 0;
+        }
+        word_at(self.words(count - 1), 0)
+    }
+
+    /// The words of a component, where there is a cell of it; a guess of its place is tried first.
+    #[inline(always)]
+    pub(crate) fn find_at(&self, component: u32, guess: usize) -> Option<&[u64]>
+        ensures { option_copied result ≡ found self.now component }
+    {
+        find_near(
+            self.heads.as_slice(),
+            self.words.as_slice(),
+            component,
+            guess,
+        )
+    }
+
     /// Whether there is a cell of a component.
     pub fn has(&self, component: u32) -> bool
         ensures { result ≡ is_some (found self.now component) }
@@ -275,7 +300,7 @@ impl Cells {
         }
     }
 
-    /// Whether a source has these words. Where the first of them agree, the source's are written behind all cells, and removed again.
+    /// Whether a source has these words: they are written behind all cells, and removed again.
     ///
     /// # Errors
     ///
@@ -290,9 +315,6 @@ impl Cells {
         ensures cells { self.new ≡ self.old }
         ensures same { IfOk result (λ same. IsTrue same ↔ (held.now ≡ S.words source.now component)) }
     {
-        if word_at(held, 0) != source.first(component) {
-            return Ok(false);
-        }
         let from = self.words.len();
         match write_words(source, component, held, &mut self.words) {
             Ok(same) => {

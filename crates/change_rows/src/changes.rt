@@ -141,30 +141,13 @@ pub(crate) fn begin_word(s: &Changes, t: usize, w: usize) -> u64
 }
 
 /// Adds to a set the components of cells.
-fn add_cells(cells: &Cells, set: &mut [u64])
+pub(crate) fn add_cells(cells: &Cells, set: &mut [u64])
     requires { end_of cells.now ≤ 64 * length set.old }
     ensures len { length set.new ≡ length set.old }
     ensures all { (c : ℕ) → is_in set.new c ≡ (is_in set.old c || is_some (found cells.now c)) }
 {
     for i in 0..cells.len() {
         add(set, cells.component(i));
-    }
-}
-
-/// Adds to a set the components at whose cells something begins.
-pub(crate) fn add_begun(s: &Changes, t: usize, set: &mut [u64])
-    requires changes { IsChanges s.now.width s.now.rows.items s.now.marks.items s.now.seam s.now.at }
-    requires row { t < length s.now.rows.items }
-    requires room { s.now.width ≤ 64 * length set.old }
-    ensures len { length set.new ≡ length set.old }
-    ensures more { (c : ℕ) → is_in set.old c ≡ true → is_in set.new c ≡ true }
-    ensures rest { (c : ℕ) → c < s.now.width → is_in set.new c ≡ false → begins_at s.now.rows.items s.now.seam s.now.at c t ≡ None }
-{
-    for w in 0..s.marks.len().min(set.len()) {
-        set[w] |= s.marks[w].word(t);
-    }
-    if t == s.at {
-        add_cells(&s.seam, set);
     }
 }
 

@@ -1,51 +1,42 @@
 //! A row that holds no words is filled from a source.
 ghost use Rattle.std.specs.Prelude.{◌≡◌, ℕ, ◌+◌, ◌<◌, ◌≤◌, [], None, Some, true, false, cond, nat_eq, OnOk, OnErr, length};
 ghost use Rattle.change_rows.specs.Cells.{found, end_of};
+ghost use Rattle.change_rows.specs.Marks.{is_in};
 ghost use Rattle.change_rows.specs.Standing.{standing, standing_before};
 ghost use Rattle.change_rows.specs.Changes.{begins_at, IsChanges};
+ghost use Rattle.change_rows.specs.Kinds.{IsRoomy};
 
 use crate::cells::Cells;
 use crate::changes::{Changes, lay};
 use crate::edit::{Buffers, settle_for};
 use crate::grow::blank;
+use crate::kinds::{Kinds, mark_moved};
+use crate::sets::next_in;
 use crate::source::Source;
 use std::alloc::AllocError;
 use std::mem;
 
-/// A component's cell, where it isn't still.
+/// A cell for each component of a set.
 ///
 /// # Errors
 ///
 /// Where a growth was refused.
-fn write_one<S: Source>(c: u32, source: &S, row: &mut Cells) -> Result<(), AllocError>
-    requires has { S.has source.now c }
-    requires ascending { end_of row.old ≤ c }
-    ensures written { OnOk result (S.still source.now c ≡ false → found row.new c ≡ Some (S.words source.now c)) }
-    ensures still { OnOk result (S.still source.now c ≡ true → found row.new c ≡ None) }
-    ensures others { OnOk result ((d : ℕ) → (d ≡ c → ⊥) → found row.new d ≡ found row.old d) }
-    ensures end { OnOk result (end_of row.new ≤ c + 1) }
-{
-    if source.is_still(c) {
-        return Ok(());
-    }
-    row.push_from(c, source, &[])?;
-    Ok(())
-}
-
-/// A cell for each component that isn't still.
-///
-/// # Errors
-///
-/// Where a growth was refused.
-fn write_all<S: Source>(width: u32, source: &S, row: &mut Cells) -> Result<(), AllocError>
+fn write_all<S: Source>(
+    width: u32,
+    source: &S,
+    moved: &[u64],
+    row: &mut Cells,
+) -> Result<(), AllocError>
     requires { (c : ℕ) → c < width → S.has source.now c }
-    ensures written { OnOk result ((c : ℕ) → c < width → S.still source.now c ≡ false → found row.new c ≡ Some (S.words source.now c)) }
-    ensures still { OnOk result ((c : ℕ) → c < width → S.still source.now c ≡ true → found row.new c ≡ None) }
+    ensures written { OnOk result ((c : ℕ) → c < width → is_in moved.now c ≡ true → found row.new c ≡ Some (S.words source.now c)) }
+    ensures still { OnOk result ((c : ℕ) → is_in moved.now c ≡ false → found row.new c ≡ None) }
     ensures end { OnOk result (end_of row.new ≤ width) }
 {
     row.clear();
-    for c in 0..width {
-        write_one(c, source, row)?;
+    let mut c = next_in(moved, 0, width);
+    while c < width {
+        row.push_from(c, source, &[])?;
+        c = next_in(moved, c + 1, width);
     }
     Ok(())
 }
@@ -97,23 +88,27 @@ fn blank_behind(s: &Changes, t: usize, out: &mut Cells) -> Result<(), AllocError
 pub(crate) fn fill<S: Source>(
     s: &mut Changes,
     b: &mut Buffers,
+    k: &mut Kinds,
     t: usize,
     source: &S,
 ) -> Result<(), AllocError>
     requires changes { IsChanges s.old.width s.old.rows.items s.old.marks.items s.old.seam s.old.at }
     requires row { t < length s.old.rows.items }
     requires none { (c : ℕ) → c < s.old.width → standing (begins_at s.old.rows.items s.old.seam s.old.at c) t ≡ [] }
+    requires room { IsRoomy s.old.width k.old }
     requires has { (c : ℕ) → c < s.old.width → S.has source.now c }
     requires still { (c : ℕ) → c < s.old.width → S.still source.now c ≡ true → S.words source.now c ≡ standing_before (begins_at s.old.rows.items s.old.seam s.old.at c) t }
     ensures changes { IsChanges s.new.width s.new.rows.items s.new.marks.items s.new.seam s.new.at }
     ensures width { s.new.width ≡ s.old.width }
     ensures len { length s.new.rows.items ≡ length s.old.rows.items }
     ensures filled { OnOk result ((c u : ℕ) → c < s.old.width → u < length s.old.rows.items → standing (begins_at s.new.rows.items s.new.seam s.new.at c) u ≡ cond (nat_eq u t) (S.words source.now c) (standing (begins_at s.old.rows.items s.old.seam s.old.at c) u)) }
+    ensures room { IsRoomy s.old.width k.new }
     ensures err { OnErr result ((c u : ℕ) → begins_at s.new.rows.items s.new.seam s.new.at c u ≡ begins_at s.old.rows.items s.old.seam s.old.at c u) }
 {
     settle_for(s, t, &mut b.row)?;
     blank_behind(s, t, &mut b.seam)?;
-    write_all(s.width, source, &mut b.row)?;
+    mark_moved(k, source);
+    write_all(s.width, source, &k.moved, &mut b.row)?;
     lay(&mut s.rows, &mut s.marks, t, &b.row)?;
     mem::swap(&mut s.seam, &mut b.seam);
     s.at = t + 1;

@@ -5,11 +5,13 @@ ghost use Rattle.change_rows.specs.Marks.{is_one, is_in};
 ghost use Rattle.change_rows.specs.Rows.{Table, words_at, overlaid, replaced, filled, repeated, IsWhole};
 
 use crate::cells::Cells;
-use crate::changes::{Changes, add_begun, begin_word, begins_in, next_begin, next_of, words_in};
+use crate::changes::{Changes, begin_word, begins_in, next_begin, next_of, words_in};
 use crate::edit::{Buffers, put};
 use crate::fill::fill;
 use crate::grow::{cut, grow};
+use crate::kinds::Kinds;
 use crate::marks::Marks;
+use crate::notes::{Notes, forget};
 use crate::run::repeat;
 use crate::source::Source;
 use crate::sourced::put_from;
@@ -24,18 +26,21 @@ use std::marker::Model;
 pub struct Rows {
     changes: Changes,
     buffers: Buffers,
+    kinds: Kinds,
+    notes: Notes,
 }
 
 impl Model for Rows {
     ghost use Rattle.change_rows.specs.Marks.{is_in};
     ghost use Rattle.change_rows.specs.Rows.{Table};
-    ghost use Rattle.change_rows.specs.Changes.{cells_in, IsChanges};
+    ghost use Rattle.change_rows.specs.Changes.{cells_in};
+    ghost use Rattle.change_rows.specs.Kinds.{IsKept};
 
     ghost Value = { Table };
 
     ghost view = { λ r. record { width = r.changes.width; rows = cells_in r.changes.rows.items r.changes.seam r.changes.at r.changes.width } };
 
-    ghost invariant = { λ r. IsChanges r.changes.width r.changes.rows.items r.changes.marks.items r.changes.seam r.changes.at };
+    ghost invariant = { λ r. IsKept r.changes.width r.changes.rows.items r.changes.marks.items r.changes.seam r.changes.at r.kinds r.notes };
 }
 
 impl Rows {
@@ -48,6 +53,8 @@ impl Rows {
         ensures { IfOk result (λ rows. rows ≡ record { width = width; rows = [] }) }
     {
         let marks = no_marks(alloc, width.div_ceil(64))?;
+        let kinds = Kinds::new(alloc, width)?;
+        let notes = Notes::new(alloc, width)?;
         Ok(Rows {
             changes: Changes {
                 width,
@@ -57,6 +64,8 @@ impl Rows {
                 at: 0,
             },
             buffers: Buffers::new(alloc),
+            kinds,
+            notes,
         })
     }
 
@@ -136,19 +145,6 @@ impl Rows {
         begin_word(&self.changes, t as usize, w)
     }
 
-    /// Adds to a set the components at which other words may begin in row t than they hold a cycle before. Those that aren't in it then
-    /// hold the same. The set has a bit for each component, 64 in a word.
-    pub fn add_begun(&self, t: u32, set: &mut [u64])
-        requires later { 0 < t }
-        requires row { t < length self.now.rows }
-        requires room { self.now.width ≤ 64 * length set.old }
-        ensures len { length set.new ≡ length set.old }
-        ensures more { (c : ℕ) → is_in set.old c ≡ true → is_in set.new c ≡ true }
-        ensures same { (c : ℕ) → c < self.now.width → is_in set.new c ≡ false → words_at self.now.rows t c ≡ words_at self.now.rows (t - 1) c }
-    {
-        add_begun(&self.changes, t as usize, set);
-    }
-
     /// Rows more, whose cells have no words.
     ///
     /// # Errors
@@ -163,6 +159,7 @@ impl Rows {
         if m == 0 {
             return Ok(());
         }
+        forget(&mut self.notes);
         grow(alloc, &mut self.changes, &mut self.buffers.row, m as usize)?;
         Ok(())
     }
@@ -171,6 +168,7 @@ impl Rows {
     pub fn truncate(&mut self, n: u32)
         ensures { self.new ≡ record { width = self.old.width; rows = take n self.old.rows } }
     {
+        forget(&mut self.notes);
         cut(&mut self.changes, n as usize);
     }
 
@@ -194,6 +192,7 @@ impl Rows {
             (λ _. self.new ≡ record { width = self.old.width; rows = repeated self.old.rows self.old.width from to set.now })
             (λ _. self.new ≡ self.old) }
     {
+        forget(&mut self.notes);
         repeat(
             alloc,
             &mut self.changes,
@@ -232,6 +231,8 @@ impl Rows {
         put_from(
             &mut self.changes,
             &mut self.buffers,
+            &mut self.kinds,
+            &mut self.notes,
             t as usize,
             set,
             source,
@@ -269,7 +270,14 @@ impl Rows {
             (λ _. self.new ≡ record { width = self.old.width; rows = slice_set self.old.rows t (filled self.old.width (S.words source.now)) })
             (λ _. self.new ≡ self.old) }
     {
-        fill(&mut self.changes, &mut self.buffers, t as usize, source)?;
+        forget(&mut self.notes);
+        fill(
+            &mut self.changes,
+            &mut self.buffers,
+            &mut self.kinds,
+            t as usize,
+            source,
+        )?;
         Ok(())
     }
 
@@ -286,6 +294,7 @@ impl Rows {
             (λ _. self.new ≡ self.old) }
     {
         let _ = alloc;
+        forget(&mut self.notes);
         put(&mut self.changes, &mut self.buffers, t as usize, draft)?;
         Ok(())
     }

@@ -1,5 +1,5 @@
 //! Sets of components: a bit for each, 64 in a word.
-ghost use Rattle.std.specs.Prelude.{◌≡◌, ℕ, ◌/◌, ◌%◌, ◌<◌, ◌≤◌, true, false, MatchOption, length, slice_index_or};
+ghost use Rattle.std.specs.Prelude.{◌≡◌, ℕ, ◌/◌, ◌%◌, ◌<◌, ◌≤◌, ◌&&◌, ◌||◌, not, true, false, MatchOption, length, slice_index_or};
 ghost use Rattle.std.specs.Int.{bit_at};
 ghost use Rattle.change_rows.specs.Marks.{is_in};
 
@@ -89,4 +89,54 @@ pub(crate) fn is_void(set: &[u64]) -> bool
         }
     }
     true
+}
+
+/// The components of another set instead.
+pub(crate) fn copy(set: &mut [u64], other: &[u64])
+    ensures len { length set.new ≡ length set.old }
+    ensures members { (c : ℕ) → c / 64 < length set.old → is_in set.new c ≡ is_in other.now c }
+{
+    for w in 0..set.len() {
+        set[w] = word_at(other, w);
+    }
+}
+
+/// The components of another set in addition.
+pub(crate) fn join(set: &mut [u64], other: &[u64])
+    ensures len { length set.new ≡ length set.old }
+    ensures members { (c : ℕ) → c / 64 < length set.old → is_in set.new c ≡ (is_in set.old c || is_in other.now c) }
+{
+    for w in 0..set.len() {
+        set[w] |= word_at(other, w);
+    }
+}
+
+/// Those components stay that another set has, too.
+pub(crate) fn keep(set: &mut [u64], other: &[u64])
+    ensures len { length set.new ≡ length set.old }
+    ensures members { (c : ℕ) → c / 64 < length set.old → is_in set.new c ≡ (is_in set.old c && is_in other.now c) }
+{
+    for w in 0..set.len() {
+        set[w] &= word_at(other, w);
+    }
+}
+
+/// Those components stay that another set doesn't have.
+pub(crate) fn remove(set: &mut [u64], other: &[u64])
+    ensures len { length set.new ≡ length set.old }
+    ensures members { (c : ℕ) → c / 64 < length set.old → is_in set.new c ≡ (is_in set.old c && not (is_in other.now c)) }
+{
+    for w in 0..set.len() {
+        set[w] &= !word_at(other, w);
+    }
+}
+
+/// Of the components of another set those instead that aren't in this one.
+pub(crate) fn leave(set: &mut [u64], other: &[u64])
+    ensures len { length set.new ≡ length set.old }
+    ensures members { (c : ℕ) → c / 64 < length set.old → is_in set.new c ≡ (not (is_in set.old c) && is_in other.now c) }
+{
+    for w in 0..set.len() {
+        set[w] = !set[w] & word_at(other, w);
+    }
 }

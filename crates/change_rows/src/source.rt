@@ -1,5 +1,6 @@
 //! Where the words of a row's cells come from.
-ghost use Rattle.std.specs.Prelude.{◌≡◌, ◌++◌, slice_index_or, MatchResult};
+ghost use Rattle.std.specs.Prelude.{◌≡◌, ℕ, ◌/◌, ◌%◌, ◌++◌, true, false, slice_index_or, MatchResult};
+ghost use Rattle.change_rows.specs.Marks.{is_one};
 
 use std::alloc::AllocError;
 
@@ -16,10 +17,9 @@ pub trait Source {
     /// Whether a component is known to hold what it holds a cycle before.
     ghost still: { Self → ℕ → Bool };
 
-    /// Whether a component is known to hold what it holds a cycle before. Its words are those.
-    fn is_still(&self, c: u32) -> bool
-        requires { has self.now c }
-        ensures { result ≡ still self.now c };
+    /// Of the 64 components of a word those that aren't known to be still. Each of which the bit is 0 is still.
+    fn moved(&self, w: usize) -> u64
+        ensures { (c : ℕ) → c / 64 ≡ w → is_one result (c % 64) ≡ false → still self.now c ≡ true };
 
     /// The first of a component's words; 0 where there are none.
     fn first(&self, c: u32) -> u64

@@ -1,286 +1,513 @@
-//! A row is put from a source: in one pass over what begins there, and all buffers are made before anything changes.
-ghost use Rattle.std.specs.Prelude.{◌≡◌, ℕ, ◌+◌, ◌*◌, ◌/◌, ◌<◌, ◌≤◌, [], List, None, Some, true, false, cond, ◌&&◌, nat_eq, OnOk, OnErr, IfOk, length, unwrap_or, take, slice_index_or};
-ghost use Rattle.std.specs.Option.{option_or, option_copied};
-ghost use Rattle.change_rows.specs.Cells.{found, end_of, IsSplit};
+//! A row is put from a source, kind by kind of its cells, and all buffers are made before anything changes.
+//!
+//! Of a cell that is still only what began there is looked at, and where it is known to hold other words nothing is. So a pass that
+//! puts row after row has work with the cells that move, and with those at which something began.
+ghost use Rattle.std.specs.Prelude.{◌≡◌, ℕ, ◌+◌, ◌*◌, ◌/◌, ◌<◌, ◌≤◌, true, false, cond, ◌&&◌, ◌||◌, not, nat_eq, OnOk, OnErr, IfOk, length, unwrap_or, slice_index_or};
+ghost use Rattle.change_rows.specs.Cells.{found, end_of};
 ghost use Rattle.change_rows.specs.Marks.{is_in};
 ghost use Rattle.change_rows.specs.Standing.{standing, standing_before};
 ghost use Rattle.change_rows.specs.Changes.{row_at, begins_at, IsChanges};
-ghost use Rattle.change_rows.specs.Laid.{IsLaid, IsOver, IsTold};
+ghost use Rattle.change_rows.specs.Laid.{IsOver, IsTold};
+ghost use Rattle.change_rows.specs.Kinds.{IsRoomy, HasRoom, AreBegun, AreMoved, IsNoted, IsRowLaid, AreHeads, IsSeamLaid, GoOn};
 
 use crate::cells::Cells;
 use crate::changes::{Changes, lay};
-use crate::edit::{Buffers, goes_on, settle_for, words_before};
-use crate::merge::{behind, get_at, unite_below, unite_to};
-use crate::sets::{add, is_void, next_in, wipe};
+use crate::edit::{Buffers, settle, words_before};
+use crate::kinds::{Kinds, begun_at, find_own, sort};
+use crate::notes::{Notes, forget};
+use crate::sets::{
+    add, copy, is_member, is_void, join, keep, leave, next_in, remove, wipe, word_at,
+};
 use crate::source::Source;
 use std::alloc::AllocError;
 use std::mem;
 
-/// What stood at a cell is for the row behind it, where that has none of its component.
-///
-/// # Errors
-///
-/// Where a growth was refused. Nothing is changed.
-fn keep(s: &Changes, t: usize, c: u32, stood: &[u64], seam: &mut Cells) -> Result<(), AllocError>
-    requires changes { IsChanges s.now.width s.now.rows.items s.now.marks.items s.now.seam s.now.at }
-    requires row { t < length s.now.rows.items }
-    requires component { c < s.now.width }
-    requires ascending { end_of seam.old ≤ c }
-    ensures kept { OnOk result (t + 1 < length s.now.rows.items → found (row_at s.now.rows.items (t + 1)) c ≡ None → found seam.new c ≡ Some stood.now) }
-    ensures others { OnOk result ((d : ℕ) → (d ≡ c → ⊥) → found seam.new d ≡ found seam.old d) }
-    ensures end { OnOk result (end_of seam.new ≤ c + 1) }
-    ensures past { OnOk result ((t + 1 < length s.now.rows.items → ⊥) → seam.new ≡ seam.old) }
-{
-    if goes_on(s, t, c) {
-        seam.push(c, stood)?;
-    }
-    Ok(())
-}
-
-/// A cell that is still, for its row, and what stood there for the row behind it: whether that were other words. The cell goes on, so
-/// only what began there is looked at.
-///
-/// # Errors
-///
-/// Where a growth was refused.
-fn put_still<S: Source>(
-    s: &Changes,
-    t: usize,
-    c: u32,
-    source: &S,
-    stood: Option<&[u64]>,
-    row: &mut Cells,
-    seam: &mut Cells,
-) -> Result<bool, AllocError>
-    requires changes { IsChanges s.now.width s.now.rows.items s.now.marks.items s.now.seam s.now.at }
-    requires row { t < length s.now.rows.items }
-    requires component { c < s.now.width }
-    requires has { S.has source.now c }
-    requires here { option_copied stood ≡ begins_at s.now.rows.items s.now.seam s.now.at c t }
-    requires still { S.words source.now c ≡ standing_before (begins_at s.now.rows.items s.now.seam s.now.at c) t }
-    requires ascending { end_of row.old ≤ c }
-    requires seam_ascending { end_of seam.old ≤ c }
-    ensures row { row.new ≡ row.old }
-    ensures kept { OnOk result (unwrap_or (found row.new c) (standing_before (begins_at s.now.rows.items s.now.seam s.now.at c) t) ≡ S.words source.now c) }
-    ensures seam_kept { OnOk result (t + 1 < length s.now.rows.items → found (row_at s.now.rows.items (t + 1)) c ≡ None → unwrap_or (found seam.new c) (S.words source.now c) ≡ standing (begins_at s.now.rows.items s.now.seam s.now.at c) t) }
-    ensures seam_others { OnOk result ((d : ℕ) → (d ≡ c → ⊥) → found seam.new d ≡ found seam.old d) }
-    ensures seam_end { OnOk result (end_of seam.new ≤ c + 1) }
-    ensures seam_past { OnOk result ((t + 1 < length s.now.rows.items → ⊥) → seam.new ≡ seam.old) }
-    ensures other { IfOk result (λ other. other ≡ true → standing (begins_at s.now.rows.items s.now.seam s.now.at c) t ≡ S.words source.now c → ⊥) }
-    ensures same { IfOk result (λ other. other ≡ false → standing (begins_at s.now.rows.items s.now.seam s.now.at c) t ≡ S.words source.now c) }
-{
-    match stood {
-        Some(stood) => {
-            if row.tells(c, source, stood)? {
-                return Ok(false);
-            }
-            keep(s, t, c, stood, seam)?;
-            Ok(true)
-        }
-        None => Ok(false),
-    }
-}
-
-/// A cell's words, which may be other ones, for its row, and what stood there for the row behind it: whether that were other words.
-///
-/// # Errors
-///
-/// Where a growth was refused.
-fn put_written<S: Source>(
-    s: &Changes,
-    t: usize,
-    c: u32,
-    source: &S,
-    stood: Option<&[u64]>,
-    row: &mut Cells,
-    seam: &mut Cells,
-) -> Result<bool, AllocError>
-    requires changes { IsChanges s.now.width s.now.rows.items s.now.marks.items s.now.seam s.now.at }
-    requires row { t < length s.now.rows.items }
-    requires component { c < s.now.width }
-    requires has { S.has source.now c }
-    requires here { option_copied stood ≡ begins_at s.now.rows.items s.now.seam s.now.at c t }
-    requires ascending { end_of row.old ≤ c }
-    requires seam_ascending { end_of seam.old ≤ c }
-    ensures kept { OnOk result (unwrap_or (found row.new c) (standing_before (begins_at s.now.rows.items s.now.seam s.now.at c) t) ≡ S.words source.now c) }
-    ensures others { OnOk result ((d : ℕ) → (d ≡ c → ⊥) → found row.new d ≡ found row.old d) }
-    ensures end { OnOk result (end_of row.new ≤ c + 1) }
-    ensures seam_kept { OnOk result (t + 1 < length s.now.rows.items → found (row_at s.now.rows.items (t + 1)) c ≡ None → unwrap_or (found seam.new c) (S.words source.now c) ≡ standing (begins_at s.now.rows.items s.now.seam s.now.at c) t) }
-    ensures seam_others { OnOk result ((d : ℕ) → (d ≡ c → ⊥) → found seam.new d ≡ found seam.old d) }
-    ensures seam_end { OnOk result (end_of seam.new ≤ c + 1) }
-    ensures seam_past { OnOk result ((t + 1 < length s.now.rows.items → ⊥) → seam.new ≡ seam.old) }
-    ensures other { IfOk result (λ other. other ≡ true → standing (begins_at s.now.rows.items s.now.seam s.now.at c) t ≡ S.words source.now c → ⊥) }
-    ensures same { IfOk result (λ other. other ≡ false → standing (begins_at s.now.rows.items s.now.seam s.now.at c) t ≡ S.words source.now c) }
-{
-    match stood {
-        Some(stood) => {
-            if row.push_from(c, source, stood)? {
-                return Ok(false);
-            }
-            keep(s, t, c, stood, seam)?;
-        }
-        None => {
-            let before = words_before(s, t, c);
-            if row.push_unless(c, source, before)? {
-                return Ok(false);
-            }
-            keep(s, t, c, before, seam)?;
-        }
-    }
-    Ok(true)
-}
-
-/// A cell for its row, and what stood there for the row behind it: whether that were other words. Of a cell that is still what is held a
-/// cycle before is what the source has: that is known without a walk back.
-///
-/// # Errors
-///
-/// Where a growth was refused.
-fn put_one<S: Source>(
-    s: &Changes,
-    t: usize,
-    c: u32,
-    source: &S,
-    stood: Option<&[u64]>,
-    row: &mut Cells,
-    seam: &mut Cells,
-) -> Result<bool, AllocError>
-    requires changes { IsChanges s.now.width s.now.rows.items s.now.marks.items s.now.seam s.now.at }
-    requires row { t < length s.now.rows.items }
-    requires component { c < s.now.width }
-    requires has { S.has source.now c }
-    requires here { option_copied stood ≡ begins_at s.now.rows.items s.now.seam s.now.at c t }
-    requires still { S.still source.now c ≡ true → S.words source.now c ≡ standing_before (begins_at s.now.rows.items s.now.seam s.now.at c) t }
-    requires ascending { end_of row.old ≤ c }
-    requires seam_ascending { end_of seam.old ≤ c }
-    ensures kept { OnOk result (unwrap_or (found row.new c) (standing_before (begins_at s.now.rows.items s.now.seam s.now.at c) t) ≡ S.words source.now c) }
-    ensures others { OnOk result ((d : ℕ) → (d ≡ c → ⊥) → found row.new d ≡ found row.old d) }
-    ensures end { OnOk result (end_of row.new ≤ c + 1) }
-    ensures seam_kept { OnOk result (t + 1 < length s.now.rows.items → found (row_at s.now.rows.items (t + 1)) c ≡ None → unwrap_or (found seam.new c) (S.words source.now c) ≡ standing (begins_at s.now.rows.items s.now.seam s.now.at c) t) }
-    ensures seam_others { OnOk result ((d : ℕ) → (d ≡ c → ⊥) → found seam.new d ≡ found seam.old d) }
-    ensures seam_end { OnOk result (end_of seam.new ≤ c + 1) }
-    ensures seam_past { OnOk result ((t + 1 < length s.now.rows.items → ⊥) → seam.new ≡ seam.old) }
-    ensures other { IfOk result (λ other. other ≡ true → standing (begins_at s.now.rows.items s.now.seam s.now.at c) t ≡ S.words source.now c → ⊥) }
-    ensures same { IfOk result (λ other. other ≡ false → standing (begins_at s.now.rows.items s.now.seam s.now.at c) t ≡ S.words source.now c) }
-{
-    if source.is_still(c) {
-        put_still(s, t, c, source, stood, row, seam)
-    } else {
-        put_written(s, t, c, source, stood, row, seam)
-    }
-}
-
-/// The cells that are a row's own.
-fn own(s: &Changes, t: usize) -> &Cells
-    requires { t < length s.now.rows.items }
-    ensures { result.now ≡ row_at s.now.rows.items t }
-{
-    &s.rows[t]
-}
-
-/// What begins at a cell of row t, whose place among the row's own cells and among those of the seam is known.
-fn begun_at(s: &Changes, t: usize, i: usize, j: usize, c: u32) -> Option<&[u64]>
-    requires row { t < length s.now.rows.items }
-    requires own { IsSplit (row_at s.now.rows.items t) c i }
-    requires under { IsSplit s.now.seam c j }
-    ensures { option_copied result ≡ option_or (found (row_at s.now.rows.items t) c) (found s.now.seam c) }
-{
-    match get_at(own(s, t), i, c) {
-        Some(words) => Some(words),
-        None => get_at(&s.seam, j, c),
-    }
-}
-
-/// What begins at row t below a component of a set, and that component's cell: how many of the row's own cells and of its seam were
-/// passed, and whether the component held other words. All below `low` were passed before.
-///
-/// # Errors
-///
-/// Where a growth was refused.
-fn lay_one<S: Source>(
-    s: &Changes,
-    t: usize,
-    set: &[u64],
-    low: u32,
-    c: u32,
-    source: &S,
-    i: usize,
-    j: usize,
-    row: &mut Cells,
-    seam: &mut Cells,
-) -> Result<(usize, usize, bool), AllocError>
-    requires changes { IsChanges s.now.width s.now.rows.items s.now.marks.items s.now.seam s.now.at }
-    requires row { t < length s.now.rows.items }
-    requires elsewhere { (s.now.at ≡ t → ⊥) → s.now.seam ≡ [] }
-    requires component { c < s.now.width }
-    requires order { low ≤ c }
-    requires none { (d : ℕ) → low ≤ d → d < c → is_in set.now d ≡ false }
-    requires member { is_in set.now c ≡ true }
-    requires has { S.has source.now c }
-    requires still { S.still source.now c ≡ true → S.words source.now c ≡ standing_before (begins_at s.now.rows.items s.now.seam s.now.at c) t }
-    requires laid { IsLaid s.now.rows.items s.now.seam s.now.at t set.now (S.words source.now) i j low row.old seam.old }
-    ensures laid { IfOk result (λ next. IsLaid s.now.rows.items s.now.seam s.now.at t set.now (S.words source.now) next.0 next.1 (c + 1) row.new seam.new) }
-    ensures other { IfOk result (λ next. next.2 ≡ true → standing (begins_at s.now.rows.items s.now.seam s.now.at c) t ≡ S.words source.now c → ⊥) }
-    ensures same { IfOk result (λ next. next.2 ≡ false → standing (begins_at s.now.rows.items s.now.seam s.now.at c) t ≡ S.words source.now c) }
-{
-    // Mostly nothing begins between two components of the set.
-    let (i, j) = unite_to(own(s, t), &s.seam, i, j, low, c, row)?;
-    let other = put_one(s, t, c, source, begun_at(s, t, i, j, c), row, seam)?;
-    Ok((behind(own(s, t), i, c), behind(&s.seam, j, c), other))
-}
-
 /// A component more, where it held other words.
-fn tell(changed: &mut [u64], c: u32, other: bool)
-    requires { c / 64 < length changed.old }
-    ensures len { length changed.new ≡ length changed.old }
-    ensures here { other ≡ true → is_in changed.new c ≡ true }
-    ensures none { other ≡ false → changed.new ≡ changed.old }
-    ensures others { (d : ℕ) → (d ≡ c → ⊥) → is_in changed.new d ≡ is_in changed.old d }
+fn tell(changed: &mut Vec<u64>, c: u32, other: bool)
+    requires { c / 64 < length changed.old.items }
+    ensures len { length changed.new.items ≡ length changed.old.items }
+    ensures here { other ≡ true → is_in changed.new.items c ≡ true }
+    ensures none { other ≡ false → changed.new.items ≡ changed.old.items }
+    ensures others { (d : ℕ) → (d ≡ c → ⊥) → is_in changed.new.items d ≡ is_in changed.old.items d }
 {
     if other {
         add(changed, c);
     }
 }
 
-/// The cells of a source over those that begin at row t: the row once it is put there, the seam behind it, and which components held
-/// other words.
+/// The first word that a source has for a component that is still. It is kept from then on.
+fn head_of<S: Source>(n: &mut Notes, source: &S, c: u32) -> u64
+    requires has { S.has source.now c }
+    requires room { c / 64 < length n.old.known.items }
+    requires heads { c < length n.old.heads.items }
+    requires known { is_in n.old.known.items c ≡ true → slice_index_or n.old.heads.items c 0 ≡ slice_index_or (S.words source.now c) 0 0 }
+    ensures head { result ≡ slice_index_or (S.words source.now c) 0 0 }
+    ensures kept { slice_index_or n.new.heads.items c 0 ≡ slice_index_or (S.words source.now c) 0 0 }
+    ensures others { (d : ℕ) → (d ≡ c → ⊥) → (is_in n.new.known.items d ≡ is_in n.old.known.items d) × (slice_index_or n.new.heads.items d 0 ≡ slice_index_or n.old.heads.items d 0) }
+    ensures apart { n.new.apart.items ≡ n.old.apart.items }
+    ensures other { n.new.other.items ≡ n.old.other.items }
+    ensures room { (width : ℕ) → HasRoom width n.old → HasRoom width n.new }
+{
+    if !is_member(&n.known, c) {
+        n.heads[c as usize] = source.first(c);
+        add(&mut n.known, c);
+    }
+    n.heads[c as usize]
+}
+
+/// Whether a component that is still holds other words at the row.
+///
+/// # Errors
+///
+/// Where a growth was refused.
+fn ask_one<S: Source>(
+    s: &Changes,
+    k: &Kinds,
+    n: &mut Notes,
+    c: u32,
+    source: &S,
+    row: &mut Cells,
+) -> Result<bool, AllocError>
+    requires row { s.now.at < length s.now.rows.items }
+    requires component { c < s.now.width }
+    requires begun { AreBegun s.now.rows.items s.now.seam s.now.at s.now.width k.now }
+    requires has { S.has source.now c }
+    requires still { S.words source.now c ≡ standing_before (begins_at s.now.rows.items s.now.seam s.now.at c) s.now.at }
+    requires room { HasRoom s.now.width n.old }
+    requires noted { IsNoted s.now.rows.items s.now.seam s.now.at s.now.width n.old }
+    ensures row { row.new ≡ row.old }
+    ensures room { HasRoom s.now.width n.new }
+    ensures noted { IsNoted s.now.rows.items s.now.seam s.now.at s.now.width n.new }
+    ensures told { n.new.other.items ≡ n.old.other.items }
+    ensures apart { n.new.apart.items ≡ n.old.apart.items }
+    ensures other { IfOk result (λ other. other ≡ true → standing (begins_at s.now.rows.items s.now.seam s.now.at c) s.now.at ≡ S.words source.now c → ⊥) }
+    ensures same { IfOk result (λ other. other ≡ false → standing (begins_at s.now.rows.items s.now.seam s.now.at c) s.now.at ≡ S.words source.now c) }
+{
+    match begun_at(s, k, c) {
+        Some(stood) => {
+            if head_of(n, source, c) != word_at(stood, 0) {
+                return Ok(true);
+            }
+            Ok(!row.tells(c, source, stood)?)
+        }
+        None => Ok(false),
+    }
+}
+
+/// Which of the components that are still, and at which something begins, hold other words at the row.
+///
+/// # Errors
+///
+/// Where a growth was refused.
+fn ask_all<S: Source>(
+    s: &Changes,
+    k: &Kinds,
+    asked: &[u64],
+    n: &mut Notes,
+    source: &S,
+    row: &mut Cells,
+) -> Result<(), AllocError>
+    requires row { s.now.at < length s.now.rows.items }
+    requires begun { AreBegun s.now.rows.items s.now.seam s.now.at s.now.width k.now }
+    requires has { (c : ℕ) → c < s.now.width → is_in asked.now c ≡ true → S.has source.now c }
+    requires still { (c : ℕ) → c < s.now.width → is_in asked.now c ≡ true → S.words source.now c ≡ standing_before (begins_at s.now.rows.items s.now.seam s.now.at c) s.now.at }
+    requires room { HasRoom s.now.width n.old }
+    requires noted { IsNoted s.now.rows.items s.now.seam s.now.at s.now.width n.old }
+    ensures row { row.new ≡ row.old }
+    ensures room { HasRoom s.now.width n.new }
+    ensures noted { IsNoted s.now.rows.items s.now.seam s.now.at s.now.width n.new }
+    ensures told { OnOk result (IsTold s.now.rows.items s.now.seam s.now.at s.now.at asked.now (S.words source.now) s.now.width n.new.other.items) }
+{
+    wipe(&mut n.other);
+    let mut low = 0;
+    let mut c = next_in(asked, 0, s.width);
+    while c < s.width {
+        let other = ask_one(s, k, n, c, source, row)?;
+        tell(&mut n.other, c, other);
+        low = c + 1;
+        c = next_in(asked, low, s.width);
+    }
+    let _ = low;
+    Ok(())
+}
+
+/// A cell's words, which may be other ones, behind all cells of the row, and the first of them: whether that are other words than it holds.
+///
+/// # Errors
+///
+/// Where a growth was refused.
+fn lay_moved<S: Source>(
+    s: &Changes,
+    k: &Kinds,
+    c: u32,
+    source: &S,
+    row: &mut Cells,
+    heads: &mut Vec<u64>,
+) -> Result<bool, AllocError>
+    requires changes { IsChanges s.now.width s.now.rows.items s.now.marks.items s.now.seam s.now.at }
+    requires row { s.now.at < length s.now.rows.items }
+    requires component { c < s.now.width }
+    requires begun { AreBegun s.now.rows.items s.now.seam s.now.at s.now.width k.now }
+    requires has { S.has source.now c }
+    requires ascending { end_of row.old ≤ c }
+    requires room { c < length heads.old.items }
+    ensures kept { OnOk result (unwrap_or (found row.new c) (standing_before (begins_at s.now.rows.items s.now.seam s.now.at c) s.now.at) ≡ S.words source.now c) }
+    ensures others { OnOk result ((d : ℕ) → (d ≡ c → ⊥) → found row.new d ≡ found row.old d) }
+    ensures end { OnOk result (end_of row.new ≤ c + 1) }
+    ensures len { length heads.new.items ≡ length heads.old.items }
+    ensures head { OnOk result (slice_index_or heads.new.items c 0 ≡ slice_index_or (S.words source.now c) 0 0) }
+    ensures heads { (d : ℕ) → (d ≡ c → ⊥) → slice_index_or heads.new.items d 0 ≡ slice_index_or heads.old.items d 0 }
+    ensures other { IfOk result (λ other. other ≡ true → standing (begins_at s.now.rows.items s.now.seam s.now.at c) s.now.at ≡ S.words source.now c → ⊥) }
+    ensures same { IfOk result (λ other. other ≡ false → standing (begins_at s.now.rows.items s.now.seam s.now.at c) s.now.at ≡ S.words source.now c) }
+{
+    match begun_at(s, k, c) {
+        Some(stood) => {
+            let same = row.push_from(c, source, stood)?;
+            heads[c as usize] = row.last_head();
+            Ok(!same)
+        }
+        None => {
+            let before = words_before(s, s.at, c);
+            let same = row.push_unless(c, source, before)?;
+            heads[c as usize] = if same {
+                word_at(before, 0)
+            } else {
+                row.last_head()
+            };
+            Ok(!same)
+        }
+    }
+}
+
+/// What begins at a cell, behind all cells of the row.
+///
+/// # Errors
+///
+/// Where a growth was refused.
+fn lay_begun(s: &Changes, k: &Kinds, c: u32, row: &mut Cells) -> Result<(), AllocError>
+    requires row { s.now.at < length s.now.rows.items }
+    requires component { c < s.now.width }
+    requires begun { AreBegun s.now.rows.items s.now.seam s.now.at s.now.width k.now }
+    requires ascending { end_of row.old ≤ c }
+    ensures begun { OnOk result (found row.new c ≡ begins_at s.now.rows.items s.now.seam s.now.at c s.now.at) }
+    ensures others { OnOk result ((d : ℕ) → (d ≡ c → ⊥) → found row.new d ≡ found row.old d) }
+    ensures end { OnOk result (end_of row.new ≤ c + 1) }
+{
+    match begun_at(s, k, c) {
+        Some(words) => {
+            row.push(c, words)?;
+            Ok(())
+        }
+        None => Ok(()),
+    }
+}
+
+/// A cell of the row: its words where it may have moved, else what begins there. Whether it moved, and that are other words than it holds.
+///
+/// # Errors
+///
+/// Where a growth was refused.
+fn lay_one<S: Source>(
+    s: &Changes,
+    k: &Kinds,
+    c: u32,
+    source: &S,
+    row: &mut Cells,
+    heads: &mut Vec<u64>,
+) -> Result<bool, AllocError>
+    requires changes { IsChanges s.now.width s.now.rows.items s.now.marks.items s.now.seam s.now.at }
+    requires row { s.now.at < length s.now.rows.items }
+    requires component { c < s.now.width }
+    requires begun { AreBegun s.now.rows.items s.now.seam s.now.at s.now.width k.now }
+    requires has { is_in k.now.moved.items c ≡ true → S.has source.now c }
+    requires ascending { end_of row.old ≤ c }
+    requires room { c < length heads.old.items }
+    ensures kept { OnOk result (is_in k.now.moved.items c ≡ true → unwrap_or (found row.new c) (standing_before (begins_at s.now.rows.items s.now.seam s.now.at c) s.now.at) ≡ S.words source.now c) }
+    ensures begun { OnOk result (is_in k.now.moved.items c ≡ false → found row.new c ≡ begins_at s.now.rows.items s.now.seam s.now.at c s.now.at) }
+    ensures others { OnOk result ((d : ℕ) → (d ≡ c → ⊥) → found row.new d ≡ found row.old d) }
+    ensures end { OnOk result (end_of row.new ≤ c + 1) }
+    ensures len { length heads.new.items ≡ length heads.old.items }
+    ensures head { OnOk result (is_in k.now.moved.items c ≡ true → slice_index_or heads.new.items c 0 ≡ slice_index_or (S.words source.now c) 0 0) }
+    ensures heads { (d : ℕ) → (d ≡ c → is_in k.now.moved.items c ≡ true → ⊥) → slice_index_or heads.new.items d 0 ≡ slice_index_or heads.old.items d 0 }
+    ensures other { IfOk result (λ other. other ≡ true → (is_in k.now.moved.items c ≡ true) × (standing (begins_at s.now.rows.items s.now.seam s.now.at c) s.now.at ≡ S.words source.now c → ⊥)) }
+    ensures same { IfOk result (λ other. other ≡ false → is_in k.now.moved.items c ≡ true → standing (begins_at s.now.rows.items s.now.seam s.now.at c) s.now.at ≡ S.words source.now c) }
+{
+    if is_member(&k.moved, c) {
+        return lay_moved(s, k, c, source, row, heads);
+    }
+    lay_begun(s, k, c, row)?;
+    Ok(false)
+}
+
+/// The row once it is put, the first words of those that may have moved, and which of these hold other words.
+///
+/// # Errors
+///
+/// Where a growth was refused.
+fn lay_all<S: Source>(
+    s: &Changes,
+    k: &Kinds,
+    laid: &[u64],
+    n: &mut Notes,
+    source: &S,
+    row: &mut Cells,
+) -> Result<(), AllocError>
+    requires changes { IsChanges s.now.width s.now.rows.items s.now.marks.items s.now.seam s.now.at }
+    requires row { s.now.at < length s.now.rows.items }
+    requires begun { AreBegun s.now.rows.items s.now.seam s.now.at s.now.width k.now }
+    requires among { (c : ℕ) → c < s.now.width → is_in k.now.moved.items c ≡ true → is_in laid.now c ≡ true }
+    requires has { (c : ℕ) → c < s.now.width → is_in k.now.moved.items c ≡ true → S.has source.now c }
+    requires room { HasRoom s.now.width n.old }
+    ensures room { HasRoom s.now.width n.new }
+    ensures apart { n.new.apart.items ≡ n.old.apart.items }
+    ensures known { n.new.known.items ≡ n.old.known.items }
+    ensures laid { OnOk result (IsRowLaid s.now.rows.items s.now.seam s.now.at k.now.moved.items laid.now (S.words source.now) s.now.width row.new) }
+    ensures heads { OnOk result (AreHeads k.now.moved.items (S.words source.now) s.now.width n.old.heads.items n.new.heads.items) }
+    ensures others { (c : ℕ) → is_in k.now.moved.items c ≡ false → slice_index_or n.new.heads.items c 0 ≡ slice_index_or n.old.heads.items c 0 }
+    ensures told { OnOk result (IsTold s.now.rows.items s.now.seam s.now.at s.now.at k.now.moved.items (S.words source.now) s.now.width n.new.other.items) }
+{
+    row.clear();
+    wipe(&mut n.other);
+    let mut low = 0;
+    let mut c = next_in(laid, 0, s.width);
+    while c < s.width {
+        let other = lay_one(s, k, c, source, row, &mut n.heads)?;
+        tell(&mut n.other, c, other);
+        low = c + 1;
+        c = next_in(laid, low, s.width);
+    }
+    let _ = low;
+    Ok(())
+}
+
+/// What a component holds at the row.
+fn stood_at<'a>(s: &'a Changes, k: &Kinds, c: u32) -> &'a [u64]
+    requires changes { IsChanges s.now.width s.now.rows.items s.now.marks.items s.now.seam s.now.at }
+    requires row { s.now.at < length s.now.rows.items }
+    requires component { c < s.now.width }
+    requires begun { AreBegun s.now.rows.items s.now.seam s.now.at s.now.width k.now }
+    ensures { result.now ≡ standing (begins_at s.now.rows.items s.now.seam s.now.at c) s.now.at }
+{
+    match begun_at(s, k, c) {
+        Some(stood) => stood,
+        None => words_before(s, s.at, c),
+    }
+}
+
+/// Whether all components of a set hold at the row what a source has for them. The first that doesn't ends it.
+///
+/// # Errors
+///
+/// Where a growth was refused.
+fn are_same<S: Source>(
+    s: &Changes,
+    k: &Kinds,
+    moved: &[u64],
+    source: &S,
+    row: &mut Cells,
+) -> Result<bool, AllocError>
+    requires changes { IsChanges s.now.width s.now.rows.items s.now.marks.items s.now.seam s.now.at }
+    requires row { s.now.at < length s.now.rows.items }
+    requires begun { AreBegun s.now.rows.items s.now.seam s.now.at s.now.width k.now }
+    requires has { (c : ℕ) → c < s.now.width → is_in moved.now c ≡ true → S.has source.now c }
+    ensures { IfOk result (λ same. same ≡ true → (c : ℕ) → c < s.now.width → is_in moved.now c ≡ true → standing (begins_at s.now.rows.items s.now.seam s.now.at c) s.now.at ≡ S.words source.now c) }
+{
+    let mut c = next_in(moved, 0, s.width);
+    while c < s.width {
+        if !row.tells(c, source, stood_at(s, k, c))? {
+            return Ok(false);
+        }
+        c = next_in(moved, c + 1, s.width);
+    }
+    Ok(true)
+}
+
+/// Those components of a set that go on in the row behind.
+fn find_kept(s: &Changes, changed: &[u64], kept: &mut [u64])
+    requires changes { IsChanges s.now.width s.now.rows.items s.now.marks.items s.now.seam s.now.at }
+    requires row { s.now.at < length s.now.rows.items }
+    requires room { s.now.width ≤ 64 * length kept.old }
+    requires within { (c : ℕ) → is_in changed.now c ≡ true → c < s.now.width }
+    ensures len { length kept.new ≡ length kept.old }
+    ensures kept { GoOn s.now.rows.items s.now.at s.now.width changed.now kept.new }
+{
+    wipe(kept);
+    if s.at + 1 < s.rows.len() {
+        find_own(s, s.at + 1, kept);
+        leave(kept, changed);
+    }
+}
+
+/// The seam behind the row: what components that go on there hold at the row.
+///
+/// # Errors
+///
+/// Where a growth was refused.
+fn keep_all(s: &Changes, k: &Kinds, kept: &[u64], seam: &mut Cells) -> Result<(), AllocError>
+    requires changes { IsChanges s.now.width s.now.rows.items s.now.marks.items s.now.seam s.now.at }
+    requires row { s.now.at < length s.now.rows.items }
+    requires begun { AreBegun s.now.rows.items s.now.seam s.now.at s.now.width k.now }
+    ensures { OnOk result (IsSeamLaid s.now.rows.items s.now.seam s.now.at kept.now s.now.width seam.new) }
+{
+    seam.clear();
+    let mut low = 0;
+    let mut c = next_in(kept, 0, s.width);
+    while c < s.width {
+        seam.push(c, stood_at(s, k, c))?;
+        low = c + 1;
+        c = next_in(kept, low, s.width);
+    }
+    let _ = low;
+    Ok(())
+}
+
+/// Those of the components that are asked are told that are known to hold other words, and asked no more.
+fn tell_apart(k: &mut Kinds, n: &Notes, changed: &mut [u64])
+    ensures len { length changed.new ≡ length changed.old }
+    ensures told { (c : ℕ) → c / 64 < length changed.old → is_in changed.new c ≡ (is_in n.now.apart.items c && is_in k.old.asked.items c) }
+    ensures asked { (c : ℕ) → c / 64 < length k.old.asked.items → is_in k.new.asked.items c ≡ (is_in k.old.asked.items c && not (is_in n.now.apart.items c)) }
+    ensures own { k.new.own.items ≡ k.old.own.items }
+    ensures under { k.new.under.items ≡ k.old.under.items }
+    ensures moved { k.new.moved.items ≡ k.old.moved.items }
+    ensures laid { k.new.laid.items ≡ k.old.laid.items }
+    ensures asked_len { length k.new.asked.items ≡ length k.old.asked.items }
+{
+    copy(changed, &n.apart);
+    keep(changed, &k.asked);
+    remove(&mut k.asked, &n.apart);
+}
+
+/// No first word is kept any more of the components that may have moved.
+fn forget_moved(n: &mut Notes, k: &Kinds)
+    ensures known { (c : ℕ) → c / 64 < length n.old.known.items → is_in n.new.known.items c ≡ (is_in n.old.known.items c && not (is_in k.now.moved.items c)) }
+    ensures len { length n.new.known.items ≡ length n.old.known.items }
+    ensures apart { n.new.apart.items ≡ n.old.apart.items }
+    ensures heads { n.new.heads.items ≡ n.old.heads.items }
+    ensures other { n.new.other.items ≡ n.old.other.items }
+    ensures kept { n.new.kept.items ≡ n.old.kept.items }
+{
+    remove(&mut n.known, &k.moved);
+}
+
+/// The seam behind the row, of those components of a set that go on there.
+///
+/// # Errors
+///
+/// Where a growth was refused.
+fn keep_noted(
+    s: &Changes,
+    k: &Kinds,
+    n: &mut Notes,
+    changed: &[u64],
+    seam: &mut Cells,
+) -> Result<(), AllocError>
+    requires changes { IsChanges s.now.width s.now.rows.items s.now.marks.items s.now.seam s.now.at }
+    requires row { s.now.at < length s.now.rows.items }
+    requires begun { AreBegun s.now.rows.items s.now.seam s.now.at s.now.width k.now }
+    requires within { (c : ℕ) → is_in changed.now c ≡ true → c < s.now.width }
+    requires room { HasRoom s.now.width n.old }
+    ensures room { HasRoom s.now.width n.new }
+    ensures apart { n.new.apart.items ≡ n.old.apart.items }
+    ensures known { n.new.known.items ≡ n.old.known.items }
+    ensures heads { n.new.heads.items ≡ n.old.heads.items }
+    ensures kept { GoOn s.now.rows.items s.now.at s.now.width changed.now n.new.kept.items }
+    ensures laid { OnOk result (IsSeamLaid s.now.rows.items s.now.seam s.now.at n.new.kept.items s.now.width seam.new) }
+{
+    find_kept(s, changed, &mut n.kept);
+    keep_all(s, k, &n.kept, seam)?;
+    Ok(())
+}
+
+/// The row once it is put, the seam behind it, and which components held other words. It answers false where none did; then nothing is
+/// laid.
 ///
 /// # Errors
 ///
 /// Where a growth was refused.
 fn lay_from<S: Source>(
     s: &Changes,
-    t: usize,
+    k: &mut Kinds,
+    n: &mut Notes,
     set: &[u64],
     source: &S,
     row: &mut Cells,
     seam: &mut Cells,
     changed: &mut [u64],
-) -> Result<(), AllocError>
+) -> Result<bool, AllocError>
     requires changes { IsChanges s.now.width s.now.rows.items s.now.marks.items s.now.seam s.now.at }
-    requires row { t < length s.now.rows.items }
-    requires elsewhere { (s.now.at ≡ t → ⊥) → s.now.seam ≡ [] }
+    requires row { s.now.at < length s.now.rows.items }
     requires changed { length changed.old ≡ length set.now }
     requires has { (c : ℕ) → c < s.now.width → is_in set.now c ≡ true → S.has source.now c }
-    requires still { (c : ℕ) → c < s.now.width → is_in set.now c ≡ true → S.still source.now c ≡ true → S.words source.now c ≡ standing_before (begins_at s.now.rows.items s.now.seam s.now.at c) t }
-    ensures over { OnOk result (IsOver s.now.rows.items s.now.seam s.now.at t s.now.width set.now (S.words source.now) row.new seam.new) }
-    ensures told { OnOk result (IsTold s.now.rows.items s.now.seam s.now.at t set.now (S.words source.now) s.now.width changed.new) }
+    requires still { (c : ℕ) → c < s.now.width → is_in set.now c ≡ true → S.still source.now c ≡ true → S.words source.now c ≡ standing_before (begins_at s.now.rows.items s.now.seam s.now.at c) s.now.at }
+    requires room { IsRoomy s.now.width k.old }
+    requires notes { HasRoom s.now.width n.old }
+    requires noted { IsNoted s.now.rows.items s.now.seam s.now.at s.now.width n.old }
+    ensures room { IsRoomy s.now.width k.new }
+    ensures notes { HasRoom s.now.width n.new }
+    ensures noted { IsNoted s.now.rows.items s.now.seam s.now.at s.now.width n.new }
+    ensures over { IfOk result (λ laid. laid ≡ true → IsOver s.now.rows.items s.now.seam s.now.at s.now.at s.now.width set.now (S.words source.now) row.new seam.new) }
+    ensures told { OnOk result (IsTold s.now.rows.items s.now.seam s.now.at s.now.at set.now (S.words source.now) s.now.width changed.new) }
+    ensures none { IfOk result (λ laid. laid ≡ false → (c : ℕ) → is_in changed.new c ≡ false) }
+    ensures moved { OnOk result (AreMoved (S.still source.now) s.now.width set.now k.new.moved.items) }
+    ensures heads { IfOk result (λ laid. laid ≡ true → (c : ℕ) → c < s.now.width → is_in k.new.moved.items c ≡ true → slice_index_or n.new.heads.items c 0 ≡ slice_index_or (S.words source.now c) 0 0) }
+    ensures kept { IfOk result (λ laid. laid ≡ true → GoOn s.now.rows.items s.now.at s.now.width changed.new n.new.kept.items) }
 {
-    row.clear();
-    seam.clear();
-    wipe(changed);
-    let (mut i, mut j, mut low) = (0, 0, 0);
-    let mut c = next_in(set, 0, s.width);
-    while c < s.width {
-        let (a, b, other) = lay_one(s, t, set, low, c, source, i, j, row, seam)?;
-        tell(changed, c, other);
-        i = a;
-        j = b;
-        low = c + 1;
-        c = next_in(set, low, s.width);
+    sort(s, k, set, source);
+    tell_apart(k, n, changed);
+    ask_all(s, k, &k.asked, n, source, row)?;
+    join(changed, &n.other);
+    if is_void(changed) && are_same(s, k, &k.moved, source, row)? {
+        return Ok(false);
     }
-    unite_below(own(s, t), &s.seam, i, j, low, s.width, row)?;
+    forget_moved(n, k);
+    lay_all(s, k, &k.laid, n, source, row)?;
+    join(changed, &n.other);
+    keep_noted(s, k, n, changed, seam)?;
+    Ok(true)
+}
+
+/// The seam stands at row t.
+///
+/// # Errors
+///
+/// Where a growth was refused. All cells hold what they held.
+fn bring_seam(
+    s: &mut Changes,
+    n: &mut Notes,
+    t: usize,
+    buffer: &mut Cells,
+) -> Result<(), AllocError>
+    requires changes { IsChanges s.old.width s.old.rows.items s.old.marks.items s.old.seam s.old.at }
+    requires row { t < length s.old.rows.items }
+    requires notes { HasRoom s.old.width n.old }
+    requires noted { IsNoted s.old.rows.items s.old.seam s.old.at s.old.width n.old }
+    ensures changes { IsChanges s.new.width s.new.rows.items s.new.marks.items s.new.seam s.new.at }
+    ensures width { s.new.width ≡ s.old.width }
+    ensures len { length s.new.rows.items ≡ length s.old.rows.items }
+    ensures same { (c u : ℕ) → begins_at s.new.rows.items s.new.seam s.new.at c u ≡ begins_at s.old.rows.items s.old.seam s.old.at c u }
+    ensures here { OnOk result (s.new.at ≡ t) }
+    ensures notes { HasRoom s.new.width n.new }
+    ensures noted { IsNoted s.new.rows.items s.new.seam s.new.at s.new.width n.new }
+{
+    if s.at == t {
+        return Ok(());
+    }
+    forget(n);
+    settle(s, buffer)?;
+    s.at = t;
     Ok(())
+}
+
+/// What is known once a row is put, of the components of a set of which some may have moved.
+fn note(n: &mut Notes, moved: &[u64], set: &[u64])
+    ensures apart { n.new.apart.items ≡ n.old.kept.items }
+    ensures heads { n.new.heads.items ≡ n.old.heads.items }
+    ensures known { (c : ℕ) → c / 64 < length n.old.known.items → is_in n.new.known.items c ≡ ((is_in n.old.known.items c && is_in set.now c) || is_in moved.now c) }
+    ensures room { (width : ℕ) → HasRoom width n.old → HasRoom width n.new }
+{
+    mem::swap(&mut n.apart, &mut n.kept);
+    keep(&mut n.known, set);
+    join(&mut n.known, moved);
 }
 
 /// The cells of a set hold at row t what a source has; all other cells of all rows hold what they held. Tells which of them held other
@@ -292,6 +519,8 @@ fn lay_from<S: Source>(
 pub(crate) fn put_from<S: Source>(
     s: &mut Changes,
     b: &mut Buffers,
+    k: &mut Kinds,
+    n: &mut Notes,
     t: usize,
     set: &[u64],
     source: &S,
@@ -302,20 +531,27 @@ pub(crate) fn put_from<S: Source>(
     requires changed { length changed.old ≡ length set.now }
     requires has { (c : ℕ) → c < s.old.width → is_in set.now c ≡ true → S.has source.now c }
     requires still { (c : ℕ) → c < s.old.width → is_in set.now c ≡ true → S.still source.now c ≡ true → S.words source.now c ≡ standing_before (begins_at s.old.rows.items s.old.seam s.old.at c) t }
+    requires room { IsRoomy s.old.width k.old }
+    requires notes { HasRoom s.old.width n.old }
+    requires noted { IsNoted s.old.rows.items s.old.seam s.old.at s.old.width n.old }
     ensures changes { IsChanges s.new.width s.new.rows.items s.new.marks.items s.new.seam s.new.at }
     ensures width { s.new.width ≡ s.old.width }
     ensures len { length s.new.rows.items ≡ length s.old.rows.items }
+    ensures room { IsRoomy s.old.width k.new }
+    ensures notes { HasRoom s.old.width n.new }
+    ensures noted { IsNoted s.new.rows.items s.new.seam s.new.at s.new.width n.new }
     ensures put { OnOk result ((c u : ℕ) → c < s.old.width → u < length s.old.rows.items → standing (begins_at s.new.rows.items s.new.seam s.new.at c) u ≡ cond (nat_eq u t && is_in set.now c) (S.words source.now c) (standing (begins_at s.old.rows.items s.old.seam s.old.at c) u)) }
     ensures told { OnOk result (IsTold s.old.rows.items s.old.seam s.old.at t set.now (S.words source.now) s.old.width changed.new) }
     ensures err { OnErr result ((c u : ℕ) → begins_at s.new.rows.items s.new.seam s.new.at c u ≡ begins_at s.old.rows.items s.old.seam s.old.at c u) }
 {
-    settle_for(s, t, &mut b.row)?;
-    lay_from(s, t, set, source, &mut b.row, &mut b.seam, changed)?;
-    if is_void(changed) {
+    bring_seam(s, n, t, &mut b.row)?;
+    let (row, seam) = (&mut b.row, &mut b.seam);
+    if !lay_from(s, k, n, set, source, row, seam, changed)? {
         return Ok(());
     }
     lay(&mut s.rows, &mut s.marks, t, &b.row)?;
     mem::swap(&mut s.seam, &mut b.seam);
     s.at = t + 1;
+    note(n, &k.moved, set);
     Ok(())
 }

@@ -1,6 +1,7 @@
 //! Rows that are put from a source, and how changes are found over many rows.
-ghost use Rattle.std.specs.Prelude.{◌≡◌, ℕ, ◌-◌, ◌<◌, [], true, is_some, unwrap_or};
+ghost use Rattle.std.specs.Prelude.{◌≡◌, ℕ, ◌-◌, ◌<◌, [], true, false, not, unwrap_or};
 ghost use Rattle.change_rows.specs.Cells.{found};
+ghost use Rattle.change_rows.specs.Marks.{is_in};
 ghost use Rattle.change_rows.specs.Rows.{words_at};
 
 use crate::rows::{Plain, WIDTH, blank_rows, grow, is_alike, is_member, push, put, words};
@@ -10,11 +11,11 @@ use std::alloc::{AllocError, Global};
 use std::process::Abort;
 use std::test::Fail;
 
-/// Words of components, and which of them are known to hold what they hold a cycle before.
+/// Words of components, and the set of those that aren't known to hold what they hold a cycle before.
 #[derive(Drop)]
 struct Given {
     own: Cells,
-    kept: Cells,
+    moved: Vec<u64>,
 }
 
 impl Source for Given {
@@ -22,10 +23,13 @@ impl Source for Given {
 
     ghost words = { λ g c. unwrap_or (found g.own c) [] };
 
-    ghost still = { λ g c. is_some (found g.kept c) };
+    ghost still = { λ g c. not (is_in g.moved.items c) };
 
-    fn is_still(&self, c: u32) -> bool {
-        self.kept.has(c)
+    fn moved(&self, w: usize) -> u64 {
+        match self.moved.get(w) {
+            Some(word) => *word,
+            None => 0,
+        }
     }
 
     fn first(&self, c: u32) -> u64 {
@@ -54,8 +58,9 @@ enum Step {
 const ALL: u64 = 18446744073709551615;
 
 /// Rows filled one after another, the last one too; rows put one after another, with components that are still where something
-/// began and where nothing did; the same words again; some components; bits behind the last component; the first row and the last.
-const STORY: [Step; 12] = [
+/// began and where nothing did; the same words again; some components; bits behind the last component; the first row and the last. Then
+/// components that are still from row to row, and again while they hold other words, some of which move or aren't put in between.
+const STORY: [Step; 21] = [
     Step::Fill(0, 1, &[]),
     Step::Fill(1, 2, &[0, 64, 129]),
     Step::Fill(2, 3, &[]),
@@ -68,6 +73,15 @@ const STORY: [Step; 12] = [
     Step::Put(5, &[ALL, ALL, ALL], 7, &[]),
     Step::Put(0, &[ALL, 0, 18446744073709551614], 8, &[]),
     Step::Put(4, &[0, 0, 0], 9, &[]),
+    Step::Put(1, &[ALL, ALL, 3], 10, &[]),
+    Step::Put(2, &[ALL, ALL, 3], 10, &[5, 6, 70]),
+    Step::Put(3, &[ALL, ALL, 3], 12, &[5, 6, 70]),
+    Step::Put(4, &[ALL, ALL, 3], 13, &[5, 6, 70]),
+    Step::Put(1, &[ALL, ALL, 3], 11, &[]),
+    Step::Put(2, &[ALL, ALL, 3], 11, &[5, 6, 70, 129]),
+    Step::Put(3, &[ALL - 64, ALL, 3], 14, &[5, 7, 70]),
+    Step::Put(4, &[ALL, ALL, 1], 11, &[5, 6, 70, 128]),
+    Step::Put(5, &[ALL, ALL, 3], 11, &[5, 71]),
 ];
 
 /// A source at row t: a component that is still has the words of the row before.
@@ -80,13 +94,16 @@ fn given_of(
 ) -> Result<Given, Fail> {
     let mut given = Given {
         own: Cells::new(alloc),
-        kept: Cells::new(alloc),
+        moved: vec![in alloc; ALL; 3]?,
     };
     for c in still {
-        push(&mut given.kept, *c, &[])?;
+        match given.moved.get_mut(*c as usize / 64) {
+            Some(word) => *word &= !(1 << (*c % 64)),
+            None => {}
+        }
     }
     for c in 0..WIDTH {
-        if t > 0 && given.kept.has(c) {
+        if t > 0 && !has_moved(&given, c) {
             push(&mut given.own, c, plain.words(t - 1, c))?;
         } else {
             push(&mut given.own, c, &words(alloc, c, number)?)?;
@@ -95,18 +112,28 @@ fn given_of(
     Ok(given)
 }
 
+/// Whether a component isn't known to hold what it holds a cycle before.
+fn has_moved(given: &Given, c: u32) -> bool
+    ensures { result ≡ is_in given.now.moved.items c }
+{
+    match given.moved.get(c as usize / 64) {
+        Some(word) => (*word >> (c % 64)) & 1 == 1,
+        None => false,
+    }
+}
+
 /// Whether a component is not still, or a source has the words that it holds in the row before.
 fn is_kept(rows: &Rows, t: u32, given: &Given, c: u32) -> bool
-    ensures { result ≡ true → is_some (found given.now.kept c) ≡ true → (0 < t) × (unwrap_or (found given.now.own c) [] ≡ words_at rows.now.rows (t - 1) c) }
+    ensures { result ≡ true → is_in given.now.moved.items c ≡ false → (0 < t) × (unwrap_or (found given.now.own c) [] ≡ words_at rows.now.rows (t - 1) c) }
 {
-    if !given.kept.has(c) {
+    if has_moved(given, c) {
         return true;
     }
     t > 0 && given.own.words_of(c) == rows.words(t - 1, c)
 }
 
 fn are_kept(rows: &Rows, t: u32, given: &Given) -> bool
-    ensures { result ≡ true → (c : ℕ) → c < rows.now.width → is_some (found given.now.kept c) ≡ true → (0 < t) × (unwrap_or (found given.now.own c) [] ≡ words_at rows.now.rows (t - 1) c) }
+    ensures { result ≡ true → (c : ℕ) → c < rows.now.width → is_in given.now.moved.items c ≡ false → (0 < t) × (unwrap_or (found given.now.own c) [] ≡ words_at rows.now.rows (t - 1) c) }
 {
     for c in 0..rows.width() {
         if !is_kept(rows, t, given, c) {

@@ -19,10 +19,8 @@ use std::alloc::Global;
 #[derive(Drop)]
 pub(super) struct Sets {
     pub moved: Row,
-    pub looked: Row,
     pub wrote: Row,
     pub asked: Row,
-    begun: Vec<u64>,
 }
 
 impl Sets {
@@ -31,48 +29,10 @@ impl Sets {
     {
         Ok(Sets {
             moved: Row::new(alloc, count, false)?,
-            looked: Row::new(alloc, count, false)?,
             wrote: Row::new(alloc, count, false)?,
             asked: Row::new(alloc, count, false)?,
-            begun: vec![in alloc; 0; count as usize / 64 + 1]?,
         })
     }
-}
-
-/// No component is left.
-fn wipe(set: &mut Vec<u64>)
-    ensures len { length set.new.items ≡ length set.old.items }
-    ensures none { (c : ℕ) → is_in set.new.items c ≡ false }
-{
-    for w in 0..set.len() {
-        set[w] = 0;
-    }
-}
-
-/// Marks those of the components that are due at a cycle that a step may have moved, and those whose words begin there.
-fn find_looked(rows: &Rows, set: &Row, sets: &mut Sets, cycle: u32)
-    requires later { 0 < cycle }
-    requires within { cycle < length rows.now.rows }
-    requires width { length set.now ≡ rows.now.width }
-    requires wide { IsWide (length set.now) sets.old }
-    ensures wide { IsWide (length set.now) sets.new }
-    ensures moved { sets.new.moved ≡ sets.old.moved }
-    ensures wrote { sets.new.wrote ≡ sets.old.wrote }
-    ensures looked { (c : ℕ) → is_awake sets.new.looked c ≡ true → is_awake set.now c ≡ true }
-    ensures left { (c : ℕ) → is_awake set.now c ≡ true → is_awake sets.new.looked c ≡ false → (is_awake sets.old.moved c ≡ false)
-        × (words_at rows.now.rows cycle c ≡ words_at rows.now.rows (cycle - 1) c) }
-{
-    sets.looked.clear_all();
-    if rows.is_blank(cycle) {
-        // All that is there begins there.
-        sets.looked.add(set);
-        return;
-    }
-    wipe(&mut sets.begun);
-    rows.add_begun(cycle, &mut sets.begun);
-    sets.looked.add_words(&sets.begun);
-    sets.looked.add(&sets.moved);
-    sets.looked.keep(set);
 }
 
 /// Marks the components whose words may begin at a cycle, too.
@@ -149,16 +109,12 @@ pub(super) fn find_sets<G: Grid, M: WholeRow<G>>(
     ensures wide { IsWide (length set.now) sets.new }
     ensures moved { (c : ℕ) → c < length set.now → is_awake sets.new.moved c ≡ not (M.is_still step.now slots.now c) }
     ensures wrote { (c : ℕ) → c < length set.now → is_awake sets.new.wrote c ≡ M.has_written step.now slots.now c }
-    ensures looked { (c : ℕ) → is_awake sets.new.looked c ≡ true → is_awake set.now c ≡ true }
-    ensures left { (c : ℕ) → is_awake set.now c ≡ true → is_awake sets.new.looked c ≡ false → (is_awake sets.new.moved c ≡ false)
-        × (words_at rows.now.rows cycle c ≡ words_at rows.now.rows (cycle - 1) c) }
     ensures asked { (c : ℕ) → is_awake sets.new.asked c ≡ true → is_awake set.now c ≡ true }
     ensures unasked { (c : ℕ) → is_awake set.now c ≡ true → is_awake sets.new.asked c ≡ false → (is_awake sets.new.wrote c ≡ false)
         × (memory_at memories.now c cycle ≡ held_before memories.now c cycle) }
 {
     M::moved(step, slots, &mut sets.moved);
     M::written(step, slots, &mut sets.wrote);
-    find_looked(rows, set, sets, cycle);
     find_asked(memories, set, &sets.wrote, cycle, &mut sets.asked);
 }
 

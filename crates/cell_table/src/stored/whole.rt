@@ -33,8 +33,11 @@ impl<'a, G: Grid, M: WholeRow<G>> Source for Stepped<'a, G, M> {
 
     ghost still = { λ source c. not (is_awake source.moved.now c) };
 
-    fn is_still(&self, c: u32) -> bool {
-        !self.moved.has(c)
+    fn moved(&self, w: usize) -> u64 {
+        match self.moved.words().get(w) {
+            Some(word) => *word,
+            None => 0,
+        }
     }
 
     fn first(&self, c: u32) -> u64 {
@@ -201,7 +204,7 @@ fn put_words<G: Grid, M: WholeRow<G>>(
     slots: &G::Slots,
     row: &M,
     set: &Row,
-    sets: &Sets,
+    moved: &Row,
     cycle: u32,
 ) -> Result<(), NoMemory>
     requires later { 0 < cycle }
@@ -209,10 +212,7 @@ fn put_words<G: Grid, M: WholeRow<G>>(
     requires width { length set.now ≡ rows.old.width }
     requires components { length set.now ≡ G.rules.components slots.now }
     requires stands { M.stands row.now slots.now }
-    requires wide { IsWide (length set.now) sets.now }
-    requires looked { (c : ℕ) → is_awake sets.now.looked c ≡ true → is_awake set.now c ≡ true }
-    requires left { (c : ℕ) → is_awake set.now c ≡ true → is_awake sets.now.looked c ≡ false → words_at rows.old.rows cycle c ≡ G.codec.words (M.state row.now c) }
-    requires still { (c : ℕ) → is_awake set.now c ≡ true → is_awake sets.now.moved c ≡ false → G.codec.words (M.state row.now c) ≡ words_at rows.old.rows (cycle - 1) c }
+    requires still { (c : ℕ) → is_awake set.now c ≡ true → is_awake moved.now c ≡ false → G.codec.words (M.state row.now c) ≡ words_at rows.old.rows (cycle - 1) c }
     ensures width { rows.new.width ≡ rows.old.width }
     ensures cycles { length rows.new.rows ≡ length rows.old.rows }
     ensures lens { (t : ℕ) → length (slice_index_or rows.new.rows t []) ≡ length (slice_index_or rows.old.rows t []) }
@@ -226,23 +226,15 @@ fn put_words<G: Grid, M: WholeRow<G>>(
 {
     // Each row has a cell for each component.
     let _end = rows.len();
-    let source: Stepped<'_, G, M> = Stepped {
-        row,
-        slots,
-        moved: &sets.moved,
-    };
+    let source: Stepped<'_, G, M> = Stepped { row, slots, moved };
+    let words = set.words();
+    copy_words(buffer, words)?;
     if set.count() == set.len() && rows.is_blank(cycle) {
         // All cells had no words, and each gets some.
-        copy_words(buffer, set.words())?;
         match rows.fill(cycle, &source) {
             Ok(()) => return Ok(()),
             Err(_) => return Err(NoMemory),
         }
-    }
-    let words = sets.looked.words();
-    copy_words(buffer, words)?;
-    if sets.looked.count() == 0 {
-        return Ok(());
     }
     match rows.put_from(cycle, words, &source, buffer.as_mut_slice()) {
         Ok(()) => Ok(()),
@@ -322,7 +314,7 @@ pub(super) fn put_whole<G: Grid, M: WholeRow<G>>(
         Ok(()) => {}
         Err(_) => return Err(NoMemory),
     }
-    match put_words::<G, M>(rows, buffer, slots, row, set, sets, cycle) {
+    match put_words::<G, M>(rows, buffer, slots, row, set, &sets.moved, cycle) {
         Ok(()) => {}
         Err(_) => return Err(NoMemory),
     }

@@ -1,25 +1,22 @@
-use Rattle.std.proofs.Common.{◌∙◌, ◌||◌, [], sym, ap, arith}
+use Rattle.std.proofs.Common.{◌≡◌, ℕ, ◌+◌, ◌-◌, ◌*◌, ◌<◌, ◌≤◌, ◌∙◌, ◌⊎◌, inl, inr, ap, sym, arith, length}
+use Rattle.std.proofs.lemmas.Bool.{cases_lt}
 use Rattle.cell_marks.specs.Bits.{bit_in}
-use Rattle.cell_marks.specs.Marked.{is_set, row_at}
-use Rattle.cell_marks.proofs.Added.{same_get, any_more, any_end}
+use Rattle.cell_marks.specs.Marked.{any_marks}
 use Rattle.cell_marks.proofs.row.gather_in.Goals as goal
 
-pub loop-c-preserved : goal.loop-c-preserved
-loop-c-preserved c =
-    let inv = c.loop-c.invariant in
-    let found = c.in-Some.ensures in
-    let cur = c.in-Some.c in
-    record {
-      from = omega (arith, found.1);
-      len = c.join_row.ensures.len ∙ inv.len;
-      bits = λ k h.
-          c.join_row.ensures.bits k h
-          ∙ ap (λ r. bit_in c.loop-c.words k || is_set r k) (c.index-rows-c.is ∙ same_get c.args.rows.now cur c.index-rows-c.result [] (omega (arith, found.1, c.requires.rows)))
-          ∙ ap (λ b. b || is_set (row_at c.args.rows.now cur) k) (inv.bits k h)
-          ∙ any_more c.args.set.now c.args.rows.now k c.loop-c.from cur found.0.0 found.0.1 found.0.2;
-    }
+pub loop-block-preserved : goal.loop-block-preserved
+loop-block-preserved c = record {
+  len = c.put_four.ensures.len ∙ c.loop-block.invariant.len;
+  done = λ k h low. by_place k h low (cases_lt k (256 * c.loop-block.block));
+}
+  where
+    here : (i k : ℕ) → 256 * c.loop-block.block + i ≡ k → i < 256 → k < c.args.n → bit_in c.put_four.new.words k ≡ any_marks c.args.set.now c.args.rows.now k (length c.args.set.now)
+    here i k e h low =
+        let place : 64 * (c.loop-block.block * 4) + i ≡ k = omega (arith, e) in
+        ap (bit_in c.put_four.new.words) (sym place) ∙ c.put_four.ensures.here i h
+        ∙ c.gather_four-four.ensures i h (λ d there. omega (arith, e, low, c.requires.width d (omega (arith, there, c.requires.rows))))
+        ∙ ap (λ d. any_marks c.args.set.now c.args.rows.now d (length c.args.set.now)) e
 
-pub returns-clause-bits : goal.returns-clause-bits
-returns-clause-bits c = λ k h.
-    let inv = c.loop-c.invariant in
-    inv.bits k h ∙ sym (any_end c.args.set.now c.args.rows.now k c.loop-c.from _ (omega (arith, inv.from)) c.in_default.ensures)
+    by_place : (k : ℕ) → k < 256 * (c.loop-block.block + 1) → k < c.args.n → (k < 256 * c.loop-block.block) ⊎ (256 * c.loop-block.block ≤ k) → bit_in c.put_four.new.words k ≡ any_marks c.args.set.now c.args.rows.now k (length c.args.set.now)
+    by_place k h low (inl l) = c.put_four.ensures.before k (omega (arith, l)) ∙ c.loop-block.invariant.done k l low
+    by_place k h low (inr l) = here (k - 256 * c.loop-block.block) k (omega (arith, l)) (omega (arith, h, l)) low

@@ -1,5 +1,8 @@
-use Rattle.std.proofs.Common.{◌<◌, ◌∙◌, sym, refl, arith, length}
-use Rattle.change_rows.specs.Changes.{begins_at}
+use Rattle.std.proofs.Common.{◌+◌, ◌<◌, ◌∙◌, ap, sym, subst, refl, arith, length, List, ℕ}
+use Rattle.change_rows.specs.Marks.{is_in}
+use Rattle.change_rows.specs.Cells.{Held}
+use Rattle.change_rows.specs.Changes.{begins_at, IsChanges}
+use Rattle.change_rows.proofs.Editing.{changed}
 use Rattle.change_rows.proofs.Putting.{alike, alike_before}
 use Rattle.change_rows.proofs.Filling.{filled_kept, blank_kept}
 use Rattle.change_rows.proofs.Sourcing.{stands_at}
@@ -23,6 +26,25 @@ returns-clause-filled g c = λ d u small here.
     let there : c.args.t < length m.rows.items = omega (arith, c.requires.row, e.len) in
     let low : d < m.width = omega (arith, small, e.width) in
     stands_at s.rows.items m.rows.items c.lay.new.rows.items s.seam m.seam c.blank_behind.new.out c.swap.new.x c.write_all.new.row c.write_all.new.row s.at m.at c.args.t e.same e.len c.in_ok-lay.ensures.rows refl c.swap.ensures.x_after there e.elsewhere d (words d)
-    (filled_kept (g.S.Source.still c.args.source.now d) _ _ (words d) (w.written d low) (w.still d low) (λ still. c.requires.still d small still ∙ sym (alike_before (begins_at s.rows.items s.seam s.at d) (begins_at m.rows.items m.seam m.at d) c.args.t (λ k _. e.same d k))))
+    (filled_kept (is_in c.deref.result.now d) _ _ (words d) (w.written d low) (w.still d) (λ still. c.requires.still d small (c.mark_moved.ensures.still d (omega (arith, small, c.requires.room.moved)) (ap (λ (v : List ℕ). is_in v d) (sym c.deref.ensures.value) ∙ still)) ∙ sym (alike_before (begins_at s.rows.items s.seam s.at d) (begins_at m.rows.items m.seam m.at d) c.args.t (λ k _. e.same d k))))
     (λ l _. blank_kept _ (words d) _ (b.found l d low) (alike (begins_at s.rows.items s.seam s.at d) (begins_at m.rows.items m.seam m.at d) c.args.t (λ k _. e.same d k) ∙ c.requires.none d small))
     u here
+
+pub returns-in_err-write_all-clause-room : goal.returns-in_err-write_all-clause-room
+returns-in_err-write_all-clause-room g c = c.mark_moved.ensures.room c.args.s.now.width c.requires.room
+
+pub returns-in_err-lay-clause-room : goal.returns-in_err-lay-clause-room
+returns-in_err-lay-clause-room g c = c.mark_moved.ensures.room c.args.s.now.width c.requires.room
+
+pub returns-clause-room : goal.returns-clause-room
+returns-clause-room g c = c.mark_moved.ensures.room c.args.s.now.width c.requires.room
+
+pub returns-clause-changes : goal.returns-clause-changes
+returns-clause-changes g c =
+    let r = c.settle_for.new.s in
+    let e = c.in_ok-settle_for.ensures in
+    let b = c.in_ok-blank_behind.ensures in
+    let l = c.in_ok-lay.ensures in
+    let there : c.args.t < length r.rows.items = omega (arith, c.requires.row, e.len) in
+    subst (λ (v : List (List Held)). IsChanges r.width v c.lay.new.marks.items c.swap.new.x (c.args.t + 1)) (sym l.rows)
+    (changed r.width r.rows.items r.marks.items c.lay.new.marks.items r.seam c.swap.new.x r.at (c.args.t + 1) c.args.t c.write_all.new.row e.changes there c.in_ok-write_all.ensures.end l.len l.tall l.marks (rw (c.swap.ensures.x_after) b.end) (λ n. c.swap.ensures.x_after ∙ b.past n))

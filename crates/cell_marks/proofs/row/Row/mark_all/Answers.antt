@@ -13,7 +13,7 @@ invariant_of-self c =
     let len : length ws ≡ length i.words.items = c.set_all_in.ensures.len ∙ ap length lent in
     let all = items-with_items i.words ws len in
     let bits = subst (λ ys. (k : ℕ) → k < 64 * length ys → bit_in ws k ≡ true) lent c.set_all_in.ensures.bits in
-    let blank = bits_alike ws (length i.words.items) i.len true c.self.invariant.0 bits in (
+    let blank = bits_alike ws (length i.words.items) i.len true (omega (arith, c.self.invariant.0)) bits in (
       omega (arith, ap length all, len, c.self.invariant.0),
       omega (arith, ap length all, len, c.self.invariant.1),
       sym (ap (λ ys. count_in (bits_of ys i.len)) all ∙ ap count_in blank ∙ count_one i.len true),
@@ -26,5 +26,5 @@ returns c =
     let lent = c.deref_mut.ensures.value in
     let all = items-with_items i.words ws (c.set_all_in.ensures.len ∙ ap length lent) in
     let bits = subst (λ ys. (k : ℕ) → k < 64 * length ys → bit_in ws k ≡ true) lent c.set_all_in.ensures.bits in
-    let blank = bits_alike ws (length i.words.items) i.len true c.self.invariant.0 bits in
+    let blank = bits_alike ws (length i.words.items) i.len true (omega (arith, c.self.invariant.0)) bits in
     ap (λ ys. bits_of ys i.len) all ∙ blank ∙ ap (λ n. replicate n true) (sym (length_bits i.words.items i.len) ∙ ap length c.self.view_is)

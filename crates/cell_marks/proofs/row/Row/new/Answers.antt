@@ -1,4 +1,4 @@
-use Rattle.std.proofs.Common.{◌≡◌, ◌+◌, ◌/◌, ◌∙◌, sym, ap, arith, length, replicate}
+use Rattle.std.proofs.Common.{◌≡◌, ◌+◌, ◌*◌, ◌/◌, ◌∙◌, sym, ap, arith, length, replicate}
 use Rattle.std.proofs.lemmas.List.{length-replicate}
 use Rattle.cell_marks.specs.Bits.{bits_of}
 use Rattle.cell_marks.specs.Marked.{count_in}
@@ -8,7 +8,7 @@ use Rattle.cell_marks.proofs.row.Row.new.Goals as goal
 pub invariant_of-result : goal.invariant_of-result
 invariant_of-result c =
     let n = c.args.n in
-    let m = n / 64 + 1 in
+    let m = n / 256 * 4 + 4 in
     let words = c.in_ok-words.words.items in
     let w = c.word_of-word.result in
     let alike : words ≡ replicate m w = c.in_ok-words.ensures.items_if_clones_equal (λ x h. h) in

@@ -29,12 +29,6 @@ ready_all-requires-clause-kept g c = λ d a n.
     let in_set = e.asked d a in
     c.requires.kept d in_set (sym (e.wrote d (awake_within c.args.set.now d in_set)) ∙ n)
 
-pub put_words-requires-clause-left : goal.put_words-requires-clause-left
-put_words-requires-clause-left g c = λ d a n.
-    let e = c.find_sets.ensures in
-    let q = e.left d a n in
-    q.1 ∙ sym (c.requires.still d a (not-false _ (sym (e.moved d (awake_within c.args.set.now d a)) ∙ q.0)))
-
 pub put_words-requires-clause-still : goal.put_words-requires-clause-still
 put_words-requires-clause-still g c = λ d a n. c.requires.still d a (not-false _ (sym (c.find_sets.ensures.moved d (awake_within c.args.set.now d a)) ∙ n))
 

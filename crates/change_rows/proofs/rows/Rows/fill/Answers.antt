@@ -3,6 +3,7 @@ use Rattle.std.proofs.lemmas.Result.{err_from_is_err_and}
 use Rattle.change_rows.specs.Rows.{Table}
 use Rattle.change_rows.proofs.Tables.{length_table}
 use Rattle.change_rows.proofs.Viewing.{cells, view_filled, view_same, view_words, view_before}
+use Rattle.change_rows.proofs.Noting.{kept_anew}
 use Rattle.change_rows.proofs.rows.Rows.fill.Goals as goal
 
 pub fill-requires-clause-row : goal.fill-requires-clause-row
@@ -38,3 +39,9 @@ returns g c =
     let s = c.fill.new.s in
     let here : c.args.t < length i.rows.items = omega (arith, c.requires.row, length_table (cells i.rows.items i.seam i.at) (length i.rows.items) i.width, ap (λ (v : Table). length v.rows) c.self.view_is) in
     view_filled i.rows.items s.rows.items i.seam s.seam i.at s.at i.width s.width c.args.t (g.S.Source.words c.args.source.now) c.args.self.now c.self.view_is c.in_ok-fill.ensures.width c.in_ok-fill.ensures.len here c.in_ok-fill.ensures.filled
+
+pub invariant_of-self : goal.invariant_of-self
+invariant_of-self g c = kept_anew c.self.inside.changes.width c.fill.new.s.width c.fill.new.s.rows.items c.fill.new.s.marks.items c.fill.new.s.seam c.fill.new.s.at c.fill.new.k c.self.inside.notes c.forget.new.n c.fill.ensures.changes c.fill.ensures.width (c.fill.ensures.room) c.self.invariant.notes c.forget.ensures.room c.forget.ensures.apart c.forget.ensures.known
+
+pub invariant_of-self-2 : goal.invariant_of-self-2
+invariant_of-self-2 g c = kept_anew c.self.inside.changes.width c.fill.new.s.width c.fill.new.s.rows.items c.fill.new.s.marks.items c.fill.new.s.seam c.fill.new.s.at c.fill.new.k c.self.inside.notes c.forget.new.n c.fill.ensures.changes c.fill.ensures.width (c.fill.ensures.room) c.self.invariant.notes c.forget.ensures.room c.forget.ensures.apart c.forget.ensures.known

@@ -20,4 +20,4 @@ returns-then-len-s c = λ none d small.
     let low : d < i.width = omega (arith, small, width) in
     let row : row_at i.rows.items c.args.t ≡ [] = sym (get_or_default i.rows.items c.args.t c.index.result.now [] there) ∙ sym c.index.ensures ∙ c.is_empty.ensures c.if-is_empty.true in
     view_words i.rows.items i.seam i.at i.width c.args.t d c.args.self.now c.self.view_is there low
-    ∙ blank_stands i.rows.items i.seam i.at c.args.t i.width d c.len.ensures.ascending (omega (arith, c.len.ensures.count, c.if-len-s.true)) c.self.invariant.seam_wide (omega (arith, c.if-s-t.true)) row (c.has_no_words.ensures none d) low
+    ∙ blank_stands i.rows.items i.seam i.at c.args.t i.width d c.len.ensures.ascending (omega (arith, c.len.ensures.count, c.if-len-s.true)) c.self.invariant.changes.seam_wide (omega (arith, c.if-s-t.true)) row (c.has_no_words.ensures none d) low

@@ -1,0 +1,33 @@
+use lib.Bits.{and_le_l}
+use Rattle.std.proofs.Common.{◌+◌, ◌-◌, ◌*◌, ◌||◌, ◌∙◌, sym, ap, w64, arith}
+use Rattle.std.specs.Int.{trailing_zeros}
+use Rattle.std.proofs.lemmas.Nat.Bits.{bit_at-trailing_zeros}
+use Rattle.cell_marks.specs.Marked.{is_set, row_at}
+use Rattle.cell_marks.proofs.Taken.{all_left, all_taken, less_left, one_taken}
+use Rattle.cell_marks.proofs.row.join_rows.Goals as goal
+
+pub loop-rest-init : goal.loop-rest-init
+loop-rest-init c = record { fits = c.word-rest.type_inv; from = 64 * c.args.word; left = all_left c.args.set.now (64 * c.args.word) _ c.word-rest.ensures; bits = c.requires.before }
+
+pub loop-rest-preserved : goal.loop-rest-preserved
+loop-rest-preserved c =
+    let first = 64 * c.args.word in
+    let rest = c.loop-rest.rest in
+    let i = c.loop-rest.invariant in
+    let at = trailing_zeros w64 rest in
+    let z = bit_at-trailing_zeros w64 rest (omega (arith, c.loop-rest-test.true)) i.fits in
+    record {
+      fits = omega (arith, and_le_l rest (rest - 1), i.fits);
+      from = first + at + 1;
+      left = less_left c.args.set.now first i.from rest i.left at z.0 z.1 z.2;
+      bits = λ k h each.
+          let d = 256 * c.args.block + k in
+          c.join_row.ensures k h (each (first + at))
+          ∙ ap (λ b. b || is_set (row_at c.args.rows.now (first + at)) d) (i.bits k h each)
+          ∙ one_taken c.args.set.now first i.from rest i.left at z.0 z.1 z.2 c.args.rows.now d c.requires.rows;
+    }
+
+pub returns : goal.returns
+returns c = λ k h each.
+    let i = c.loop-rest.invariant in
+    i.bits k h each ∙ sym (all_taken c.args.set.now (64 * c.args.word) i.from c.loop-rest.rest i.left c.loop-rest-test.false c.args.rows.now (256 * c.args.block + k))
