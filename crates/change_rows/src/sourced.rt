@@ -310,7 +310,8 @@ fn are_same<S: Source>(
     requires row { s.now.at < length s.now.rows.items }
     requires begun { AreBegun s.now.rows.items s.now.seam s.now.at s.now.width k.now }
     requires has { (c : ℕ) → c < s.now.width → is_in moved.now c ≡ true → S.has source.now c }
-    ensures { IfOk result (λ same. same ≡ true → (c : ℕ) → c < s.now.width → is_in moved.now c ≡ true → standing (begins_at s.now.rows.items s.now.seam s.now.at c) s.now.at ≡ S.words source.now c) }
+    ensures same { IfOk result (λ same. same ≡ true → (c : ℕ) → c < s.now.width → is_in moved.now c ≡ true → standing (begins_at s.now.rows.items s.now.seam s.now.at c) s.now.at ≡ S.words source.now c) }
+    ensures other { IfOk result (λ same. same ≡ false → ((c : ℕ) → c < s.now.width → is_in moved.now c ≡ true → standing (begins_at s.now.rows.items s.now.seam s.now.at c) s.now.at ≡ S.words source.now c) → ⊥) }
 {
     let mut c = next_in(moved, 0, s.width);
     while c < s.width {

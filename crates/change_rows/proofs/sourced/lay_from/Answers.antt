@@ -172,6 +172,6 @@ returns-then-branch-clause-told g c =
     let told1 : IsTold s.rows.items s.seam s.at s.at c.tell_apart.new.k.asked.items (g.S.Source.words c.args.source.now) s.width c.ask_all.new.n.other.items = subst (λ (v : List ℕ). IsTold s.rows.items s.seam s.at s.at v (g.S.Source.words c.args.source.now) s.width c.ask_all.new.n.other.items) c.deref.ensures.value c.in_ok-ask_all.ensures.told in
     let told2 : IsTold s.rows.items s.seam s.at s.at k.moved.items (g.S.Source.words c.args.source.now) s.width c.join.new.set = record {
       others = λ d i. absurd (not_in c.join.new.set d (void d) i);
-      same = λ d h m _. c.in_ok-are_same.ensures c.if-branch.true d h (ap (λ (v : List ℕ). is_in v d) (c.deref-then-is_void.ensures.value ∙ t.moved) ∙ m);
+      same = λ d h m _. c.in_ok-are_same.ensures.same c.if-branch.true d h (ap (λ (v : List ℕ). is_in v d) (c.deref-then-is_void.ensures.value ∙ t.moved) ∙ m);
     } in
     told_all s.rows.items s.seam s.at s.width c.args.set.now k.own.items k.under.items k.moved.items k.asked.items k.laid.items (g.S.Source.still c.args.source.now) (g.S.Source.words c.args.source.now) o.begun.own o.begun.under o.moved o.asked o.laid c.requires.still c.args.n.now.apart.items c.tell_apart.new.k.asked.items c.ask_all.new.n.other.items c.join.new.set c.join.new.set (c.join.ensures.len ∙ t.len ∙ c.requires.changed) (λ d h. t.asked d (omega (arith, h, o.room.asked))) is_changed c.requires.noted.apart told1 told2
