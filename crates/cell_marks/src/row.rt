@@ -105,7 +105,7 @@ impl Row {
 
     /// One of these words.
     #[inline(always)]
-    fn word(&self, at: usize) -> u64
+    pub fn word(&self, at: usize) -> u64
         requires { 64 * at < length self.now }
         ensures { (i : ℕ) → i < 64 → 64 * at + i < length self.now → nat_eq (bit_at result i) 1 ≡ is_set self.now (64 * at + i) }
     {

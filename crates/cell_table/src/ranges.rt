@@ -1,6 +1,5 @@
 //! The cells of the components that change.
-ghost use Rattle.std.specs.Prelude.{◌≡◌, ℕ, ◌+◌, ◌*◌, ◌<◌, ◌≤◌, ◌&&◌, nat_eq, nat_le, nat_lt, OnOk, All, length, vec_capacity, vec_len};
-ghost use Rattle.std.specs.Int.{bit_at};
+ghost use Rattle.std.specs.Prelude.{◌≡◌, ℕ, ◌+◌, ◌*◌, ◌<◌, ◌≤◌, ◌&&◌, nat_le, nat_lt, OnOk, All, length, vec_capacity, vec_len};
 ghost use Rattle.cell_table.specs.Filling.{is_awake};
 ghost use Rattle.cell_table.specs.Touches.{is_marked, IsWithin};
 
@@ -60,7 +59,7 @@ fn add_word(changes: &Row, word: u32, from: u32, to: u32, ranges: &mut Vec<CellR
     ensures marked { (t c : ℕ) → is_marked ranges.new.items t c ≡ ((is_awake changes.now c && nat_lt c (64 * word + 64)) && (nat_le from t && nat_lt t to)) }
 {
     let count = changes.len();
-    let mut rest = word_of(changes, word);
+    let mut rest = changes.word(word as usize);
     while rest != 0 {
         let component = 64 * word + rest.trailing_zeros();
         // No component is left.
@@ -74,12 +73,4 @@ fn add_word(changes: &Row, word: u32, from: u32, to: u32, ranges: &mut Vec<CellR
         });
         rest &= rest - 1;
     }
-}
-
-/// The marks of 64 components as bits; one behind the last component means nothing.
-fn word_of(changes: &Row, word: u32) -> u64
-    requires { 64 * word < length changes.now }
-    ensures { (i : ℕ) → i < 64 → 64 * word + i < length changes.now → nat_eq (bit_at result i) 1 ≡ is_awake changes.now (64 * word + i) }
-{
-    changes.words()[word as usize]
 }

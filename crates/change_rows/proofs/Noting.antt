@@ -46,37 +46,33 @@ module _ (rows : List (List Held)) (seam : List Held) (at : ℕ) (moved laid : L
     end = omega arith;
   }
 
-  module _ (low c : ℕ) (row row1 : List Held) (was : IsRowLaid rows seam at moved laid words low row) (order : low ≤ c) (none : (d : ℕ) → low ≤ d → d < c → is_in laid d ≡ false) where
-    pub row_more : is_in laid c ≡ true → (is_in moved c ≡ true → unwrap_or (found row1 c) (standing_before (begins_at rows seam at c) at) ≡ words c) → (is_in moved c ≡ false → found row1 c ≡ begins_at rows seam at c at) → ((d : ℕ) → (d ≡ c → ⊥) → found row1 d ≡ found row d) → end_of row1 ≤ c + 1 → IsRowLaid rows seam at moved laid words (c + 1) row1
-    row_more member kept begun others end = record {
-      put = λ d h l m. by_put d h l m (cases_eq d c);
-      begun = λ d h l m. by_begun d h l m (cases_eq d c);
-      none = λ d n. by_none d n (cases_eq d c);
-      end = end;
-    }
-      where
-        lower : (d : ℕ) → d < c + 1 → (d ≡ c → ⊥) → is_in laid d ≡ true → d < low
-        lower d h n l = member_low laid low c none d (omega (arith, h, n)) l
+  pub row_on : (low c : ℕ) (row : List Held) → IsRowLaid rows seam at moved laid words low row → low ≤ c → ((d : ℕ) → low ≤ d → d < c → is_in laid d ≡ false) → IsRowLaid rows seam at moved laid words c row
+  row_on low c row was order none = record {
+    put = λ d h l m. was.put d (member_low laid low c none d h l) l m;
+    begun = λ d h l m. was.begun d (member_low laid low c none d h l) l m;
+    none = λ d n. was.none d (λ h l. n (omega (arith, h, order)) l);
+    end = omega (arith, was.end, order);
+  }
 
-        by_put : (d : ℕ) → d < c + 1 → is_in laid d ≡ true → is_in moved d ≡ true → (d ≡ c) ⊎ (d ≡ c → ⊥) → unwrap_or (found row1 d) (standing_before (begins_at rows seam at d) at) ≡ words d
-        by_put d h l m (inl e) = subst (λ (k : ℕ). unwrap_or (found row1 k) (standing_before (begins_at rows seam at k) at) ≡ words k) (sym e) (kept (ap (is_in moved) (sym e) ∙ m))
-        by_put d h l m (inr n) = ap (λ (o : Option (List ℕ)). unwrap_or o (standing_before (begins_at rows seam at d) at)) (others d n) ∙ was.put d (lower d h n l) l m
+  pub row_more : (c : ℕ) (row row1 : List Held) → IsRowLaid rows seam at moved laid words c row → is_in laid c ≡ true → (is_in moved c ≡ true → unwrap_or (found row1 c) (standing_before (begins_at rows seam at c) at) ≡ words c) → (is_in moved c ≡ false → found row1 c ≡ begins_at rows seam at c at) → ((d : ℕ) → (d ≡ c → ⊥) → found row1 d ≡ found row d) → end_of row1 ≤ c + 1 → IsRowLaid rows seam at moved laid words (c + 1) row1
+  row_more c row row1 was member kept begun others end = record {
+    put = λ d h l m. by_put d h l m (cases_eq d c);
+    begun = λ d h l m. by_begun d h l m (cases_eq d c);
+    none = λ d n. by_none d n (cases_eq d c);
+    end = end;
+  }
+    where
+      by_put : (d : ℕ) → d < c + 1 → is_in laid d ≡ true → is_in moved d ≡ true → (d ≡ c) ⊎ (d ≡ c → ⊥) → unwrap_or (found row1 d) (standing_before (begins_at rows seam at d) at) ≡ words d
+      by_put d h l m (inl e) = subst (λ (k : ℕ). unwrap_or (found row1 k) (standing_before (begins_at rows seam at k) at) ≡ words k) (sym e) (kept (ap (is_in moved) (sym e) ∙ m))
+      by_put d h l m (inr n) = ap (λ (o : Option (List ℕ)). unwrap_or o (standing_before (begins_at rows seam at d) at)) (others d n) ∙ was.put d (omega (arith, h, n)) l m
 
-        by_begun : (d : ℕ) → d < c + 1 → is_in laid d ≡ true → is_in moved d ≡ false → (d ≡ c) ⊎ (d ≡ c → ⊥) → found row1 d ≡ begins_at rows seam at d at
-        by_begun d h l m (inl e) = subst (λ (k : ℕ). found row1 k ≡ begins_at rows seam at k at) (sym e) (begun (ap (is_in moved) (sym e) ∙ m))
-        by_begun d h l m (inr n) = others d n ∙ was.begun d (lower d h n l) l m
+      by_begun : (d : ℕ) → d < c + 1 → is_in laid d ≡ true → is_in moved d ≡ false → (d ≡ c) ⊎ (d ≡ c → ⊥) → found row1 d ≡ begins_at rows seam at d at
+      by_begun d h l m (inl e) = subst (λ (k : ℕ). found row1 k ≡ begins_at rows seam at k at) (sym e) (begun (ap (is_in moved) (sym e) ∙ m))
+      by_begun d h l m (inr n) = others d n ∙ was.begun d (omega (arith, h, n)) l m
 
-        by_none : (d : ℕ) → (d < c + 1 → is_in laid d ≡ true → ⊥) → (d ≡ c) ⊎ (d ≡ c → ⊥) → found row1 d ≡ None
-        by_none d n (inl e) = absurd (n (omega (arith, e)) (ap (is_in laid) e ∙ member))
-        by_none d n (inr m) = others d m ∙ was.none d (λ h l. n (omega (arith, h, order)) l)
-
-    pub row_on : IsRowLaid rows seam at moved laid words c row
-    row_on = record {
-      put = λ d h l m. was.put d (member_low laid low c none d h l) l m;
-      begun = λ d h l m. was.begun d (member_low laid low c none d h l) l m;
-      none = λ d n. was.none d (λ h l. n (omega (arith, h, order)) l);
-      end = omega (arith, was.end, order);
-    }
+      by_none : (d : ℕ) → (d < c + 1 → is_in laid d ≡ true → ⊥) → (d ≡ c) ⊎ (d ≡ c → ⊥) → found row1 d ≡ None
+      by_none d n (inl e) = absurd (n (omega (arith, e)) (ap (is_in laid) e ∙ member))
+      by_none d n (inr m) = others d m ∙ was.none d (λ h l. n (omega (arith, h)) l)
 
 -- one first word more
 module _ (moved : List ℕ) (words : ℕ → List ℕ) (heads0 : List ℕ) where
@@ -86,22 +82,21 @@ module _ (moved : List ℕ) (words : ℕ → List ℕ) (heads0 : List ℕ) where
     others = λ c _. refl;
   }
 
-  module _ (low c : ℕ) (heads : List ℕ) (was : AreHeads moved words low heads0 heads) (order : low ≤ c) (none : (d : ℕ) → low ≤ d → d < c → is_in moved d ≡ false) where
-    pub heads_on : AreHeads moved words c heads0 heads
-    heads_on = record {
-      put = λ d h m. was.put d (member_low moved low c none d h m) m;
-      others = was.others;
-    }
+  pub heads_on : (low c : ℕ) (heads : List ℕ) → AreHeads moved words low heads0 heads → ((d : ℕ) → low ≤ d → d < c → is_in moved d ≡ false) → AreHeads moved words c heads0 heads
+  heads_on low c heads was none = record {
+    put = λ d h m. was.put d (member_low moved low c none d h m) m;
+    others = was.others;
+  }
 
-    pub heads_more : (heads1 : List ℕ) → (is_in moved c ≡ true → get_or heads1 c 0 ≡ get_or (words c) 0 0) → ((d : ℕ) → (d ≡ c → is_in moved c ≡ true → ⊥) → get_or heads1 d 0 ≡ get_or heads d 0) → AreHeads moved words (c + 1) heads0 heads1
-    heads_more heads1 here others = record {
-      put = λ d h m. by_place d h m (cases_eq d c);
-      others = λ d m. others d (λ e i. not_in moved d m (ap (is_in moved) e ∙ i)) ∙ was.others d m;
-    }
-      where
-        by_place : (d : ℕ) → d < c + 1 → is_in moved d ≡ true → (d ≡ c) ⊎ (d ≡ c → ⊥) → get_or heads1 d 0 ≡ get_or (words d) 0 0
-        by_place d h m (inl e) = subst (λ (k : ℕ). get_or heads1 k 0 ≡ get_or (words k) 0 0) (sym e) (here (ap (is_in moved) (sym e) ∙ m))
-        by_place d h m (inr n) = others d (λ e _. n e) ∙ was.put d (member_low moved low c none d (omega (arith, h, n)) m) m
+  pub heads_more : (c : ℕ) (heads heads1 : List ℕ) → AreHeads moved words c heads0 heads → (is_in moved c ≡ true → get_or heads1 c 0 ≡ get_or (words c) 0 0) → ((d : ℕ) → (d ≡ c → is_in moved c ≡ true → ⊥) → get_or heads1 d 0 ≡ get_or heads d 0) → AreHeads moved words (c + 1) heads0 heads1
+  heads_more c heads heads1 was here others = record {
+    put = λ d h m. by_place d h m (cases_eq d c);
+    others = λ d m. others d (λ e i. not_in moved d m (ap (is_in moved) e ∙ i)) ∙ was.others d m;
+  }
+    where
+      by_place : (d : ℕ) → d < c + 1 → is_in moved d ≡ true → (d ≡ c) ⊎ (d ≡ c → ⊥) → get_or heads1 d 0 ≡ get_or (words d) 0 0
+      by_place d h m (inl e) = subst (λ (k : ℕ). get_or heads1 k 0 ≡ get_or (words k) 0 0) (sym e) (here (ap (is_in moved) (sym e) ∙ m))
+      by_place d h m (inr n) = others d (λ e _. n e) ∙ was.put d (omega (arith, h, n)) m
 
 -- one component more of which what stood goes on
 module _ (rows : List (List Held)) (seam : List Held) (at : ℕ) (kept : List ℕ) where
@@ -112,28 +107,27 @@ module _ (rows : List (List Held)) (seam : List Held) (at : ℕ) (kept : List �
     end = omega arith;
   }
 
-  module _ (low c : ℕ) (out : List Held) (was : IsSeamLaid rows seam at kept low out) (order : low ≤ c) (none : (d : ℕ) → low ≤ d → d < c → is_in kept d ≡ false) where
-    pub seam_on : IsSeamLaid rows seam at kept c out
-    seam_on = record {
-      put = λ d h m. was.put d (member_low kept low c none d h m) m;
-      none = λ d n. was.none d (λ h m. n (omega (arith, h, order)) m);
-      end = omega (arith, was.end, order);
-    }
+  pub seam_on : (low c : ℕ) (out : List Held) → IsSeamLaid rows seam at kept low out → low ≤ c → ((d : ℕ) → low ≤ d → d < c → is_in kept d ≡ false) → IsSeamLaid rows seam at kept c out
+  seam_on low c out was order none = record {
+    put = λ d h m. was.put d (member_low kept low c none d h m) m;
+    none = λ d n. was.none d (λ h m. n (omega (arith, h, order)) m);
+    end = omega (arith, was.end, order);
+  }
 
-    pub seam_more : (out1 : List Held) → is_in kept c ≡ true → found out1 c ≡ Some (standing (begins_at rows seam at c) at) → ((d : ℕ) → (d ≡ c → ⊥) → found out1 d ≡ found out d) → end_of out1 ≤ c + 1 → IsSeamLaid rows seam at kept (c + 1) out1
-    seam_more out1 member here others end = record {
-      put = λ d h m. by_place d h m (cases_eq d c);
-      none = λ d n. by_none d n (cases_eq d c);
-      end = end;
-    }
-      where
-        by_place : (d : ℕ) → d < c + 1 → is_in kept d ≡ true → (d ≡ c) ⊎ (d ≡ c → ⊥) → found out1 d ≡ Some (standing (begins_at rows seam at d) at)
-        by_place d h m (inl e) = subst (λ (k : ℕ). found out1 k ≡ Some (standing (begins_at rows seam at k) at)) (sym e) here
-        by_place d h m (inr n) = others d n ∙ was.put d (member_low kept low c none d (omega (arith, h, n)) m) m
+  pub seam_more : (c : ℕ) (out out1 : List Held) → IsSeamLaid rows seam at kept c out → is_in kept c ≡ true → found out1 c ≡ Some (standing (begins_at rows seam at c) at) → ((d : ℕ) → (d ≡ c → ⊥) → found out1 d ≡ found out d) → end_of out1 ≤ c + 1 → IsSeamLaid rows seam at kept (c + 1) out1
+  seam_more c out out1 was member here others end = record {
+    put = λ d h m. by_place d h m (cases_eq d c);
+    none = λ d n. by_none d n (cases_eq d c);
+    end = end;
+  }
+    where
+      by_place : (d : ℕ) → d < c + 1 → is_in kept d ≡ true → (d ≡ c) ⊎ (d ≡ c → ⊥) → found out1 d ≡ Some (standing (begins_at rows seam at d) at)
+      by_place d h m (inl e) = subst (λ (k : ℕ). found out1 k ≡ Some (standing (begins_at rows seam at k) at)) (sym e) here
+      by_place d h m (inr n) = others d n ∙ was.put d (omega (arith, h, n)) m
 
-        by_none : (d : ℕ) → (d < c + 1 → is_in kept d ≡ true → ⊥) → (d ≡ c) ⊎ (d ≡ c → ⊥) → found out1 d ≡ None
-        by_none d n (inl e) = absurd (n (omega (arith, e)) (ap (is_in kept) e ∙ member))
-        by_none d n (inr m) = others d m ∙ was.none d (λ h i. n (omega (arith, h, order)) i)
+      by_none : (d : ℕ) → (d < c + 1 → is_in kept d ≡ true → ⊥) → (d ≡ c) ⊎ (d ≡ c → ⊥) → found out1 d ≡ None
+      by_none d n (inl e) = absurd (n (omega (arith, e)) (ap (is_in kept) e ∙ member))
+      by_none d n (inr m) = others d m ∙ was.none d (λ h i. n (omega (arith, h)) i)
 
 -- rows about which nothing is known
 pub kept_anew : (width width1 : ℕ) (rows : List (List Held)) (marks : List (List ℕ)) (seam : List Held) (at : ℕ) (k : Kinds) (n n1 : Notes) → IsChanges width1 rows marks seam at → width1 ≡ width → IsRoomy width k → HasRoom width n → ((w : ℕ) → HasRoom w n → HasRoom w n1) → ((c : ℕ) → is_in n1.apart.items c ≡ false) → ((c : ℕ) → is_in n1.known.items c ≡ false) → IsKept width1 rows marks seam at k n1

@@ -128,8 +128,7 @@ impl Cells {
     pub(crate) fn words_near(&self, component: u32, guess: usize) -> &[u64]
         ensures { result.now ≡ unwrap_or (found self.now component) [] }
     {
-        let (heads, words) = (self.heads.as_slice(), self.words.as_slice());
-        match find_near(heads, words, component, guess) {
+        match self.find_at(component, guess) {
             Some(words) => words,
             None => &[],
         }

@@ -119,19 +119,16 @@ fn ask_all<S: Source>(
     ensures told { OnOk result (IsTold s.now.rows.items s.now.seam s.now.at s.now.at asked.now (S.words source.now) s.now.width n.new.other.items) }
 {
     wipe(&mut n.other);
-    let mut low = 0;
     let mut c = next_in(asked, 0, s.width);
     while c < s.width {
         let other = ask_one(s, k, n, c, source, row)?;
         tell(&mut n.other, c, other);
-        low = c + 1;
-        c = next_in(asked, low, s.width);
+        c = next_in(asked, c + 1, s.width);
     }
-    let _ = low;
     Ok(())
 }
 
-/// A cell's words, which may be other ones, behind all cells of the row, and the first of them: whether that are other words than it holds.
+/// Puts the words of a cell that may have moved behind all cells of the row, and keeps the first of them: whether it held other words.
 ///
 /// # Errors
 ///
@@ -179,7 +176,7 @@ fn lay_moved<S: Source>(
     }
 }
 
-/// What begins at a cell, behind all cells of the row.
+/// Puts what begins at a cell behind all cells of the row.
 ///
 /// # Errors
 ///
@@ -202,7 +199,8 @@ fn lay_begun(s: &Changes, k: &Kinds, c: u32, row: &mut Cells) -> Result<(), Allo
     }
 }
 
-/// A cell of the row: its words where it may have moved, else what begins there. Whether it moved, and that are other words than it holds.
+/// Puts a cell behind all cells of the row: its words where it may have moved, else what begins there. Whether it may have moved and
+/// held other words.
 ///
 /// # Errors
 ///
@@ -268,15 +266,12 @@ fn lay_all<S: Source>(
 {
     row.clear();
     wipe(&mut n.other);
-    let mut low = 0;
     let mut c = next_in(laid, 0, s.width);
     while c < s.width {
         let other = lay_one(s, k, c, source, row, &mut n.heads)?;
         tell(&mut n.other, c, other);
-        low = c + 1;
-        c = next_in(laid, low, s.width);
+        c = next_in(laid, c + 1, s.width);
     }
-    let _ = low;
     Ok(())
 }
 
@@ -351,18 +346,15 @@ fn keep_all(s: &Changes, k: &Kinds, kept: &[u64], seam: &mut Cells) -> Result<()
     ensures { OnOk result (IsSeamLaid s.now.rows.items s.now.seam s.now.at kept.now s.now.width seam.new) }
 {
     seam.clear();
-    let mut low = 0;
     let mut c = next_in(kept, 0, s.width);
     while c < s.width {
         seam.push(c, stood_at(s, k, c))?;
-        low = c + 1;
-        c = next_in(kept, low, s.width);
+        c = next_in(kept, c + 1, s.width);
     }
-    let _ = low;
     Ok(())
 }
 
-/// Those of the components that are asked are told that are known to hold other words, and asked no more.
+/// Components that would be asked, and are known to hold other words, are told, and are asked no more.
 fn tell_apart(k: &mut Kinds, n: &Notes, changed: &mut [u64])
     ensures len { length changed.new ≡ length changed.old }
     ensures told { (c : ℕ) → c / 64 < length changed.old → is_in changed.new c ≡ (is_in n.now.apart.items c && is_in k.old.asked.items c) }
@@ -378,7 +370,7 @@ fn tell_apart(k: &mut Kinds, n: &Notes, changed: &mut [u64])
     remove(&mut k.asked, &n.apart);
 }
 
-/// No first word is kept any more of the components that may have moved.
+/// The first words of components that may have moved are kept no more.
 fn forget_moved(n: &mut Notes, k: &Kinds)
     ensures known { (c : ℕ) → c / 64 < length n.old.known.items → is_in n.new.known.items c ≡ (is_in n.old.known.items c && not (is_in k.now.moved.items c)) }
     ensures len { length n.new.known.items ≡ length n.old.known.items }
@@ -499,7 +491,7 @@ fn bring_seam(
     Ok(())
 }
 
-/// What is known once a row is put, of the components of a set of which some may have moved.
+/// Notes what is known once a row is put: of the members of a set, some of which may have moved.
 fn note(n: &mut Notes, moved: &[u64], set: &[u64])
     ensures apart { n.new.apart.items ≡ n.old.kept.items }
     ensures heads { n.new.heads.items ≡ n.old.heads.items }

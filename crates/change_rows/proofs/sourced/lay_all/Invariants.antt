@@ -1,4 +1,4 @@
-use Rattle.std.proofs.Common.{◌≡◌, ℕ, ◌<◌, ◌≤◌, ◌-◌, true, false}
+use Rattle.std.proofs.Common.{◌≡◌, ◌<◌, ◌≤◌, ◌-◌, true}
 use Rattle.change_rows.specs.Marks.{is_in}
 use Rattle.change_rows.specs.Laid.{IsTold}
 use Rattle.change_rows.specs.Kinds.{HasRoom, IsRowLaid, AreHeads}
@@ -6,15 +6,13 @@ use Rattle.change_rows.proofs.sourced.lay_all.Given as goal
 
 abbrev pub invariant-loop-c : goal.invariant-loop-c
 invariant-loop-c g l = record {
-  laid : IsRowLaid l.s.rows.items l.s.seam l.s.at l.k.moved.items l.laid (g.S.Source.words l.source) l.low l.row;
-  heads : AreHeads l.k.moved.items (g.S.Source.words l.source) l.low l.initial.n.heads.items l.n.heads.items;
-  told : IsTold l.s.rows.items l.s.seam l.s.at l.s.at l.k.moved.items (g.S.Source.words l.source) l.low l.n.other.items;
+  laid : IsRowLaid l.s.rows.items l.s.seam l.s.at l.k.moved.items l.laid (g.S.Source.words l.source) l.c l.row;
+  heads : AreHeads l.k.moved.items (g.S.Source.words l.source) l.c l.initial.n.heads.items l.n.heads.items;
+  told : IsTold l.s.rows.items l.s.seam l.s.at l.s.at l.k.moved.items (g.S.Source.words l.source) l.c l.n.other.items;
   room : HasRoom l.s.width l.n;
   apart : l.n.apart.items ≡ l.initial.n.apart.items;
   known : l.n.known.items ≡ l.initial.n.known.items;
-  order : l.low ≤ l.c;
   within : l.c ≤ l.s.width;
-  none : (d : ℕ) → l.low ≤ d → d < l.c → is_in l.laid d ≡ false;
   member : l.c < l.s.width → is_in l.laid l.c ≡ true;
 }
 
