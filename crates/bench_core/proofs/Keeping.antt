@@ -72,22 +72,27 @@ module _ (P : Project) (v : ℕ) (kept : List Entry) (told : AreTold P v kept) w
   pub told_later : (next : Project) → AreTold next (v + 1) kept
   told_later next a there = let before = (told a there).0 in (omega (arith, before), λ now. absurd (omega (arith, before, now)))
 
--- what is true inside of every bench
-abbrev pub IsInside : Seen MachineState Project → Option Kept → List Noted → List Entry → Type 0
-IsInside table sums journal recent = IsBench table journal × AreCounted sums table × HasHistory (record { table = table; journal = journal }) × AreTold table.slots (length journal) recent
+-- what is true inside of every bench; of its rows, that they hold what they hold of the run of a project
+abbrev pub IsInside : Seen MachineState Project → Option Kept → List Noted → List Entry → (Project → Type 0) → Type 0
+IsInside table sums journal recent hold = IsBench table journal × AreCounted sums table × HasHistory (record { table = table; journal = journal }) × AreTold table.slots (length journal) recent × hold table.slots
 
 -- it stays so of an equal table and an equal journal
-pub holds_still : (old new : Seen MachineState Project) (sums : Option Kept) (before after : List Noted) (recent : List Entry) → new ≡ old → after ≡ before → IsInside old sums before recent → IsInside new sums after recent
-holds_still old new sums before after recent same noted inside = rw (same, noted) inside
+pub holds_still : (old new : Seen MachineState Project) (sums : Option Kept) (before after : List Noted) (recent : List Entry) (hold : Project → Type 0) → new ≡ old → after ≡ before → IsInside old sums before recent hold → IsInside new sums after recent hold
+holds_still old new sums before after recent hold same noted inside = rw (same, noted) inside
+
+-- what is true of a project is true of an equal one
+pub true_of_equal : (old new : Project) (hold : Project → Type 0) → new ≡ old → hold old → hold new
+true_of_equal old new hold same before = rw same before
 
 -- and where neither the project nor its horizon changes, and the rest is kept
-pub inside_still : (old new : Seen MachineState Project) (sums next : Option Kept) (journal : List Noted) (recent : List Entry) → IsInside old sums journal recent → new.slots ≡ old.slots → new.horizon ≡ old.horizon
-    → AreCounted next new → HasHistory (record { table = new; journal = journal }) → IsInside new next journal recent
-inside_still old new sums next journal recent inside slots horizon counts history = (
+pub inside_still : (old new : Seen MachineState Project) (sums next : Option Kept) (journal : List Noted) (recent : List Entry) (hold hold1 : Project → Type 0) → IsInside old sums journal recent hold → new.slots ≡ old.slots → new.horizon ≡ old.horizon
+    → AreCounted next new → HasHistory (record { table = new; journal = journal }) → hold1 new.slots → IsInside new next journal recent hold1
+inside_still old new sums next journal recent hold hold1 inside slots horizon counts history after = (
   record { horizon = horizon ∙ inside.0.horizon ∙ ap (λ (p : Project). p.horizon) (sym slots); short = rw horizon inside.0.short; few = inside.0.few },
   counts,
   history,
   rw slots inside.3,
+  after,
 )
 
 answer_is : (version v : ℕ) (says : Result Body ℕ) (body : Body) → asked.Answer v body ≡ told version says → says ≡ Ok body

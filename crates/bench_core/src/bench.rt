@@ -59,13 +59,14 @@ impl Model for Bench {
     ghost use Rattle.bench_core.specs.Shown.{Shown, IsBench, AreCounted};
     ghost use Rattle.bench_core.specs.Stands.{HasHistory};
     ghost use Rattle.bench_core.specs.Recent.{AreTold};
+    ghost use Rattle.whole_rows.specs.Rows.{AreRowsOf};
     ghost use Rattle.std.specs.Prelude.{length};
 
     ghost Value = { Shown };
 
     ghost view = { λ b. record { table = b.table; journal = b.journal.items } };
 
-    ghost invariant = { λ b. IsBench b.table b.journal.items × AreCounted b.counters b.table × HasHistory (record { table = b.table; journal = b.journal.items }) × AreTold b.table.slots (length b.journal.items) b.recent };
+    ghost invariant = { λ b. IsBench b.table b.journal.items × AreCounted b.counters b.table × HasHistory (record { table = b.table; journal = b.journal.items }) × AreTold b.table.slots (length b.journal.items) b.recent × AreRowsOf b.table.slots b.rows };
 }
 
 impl Bench {

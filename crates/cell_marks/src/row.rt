@@ -1,9 +1,10 @@
 //! One row of marks.
 ghost use Rattle.std.specs.Prelude.{◌≡◌, ℕ, ◌<◌, ◌≤◌, ◌+◌, ◌*◌, ◌^◌, ◌↔◌, ◌||◌, ◌&&◌, ◌/◌, ◌%◌, true, false, nat_eq, IsTrue, MatchOption, IfOk, length, replicate, slice_set, take, if◌then◌else◌, not};
-ghost use Rattle.cell_marks.specs.Bits.{bit_in, bits_of};
+ghost use Rattle.cell_marks.specs.Bits.{bit_in, bits_of, block_rows};
 ghost use Rattle.std.specs.Int.{bit_at};
 ghost use Rattle.cell_marks.specs.Marked.{is_set, count_in, union, row_at, any_marks, IsFirstFrom};
 
+use crate::row_blocks::RowBlocks;
 use crate::word::word_of;
 use crate::words::{
     add_in, add_one, clear_all_in, clear_in, counted_in, first_in, has_in, is_union_in, join_four,
@@ -193,9 +194,20 @@ impl Row {
         self.count = remove_in(&mut self.words, &other.words, self.len);
     }
 
-    /// Marks just the components that some row of the list marks, of those rows whose own component is marked in `set`: 64 of
-    /// them in one step, and they are counted once.
-    pub fn gather(&mut self, rows: &[Row], set: &Row)
+    /// The words of a block of 256 components.
+    pub(crate) fn block_words(&self, block: u32) -> [u64; 4]
+        requires { 256 * block < length self.now }
+        ensures { (k : ℕ) → k < 256 → 256 * block + k < length self.now → bit_in result k ≡ is_set self.now (256 * block + k) }
+    {
+        let _len = self.len;
+        let mut four = [0; 4];
+        join_four(&mut four, &self.words, block as usize * 4);
+        four
+    }
+
+    /// Marks just the components that some of these rows marks, of those whose own component is marked in `set`: 256 of them in
+    /// one pass over the rows, and they are counted once.
+    pub fn gather(&mut self, rows: &RowBlocks, set: &Row)
         requires rows { length rows.now ≡ length set.now }
         requires width { (c : ℕ) → c < length set.now → length (row_at rows.now c) ≡ length self.old }
         ensures len { length self.new ≡ length self.old }
@@ -232,53 +244,47 @@ impl Row {
     }
 }
 
-/// Sets the bits of four words that a row of the list marks, of a block of 256 components; none where there is no such row.
+/// Sets the bits of four words that a row of a block has set; none where there is no such row.
 #[inline(always)]
-fn join_row(four: &mut [u64; 4], block: u32, rows: &[Row], c: usize)
-    requires { c < length rows.now → 256 * block < length (row_at rows.now c) }
-    ensures { (k : ℕ) → k < 256 → (c < length rows.now → 256 * block + k < length (row_at rows.now c)) → bit_in four.new k ≡ (bit_in four.old k || is_set (row_at rows.now c) (256 * block + k)) }
+fn join_row(four: &mut [u64; 4], block: &[[u64; 4]], c: usize)
+    ensures { (k : ℕ) → k < 256 → bit_in four.new k ≡ (bit_in four.old k || is_set (row_at (block_rows block.now) c) k) }
 {
-    match rows.get(c) {
-        Some(row) => {
-            let _len = row.len;
-            join_four(four, &row.words, block as usize * 4);
-        }
+    match block.get(c) {
+        Some(row) => join_four(four, row, 0),
         None => {}
     }
 }
 
-/// The same of each row of the list whose own component is marked in one word of `set`.
+/// The same of each row of the block whose own component is marked in one word of `set`.
 #[inline(always)]
-fn join_rows(four: &mut [u64; 4], block: u32, rows: &[Row], set: &Row, word: usize)
-    requires rows { length rows.now ≡ length set.now }
+fn join_rows(four: &mut [u64; 4], block: &[[u64; 4]], set: &Row, word: usize)
+    requires rows { length block.now ≡ length set.now }
     requires word { 64 * word < length set.now }
-    requires block { (c : ℕ) → c < length rows.now → 256 * block < length (row_at rows.now c) }
-    requires before { (k : ℕ) → k < 256 → ((c : ℕ) → c < length rows.now → 256 * block + k < length (row_at rows.now c)) → bit_in four.old k ≡ any_marks set.now rows.now (256 * block + k) (64 * word) }
-    ensures { (k : ℕ) → k < 256 → ((c : ℕ) → c < length rows.now → 256 * block + k < length (row_at rows.now c)) → bit_in four.new k ≡ any_marks set.now rows.now (256 * block + k) (64 * word + 64) }
+    requires before { (k : ℕ) → k < 256 → bit_in four.old k ≡ any_marks set.now (block_rows block.now) k (64 * word) }
+    ensures { (k : ℕ) → k < 256 → bit_in four.new k ≡ any_marks set.now (block_rows block.now) k (64 * word + 64) }
 {
     let mut rest = set.word(word);
     while rest != 0 {
         let c = 64 * word + rest.trailing_zeros() as usize;
-        join_row(four, block, rows, c);
+        join_row(four, block, c);
         rest &= rest - 1;
     }
 }
 
-/// The bits of a block of 256 components that some row of the list marks, of those rows whose own component is marked in `set`.
-fn gather_four(block: u32, rows: &[Row], set: &Row) -> [u64; 4]
-    requires rows { length rows.now ≡ length set.now }
-    requires block { (c : ℕ) → c < length rows.now → 256 * block < length (row_at rows.now c) }
-    ensures { (k : ℕ) → k < 256 → ((c : ℕ) → c < length rows.now → 256 * block + k < length (row_at rows.now c)) → bit_in result k ≡ any_marks set.now rows.now (256 * block + k) (length set.now) }
+/// The bits that some row of a block has set, of those rows whose own component is marked in `set`.
+fn gather_four(block: &[[u64; 4]], set: &Row) -> [u64; 4]
+    requires { length block.now ≡ length set.now }
+    ensures { (k : ℕ) → k < 256 → bit_in result k ≡ any_marks set.now (block_rows block.now) k (length set.now) }
 {
     let mut four = [0; 4];
     for word in 0..set.len().div_ceil(64) {
-        join_rows(&mut four, block, rows, set, word as usize);
+        join_rows(&mut four, block, set, word as usize);
     }
     four
 }
 
-/// Sets just the bits among the first n that some row of the list marks, of those whose own component is marked in `set`.
-fn gather_in(words: &mut [u64], n: u32, rows: &[Row], set: &Row)
+/// Sets just the bits among the first n that some of these rows marks, of those whose own component is marked in `set`.
+fn gather_in(words: &mut [u64], n: u32, rows: &RowBlocks, set: &Row)
     requires room { n / 256 * 4 + 4 ≤ length words.old }
     requires rows { length rows.now ≡ length set.now }
     requires width { (c : ℕ) → c < length set.now → length (row_at rows.now c) ≡ n }
@@ -286,7 +292,7 @@ fn gather_in(words: &mut [u64], n: u32, rows: &[Row], set: &Row)
     ensures bits { (k : ℕ) → k < n → bit_in words.new k ≡ any_marks set.now rows.now k (length set.now) }
 {
     for block in 0..n.div_ceil(256) {
-        let four = gather_four(block, rows, set);
+        let four = gather_four(rows.block(block), set);
         put_four(words, block as usize * 4, &four);
     }
 }

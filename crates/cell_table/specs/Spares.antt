@@ -1,12 +1,15 @@
 -- What settling takes beside a table.
-use Rattle.std.specs.Prelude.{◌≡◌, ℕ, ◌<◌, Bool, true, false, Some, List, length}
+use Rattle.std.specs.Prelude.{◌≡◌, ℕ, ◌<◌, Bool, true, false, IfSome, Some, List, length}
 use Rattle.grid_law.specs.Rules.{Rules}
+use Rattle.grid_law.specs.Codec.{Codec}
 use Rattle.grid_law.specs.Run.{run}
 use Rattle.cell_table.specs.Seen.{Held, Seen, held_at}
 use Rattle.cell_table.specs.Filling.{is_awake}
 use Rattle.cell_table.specs.Repeating.{any_changes}
 use Rattle.cell_table.specs.WholeRows.{HoldsRow}
+use Rattle.cell_table.specs.NextWords.{AreBeside}
 use Rattle.cell_table.specs.declared.along.Along.{Along}
+use Rattle.cell_table.specs.declared.beside.Beside.{Beside}
 use Rattle.cell_table.specs.declared.table.alike.Spare.{Spare}
 
 -- the marks are of all components
@@ -22,6 +25,12 @@ module _ {State Slots Slot : Type 0} (R : Rules State Slots Slot) where
   pub record GoesAlong {Whole : Type 0} (stands : Whole → Slots → Type 0) (state : Whole → ℕ → State) (s : Slots) (a : Along Whole) : Type 0 where
     pub holds : HoldsRow R stands state s a.row a.cycle
     pub width : length a.changed ≡ R.components s
+
+  -- where the rows that are kept aren't forgotten, they stand for these slots, one holds what is known of it, and the one that goes along
+  -- holds the run
+  pub record AreKept {Memory Whole : Type 0} (C : Codec State Memory) (stands : Whole → Slots → Type 0) (state : Whole → ℕ → State) (s : Slots) (beside : Beside Whole) : Type 0 where
+    pub rows : beside.forgotten ≡ false → AreBeside R C stands state s beside
+    pub along : beside.forgotten ≡ false → IfSome beside.along (GoesAlong stands state s)
 
   -- the cell isn't due, and a cycle before neither its own component changes nor has one near it other words
   pub record IsLeftOut (s : Slots) (cells : List (List (Held State))) (t : ℕ) (changes worded : List Bool) (c : ℕ) : Type 0 where

@@ -22,6 +22,14 @@ pub(crate) struct Along<M> {
     changed: Row,
 }
 
+/// Whether a row goes along that holds a later cycle.
+fn is_past<M>(along: &Option<Along<M>>, cycle: u32) -> bool {
+    match along {
+        Some(a) => a.cycle > cycle,
+        None => false,
+    }
+}
+
 /// Puts the state of a cell into a row, by its words and its memory: whether the row holds it then.
 fn load_one<G: Grid, M: WholeRow<G>>(
     cells: &Cells<G>,
@@ -125,7 +133,7 @@ fn start_along<G: Grid, M: WholeRow<G>>(
 
 /// The row that went along is kept. What it holds means nothing any more.
 #[inline(never)]
-pub(crate) fn keep_idle<G: Grid, M: WholeRow<G>>(
+fn keep_idle<G: Grid, M: WholeRow<G>>(
     slots: &G::Slots,
     along: Option<Along<M>>,
     beside: &mut Beside<M>,
@@ -213,7 +221,8 @@ fn is_brought<G: Grid, M: WholeRow<G>>(
     along.cycle < cycle && bring::<G, M>(cells, slots, along, cycle)
 }
 
-/// The row goes on to a cycle from the one before, to which it is brought; none where it can't, and then it is let go.
+/// The row goes on to a cycle from the one before, to which it is brought, or loaded anew where it is past that; none where it can't, and
+/// then it is let go.
 pub(crate) fn go_along<G: Grid, M: WholeRow<G>>(
     cells: &Cells<G>,
     slots: &G::Slots,
@@ -232,6 +241,9 @@ pub(crate) fn go_along<G: Grid, M: WholeRow<G>>(
     ensures known { IfSome result (λ step. IsKnown G.rules G.codec (M.is_still step slots.now) (M.has_written step slots.now) slots.now cycle) }
     ensures beside { AreBeside G.rules G.codec M.stands M.state slots.now beside.new }
 {
+    if is_past(along, cycle - 1) {
+        keep_idle::<G, M>(slots, along.take(), beside);
+    }
     if along.is_none() && !start_along::<G, M>(cells, slots, along, beside, cycle - 1) {
         return None;
     }

@@ -1,9 +1,11 @@
 //! Rows of all components that whoever settles keeps from call to call.
-ghost use Rattle.std.specs.Prelude.{◌≡◌, ℕ, IfSome, OnOk, is_some, replicate, true, false};
+ghost use Rattle.std.specs.Prelude.{◌≡◌, ℕ, IfSome, OnOk, is_some, replicate, true, false, None};
 ghost use Rattle.grid_law.specs.Codec.{Codec};
 ghost use Rattle.cell_table.specs.NextWords.{AreBeside, HoldsWords};
+ghost use Rattle.cell_table.specs.Spares.{AreKept, GoesAlong};
 
 use crate::WholeRow;
+use crate::along::Along;
 use grid_law::{Grid, NoMemory};
 use std::alloc::Global;
 
@@ -16,20 +18,36 @@ pub(crate) struct Near<M> {
 }
 
 /// Rows that whoever settles a table hands over for each call: one into which the words near a cell are put to settle it, and one that
-/// goes along from cycle to cycle where many cells are due. What they hold between two calls means nothing. They serve every table.
+/// goes along from cycle to cycle where many cells are due. They hold the run of the table's slots (`AreKept`), so that a further call goes
+/// on from where they are. Whoever changes the slots, or turns to another table, calls `forget` before the next one.
 #[derive(Drop)]
 pub struct Beside<M> {
     pub(crate) near: Option<Near<M>>,
+    pub(crate) along: Option<Along<M>>,
+    /// A row that holds anything.
     pub(crate) idle: Option<M>,
+    /// Whether the rows may stand for other slots than the table's.
+    pub(crate) forgotten: bool,
 }
 
 impl<M> Beside<M> {
-    /// No row yet: a call makes them as it needs them.
-    pub fn none() -> Beside<M> {
+    /// No row yet: a call makes them as it needs them. They serve every table.
+    pub fn none() -> Beside<M>
+        ensures { result.forgotten ≡ true }
+    {
         Beside {
             near: None,
+            along: None,
             idle: None,
+            forgotten: true,
         }
+    }
+
+    /// What the rows hold means nothing any more: they serve every table, and keep their memory.
+    pub fn forget(&mut self)
+        ensures { self.new.forgotten ≡ true }
+    {
+        self.forgotten = true;
     }
 }
 
@@ -53,10 +71,16 @@ fn resume_near<G: Grid, M: WholeRow<G>>(near: &mut Near<M>, slots: &G::Slots) ->
     }
 }
 
-/// The rows stand for these slots, whatever they stood for. Those that can't are let go.
-pub(crate) fn resume_all<G: Grid, M: WholeRow<G>>(beside: &mut Beside<M>, slots: &G::Slots)
-    ensures { AreBeside G.rules G.codec M.stands M.state slots.now beside.new }
+/// The rows stand for these slots, whatever they stood for, and none goes along. Those that can't are let go.
+#[inline(never)]
+fn resume_all<G: Grid, M: WholeRow<G>>(beside: &mut Beside<M>, slots: &G::Slots)
+    ensures rows { AreBeside G.rules G.codec M.stands M.state slots.now beside.new }
+    ensures along { beside.new.along ≡ None }
 {
+    match beside.along.take() {
+        Some(along) => beside.idle = Some(along.row),
+        None => {}
+    }
     let stays = match &mut beside.near {
         Some(near) => resume_near::<G, M>(near, slots),
         None => true,
@@ -70,6 +94,18 @@ pub(crate) fn resume_all<G: Grid, M: WholeRow<G>>(beside: &mut Beside<M>, slots:
     };
     if !stays {
         beside.idle = None;
+    }
+}
+
+/// The rows stand for these slots, and what they hold is of their run. Where they aren't forgotten nothing is done.
+pub(crate) fn renew<G: Grid, M: WholeRow<G>>(beside: &mut Beside<M>, slots: &G::Slots)
+    requires { AreKept G.rules G.codec M.stands M.state slots.now beside.old }
+    ensures rows { AreBeside G.rules G.codec M.stands M.state slots.now beside.new }
+    ensures along { IfSome beside.new.along (GoesAlong G.rules M.stands M.state slots.now) }
+{
+    if beside.forgotten {
+        resume_all::<G, M>(beside, slots);
+        beside.forgotten = false;
     }
 }
 

@@ -7,7 +7,7 @@ ghost use Rattle.cell_table.specs.Repeating.{any_changes};
 
 use crate::components::Components;
 use crate::neighbours::Neighbours;
-use cell_marks::Row;
+use cell_marks::{Row, RowBlocks};
 use grid_law::{Grid, NoMemory};
 use std::alloc::Global;
 use std::marker::Model;
@@ -18,7 +18,7 @@ use std::sync::Arc;
 #[derive(Drop)]
 pub struct Readers {
     lists: Vec<Components>,
-    masks: Vec<Row>,
+    masks: RowBlocks,
     near: Arc<Neighbours>,
 }
 
@@ -31,7 +31,7 @@ impl Model for Readers {
 
     ghost view = { λ r. r.lists.items };
 
-    ghost invariant = { λ r. AreMasks r.lists.items r.masks.items × AreTurned r.lists.items (arc_value r.near) };
+    ghost invariant = { λ r. AreMasks r.lists.items r.masks × AreTurned r.lists.items (arc_value r.near) };
 }
 
 fn empty_lists(alloc: Global, count: u32) -> Result<Vec<Components>, NoMemory>
@@ -82,22 +82,32 @@ fn wake(marks: &mut Row, components: &[u32])
     }
 }
 
-/// The marks of each list.
-fn masks_of(alloc: Global, lists: &Vec<Components>, count: u32) -> Result<Vec<Row>, NoMemory>
+/// For each list a row of its marks.
+fn rows_of(alloc: Global, lists: &Vec<Components>, count: u32) -> Result<Vec<Row>, NoMemory>
     requires count { length lists.now.items ≡ count }
     requires within { (c : ℕ) → c < count → All (λ k. k < count) (readers_at lists.now.items c) }
-    ensures { IfOk result (λ masks. AreMasks lists.now.items masks.items) }
+    ensures { IfOk result (λ rows. AreMasks lists.now.items rows.items) }
 {
-    let mut masks = Vec::with_capacity(alloc, count as usize)?;
+    let mut rows = Vec::with_capacity(alloc, count as usize)?;
     for c in 0..count {
         let mut row = Row::new(alloc, count, false)?;
         wake(&mut row, lists[c as usize].as_slice());
-        match masks.push(row) {
+        match rows.push(row) {
             Ok(()) => {}
             Err(_) => return Err(NoMemory),
         }
     }
-    Ok(masks)
+    Ok(rows)
+}
+
+/// The same, by blocks of components.
+fn masks_of(alloc: Global, lists: &Vec<Components>, count: u32) -> Result<RowBlocks, NoMemory>
+    requires count { length lists.now.items ≡ count }
+    requires within { (c : ℕ) → c < count → All (λ k. k < count) (readers_at lists.now.items c) }
+    ensures { IfOk result (λ masks. AreMasks lists.now.items masks) }
+{
+    let rows = rows_of(alloc, lists, count)?;
+    Ok(RowBlocks::new(alloc, rows.as_slice(), count)?)
 }
 
 /// What is near each component, to be owned by several.
@@ -147,7 +157,7 @@ impl Readers {
             reached.mark_all();
             return;
         }
-        reached.gather(self.masks.as_slice(), changes);
+        reached.gather(&self.masks, changes);
     }
 
     /// The components that read `c`.

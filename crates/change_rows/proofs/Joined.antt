@@ -1,11 +1,11 @@
 -- Sets that are made of others, a word at a time.
-use Rattle.std.proofs.Common.{◌≡◌, ℕ, ◌+◌, ◌-◌, ◌/◌, ◌%◌, ◌^◌, ◌<◌, ◌≤◌, ◌∙◌, ◌⊎◌, inl, inr, sym, ap, refl, arith, w64, Bool, ◌&&◌, ◌||◌, not, min, max, List, length, get_or, eqb}
+use Rattle.std.proofs.Common.{◌≡◌, ℕ, ◌+◌, ◌-◌, ◌/◌, ◌%◌, ◌^◌, ◌<◌, ◌≤◌, ◌∙◌, ◌⊎◌, inl, inr, sym, ap, refl, arith, w64, Bool, true, false, ◌&&◌, ◌||◌, not, min, max, List, length, get_or, eqb}
 use Rattle.std.specs.Int.{bit_at}
-use Rattle.std.specs.Int.Bits.{bit_and, bit_or}
+use Rattle.std.specs.Int.Bits.{bit_and, bit_or, bit_xor}
 use Rattle.std.proofs.Math.ListN.{set}
-use Rattle.std.proofs.lemmas.Bool.{cases_eq}
+use Rattle.std.proofs.lemmas.Bool.{cases_eq, eq-eqb, false≢true}
 use Rattle.std.proofs.lemmas.List.{get_or-set_same, get_or-set_other}
-use Rattle.std.proofs.lemmas.Nat.Bits.{bit_at_and, bit_at_or, bit_at_not, bit_at-lt}
+use Rattle.std.proofs.lemmas.Nat.Bits.{bit_at_and, bit_at_or, bit_at_xor, bit_at_not, bit_at-lt}
 use Rattle.change_rows.specs.Marks.{is_one, is_in}
 use Rattle.change_rows.proofs.Members.{in_word}
 
@@ -88,3 +88,34 @@ module _ (set0 set1 other : List ℕ) (w word : ℕ) (rest : (c : ℕ) → w ≤
       one_and (18446744073709551615 - get_or set1 w 0) word (c % 64)
       ∙ ap (λ (b : Bool). b && is_one word (c % 64)) (one_not (get_or set1 w 0) (c % 64) fits (omega arith) ∙ ap not (own c e))
       ∙ ap (λ (b : Bool). not (is_in set0 c) && b) (one_at other c w word e is)
+
+-- a word that has the bits of one that differ from those of another, or that a third has, too
+pub one_xor : (a b k : ℕ) → is_one (bit_xor a b) k ≡ false → is_one a k ≡ is_one b k
+one_xor a b k e = by_bits (small _ (bit_at-lt a k)) (small _ (bit_at-lt b k))
+  where
+    not_one : (bit_at a k + bit_at b k) % 2 ≡ 1 → ⊥
+    not_one q = false≢true (sym e ∙ eq-eqb (bit_at (bit_xor a b) k) 1 (bit_at_xor a b k ∙ q))
+
+    by_bits : (bit_at a k ≡ 0) ⊎ (bit_at a k ≡ 1) → (bit_at b k ≡ 0) ⊎ (bit_at b k ≡ 1) → is_one a k ≡ is_one b k
+    by_bits (inl p) (inl q) = ap (λ (x : ℕ). eqb x 1) (p ∙ sym q)
+    by_bits (inl p) (inr q) = absurd (not_one (omega (arith, p, q)))
+    by_bits (inr p) (inl q) = absurd (not_one (omega (arith, p, q)))
+    by_bits (inr p) (inr q) = ap (λ (x : ℕ). eqb x 1) (p ∙ sym q)
+
+neither : (a b : Bool) → (a || b) ≡ false → (a ≡ false) × (b ≡ false)
+neither true b e = absurd (false≢true (sym e))
+neither false b e = (refl, e)
+
+not_both : (a b : Bool) → (a && b) ≡ false → a ≡ true → b ≡ false
+not_both true b e f = e
+not_both false b e f = absurd (false≢true f)
+
+module _ (one other but : List ℕ) (w word word1 word2 : ℕ) (is : word ≡ get_or one w 0) (is1 : word1 ≡ get_or other w 0) (is2 : word2 ≡ get_or but w 0) (c : ℕ) (here : c / 64 ≡ w) (e : is_one (bit_or (bit_xor word word1) (bit_and word word2)) (c % 64) ≡ false) where
+  parts : (is_one (bit_xor word word1) (c % 64) ≡ false) × (is_one (bit_and word word2) (c % 64) ≡ false)
+  parts = neither _ _ (sym (one_or (bit_xor word word1) (bit_and word word2) (c % 64)) ∙ e)
+
+  pub same_one : is_in one c ≡ is_in other c
+  same_one = sym (one_at one c w word here is) ∙ one_xor word word1 (c % 64) parts.0 ∙ one_at other c w word1 here is1
+
+  pub none_but : is_in one c ≡ true → is_in but c ≡ false
+  none_but i = sym (one_at but c w word2 here is2) ∙ not_both (is_one word (c % 64)) (is_one word2 (c % 64)) (sym (one_and word word2 (c % 64)) ∙ parts.1) (one_at one c w word here is ∙ i)

@@ -4,6 +4,7 @@ pub mod Appending
 pub mod Marking
 pub mod Merging
 pub mod Laying
+pub mod Between
 pub mod Standing
 pub mod Editing
 pub mod Putting

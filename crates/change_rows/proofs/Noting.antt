@@ -1,13 +1,14 @@
 -- What is noted beside the rows.
-use Rattle.std.proofs.Common.{◌≡◌, ℕ, ◌+◌, ◌<◌, ◌≤◌, ◌∙◌, ◌⊎◌, inl, inr, sym, ap, refl, subst, arith, Bool, true, false, unwrap_or, Option, Some, None, List, [], get_or}
-use Rattle.std.proofs.lemmas.Bool.{cases_eq}
+use Rattle.std.proofs.Common.{◌≡◌, ℕ, ◌+◌, ◌<◌, ◌≤◌, ◌∙◌, ◌⊎◌, inl, inr, sym, ap, refl, subst, arith, Bool, true, false, is_some, unwrap_or, Option, Some, None, List, [], get_or}
+use Rattle.std.proofs.lemmas.Bool.{cases_eq, cases_lt, false≢true}
 use Rattle.change_rows.specs.Cells.{Held, found, end_of}
 use Rattle.change_rows.specs.Marks.{is_in}
 use Rattle.change_rows.specs.Standing.{standing, standing_before}
-use Rattle.change_rows.specs.Changes.{begins_at, IsChanges}
-use Rattle.change_rows.specs.Kinds.{IsRoomy, HasRoom, IsNoted, IsKept, IsRowLaid, AreHeads, IsSeamLaid}
+use Rattle.change_rows.specs.Changes.{row_at, begins_at, IsChanges}
+use Rattle.change_rows.specs.Kinds.{IsRoomy, HasRoom, IsNoted, IsKept, AreBegun, IsRowLaid, AreHeads, IsSeamLaid}
 use Rattle.change_rows.specs.declared.kinds.Kinds.{Kinds}
 use Rattle.change_rows.specs.declared.notes.Notes.{Notes}
+use Rattle.change_rows.proofs.Standing.{at_once, begins_seam}
 use Rattle.change_rows.proofs.Sourcing.{not_in, member_low}
 
 -- nothing is known
@@ -35,6 +36,17 @@ none_among moved laid p q width within among none d low high = by_bit (is_in mov
     by_bit : (b : Bool) → is_in moved d ≡ b → is_in moved d ≡ false
     by_bit false e = e
     by_bit true e = absurd (not_in laid d (none d low high) (among d (omega (arith, high, within)) e))
+
+is_none : (o : Option (List ℕ)) → is_some o ≡ false → o ≡ None
+is_none None e = refl
+is_none (Some w) e = absurd (false≢true (sym e))
+
+no_member : (set : List ℕ) (d : ℕ) → (is_in set d ≡ true → ⊥) → is_in set d ≡ false
+no_member set d n = by_bit (is_in set d) refl
+  where
+    by_bit : (b : Bool) → is_in set d ≡ b → is_in set d ≡ false
+    by_bit false e = e
+    by_bit true e = absurd (n e)
 
 -- one component more of which the row is laid
 module _ (rows : List (List Held)) (seam : List Held) (at : ℕ) (moved laid : List ℕ) (words : ℕ → List ℕ) where
@@ -128,6 +140,29 @@ module _ (rows : List (List Held)) (seam : List Held) (at : ℕ) (kept : List �
       by_none : (d : ℕ) → (d < c + 1 → is_in kept d ≡ true → ⊥) → (d ≡ c) ⊎ (d ≡ c → ⊥) → found out1 d ≡ None
       by_none d n (inl e) = absurd (n (omega (arith, e)) (ap (is_in kept) e ∙ member))
       by_none d n (inr m) = others d m ∙ was.none d (λ h i. n (omega (arith, h)) i)
+
+  -- the cells of the seam of all components of the set before another one, at none of which the row itself has a cell
+  pub seam_run : (c next width : ℕ) (k : Kinds) (out out1 : List Held) → IsSeamLaid rows seam at kept c out → c ≤ next → next ≤ width → AreBegun rows seam at width k → ((d : ℕ) → c ≤ d → d < next → is_in kept d ≡ is_in k.under.items d) → ((d : ℕ) → c ≤ d → d < next → is_in kept d ≡ true → is_in k.own.items d ≡ false) → ((d : ℕ) → c ≤ d → d < next → found out1 d ≡ found seam d) → ((d : ℕ) → (c ≤ d → d < next → ⊥) → found out1 d ≡ found out d) → end_of out1 ≤ next → IsSeamLaid rows seam at kept next out1
+  seam_run c next width k out out1 was order within begins same other between others end = record {
+    put = λ d h m. by_place d h m (cases_lt d c);
+    none = λ d n. by_none d n (cases_lt d c) (cases_lt d next);
+    end = end;
+  }
+    where
+      stood_is : (d : ℕ) (o : Option (List ℕ)) → found (row_at rows at) d ≡ None → found seam d ≡ o → is_some o ≡ true → found seam d ≡ Some (standing (begins_at rows seam at d) at)
+      stood_is d None f e i = absurd (false≢true i)
+      stood_is d (Some w) f e i = e ∙ ap Some (sym (at_once (begins_at rows seam at d) at w (begins_seam rows seam at d at f refl ∙ e)))
+
+      by_place : (d : ℕ) → d < next → is_in kept d ≡ true → (d < c) ⊎ (c ≤ d) → found out1 d ≡ Some (standing (begins_at rows seam at d) at)
+      by_place d h m (inl low) = others d (λ p _. omega (arith, low, p)) ∙ was.put d low m
+      by_place d h m (inr high) =
+          between d high h
+          ∙ stood_is d (found seam d) (is_none (found (row_at rows at) d) (sym (begins.own d (omega (arith, h, within))) ∙ other d high h m)) refl (sym (begins.under d (omega (arith, h, within))) ∙ sym (same d high h) ∙ m)
+
+      by_none : (d : ℕ) → (d < next → is_in kept d ≡ true → ⊥) → (d < c) ⊎ (c ≤ d) → (d < next) ⊎ (next ≤ d) → found out1 d ≡ None
+      by_none d n (inl low) _ = others d (λ p _. omega (arith, low, p)) ∙ was.none d (λ h m. n (omega (arith, h, order)) m)
+      by_none d n (inr high) (inl h) = between d high h ∙ is_none (found seam d) (sym (begins.under d (omega (arith, h, within))) ∙ sym (same d high h) ∙ no_member kept d (n h))
+      by_none d n (inr high) (inr h) = others d (λ _ p. omega (arith, h, p)) ∙ was.none d (λ p _. omega (arith, high, p))
 
 -- rows about which nothing is known
 pub kept_anew : (width width1 : ℕ) (rows : List (List Held)) (marks : List (List ℕ)) (seam : List Held) (at : ℕ) (k : Kinds) (n n1 : Notes) → IsChanges width1 rows marks seam at → width1 ≡ width → IsRoomy width k → HasRoom width n → ((w : ℕ) → HasRoom w n → HasRoom w n1) → ((c : ℕ) → is_in n1.apart.items c ≡ false) → ((c : ℕ) → is_in n1.known.items c ≡ false) → IsKept width1 rows marks seam at k n1

@@ -1,12 +1,14 @@
 //! The components of a put, sorted by what is to be done with them.
-ghost use Rattle.std.specs.Prelude.{◌≡◌, ℕ, ◌*◌, ◌/◌, ◌<◌, ◌≤◌, ◌&&◌, ◌||◌, not, true, false, IfOk, is_some, length};
+ghost use Rattle.std.specs.Prelude.{◌≡◌, ℕ, ◌*◌, ◌/◌, ◌<◌, ◌≤◌, ◌&&◌, ◌||◌, not, true, false, IfOk, OnOk, is_some, length};
 ghost use Rattle.std.specs.Option.{option_copied};
 ghost use Rattle.change_rows.specs.Cells.{found, end_of};
 ghost use Rattle.change_rows.specs.Marks.{is_in};
 ghost use Rattle.change_rows.specs.Changes.{row_at, begins_at, IsChanges};
 ghost use Rattle.change_rows.specs.Kinds.{IsRoomy, AreBegun, AreMoved};
 
+use crate::cells::Cells;
 use crate::changes::{Changes, add_cells};
+use crate::merge::append_between;
 use crate::sets::{copy, is_member, join, keep, remove, wipe, word_at};
 use crate::source::Source;
 use std::alloc::{AllocError, Global};
@@ -100,14 +102,14 @@ fn count_below(set: &[u64], below: &mut [u32]) {
     }
 }
 
-/// How many components of a set are below one, where that is counted for its words.
+/// How many components of a set are below one, where that is counted for its words; no fewer than there are, behind all words.
 #[inline(always)]
 fn place_of(set: &[u64], below: &[u32], c: u32) -> usize {
     let w = c as usize / 64;
     let before = word_at(set, w) & !(u64::MAX << (c % 64));
     match below.get(w) {
         Some(count) => count.wrapping_add(before.count_ones()) as usize,
-        None => 0,
+        None => usize::MAX,
     }
 }
 
@@ -152,4 +154,51 @@ pub(crate) fn begun_at<'a>(s: &'a Changes, k: &Kinds, c: u32) -> Option<&'a [u64
         return s.seam.find_at(c, place_of(&k.under, &k.under_below, c));
     }
     None
+}
+
+/// The row's own cells of the components from one on and before another one, behind all cells.
+///
+/// # Errors
+///
+/// Where a growth was refused. Nothing is changed.
+pub(crate) fn append_own(
+    s: &Changes,
+    k: &Kinds,
+    from: u32,
+    to: u32,
+    out: &mut Cells,
+) -> Result<(), AllocError>
+    requires row { s.now.at < length s.now.rows.items }
+    requires order { from ≤ to }
+    requires ascending { end_of out.old ≤ from }
+    ensures between { OnOk result ((c : ℕ) → from ≤ c → c < to → found out.new c ≡ found (row_at s.now.rows.items s.now.at) c) }
+    ensures others { OnOk result ((c : ℕ) → (from ≤ c → c < to → ⊥) → found out.new c ≡ found out.old c) }
+    ensures end { OnOk result (end_of out.new ≤ to) }
+{
+    let place_from = place_of(&k.own, &k.own_below, from);
+    let place_to = place_of(&k.own, &k.own_below, to);
+    append_between(out, &s.rows[s.at], from, to, place_from, place_to)
+}
+
+/// The same of the seam's cells.
+///
+/// # Errors
+///
+/// Where a growth was refused. Nothing is changed.
+pub(crate) fn append_under(
+    s: &Changes,
+    k: &Kinds,
+    from: u32,
+    to: u32,
+    out: &mut Cells,
+) -> Result<(), AllocError>
+    requires order { from ≤ to }
+    requires ascending { end_of out.old ≤ from }
+    ensures between { OnOk result ((c : ℕ) → from ≤ c → c < to → found out.new c ≡ found s.now.seam c) }
+    ensures others { OnOk result ((c : ℕ) → (from ≤ c → c < to → ⊥) → found out.new c ≡ found out.old c) }
+    ensures end { OnOk result (end_of out.new ≤ to) }
+{
+    let place_from = place_of(&k.under, &k.under_below, from);
+    let place_to = place_of(&k.under, &k.under_below, to);
+    append_between(out, &s.seam, from, to, place_from, place_to)
 }

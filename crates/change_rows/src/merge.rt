@@ -83,3 +83,53 @@ pub(crate) fn unite(over: &Cells, under: &Cells, out: &mut Cells) -> Result<(), 
     out.append(over, from, over.len())?;
     Ok(())
 }
+
+/// Whether the cells before a place are those below a component.
+#[inline(always)]
+fn is_split(cells: &Cells, place: usize, c: u32) -> bool
+    requires { place ≤ length cells.now }
+    ensures { result ≡ true → IsSplit cells.now c place }
+{
+    (place == 0 || cells.component(place - 1) < c)
+        && (place == cells.len() || c <= cells.component(place))
+}
+
+/// How many cells are below a component; a guess is tried first.
+#[inline(always)]
+fn place_near(cells: &Cells, c: u32, guess: usize) -> usize
+    ensures split { IsSplit cells.now c result }
+    ensures ascending { IsAscending cells.now }
+{
+    let place = guess.min(cells.len());
+    if is_split(cells, place, c) {
+        place
+    } else {
+        seek(cells, 0, c)
+    }
+}
+
+/// The cells of others of the components from one on and before another one, behind all cells. How many cells are below the two is
+/// guessed.
+///
+/// # Errors
+///
+/// Where a growth was refused. Nothing is changed.
+pub(crate) fn append_between(
+    out: &mut Cells,
+    others: &Cells,
+    from: u32,
+    to: u32,
+    guess_from: usize,
+    guess_to: usize,
+) -> Result<(), AllocError>
+    requires order { from ≤ to }
+    requires ascending { end_of out.old ≤ from }
+    ensures between { OnOk result ((c : ℕ) → from ≤ c → c < to → found out.new c ≡ found others.now c) }
+    ensures others { OnOk result ((c : ℕ) → (from ≤ c → c < to → ⊥) → found out.new c ≡ found out.old c) }
+    ensures end { OnOk result (end_of out.new ≤ to) }
+{
+    let begin = place_near(others, from, guess_from);
+    let end = place_near(others, to, guess_to);
+    out.append(others, begin, end)?;
+    Ok(())
+}

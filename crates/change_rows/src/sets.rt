@@ -1,7 +1,7 @@
 //! Sets of components: a bit for each, 64 in a word.
 ghost use Rattle.std.specs.Prelude.{◌≡◌, ℕ, ◌/◌, ◌%◌, ◌<◌, ◌≤◌, ◌&&◌, ◌||◌, not, true, false, MatchOption, length, slice_index_or};
 ghost use Rattle.std.specs.Int.{bit_at};
-ghost use Rattle.change_rows.specs.Marks.{is_in};
+ghost use Rattle.change_rows.specs.Marks.{is_one, is_in};
 
 use crate::marks::{has_bit, with_bit};
 
@@ -53,6 +53,33 @@ pub(crate) fn next_in(set: &[u64], from: u32, end: u32) -> u32
         match first_bit(word_at(set, c / 64), (c % 64) as u32) {
             Some(k) => return end.min((c / 64 * 64) as u32 + k),
             None => c = (c / 64 + 1) * 64,
+        }
+    }
+    end
+}
+
+/// Of a word's components those that only one of two sets has, and those of the first that a third one has, too.
+fn other_at(one: &[u64], other: &[u64], but: &[u64], w: usize) -> u64
+    ensures same { (c : ℕ) → c / 64 ≡ w → is_one result (c % 64) ≡ false → is_in one.now c ≡ is_in other.now c }
+    ensures none { (c : ℕ) → c / 64 ≡ w → is_one result (c % 64) ≡ false → is_in one.now c ≡ true → is_in but.now c ≡ false }
+{
+    let word = word_at(one, w);
+    (word ^ word_at(other, w)) | (word & word_at(but, w))
+}
+
+/// Up to where two sets have the same components from one on, none of which a third set has; at most up to `end`.
+pub(crate) fn same_to(one: &[u64], other: &[u64], but: &[u64], from: u32, end: u32) -> u32
+    requires { from ≤ end }
+    ensures from { from ≤ result }
+    ensures to { result ≤ end }
+    ensures same { (c : ℕ) → from ≤ c → c < result → is_in one.now c ≡ is_in other.now c }
+    ensures none { (c : ℕ) → from ≤ c → c < result → is_in one.now c ≡ true → is_in but.now c ≡ false }
+{
+    let mut c = from as usize;
+    while c < end as usize {
+        match first_bit(other_at(one, other, but, c / 64), (c % 64) as u32) {
+            Some(k) => return end.min((c / 64 * 64) as u32 + k),
+            None => c = c / 64 * 64 + 64,
         }
     }
     end

@@ -2,7 +2,7 @@
 //!
 //! Of a cell that is still only what began there is looked at, and where it is known to hold other words nothing is. So a pass that
 //! puts row after row has work with the cells that move, and with those at which something began.
-ghost use Rattle.std.specs.Prelude.{◌≡◌, ℕ, ◌+◌, ◌*◌, ◌/◌, ◌<◌, ◌≤◌, true, false, cond, ◌&&◌, ◌||◌, not, nat_eq, OnOk, OnErr, IfOk, length, unwrap_or, slice_index_or};
+ghost use Rattle.std.specs.Prelude.{◌≡◌, ℕ, ◌+◌, ◌*◌, ◌/◌, ◌<◌, ◌≤◌, true, false, cond, ◌&&◌, ◌||◌, not, nat_eq, List, OnOk, OnErr, IfOk, length, unwrap_or, slice_index_or};
 ghost use Rattle.change_rows.specs.Cells.{found, end_of};
 ghost use Rattle.change_rows.specs.Marks.{is_in};
 ghost use Rattle.change_rows.specs.Standing.{standing, standing_before};
@@ -13,10 +13,10 @@ ghost use Rattle.change_rows.specs.Kinds.{IsRoomy, HasRoom, AreBegun, AreMoved, 
 use crate::cells::Cells;
 use crate::changes::{Changes, lay};
 use crate::edit::{Buffers, settle, words_before};
-use crate::kinds::{Kinds, begun_at, find_own, sort};
+use crate::kinds::{Kinds, append_own, append_under, begun_at, find_own, sort};
 use crate::notes::{Notes, forget};
 use crate::sets::{
-    add, copy, is_member, is_void, join, keep, leave, next_in, remove, wipe, word_at,
+    add, copy, is_member, is_void, join, keep, leave, next_in, remove, same_to, wipe, word_at,
 };
 use crate::source::Source;
 use std::alloc::AllocError;
@@ -237,6 +237,55 @@ fn lay_one<S: Source>(
     Ok(false)
 }
 
+/// Puts the next components of a set behind all cells of the row: one of them, or a run of those that may not have moved, and at whose
+/// cells of the row something begins. The component from which it goes on.
+///
+/// # Errors
+///
+/// Where a growth was refused.
+fn lay_next<S: Source>(
+    s: &Changes,
+    k: &Kinds,
+    laid: &[u64],
+    c: u32,
+    n: &mut Notes,
+    source: &S,
+    row: &mut Cells,
+) -> Result<u32, AllocError>
+    requires changes { IsChanges s.now.width s.now.rows.items s.now.marks.items s.now.seam s.now.at }
+    requires row { s.now.at < length s.now.rows.items }
+    requires begun { AreBegun s.now.rows.items s.now.seam s.now.at s.now.width k.now }
+    requires among { (d : ℕ) → d < s.now.width → is_in k.now.moved.items d ≡ true → is_in laid.now d ≡ true }
+    requires has { (d : ℕ) → d < s.now.width → is_in k.now.moved.items d ≡ true → S.has source.now d }
+    requires room { HasRoom s.now.width n.old }
+    requires component { c < s.now.width }
+    requires member { is_in laid.now c ≡ true }
+    requires laid { IsRowLaid s.now.rows.items s.now.seam s.now.at k.now.moved.items laid.now (S.words source.now) c row.old }
+    requires told { IsTold s.now.rows.items s.now.seam s.now.at s.now.at k.now.moved.items (S.words source.now) c n.old.other.items }
+    ensures room { HasRoom s.now.width n.new }
+    ensures apart { n.new.apart.items ≡ n.old.apart.items }
+    ensures known { n.new.known.items ≡ n.old.known.items }
+    ensures further { IfOk result (λ next. c < next) }
+    ensures within { IfOk result (λ next. next ≤ s.now.width) }
+    ensures laid { IfOk result (λ next. IsRowLaid s.now.rows.items s.now.seam s.now.at k.now.moved.items laid.now (S.words source.now) next row.new) }
+    ensures heads { IfOk result (λ next. (heads : List ℕ) → AreHeads k.now.moved.items (S.words source.now) c heads n.old.heads.items → AreHeads k.now.moved.items (S.words source.now) next heads n.new.heads.items) }
+    ensures others { (d : ℕ) → is_in k.now.moved.items d ≡ false → slice_index_or n.new.heads.items d 0 ≡ slice_index_or n.old.heads.items d 0 }
+    ensures told { IfOk result (λ next. IsTold s.now.rows.items s.now.seam s.now.at s.now.at k.now.moved.items (S.words source.now) next n.new.other.items) }
+{
+    let width = s.width;
+    if !is_member(&k.moved, c) {
+        let end = same_to(laid, &k.own, &k.moved, c, width);
+        // A cell alone is cheaper to push.
+        if c + 1 < end {
+            append_own(s, k, c, end, row)?;
+            return Ok(end);
+        }
+    }
+    let other = lay_one(s, k, c, source, row, &mut n.heads)?;
+    tell(&mut n.other, c, other);
+    Ok(c + 1)
+}
+
 /// The row once it is put, the first words of those that may have moved, and which of these hold other words.
 ///
 /// # Errors
@@ -268,9 +317,8 @@ fn lay_all<S: Source>(
     wipe(&mut n.other);
     let mut c = next_in(laid, 0, s.width);
     while c < s.width {
-        let other = lay_one(s, k, c, source, row, &mut n.heads)?;
-        tell(&mut n.other, c, other);
-        c = next_in(laid, c + 1, s.width);
+        let next = lay_next(s, k, laid, c, n, source, row)?;
+        c = next_in(laid, next, s.width);
     }
     Ok(())
 }
@@ -334,6 +382,39 @@ fn find_kept(s: &Changes, changed: &[u64], kept: &mut [u64])
     }
 }
 
+/// Puts what the next components of a set hold at the row behind all cells: of one of them, or of a run of those that stand in the
+/// seam already. The component from which it goes on.
+///
+/// # Errors
+///
+/// Where a growth was refused.
+fn keep_next(
+    s: &Changes,
+    k: &Kinds,
+    kept: &[u64],
+    c: u32,
+    seam: &mut Cells,
+) -> Result<u32, AllocError>
+    requires changes { IsChanges s.now.width s.now.rows.items s.now.marks.items s.now.seam s.now.at }
+    requires row { s.now.at < length s.now.rows.items }
+    requires begun { AreBegun s.now.rows.items s.now.seam s.now.at s.now.width k.now }
+    requires component { c < s.now.width }
+    requires member { is_in kept.now c ≡ true }
+    requires laid { IsSeamLaid s.now.rows.items s.now.seam s.now.at kept.now c seam.old }
+    ensures further { IfOk result (λ next. c < next) }
+    ensures within { IfOk result (λ next. next ≤ s.now.width) }
+    ensures laid { IfOk result (λ next. IsSeamLaid s.now.rows.items s.now.seam s.now.at kept.now next seam.new) }
+{
+    let end = same_to(kept, &k.under, &k.own, c, s.width);
+    // A cell alone is cheaper to push.
+    if c + 1 < end {
+        append_under(s, k, c, end, seam)?;
+        return Ok(end);
+    }
+    seam.push(c, stood_at(s, k, c))?;
+    Ok(c + 1)
+}
+
 /// The seam behind the row: what components that go on there hold at the row.
 ///
 /// # Errors
@@ -348,8 +429,8 @@ fn keep_all(s: &Changes, k: &Kinds, kept: &[u64], seam: &mut Cells) -> Result<()
     seam.clear();
     let mut c = next_in(kept, 0, s.width);
     while c < s.width {
-        seam.push(c, stood_at(s, k, c))?;
-        c = next_in(kept, c + 1, s.width);
+        let next = keep_next(s, k, kept, c, seam)?;
+        c = next_in(kept, next, s.width);
     }
     Ok(())
 }

@@ -9,6 +9,7 @@ ghost use Rattle.flat_row.specs.Masks.{has, IsSetOf};
 ghost use Rattle.state_words.specs.Reading.{after, queue_from};
 ghost use Rattle.flat_row.specs.Queues.{AreMarked, shown_of, shown_at, asks_one, with_queue};
 
+use crate::bits::has;
 use crate::marks::{Marks, Routed, Rule, shown_by, with_shown};
 use crate::queue::Places;
 use crate::reading::fill;
@@ -77,6 +78,10 @@ impl<T: Routed> Level<T> {
         ensures value { result.now ≡ (queue_at self.now.queues x).items }
         ensures fits { length result.now ≤ queue_places }
     {
+        if !has(self.marks.any, x) {
+            // Its places aren't looked at.
+            return &[];
+        }
         self.queues[x as usize].as_slice()
     }
 

@@ -26,8 +26,8 @@ pub struct Plan {
 }
 
 /// How many cells the slices have together that workers settle in a turn each, at 5 to 60 nanoseconds a cell: who asks
-/// meanwhile waits for all of them at most, which is a millisecond. Each loads the machine's row anew, which on 64 busy processors
-/// costs a third to a half of what its cells do. A slice has a whole cycle at least.
+/// meanwhile waits for all of them at most, which is a millisecond. Each goes on by the row of the one before. A slice has a whole
+/// cycle at least.
 const CELLS: u32 = 16_384;
 
 /// For how many microseconds a worker that finds nothing to do sleeps between two looks at the journal's length. Who edits

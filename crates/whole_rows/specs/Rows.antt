@@ -4,17 +4,25 @@ use Rattle.omega_net.specs.declared.component.Component.{Component}
 use Rattle.omega_net.specs.declared.component.Component.TheVariants.{Proc as ProcAt, Module as ModuleAt, Switch}
 use Rattle.omega_net.specs.Numbers.{component_of}
 use Rattle.machine_cells.specs.declared.state.MachineState.{MachineState}
+use Rattle.machine_cells.specs.Codec.{rp3_codec}
+use Rattle.machine_cells.specs.GridRules.{rp3_rules}
+use Rattle.cell_table.specs.Spares.{AreKept}
+use Rattle.cell_table.specs.declared.beside.Beside.{Beside}
 use Rattle.mem_module.specs.declared.words.Stored.{Stored}
 use Rattle.mem_module.specs.Memory.{with_word}
 use Rattle.project_book.specs.Project.{Project}
 use Rattle.flat_row.specs.declared.changed.Changed.{Changed}
-use Rattle.flat_row.specs.Row.{Arrays, state_of}
+use Rattle.flat_row.specs.Row.{Arrays, IsRowOf, state_of}
 use Rattle.flat_row.specs.Changed.{has_changed}
 use Rattle.flat_row.specs.Masks.{has}
 
 -- the state that a row holds for the cell of a number
 abbrev pub state_in : Arrays → ℕ → MachineState
 state_in R c = state_of R (component_of R.k c)
+
+-- rows that are kept hold what they hold of the run of this project, where they aren't forgotten
+abbrev pub AreRowsOf : Project → Beside Arrays → Type 0
+AreRowsOf P rows = AreKept rp3_rules rp3_codec (λ row Q. IsRowOf Q row) state_in P rows
 
 -- whether a component is outside of what a step changes
 abbrev pub is_outside : ℕ → Changed → Option Component → Bool

@@ -96,6 +96,7 @@ impl Bench {
             Ok(()) => self.counters.forget(to, before),
             Err(_) => return Err(EditFault::Memory),
         }
+        self.rows.forget();
         self.journal.push_reserved(Noted { author, edit });
         Ok(self.journal.len() as u32)
     }

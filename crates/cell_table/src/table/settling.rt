@@ -9,14 +9,14 @@ ghost use Rattle.cell_table.specs.Gives.{IsAfterStore, IsStored, HoldsSame};
 ghost use Rattle.cell_table.specs.Events.{Event, Start};
 ghost use Rattle.cell_table.specs.Stands.{Stands};
 ghost use Rattle.cell_table.specs.Settling.{IsAsBefore, IsNextDueInRow, NoneDueBefore, NoneDueFrom, HoldsRunBefore, IsNextDue, IsSettled, IsSettledTo, SettlesNext, IsSpent, IsSpentBefore, IsAt, StopsBefore, IsFurther, computed_of, IsClockSpent};
-ghost use Rattle.cell_table.specs.Spares.{GoesAlong, IsSpare};
+ghost use Rattle.cell_table.specs.Spares.{AreKept, GoesAlong, IsSpare};
 ghost use Rattle.cell_table.specs.NextWords.{AreBeside};
 ghost use Rattle.cell_table.specs.Cost.{Settles, SettlesTo, SettlesFirst, SettlesFirstTo};
 
 use super::Table;
 use super::alike::{Passed, Spare};
-use crate::along::{Along, keep_idle};
-use crate::beside::{Beside, resume_all};
+use crate::along::Along;
+use crate::beside::{Beside, renew};
 use crate::watcher::{Nobody, Watcher};
 use crate::whole_row::NoRow;
 use crate::{Cell, SettleFault, Settled, StoreFault, WholeRow};
@@ -367,7 +367,9 @@ impl<G: Grid> Table<G> {
     ) -> Result<Settled, SettleFault>
         requires within { end ≤ self.old.horizon + 1 }
         requires watched { W.keeps watcher.old self.old }
+        requires beside { AreKept G.rules G.codec M.stands M.state self.old.slots beside.old }
         ensures watched { W.keeps watcher.new self.new }
+        ensures beside { AreKept G.rules G.codec M.stands M.state self.new.slots beside.new }
         ensures all { IfOk result (λ s. IsAt G.rules self.old self.new end 0 s.computed) }
         ensures stops { IfErr result (λ f. StopsBefore G.rules end self.old self.new (computed_of f)) }
         ensures spent { IfErr result (λ f. IsClockSpent f → IsSpentBefore G.rules end self.new 0 0) }
@@ -386,10 +388,10 @@ impl<G: Grid> Table<G> {
             Ok(spare) => spare,
             Err(_) => return Err(SettleFault::Memory { computed }),
         };
-        resume_all::<G, M>(beside, &self.slots);
-        let mut along: Option<Along<M>> = None;
+        renew::<G, M>(beside, &self.slots);
+        let mut along = beside.along.take();
         let settled = self.settle_all(start, end, &mut spare, &mut along, beside, watcher);
-        keep_idle::<G, M>(&self.slots, along, beside);
+        beside.along = along;
         settled
     }
 
@@ -424,7 +426,9 @@ impl<G: Grid> Table<G> {
     ) -> Result<Settled, SettleFault>
         requires within { end ≤ self.old.horizon + 1 }
         requires watched { W.keeps watcher.old self.old }
+        requires beside { AreKept G.rules G.codec M.stands M.state self.old.slots beside.old }
         ensures watched { W.keeps watcher.new self.new }
+        ensures beside { AreKept G.rules G.codec M.stands M.state self.new.slots beside.new }
         ensures all { IfOk result (λ s. IsAt G.rules self.old self.new end 0 s.computed) }
         ensures stops { IfErr result (λ f. StopsBefore G.rules end self.old self.new (computed_of f)) }
         ensures spent { IfErr result (λ f. IsClockSpent f → IsSpentBefore G.rules end self.new 0 0) }
@@ -435,7 +439,7 @@ impl<G: Grid> Table<G> {
     }
 
     /// `settle_to`, where `watcher` is told of what is stored as soon as it is, and cycles are settled by rows of all components, which
-    /// are kept.
+    /// are kept: a further call goes on by them.
     ///
     /// # Errors
     ///
@@ -446,8 +450,10 @@ impl<G: Grid> Table<G> {
         beside: &mut Beside<M>,
         watcher: &mut W,
     ) -> Result<Settled, SettleFault>
-        requires { W.keeps watcher.old self.old }
+        requires watched { W.keeps watcher.old self.old }
+        requires beside { AreKept G.rules G.codec M.stands M.state self.old.slots beside.old }
         ensures watched { W.keeps watcher.new self.new }
+        ensures beside { AreKept G.rules G.codec M.stands M.state self.new.slots beside.new }
         ensures headline_settles { IfOk result (λ s. (done : List (Event G.State G.Slots G.Slot)) × ((o : Start G.Slots) (h : List (Event G.State G.Slots G.Slot)) → Stands G.rules o self.old h
             → SettlesTo G.rules o last h self.new done s.computed)) }
         ensures after_fault { IfErr result (λ f. (done : List (Event G.State G.Slots G.Slot)) × ((o : Start G.Slots) (h : List (Event G.State G.Slots G.Slot)) → Stands G.rules o self.old h
@@ -475,8 +481,10 @@ impl<G: Grid> Table<G> {
         beside: &mut Beside<M>,
         watcher: &mut W,
     ) -> Result<Settled, SettleFault>
-        requires { W.keeps watcher.old self.old }
+        requires watched { W.keeps watcher.old self.old }
+        requires beside { AreKept G.rules G.codec M.stands M.state self.old.slots beside.old }
         ensures watched { W.keeps watcher.new self.new }
+        ensures beside { AreKept G.rules G.codec M.stands M.state self.new.slots beside.new }
         ensures headline_settles { IfOk result (λ s. (done : List (Event G.State G.Slots G.Slot)) × ((o : Start G.Slots) (h : List (Event G.State G.Slots G.Slot)) → Stands G.rules o self.old h
             → Settles G.rules o h self.new done s.computed)) }
         ensures after_fault { IfErr result (λ f. (done : List (Event G.State G.Slots G.Slot)) × ((o : Start G.Slots) (h : List (Event G.State G.Slots G.Slot)) → Stands G.rules o self.old h

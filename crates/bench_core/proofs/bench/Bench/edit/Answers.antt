@@ -16,6 +16,7 @@ use Rattle.bench_core.specs.Recent.{AreTold}
 use Rattle.bench_core.proofs.Keeping.{told_later, holds_still}
 use Rattle.bench_core.proofs.Touching.{bench_edited, after_edit, differ, to}
 use Rattle.bench_core.proofs.Counting.{are_touched}
+use Rattle.whole_rows.specs.Rows.{AreRowsOf}
 use Rattle.bench_core.proofs.bench.Bench.edit.Goals as goal
 
 pub forget-requires : goal.forget-requires
@@ -24,12 +25,12 @@ forget-requires c = omega (arith, c.horizon-before.ensures, c.self.invariant.0.s
 pub invariant_of-self : goal.invariant_of-self
 invariant_of-self c =
     let i = c.self.inside in
-    holds_still i.table i.table i.counters i.journal.items c.reserve.new.self.items i.recent refl (search rules) c.self.invariant
+    holds_still i.table i.table i.counters i.journal.items c.reserve.new.self.items i.recent (λ P. AreRowsOf P i.rows) refl (search rules) c.self.invariant
 
 pub invariant_of-self-in-Err-touch : goal.invariant_of-self-in-Err-touch
 invariant_of-self-in-Err-touch c =
     let i = c.self.inside in
-    holds_still i.table c.touch.new.self i.counters i.journal.items c.reserve.new.self.items i.recent (search rules) (search rules) c.self.invariant
+    holds_still i.table c.touch.new.self i.counters i.journal.items c.reserve.new.self.items i.recent (λ P. AreRowsOf P i.rows) (search rules) (search rules) c.self.invariant
 
 pub invariant_of-self-2 : goal.invariant_of-self-2
 invariant_of-self-2 c =
@@ -53,7 +54,7 @@ invariant_of-self-2 c =
     rw (noted, length_push c.self.inside.journal.items (record { author = c.args.author; edit = c.args.edit })) (told_later old.slots (length c.self.inside.journal.items) c.self.inside.recent c.self.invariant.3 new.slots) in
     let at_end : c.horizon-to.result ≡ new.horizon = c.horizon-to.ensures.horizon ∙ sym (touched.horizon ∙ end) in
     let clears : IfSome c.self.inside.counters (λ s. IfSome c.forget.new.self (λ n. (at : States) → StandsFor s at → StandsFor n (cleared at (new.horizon + 1) old.horizon))) = rw (at_end, c.horizon-before.ensures) at c.forget.ensures.stands in
-    (bench, are_touched c.self.inside.counters c.forget.new.self old new c.self.invariant.1 c.forget.ensures.there c.forget.ensures.shape (unwrap_or horizon old.horizon) next listed (sym touches.shape) touched clears, history, recent)
+    (bench, are_touched c.self.inside.counters c.forget.new.self old new c.self.invariant.1 c.forget.ensures.there c.forget.ensures.shape (unwrap_or horizon old.horizon) next listed (sym touches.shape) touched clears, history, recent, search rules)
 
 pub returns-clause-ok : goal.returns-clause-ok
 returns-clause-ok c = search (rules, differ, admitted_room, admitted_clock)

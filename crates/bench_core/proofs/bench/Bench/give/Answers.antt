@@ -3,7 +3,8 @@ use Rattle.cell_table.specs.declared.given.Given.TheVariants.{Stored}
 use Rattle.bench_core.specs.Answers.{after_give}
 use Rattle.bench_core.specs.Shown.{Shown}
 use Rattle.bench_core.proofs.Happening.{not_stored, give_stands, clock_is_given}
-use Rattle.bench_core.proofs.Keeping.{holds_still, inside_still}
+use Rattle.bench_core.proofs.Keeping.{holds_still, inside_still, true_of_equal}
+use Rattle.whole_rows.specs.Rows.{AreRowsOf}
 use Rattle.bench_core.proofs.bench.Bench.give.Goals as goal
 
 pub stored-requires : goal.stored-requires
@@ -18,13 +19,14 @@ invariant_of-self c =
     let behind = c.self.invariant.2 in
     let old : Shown = record { table = i.table; journal = i.journal.items } in
     let new : Shown = record { table = c.give.new.self; journal = i.journal.items } in
-    inside_still i.table c.give.new.self i.counters _ i.journal.items i.recent c.self.invariant after.slots after.horizon c.stored.ensures.1
+    inside_still i.table c.give.new.self i.counters _ i.journal.items i.recent (λ P. AreRowsOf P i.rows) (λ P. AreRowsOf P i.rows) c.self.invariant after.slots after.horizon c.stored.ensures.1
     (behind.0, after_give (Stored c.in-Stored.changed) c.args.done behind.1, give_stands old new c.args.done (Stored c.in-Stored.changed) refl c.in-Stored.ensures.headline_stands behind.0 behind.1 behind.2)
+    (true_of_equal i.table.slots c.give.new.self.slots (λ P. AreRowsOf P i.rows) after.slots c.self.invariant.4)
 
 pub invariant_of-self-in_default : goal.invariant_of-self-in_default
 invariant_of-self-in_default c =
     let i = c.self.inside in
-    holds_still i.table c.give.new.self i.counters i.journal.items i.journal.items i.recent (not_stored i.table c.give.new.self c.args.done c.give.result c.give.ensures.headline_foreign (search rules)) refl c.self.invariant
+    holds_still i.table c.give.new.self i.counters i.journal.items i.journal.items i.recent (λ P. AreRowsOf P i.rows) (not_stored i.table c.give.new.self c.args.done c.give.result c.give.ensures.headline_foreign (search rules)) refl c.self.invariant
 
 pub returns-in-Stored-clause-headline_stands : goal.returns-in-Stored-clause-headline_stands
 returns-in-Stored-clause-headline_stands c =

@@ -11,4 +11,5 @@ invariant_of-result c =
       rw c.none.ensures tt,
       (record { project = c.args.project; clock = c.args.clock }, [], search (rules, stands_new)),
       search (rules, told_none),
+      search rules,
     )

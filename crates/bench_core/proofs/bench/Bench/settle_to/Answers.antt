@@ -3,10 +3,11 @@ use Rattle.bench_core.specs.Shown.{Shown}
 use Rattle.bench_core.proofs.Happening.{settle_all_to, settle_some_to, history_settled_to}
 use Rattle.bench_core.proofs.Keeping.{inside_still}
 use Rattle.bench_core.proofs.Waiting.{ready_to}
+use Rattle.whole_rows.specs.Rows.{AreRowsOf}
 use Rattle.bench_core.proofs.bench.Bench.settle_to.Goals as goal
 
 pub settle_rows_to-requires : goal.settle_rows_to-requires
-settle_rows_to-requires c = (c.self.invariant.0.short, c.self.invariant.1)
+settle_rows_to-requires c = record { watched = (c.self.invariant.0.short, c.self.invariant.1); beside = c.self.invariant.4 }
 
 pub invariant_of-self : goal.invariant_of-self
 invariant_of-self c =
@@ -15,7 +16,7 @@ invariant_of-self c =
     let old : Shown = record { table = i.table; journal = i.journal.items } in
     let new : Shown = record { table = c.settle_rows_to.new.self; journal = i.journal.items } in
     let history = history_settled_to c.args.last old new c.settle_rows_to.result (settle_all_to c.args.last old new refl c.settle_rows_to.result settled.headline_settles) (settle_some_to c.args.last old new refl c.settle_rows_to.result settled.after_fault) c.self.invariant.2 in
-    inside_still i.table c.settle_rows_to.new.self i.counters c.settle_rows_to.new.watcher i.journal.items i.recent c.self.invariant settled.slots settled.horizon settled.watched.1 history
+    inside_still i.table c.settle_rows_to.new.self i.counters c.settle_rows_to.new.watcher i.journal.items i.recent (λ P. AreRowsOf P i.rows) (λ P. AreRowsOf P c.settle_rows_to.new.beside) c.self.invariant settled.slots settled.horizon settled.watched.1 history settled.beside
 
 pub returns-clause-headline_settles : goal.returns-clause-headline_settles
 returns-clause-headline_settles c =

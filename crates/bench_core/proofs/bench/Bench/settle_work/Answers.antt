@@ -10,7 +10,8 @@ use Rattle.machine_cells.specs.GridRules.{rp3_rules}
 use Rattle.machine_cells.specs.GridLaws.{rp3_laws}
 use Rattle.bench_core.specs.Shown.{Shown}
 use Rattle.bench_core.proofs.Happening.{settle_some, history_settled}
-use Rattle.bench_core.proofs.Keeping.{holds_still, inside_still}
+use Rattle.bench_core.proofs.Keeping.{holds_still, inside_still, true_of_equal}
+use Rattle.whole_rows.specs.Rows.{AreRowsOf}
 use Rattle.bench_core.proofs.bench.Bench.settle_work.Goals as goal
 
 pub stored-requires : goal.stored-requires
@@ -29,14 +30,14 @@ invariant_of-self c =
     let new : Shown = record { table = c.settle_work.new.self; journal = i.journal.items } in
     let one = settle_some old new refl {T = Settled} (Err (Memory 1))
     (Stores cell.cycle cell.component (run rp3_rules i.table.slots cell.cycle cell.component) next.changed ∷ [], λ o h stands. step_settled rp3_rules rp3_laws i.table c.settle_work.new.self c.args.from.cycle c.args.from.component cell next o h stands) in
-    inside_still i.table c.settle_work.new.self i.counters _ i.journal.items i.recent c.self.invariant after.slots after.horizon c.stored.ensures.1 (history_settled old new (Err (Memory 1)) tt one c.self.invariant.2)
+    inside_still i.table c.settle_work.new.self i.counters _ i.journal.items i.recent (λ P. AreRowsOf P i.rows) (λ P. AreRowsOf P i.rows) c.self.invariant after.slots after.horizon c.stored.ensures.1 (history_settled old new (Err (Memory 1)) tt one c.self.invariant.2) (true_of_equal i.table.slots c.settle_work.new.self.slots (λ P. AreRowsOf P i.rows) after.slots c.self.invariant.4)
 
 pub invariant_of-self-in-Ok-None : goal.invariant_of-self-in-Ok-None
 invariant_of-self-in-Ok-None c =
     let i = c.self.inside in
-    holds_still i.table c.settle_work.new.self i.counters i.journal.items i.journal.items i.recent (search rules) refl c.self.invariant
+    holds_still i.table c.settle_work.new.self i.counters i.journal.items i.journal.items i.recent (λ P. AreRowsOf P i.rows) (search rules) refl c.self.invariant
 
 pub invariant_of-self-in-Err : goal.invariant_of-self-in-Err
 invariant_of-self-in-Err c =
     let i = c.self.inside in
-    holds_still i.table c.settle_work.new.self i.counters i.journal.items i.journal.items i.recent (search rules) refl c.self.invariant
+    holds_still i.table c.settle_work.new.self i.counters i.journal.items i.journal.items i.recent (λ P. AreRowsOf P i.rows) (search rules) refl c.self.invariant

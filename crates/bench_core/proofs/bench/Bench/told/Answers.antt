@@ -12,7 +12,7 @@ use Rattle.bench_core.proofs.bench.Bench.told.Goals as goal
 pub invariant_of-self : goal.invariant_of-self
 invariant_of-self g c =
     let i = c.self.inside in
-    (c.self.invariant.0, c.self.invariant.1, c.self.invariant.2, told_kept i.table.slots (length i.journal.items) i.recent c.self.invariant.3 c.answer.new.self c.answer.ensures.stays)
+    (c.self.invariant.0, c.self.invariant.1, c.self.invariant.2, told_kept i.table.slots (length i.journal.items) i.recent c.self.invariant.3 c.answer.new.self c.answer.ensures.stays, c.self.invariant.4)
 
 pub returns-in-Some-clause-tells : goal.returns-in-Some-clause-tells
 returns-in-Some-clause-tells g c =
@@ -26,7 +26,7 @@ returns-in-Some-clause-tells g c =
 pub invariant_of-self-2 : goal.invariant_of-self-2
 invariant_of-self-2 g c =
     let i = c.self.inside in
-    (c.self.invariant.0, c.self.invariant.1, c.self.invariant.2, told_kept i.table.slots (length i.journal.items) i.recent c.self.invariant.3 c.answer.new.self c.answer.ensures.stays)
+    (c.self.invariant.0, c.self.invariant.1, c.self.invariant.2, told_kept i.table.slots (length i.journal.items) i.recent c.self.invariant.3 c.answer.new.self c.answer.ensures.stays, c.self.invariant.4)
 
 pub invariant_of-self-in-Answer : goal.invariant_of-self-in-Answer
 invariant_of-self-in-Answer g c =
@@ -40,7 +40,7 @@ invariant_of-self-in-Answer g c =
     let good : bad_query (project_of b) q ≡ None = subst (λ (s : Shown). bad_query (project_of s) q ≡ None) (sym same) c.requires.good in
     let tells : TellsRun b q c.found-told.result = subst (λ (s : Shown). TellsRun s q c.found-told.result) (sym found) c.found-told.ensures.tells in
     let is : answer i.table.slots q ≡ Ok c.in-Answer.body = answer_told b q c.in-Answer.body good c.in-Answer.version (subst (λ (r : Asked). TellsRun b q r) c.in-Answer.is tells) in
-    (c.self-2.invariant.0, c.self-2.invariant.1, c.self-2.invariant.2, told_more i.table.slots (length i.journal.items) i.recent c.self-2.invariant.3 c.keep.new.self (asking, c.in-Answer.body) c.keep.ensures at is)
+    (c.self-2.invariant.0, c.self-2.invariant.1, c.self-2.invariant.2, told_more i.table.slots (length i.journal.items) i.recent c.self-2.invariant.3 c.keep.new.self (asking, c.in-Answer.body) c.keep.ensures at is, c.self-2.invariant.4)
 
 pub returns-in-Answer-clause-tells : goal.returns-in-Answer-clause-tells
 returns-in-Answer-clause-tells g c = subst (λ (s : Shown). TellsRun s c.args.query c.found-told.result) c.self.view_is c.found-told.ensures.tells

@@ -1,7 +1,6 @@
 use Rattle.std.proofs.Common.{◌≡◌, ◌∙◌, sym, ap, arith, true, false, length}
 use Rattle.std.proofs.lemmas.List.{get_or-replicate}
 use Rattle.cell_table.specs.Filling.{is_awake}
-use Rattle.cell_marks.specs.Marked.{any_marks}
 use Rattle.cell_table.specs.Readers.{has, readers_at}
 use Rattle.cell_table.specs.Repeating.{any_changes}
 use Rattle.cell_table.proofs.Noted.{any_read}
@@ -15,8 +14,7 @@ returns-clause-reached c = λ k h near same own.
     let lists = c.args.self.now in
     let len : length i.lists.items ≡ length lists = ap length c.self.view_is in
     c.gather.ensures.marks k (omega (arith, h, c.requires.reached))
-    ∙ ap (λ ms. any_marks c.args.changes.now ms k (length c.args.changes.now)) c.as_slice.ensures.value
-    ∙ any_read c.args.changes.now i.masks.items near k (length c.args.changes.now) (λ d l. (
+    ∙ any_read c.args.changes.now i.masks near k (length c.args.changes.now) (λ d l. (
     masks.same d k (omega (arith, l, len, c.requires.width)) (omega (arith, h, len))
     ∙ ap (λ ms. has (readers_at ms d) k) c.self.view_is
     ∙ same d (omega (arith, l, c.requires.width))

@@ -4,7 +4,7 @@ use Rattle.cell_marks.specs.Marked.{is_set}
 use Rattle.cell_table.specs.Readers.{has, readers_at}
 use Rattle.cell_table.specs.Filling.{is_awake}
 use Rattle.cell_table.proofs.Noted.{each_more, woken_of}
-use Rattle.cell_table.proofs.readers.masks_of.Goals as goal
+use Rattle.cell_table.proofs.readers.rows_of.Goals as goal
 
 pub wake-requires : goal.wake-requires
 wake-requires c = λ k d h.
@@ -26,7 +26,7 @@ loop-c-preserved c =
     let row = c.wake.new.marks in
     let items = c.in-Ok.ensures.items in
     record {
-      len = omega (arith, ap length items, length-append c.loop-c.masks.items (row ∷ []), inv.len);
-      width = each_more (λ d r. length r ≡ n) c.loop-c.masks.items c.push.new.self.items row at inv.len items inv.width (c.wake.ensures.len ∙ blank);
-      same = λ d k h l. each_more (λ d r. is_set r k ≡ has (readers_at lists d) k) c.loop-c.masks.items c.push.new.self.items row at inv.len items (λ e m. inv.same e k m l) (woken_of c.in_ok-row.row row (readers_at lists at) n k c.in_ok-row.ensures l (c.wake.ensures.at k ∙ ap (λ ms. is_awake c.in_ok-row.row k || has ms k) list)) d h;
+      len = omega (arith, ap length items, length-append c.loop-c.rows.items (row ∷ []), inv.len);
+      width = each_more (λ d r. length r ≡ n) c.loop-c.rows.items c.push.new.self.items row at inv.len items inv.width (c.wake.ensures.len ∙ blank);
+      same = λ d k h l. each_more (λ d r. is_set r k ≡ has (readers_at lists d) k) c.loop-c.rows.items c.push.new.self.items row at inv.len items (λ e m. inv.same e k m l) (woken_of c.in_ok-row.row row (readers_at lists at) n k c.in_ok-row.ensures l (c.wake.ensures.at k ∙ ap (λ ms. is_awake c.in_ok-row.row k || has ms k) list)) d h;
     }
