@@ -76,16 +76,23 @@ fn words_are_states(alloc: Global, project: &Project, row: &Row) -> Result<bool,
     Ok(true)
 }
 
-/// Whether, cycle for cycle of a run, the words of a row are those of its states.
-fn run_is_told(alloc: Global, project: &Project) -> Result<bool, Fail> {
-    let mut row = Row::start(alloc, project)?;
+/// Whether, cycle for cycle of a run, the words of a row that steps are those of its states.
+fn are_told(alloc: Global, project: &Project, row: &mut Row) -> Result<bool, Fail>
+    requires { IsRowOf project.now row.old }
+{
     for _c in 0..CYCLES {
-        if !words_are_states(alloc, project, &row)? {
+        if !words_are_states(alloc, project, row)? {
             return Ok(false);
         }
         row.step(project)?;
     }
-    words_are_states(alloc, project, &row)
+    words_are_states(alloc, project, row)
+}
+
+/// The same from cycle 0 on.
+fn run_is_told(alloc: Global, project: &Project) -> Result<bool, Fail> {
+    let mut row = Row::start(alloc, project)?;
+    are_told(alloc, project, &mut row)
 }
 
 #[test]

@@ -61,16 +61,29 @@ pub(crate) fn has(
     Ok(true)
 }
 
-/// Whether a row that steps has the states of the run, cycle for cycle.
-pub(crate) fn is_run(alloc: Global, project: &Project) -> Result<bool, Fail> {
-    let mut row = Row::start(alloc, project)?;
-    for states in &from_scratch(alloc, project)? {
-        if !has(alloc, project, &row, states)? {
+/// Whether a row that steps has these states, cycle for cycle.
+fn is_along(
+    alloc: Global,
+    project: &Project,
+    row: &mut Row,
+    cycles: &[Vec<Arc<MachineState>>],
+) -> Result<bool, Fail>
+    requires { IsRowOf project.now row.old }
+{
+    for states in cycles {
+        if !has(alloc, project, row, states)? {
             return Ok(false);
         }
         row.step(project)?;
     }
     Ok(true)
+}
+
+/// Whether a row that steps has the states of the run, cycle for cycle.
+pub(crate) fn is_run(alloc: Global, project: &Project) -> Result<bool, Fail> {
+    let cycles = from_scratch(alloc, project)?;
+    let mut row = Row::start(alloc, project)?;
+    is_along(alloc, project, &mut row, &cycles)
 }
 
 /// Whether a module is said to have written exactly where its words are other ones.
@@ -113,21 +126,35 @@ fn tells(
     Ok(true)
 }
 
-/// The cycle from which nothing changes, where each step up to it tells exactly the components that changed.
-fn stands_from(alloc: Global, project: &Project) -> Result<Option<u32>, Fail> {
-    let mut before = Row::start(alloc, project)?;
-    let mut row = Row::start(alloc, project)?;
+/// The cycle from which nothing changes, where each step of the second row up to it tells exactly the components that changed. The
+/// first one stands where the second does, and follows.
+fn stands_along(
+    alloc: Global,
+    project: &Project,
+    before: &mut Row,
+    row: &mut Row,
+) -> Result<Option<u32>, Fail>
+    requires before { IsRowOf project.now before.old }
+    requires row { IsRowOf project.now row.old }
+{
     for cycle in 0..project.horizon() {
         let changed = row.step(project)?;
         if changed.is_empty() {
             return Ok(Some(cycle));
         }
-        if !tells(alloc, project, &before, &row, &changed)? {
+        if !tells(alloc, project, before, row, &changed)? {
             return Ok(None);
         }
         before.step(project)?;
     }
     Ok(None)
+}
+
+/// The same from cycle 0 on. The rows are let go here, where there are few ways out.
+fn stands_from(alloc: Global, project: &Project) -> Result<Option<u32>, Fail> {
+    let mut before = Row::start(alloc, project)?;
+    let mut row = Row::start(alloc, project)?;
+    stands_along(alloc, project, &mut before, &mut row)
 }
 
 #[test]

@@ -109,18 +109,23 @@ fn still(
 
 /// A row into which the states of each cycle are put, the last one first, steps to those of the next one. How many cells were still in
 /// all steps, and none where something was wrong.
-fn along_the_run(alloc: Global, project: &Project) -> Result<Option<u32>, Fail> {
-    let rows = from_scratch(alloc, project)?;
-    let mut row = MachineRow::new(alloc, project).ok_or("no memory")?;
+fn steps_along(
+    alloc: Global,
+    project: &Project,
+    row: &mut MachineRow,
+    rows: &[Vec<Arc<MachineState>>],
+) -> Result<Option<u32>, Fail>
+    requires { IsRowOf project.now row.old }
+{
     let mut many = 0_u32;
     for t in (1..rows.len()).rev() {
         let before = rows[t - 1].as_slice();
         let states = rows[t].as_slice();
-        if !put(alloc, project, &mut row, before)? || !holds(alloc, project, &row, before)? {
+        if !put(alloc, project, row, before)? || !holds(alloc, project, row, before)? {
             return Ok(None);
         }
         let step = row.step(project).ok_or("no memory")?;
-        if !holds(alloc, project, &row, states)? {
+        if !holds(alloc, project, row, states)? {
             return Ok(None);
         }
         match still(alloc, project, &step, before, states)? {
@@ -129,6 +134,13 @@ fn along_the_run(alloc: Global, project: &Project) -> Result<Option<u32>, Fail> 
         }
     }
     Ok(Some(many))
+}
+
+/// The same of a new row. It is let go here, where there are few ways out.
+fn along_the_run(alloc: Global, project: &Project) -> Result<Option<u32>, Fail> {
+    let rows = from_scratch(alloc, project)?;
+    let mut row = MachineRow::new(alloc, project).ok_or("no memory")?;
+    steps_along(alloc, project, &mut row, &rows)
 }
 
 #[test]

@@ -105,33 +105,49 @@ fn told(alloc: Global, words: &mut Vec<u64>, state: &MachineState) -> Result<boo
     Ok(own.len() == length_of(*head) && again.same(state))
 }
 
-/// A module, a low switch and a combining one with full queues and the greatest numbers.
-fn full_states(alloc: Global) -> Result<[MachineState; 3], Fail> {
+fn pair<T: Copy>(alloc: Global, message: T) -> Result<[Queue<T>; 2], Fail> {
+    Ok([full(alloc, message)?, full(alloc, message)?])
+}
+
+fn full_module(alloc: Global) -> Result<MachineState, Fail> {
     let mut memory = Words::new(alloc);
     memory.put(3, 4)?;
-    Ok([
-        MachineState::Module(ModuleState {
-            words: SharedWords::new(alloc, memory)?,
-            requests: [full(alloc, REQUEST)?, full(alloc, REQUEST)?],
-            replies: [full(alloc, REPLY)?, full(alloc, REPLY)?],
-            turn: Net::Comb,
-            served: true,
-        }),
-        MachineState::Low(LowState {
-            fwd: [full(alloc, REQUEST)?, full(alloc, REQUEST)?],
-            turn: [255, 254],
-            rev: [full(alloc, REPLY)?, full(alloc, REPLY)?],
-            rturn: [253, 255],
-        }),
-        MachineState::Comb(CombState {
-            fwd: [full(alloc, REQUEST)?, full(alloc, REQUEST)?],
-            rev: [full(alloc, REPLY)?, full(alloc, REPLY)?],
-            wait: full(alloc, WAITING)?,
-            turn: [255, 254],
-            rturn: 253,
-            combined: 255,
-        }),
-    ])
+    Ok(MachineState::Module(ModuleState {
+        words: SharedWords::new(alloc, memory)?,
+        requests: pair(alloc, REQUEST)?,
+        replies: pair(alloc, REPLY)?,
+        turn: Net::Comb,
+        served: true,
+    }))
+}
+
+fn full_low(alloc: Global) -> Result<MachineState, Fail> {
+    Ok(MachineState::Low(LowState {
+        fwd: pair(alloc, REQUEST)?,
+        turn: [255, 254],
+        rev: pair(alloc, REPLY)?,
+        rturn: [253, 255],
+    }))
+}
+
+fn full_comb(alloc: Global) -> Result<MachineState, Fail> {
+    Ok(MachineState::Comb(CombState {
+        fwd: pair(alloc, REQUEST)?,
+        rev: pair(alloc, REPLY)?,
+        wait: full(alloc, WAITING)?,
+        turn: [255, 254],
+        rturn: 253,
+        combined: 255,
+    }))
+}
+
+/// A module, a low switch and a combining one with full queues and the greatest numbers.
+fn full_states(alloc: Global) -> Result<Vec<MachineState>, Fail> {
+    let mut states = Vec::new(alloc);
+    states.push(full_module(alloc)?)?;
+    states.push(full_low(alloc)?)?;
+    states.push(full_comb(alloc)?)?;
+    Ok(states)
 }
 
 #[test]
