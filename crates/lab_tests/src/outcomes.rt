@@ -56,6 +56,7 @@ hot words, by processors and references: 260 (2, 6), 5 (1, 3)
 hot modules, by processors and references: 0 (2, 6), 1 (1, 3)
 ";
 
+/// One processor that refers to ten words, once each.
 const TEN: &[u8] = b"format = 2
 k = 0
 horizon = 8
@@ -74,6 +75,7 @@ hot words, by processors and references: 10 (1, 1), 11 (1, 1), 12 (1, 1), 13 (1,
 hot modules, by processors and references: 0 (1, 10)
 ";
 
+/// Two processors that refer once each to word 8, and one of them 98 times to word 7.
 const RANKED: &[u8] = b"format = 2
 k = 1
 horizon = 8
@@ -338,23 +340,8 @@ processor = 0
 entries = [\"plain load 5 0 3\"]
 ";
 
-/// Two processors that add to one word at once: the second one's request is combined into the first one's.
-const TOGETHER: &[u8] = b"format = 2
-k = 1
-horizon = 20
-combine = [true]
-
-[[script]]
-processor = 0
-entries = [\"sync add 0 1\"]
-
-[[script]]
-processor = 1
-entries = [\"sync add 0 1\"]
-";
-
-/// Words with bars between, the bytes of their file, which file they write first, and lines of parts that it has, and, behind a
-/// dash, of those that it hasn't.
+/// Words with bars between, the bytes of their file, which picture they write first, and a line for each part that it has; behind a
+/// dash, for one that it hasn't.
 const DRAWN: [(&str, &[u8], &str, &str); 10] = [
     // The mean 5.00 stands where 5 does: on an axis of 500 hundredths, at its top; 7 of 8 across is 46 and 7/8 of 734 pixels.
     (
@@ -377,10 +364,7 @@ const DRAWN: [(&str, &[u8], &str, &str); 10] = [
         "map|there/two.toml|--out|two.svg",
         TWO,
         "two.svg",
-        "\
-<svg 
-</svg>
-two.toml, cycles 0 to 8.",
+        "two.toml, cycles 0 to 8.",
     ),
     // One processor has no switches, so no row is told of.
     (
@@ -455,7 +439,7 @@ two.toml, cycles 0 to 8.",
     // p1 1, c0.0 2 in p0.0, m0 3-4 in p0.0, c0.0 5, p1 6: six columns of 95 pixels, and three rows of 20 from 48 on.
     (
         "trace|two.toml|1|0|--out|t.svg",
-        TOGETHER,
+        COMBINED,
         "t.svg",
         "\
 >Where p1.0 was, cycle by cycle</text>
@@ -475,7 +459,7 @@ fn is_as_said(text: &str, part: &str) -> bool {
     }
 }
 
-/// Compares the first file of an outcome with its name and with lines of parts.
+/// Compares the first file of an outcome, which is a picture, with its name and with lines of parts.
 fn compare<R: Abort + Eprint>(
     rt: &R,
     outcome: &Outcome,
@@ -485,6 +469,8 @@ fn compare<R: Abort + Eprint>(
     let file = outcome.files.first().ok_or("a file")?;
     assert!(rt; equal(rt, file.name.as_str(), name));
     let text = std::str::from_utf8(file.bytes.as_slice())?;
+    assert!(rt; text.starts_with("<svg "));
+    assert!(rt; text.ends_with("</svg>\n"));
     for part in parts.lines() {
         assert!(rt; equal_at(rt, (name, part), is_as_said(text, part), true));
     }
