@@ -16,6 +16,7 @@ pub fn taken(rt: &HostRuntime, since: Instant) -> Result<u64> {
 pub struct Times {
     first: Option<u64>,
     least: u64,
+    most: u64,
 }
 
 impl Times {
@@ -24,6 +25,7 @@ impl Times {
         Times {
             first: None,
             least: u64::MAX,
+            most: 0,
         }
     }
 
@@ -32,12 +34,18 @@ impl Times {
         Times {
             first: self.first.or(Some(nanoseconds)),
             least: self.least.min(nanoseconds),
+            most: self.most.max(nanoseconds),
         }
     }
 
     /// The shortest time.
     pub fn best(self) -> u64 {
         self.least
+    }
+
+    /// The longest time.
+    pub fn worst(self) -> u64 {
+        self.most
     }
 }
 
@@ -48,42 +56,94 @@ struct Each {
     count: u64,
 }
 
+impl Each {
+    /// So many hundredths.
+    fn hundredths(self) -> u128 {
+        u128::from(self.all)
+            .saturating_mul(100)
+            .checked_div(u128::from(self.count))
+            .unwrap_or(0)
+    }
+
+    fn against(self, other: Each) -> Ratio {
+        Ratio {
+            one: self.all.saturating_mul(other.count),
+            other: other.all.saturating_mul(self.count),
+        }
+    }
+}
+
 impl fmt::Display for Each {
     /// With one digit behind the point.
     fn fmt<W: fmt::Write>(&self, f: &mut fmt::Formatter<W>) -> fmt::Result {
-        let tenths = u128::from(self.all)
-            .saturating_mul(10)
-            .checked_div(u128::from(self.count))
-            .unwrap_or(0);
+        let tenths = self.hundredths() / 10;
         write!(f, "{}.{}", tenths / 10, tenths % 10)
     }
 }
 
-/// One share against another: so many times it, or a part of it.
+/// One number against another.
 #[derive(Clone, Copy)]
-struct Against {
-    one: Each,
-    other: Each,
+pub struct Ratio {
+    one: u64,
+    other: u64,
 }
 
-impl fmt::Display for Against {
-    fn fmt<W: fmt::Write>(&self, f: &mut fmt::Formatter<W>) -> fmt::Result {
-        let one = self.one.all.saturating_mul(self.other.count);
-        let other = self.other.all.saturating_mul(self.one.count);
-        if one < other {
-            let times = Each {
-                all: other,
-                count: one,
-            };
-            write!(f, "1/{times}")
+impl Ratio {
+    pub fn of(one: u64, other: u64) -> Ratio {
+        Ratio { one, other }
+    }
+
+    /// The larger one.
+    pub fn max(self, ratio: Ratio) -> Ratio {
+        let (left, right) = (self.one as u128, ratio.one as u128);
+        if left.saturating_mul(ratio.other as u128) < right.saturating_mul(self.other as u128) {
+            ratio
         } else {
-            let times = Each {
-                all: one,
-                count: other,
-            };
-            write!(f, "{times} times")
+            self
         }
     }
+}
+
+impl fmt::Display for Ratio {
+    /// So many times the other, or a part of it, with two digits behind the point.
+    fn fmt<W: fmt::Write>(&self, f: &mut fmt::Formatter<W>) -> fmt::Result {
+        let is_part = self.one < self.other;
+        let (all, count) = if is_part {
+            (self.other, self.one)
+        } else {
+            (self.one, self.other)
+        };
+        let times = Each { all, count }.hundredths();
+        let (whole, tenth, hundredth) = (times / 100, times / 10 % 10, times % 10);
+        if is_part {
+            write!(f, "1/{whole}.{tenth}{hundredth}")
+        } else {
+            write!(f, "{whole}.{tenth}{hundredth} times")
+        }
+    }
+}
+
+/// So many nanoseconds, told as microseconds.
+#[derive(Clone, Copy)]
+pub struct Micros(pub u64);
+
+impl fmt::Display for Micros {
+    fn fmt<W: fmt::Write>(&self, f: &mut fmt::Formatter<W>) -> fmt::Result {
+        let each = Each {
+            all: self.0,
+            count: 1_000,
+        };
+        write!(f, "{each} us")
+    }
+}
+
+/// How many of so many things a second sees, of which all take so many nanoseconds.
+pub fn a_second(count: u64, nanoseconds: u64) -> u64 {
+    let each = u128::from(count)
+        .saturating_mul(1_000_000_000)
+        .checked_div(u128::from(nanoseconds))
+        .unwrap_or(0);
+    u64::try_from(each).unwrap_or(u64::MAX)
 }
 
 /// What something else took that was done beside it, so often at once.
@@ -121,8 +181,8 @@ pub fn row_beside(
         count,
     };
     let (name, other) = (beside.name, beside.each());
-    let against = Against { one, other };
-    eprintln!(rt; "{load}, {what}: {one} ns, at first {first} ns; {name} {other} ns: {against}")?;
+    let ratio = one.against(other);
+    eprintln!(rt; "{load}, {what}: {one} ns, at first {first} ns; {name} {other} ns: {ratio}")?;
     Ok(())
 }
 
@@ -139,8 +199,8 @@ pub fn bytes_beside(
         count: cells,
     };
     let (name, other) = (beside.name, beside.each());
-    let against = Against { one, other };
-    eprintln!(rt; "{load}, memory: {one} bytes a cell; {name} {other} bytes: {against}")?;
+    let ratio = one.against(other);
+    eprintln!(rt; "{load}, memory: {one} bytes a cell; {name} {other} bytes: {ratio}")?;
     Ok(())
 }
 

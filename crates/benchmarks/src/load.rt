@@ -19,19 +19,10 @@ pub fn hot_spot(alloc: Global, k: u32, horizon: u32) -> Result<Project>
         "k or the horizon is past its limit",
     )?;
     for proc in 0..project.processors() {
-        let entry = ScriptEntry::Reference {
-            sync: true,
-            op: Op {
-                kind: Kind::Add,
-                operand: 1,
-            },
-            address: 0,
-            times: 1000,
-        };
         let edit = Edit::Entry {
             proc,
             index: 0,
-            entry,
+            entry: reference(true, Kind::Add, 0, 1000),
         };
         project = project.apply(edit)?.0;
     }
@@ -59,16 +50,30 @@ pub const LOADS: [Load; 4] = [Load::Quiet, Load::Hot, Load::Mixed, Load::Uniform
 
 impl fmt::Display for Load {
     fn fmt<W: fmt::Write>(&self, f: &mut fmt::Formatter<W>) -> fmt::Result {
-        f.write_str(match self {
-            Load::Hot => "hot",
-            Load::Quiet => "quiet",
-            Load::Uniform => "uniform",
-            Load::Mixed => "mixed",
-        })
+        f.write_str(self.name())
     }
 }
 
 impl Load {
+    fn name(self) -> &'static str {
+        match self {
+            Load::Hot => "hot",
+            Load::Quiet => "quiet",
+            Load::Uniform => "uniform",
+            Load::Mixed => "mixed",
+        }
+    }
+
+    /// The load of this name.
+    pub fn named(name: &str) -> Option<Load> {
+        for load in LOADS {
+            if load.name() == name {
+                return Some(load);
+            }
+        }
+        None
+    }
+
     /// How many entries a script has.
     pub fn entries(self) -> u32 {
         match self {
@@ -78,42 +83,40 @@ impl Load {
         }
     }
 
-    fn window(self) -> u32 {
+    /// How many references may be unanswered.
+    pub fn window(self) -> u32 {
         match self {
             Load::Hot | Load::Quiet => 1,
             Load::Uniform | Load::Mixed => 4,
         }
     }
 
-    fn is_to_hot_word(self, index: u32) -> bool {
+    /// The entry of a processor's script.
+    pub fn entry(self, proc: u32, index: u32) -> ScriptEntry {
         match self {
-            Load::Hot => true,
-            Load::Quiet | Load::Uniform => false,
-            Load::Mixed => index % 2 == 1,
-        }
-    }
-
-    fn entry(self, proc: u32, index: u32) -> ScriptEntry {
-        let number = drawn(proc, index);
-        if self.is_to_hot_word(index) {
-            reference(true, Kind::Add, 0)
-        } else {
-            let kind = if number & 0x1_0000 == 0 {
-                Kind::Load
-            } else {
-                Kind::Add
-            };
-            reference(number & 0x2_0000 == 0, kind, number % ADDRESSES)
+            Load::Hot => reference(true, Kind::Add, 0, 1000),
+            Load::Mixed if index % 2 == 1 => reference(true, Kind::Add, 0, 1),
+            Load::Quiet | Load::Uniform | Load::Mixed => spread(drawn(proc, index)),
         }
     }
 }
 
-fn reference(sync: bool, kind: Kind, address: u32) -> ScriptEntry {
+/// A reference to any word, by a number that was drawn.
+fn spread(number: u32) -> ScriptEntry {
+    let kind = if number & 0x1_0000 == 0 {
+        Kind::Load
+    } else {
+        Kind::Add
+    };
+    reference(number & 0x2_0000 == 0, kind, number % ADDRESSES, 1)
+}
+
+fn reference(sync: bool, kind: Kind, address: u32, times: u32) -> ScriptEntry {
     ScriptEntry::Reference {
         sync,
         op: Op { kind, operand: 1 },
         address,
-        times: 1,
+        times,
     }
 }
 

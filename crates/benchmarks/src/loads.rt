@@ -1,6 +1,7 @@
 //! The loads, each with the plain simulation beside it.
 use crate::benches::{edited, opened, replied, settled};
 use crate::clock::{Beside, Times, bytes_beside, resident, row_beside, taken};
+use crate::edits::{CHANGES, Change};
 use crate::load::{LOADS, Load, loaded};
 use crate::scratch::bytes_of;
 use anyhow::{Error, Result};
@@ -8,8 +9,7 @@ use bench_core::{Asked, Bench};
 use flat_row::Row;
 use machine_cells::from_scratch;
 use monitor_sums::Counter;
-use omega_net::ScriptEntry;
-use project_book::{Depths, Edit, Project};
+use project_book::{Edit, Project};
 use run_queries::{Body, Query, Received};
 use serial_order::Ordered;
 use std::fmt;
@@ -19,34 +19,29 @@ use std::time::Instant;
 /// How often each thing is done.
 const TIMES: u32 = 7;
 
+/// How often each edit is made or taken back: in the end all are taken back.
+const EDITS: u32 = 8;
+
 /// How often all replies are asked for, anew and again.
 const AGAIN: u32 = 100;
 
 /// What came of a load: how many cells were computed at first, and after the last of each kind of edit; the last
 /// processor's first reply.
-#[derive(Clone, Copy)]
+#[derive(Drop)]
 struct Told {
     load: Load,
     fresh: u64,
-    word: u64,
-    entry: u64,
-    depth: u64,
+    edits: Vec<(Change, u64)>,
     reply: Option<Received>,
 }
 
 impl fmt::Display for Told {
     fn fmt<W: fmt::Write>(&self, f: &mut fmt::Formatter<W>) -> fmt::Result {
-        let Told {
-            load,
-            fresh,
-            word,
-            entry,
-            depth,
-            reply,
-        } = *self;
-        write!(f, "{load}: {fresh} cells at first, {word} for a word, ")?;
-        write!(f, "{entry} for an entry, {depth} for a depth, ")?;
-        match reply {
+        write!(f, "{}: {} cells at first, ", self.load, self.fresh)?;
+        for (change, cells) in &self.edits {
+            write!(f, "{cells} for {}, ", change.name())?;
+        }
+        match self.reply {
             Some(reply) => write!(f, "a reply {reply}"),
             None => write!(f, "no reply"),
         }
@@ -54,11 +49,11 @@ impl fmt::Display for Told {
 }
 
 /// What came of all loads.
-#[derive(Clone, Copy)]
+#[derive(Drop)]
 pub struct All {
     k: u32,
     horizon: u32,
-    told: [Told; 4],
+    told: Vec<Told>,
 }
 
 impl fmt::Display for All {
@@ -71,24 +66,20 @@ impl fmt::Display for All {
     }
 }
 
-/// Measures each load on 2^k processors.
+/// Measures each of the loads on 2^k processors.
 pub fn measure<T: Threads + Sync>(
     rt: &HostRuntime,
     threads: &T,
+    loads: &[Load],
     k: u32,
     horizon: u32,
 ) -> Result<All> {
-    memory(rt, k, horizon)?;
-    Ok(All {
-        k,
-        horizon,
-        told: [
-            one_load(rt, threads, Load::Hot, k, horizon)?,
-            one_load(rt, threads, Load::Quiet, k, horizon)?,
-            one_load(rt, threads, Load::Uniform, k, horizon)?,
-            one_load(rt, threads, Load::Mixed, k, horizon)?,
-        ],
-    })
+    memory(rt, loads, k, horizon)?;
+    let mut told = Vec::new(rt.alloc());
+    for load in loads {
+        told.push(one_load(rt, threads, *load, k, horizon)?)?;
+    }
+    Ok(All { k, horizon, told })
 }
 
 /// A settled bench, and what it takes.
@@ -100,12 +91,14 @@ struct Held {
     bench: Box<Bench>,
 }
 
-/// The memory of a settled bench of each load: what the process has more. None is dropped before all are measured, so
-/// that no memory is used twice.
-fn memory(rt: &HostRuntime, k: u32, horizon: u32) -> Result<()> {
+/// The memory of a settled bench of each load, those first that take less: what the process has more. None is dropped before
+/// all are measured, so that no memory is used twice.
+fn memory(rt: &HostRuntime, loads: &[Load], k: u32, horizon: u32) -> Result<()> {
     let mut all = Vec::new(rt.alloc());
     for load in LOADS {
-        all.push(bench_held(rt, load, k, horizon)?)?;
+        if loads.contains(&load) {
+            all.push(bench_held(rt, load, k, horizon)?)?;
+        }
     }
     for held in &all {
         plain_memory(rt, held)?;
@@ -239,12 +232,17 @@ fn edited_told<T: Threads + Sync>(
     plain: Plain,
 ) -> Result<Told> {
     settled(bench)?;
+    let mut edits = Vec::new(rt.alloc());
+    for change in CHANGES {
+        edits.push((
+            change,
+            edited_often(rt, threads, load, bench, change, plain)?,
+        ))?;
+    }
     Ok(Told {
         load,
         fresh,
-        word: edits(rt, threads, load, bench, What::Word, plain)?,
-        entry: edits(rt, threads, load, bench, What::LastEntry, plain)?,
-        depth: edits(rt, threads, load, bench, What::Depth, plain)?,
+        edits,
         reply: replies(rt, threads, load, bench, plain)?,
     })
 }
@@ -338,68 +336,30 @@ fn first_counter<T: Threads + Sync>(
     }
 }
 
-/// A kind of edit that is made again and again, to one value and back.
-#[derive(Clone, Copy)]
-pub enum What {
-    Word,
-    LastEntry,
-    Depth,
-}
-
-impl What {
-    fn name(self) -> &'static str {
-        match self {
-            What::Word => "a word and a reply",
-            What::LastEntry => "a last entry and a reply",
-            What::Depth => "a depth and a reply",
-        }
-    }
-
-    /// The edit that is made at this time. The entry is behind the script where there is room for one, and else its last.
-    pub fn edit(self, load: Load, time: u32) -> Edit {
-        let even = time % 2 == 0;
-        match self {
-            What::Word => Edit::Word {
-                address: 300,
-                word: if even { 5 } else { 6 },
-            },
-            What::LastEntry => Edit::Entry {
-                proc: 0,
-                index: load.entries().min(255),
-                entry: if even {
-                    ScriptEntry::Fence
-                } else {
-                    ScriptEntry::Idle(1)
-                },
-            },
-            What::Depth => Edit::Depth {
-                queue: Depths::CombForward,
-                depth: if even { 5 } else { 4 },
-            },
-        }
-    }
-}
-
 /// Edits of one kind on a settled bench, each with the last processor's first reply: how many cells the last had computed.
-fn edits<T: Threads + Sync>(
+fn edited_often<T: Threads + Sync>(
     rt: &HostRuntime,
     threads: &T,
     load: Load,
     bench: &mut Bench,
-    what: What,
+    change: Change,
     plain: Plain,
 ) -> Result<u64> {
-    let last = bench.project().processors().saturating_sub(1);
+    let (k, last) = (
+        bench.project().k(),
+        bench.project().processors().saturating_sub(1),
+    );
+    let what = change.name();
     let mut times = Times::none();
     let mut cells = 0;
-    for time in 0..TIMES {
+    for time in 0..EDITS {
         let since = Instant::now(rt)?;
-        cells = edited(bench, what.edit(load, time))?;
+        cells = edited(bench, change.edit(load, k, time))?;
         replied(threads, bench, last)?;
         times = times.and(taken(rt, since)?);
     }
-    row_beside(rt, load, what.name(), times, 1, plain.of(1))?;
-    eprintln!(rt; "{load}, {}: {cells} cells", what.name())?;
+    row_beside(rt, load, what, times, 1, plain.of(1))?;
+    eprintln!(rt; "{load}, {what}: {cells} cells")?;
     Ok(cells)
 }
 

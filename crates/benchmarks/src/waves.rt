@@ -3,43 +3,19 @@ ghost use Rattle.std.specs.Prelude.{◌≤◌, ◌<◌};
 
 use crate::benches::{opened, settled};
 use crate::clock::{Beside, Times, row_beside, taken};
+use crate::edits::Change;
 use crate::load::{Load, loaded};
 use anyhow::{Error, Result};
 use bench_core::Bench;
-use project_book::{Depths, Edit, Project};
+use project_book::Project;
 use std::alloc::Global;
+use std::fmt;
 use std::thread::Threads;
 use std::time::Instant;
 use wave_workers::{Ungated, settle_wave};
 
 /// How often each thing is done.
 const TIMES: u32 = 5;
-
-/// An edit that reaches most cells from the first cycles on, to one value and back.
-#[derive(Clone, Copy)]
-enum What {
-    Depth,
-    Window,
-}
-
-impl What {
-    fn name(self) -> &'static str {
-        match self {
-            What::Depth => "cells held, a depth set",
-            What::Window => "cells held, the window set",
-        }
-    }
-
-    fn edit(self, project: &Project) -> Edit {
-        match self {
-            What::Depth => Edit::Depth {
-                queue: Depths::CombForward,
-                depth: 9u32.saturating_sub(project.depth(Depths::CombForward)),
-            },
-            What::Window => Edit::Window(9u32.saturating_sub(project.window())),
-        }
-    }
-}
 
 /// How long a bench was settled by one thread, and by waves of 1, 2 and 4 pieces.
 #[derive(Clone, Copy)]
@@ -121,16 +97,18 @@ fn fresh<R: Threads + Sync>(
 fn held<R: Threads + Sync>(
     rt: &HostRuntime,
     threads: &R,
+    load: Load,
     bench: &mut Bench,
-    what: What,
+    change: Change,
     pieces: usize,
 ) -> Result<(u64, u64)>
     requires { pieces ≤ 16 }
 {
+    let k = bench.project().k();
     let since = Instant::now(rt)?;
-    bench.edit(0, what.edit(bench.project()))?;
+    bench.edit(0, change.edit(load, k, 0))?;
     let there = settled_by(rt.alloc(), threads, bench, pieces)?;
-    bench.edit(0, what.edit(bench.project()))?;
+    bench.edit(0, change.edit(load, k, 1))?;
     let back = settled_by(rt.alloc(), threads, bench, pieces)?;
     Ok((taken(rt, since)?, there.wrapping_add(back)))
 }
@@ -152,7 +130,7 @@ fn all_fresh<R: Threads + Sync>(
             cells,
         };
     }
-    ways.rows(rt, load, "fresh")?;
+    ways.rows(rt, load, "a fresh bench")?;
     Ok(ways.cells)
 }
 
@@ -161,46 +139,95 @@ fn all_held<R: Threads + Sync>(
     threads: &R,
     load: Load,
     bench: &mut Bench,
-    what: What,
+    change: Change,
 ) -> Result<u64> {
     let mut ways = Ways::none();
     for _ in 0..TIMES {
-        let (alone, cells) = held(rt, threads, bench, what, 0)?;
+        let (alone, cells) = held(rt, threads, load, bench, change, 0)?;
         ways = Ways {
             alone: ways.alone.and(alone),
-            one: ways.one.and(held(rt, threads, bench, what, 1)?.0),
-            two: ways.two.and(held(rt, threads, bench, what, 2)?.0),
-            four: ways.four.and(held(rt, threads, bench, what, 4)?.0),
+            one: ways.one.and(held(rt, threads, load, bench, change, 1)?.0),
+            two: ways.two.and(held(rt, threads, load, bench, change, 2)?.0),
+            four: ways.four.and(held(rt, threads, load, bench, change, 4)?.0),
             cells,
         };
     }
-    ways.rows(rt, load, what.name())?;
+    ways.rows(rt, load, change.name())?;
     Ok(ways.cells)
 }
 
-/// Measures the waves of a load: how many cells a fresh bench has, and two edits have computed, there and back.
+/// What came of a load: the cells of a fresh bench, and those that two edits had computed, there and back.
+#[derive(Clone, Copy)]
+struct Told {
+    load: Load,
+    fresh: u64,
+    depth: u64,
+    window: u64,
+}
+
+impl fmt::Display for Told {
+    fn fmt<W: fmt::Write>(&self, f: &mut fmt::Formatter<W>) -> fmt::Result {
+        let Told {
+            load,
+            fresh,
+            depth,
+            window,
+        } = self;
+        write!(
+            f,
+            "{load}: {fresh} cells at first, {depth} for a depth, {window} for the window"
+        )
+    }
+}
+
+/// What came of all loads.
+#[derive(Drop)]
+pub struct All {
+    k: u32,
+    horizon: u32,
+    told: Vec<Told>,
+}
+
+impl fmt::Display for All {
+    fn fmt<W: fmt::Write>(&self, f: &mut fmt::Formatter<W>) -> fmt::Result {
+        write!(f, "waves k {} horizon {}", self.k, self.horizon)?;
+        for told in &self.told {
+            write!(f, "; {told}")?;
+        }
+        Ok(())
+    }
+}
+
+/// Measures the waves of each of the loads on 2^k processors.
 pub fn measure<R: Threads + Sync>(
+    rt: &HostRuntime,
+    threads: &R,
+    loads: &[Load],
+    k: u32,
+    horizon: u32,
+) -> Result<All> {
+    let mut told = Vec::new(rt.alloc());
+    for load in loads {
+        told.push(one_load(rt, threads, *load, k, horizon)?)?;
+    }
+    Ok(All { k, horizon, told })
+}
+
+fn one_load<R: Threads + Sync>(
     rt: &HostRuntime,
     threads: &R,
     load: Load,
     k: u32,
     horizon: u32,
-) -> Result<(u64, u64, u64)> {
+) -> Result<Told> {
     let project = loaded(rt.alloc(), load, k, horizon)?;
     let fresh = all_fresh(rt, threads, load, &project)?;
     let mut bench = opened(rt.alloc(), project)?;
-    let (depth, window) = both_held(rt, threads, load, &mut bench)?;
-    Ok((fresh, depth, window))
-}
-
-fn both_held<R: Threads + Sync>(
-    rt: &HostRuntime,
-    threads: &R,
-    load: Load,
-    bench: &mut Bench,
-) -> Result<(u64, u64)> {
-    settled(bench)?;
-    let depth = all_held(rt, threads, load, bench, What::Depth)?;
-    let window = all_held(rt, threads, load, bench, What::Window)?;
-    Ok((depth, window))
+    settled(&mut bench)?;
+    Ok(Told {
+        load,
+        fresh,
+        depth: all_held(rt, threads, load, &mut bench, Change::Depth)?,
+        window: all_held(rt, threads, load, &mut bench, Change::Window)?,
+    })
 }

@@ -29,11 +29,24 @@ use std::sync::Arc;
 pub(crate) use whole::{no_versions, put_due, put_each};
 
 /// The cells of the first cycles: the states, and by cycle which cells are due, and their versions.
-#[derive(Drop)]
 pub(crate) struct Cells<G: Grid> {
     states: States<G>,
     due: Marks,
     versions: Vec<Versions>,
+}
+
+// Not derived: whoever drops cells calls this, and proves nothing of its parts anew.
+impl<G: Grid> Drop for Cells<G> {
+    fn drop(self) {
+        let Cells {
+            states,
+            due,
+            versions,
+        } = self;
+        drop(states);
+        drop(due);
+        drop(versions);
+    }
 }
 
 impl<G: Grid> Model for Cells<G> {

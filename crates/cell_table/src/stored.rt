@@ -40,7 +40,6 @@ use whole::put_whole;
 ///
 /// Kept is the words that begin at each cycle, and for each component the memories that begin. A cell without words has no state,
 /// whatever stands beside it.
-#[derive(Drop)]
 pub(crate) struct States<G: Grid> {
     words: Rows,
     memories: Lists<G::Memory>,
@@ -49,6 +48,26 @@ pub(crate) struct States<G: Grid> {
     buffer: Vec<u64>,
     ready: Vec<Option<Change<G::Memory>>>,
     sets: Sets,
+}
+
+// Not derived: whoever drops states calls this, and proves nothing of its parts anew.
+impl<G: Grid> Drop for States<G> {
+    fn drop(self) {
+        let States {
+            words,
+            memories,
+            draft,
+            buffer,
+            ready,
+            sets,
+        } = self;
+        drop(words);
+        drop(memories);
+        drop(draft);
+        drop(buffer);
+        drop(ready);
+        drop(sets);
+    }
 }
 
 impl<G: Grid> Model for States<G> {

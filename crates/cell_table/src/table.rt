@@ -34,7 +34,6 @@ use std::sync::Arc;
 
 /// The cells of the cycles from 0 to the horizon: for each a state, if it has one, and whether it
 /// is due. Each cell that isn't due holds its first state, or the step of the states near it.
-#[derive(Drop)]
 pub struct Table<G: Grid> {
     slots: G::Slots,
     horizon: u32,
@@ -44,6 +43,25 @@ pub struct Table<G: Grid> {
     neighbours: Neighbours,
     /// Before which cycle each cell is known to hold a state; there may be more of them.
     held: u32,
+}
+
+// Not derived: whoever drops a table calls this, and proves nothing of its parts anew.
+impl<G: Grid> Drop for Table<G> {
+    fn drop(self) {
+        let Table {
+            slots,
+            horizon: _,
+            clock: _,
+            cells,
+            readers,
+            neighbours,
+            held: _,
+        } = self;
+        drop(slots);
+        drop(cells);
+        drop(readers);
+        drop(neighbours);
+    }
 }
 
 impl<G: Grid> Model for Table<G> {

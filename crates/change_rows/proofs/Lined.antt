@@ -5,9 +5,9 @@ use Rattle.std.specs.Int.{bit_at}
 use Rattle.std.specs.Int.Bits.{bit_or}
 use Rattle.std.proofs.Math.Bool.{or-true, or-false}
 use Rattle.std.proofs.Math.ListN.{set, length-set}
-use Rattle.std.proofs.lemmas.Bool.{cases_eq, cases_lt, eq-eqb, ne_eqb, eqb-true}
+use Rattle.std.proofs.lemmas.Bool.{cases_eq, cases_lt, eq-eqb, ne_eqb, eqb-true, false≢true}
 use Rattle.std.proofs.lemmas.Nat.Bits.{bit_at_or, bit_at-lt}
-use Rattle.std.proofs.lemmas.List.{get_or_default, get_or-set_same, get_or-set_other, take_all}
+use Rattle.std.proofs.lemmas.List.{get_or_default, get_or_past, get_or-set_same, get_or-set_other, take_all}
 use Rattle.change_rows.specs.Cells.{Held, found, end_of, component_at, IsAscending, IsSplit}
 use Rattle.change_rows.specs.Marks.{is_one, is_set, is_marked, IsCovered}
 use Rattle.change_rows.proofs.Finding.{found_past}
@@ -56,6 +56,37 @@ module _ (line blocks : List ℕ) (t word old : ℕ) (c : IsCovered line blocks)
     room = omega (arith, c.room, length-set line t word, length-set blocks (t / 64) (bit_or old word));
     covers = λ u k h. covered_at u k h (cases_eq (u / 64) (t / 64)) (cases_eq u t);
   }
+
+-- a block has just the marks of its cycles
+module _ (line blocks : List ℕ) (t block : ℕ) (c : IsCovered line blocks) (there : t < length line)
+    (has : (u k : ℕ) → t / 64 * 64 ≤ u → u < t / 64 * 64 + 64 → u < length line → is_set line u k ≡ true → is_one block k ≡ true) where
+  marked_within : (u k : ℕ) → is_set line u k ≡ true → u < length line
+  marked_within u k h = by_place (cases_lt u (length line))
+    where
+      by_place : (u < length line) ⊎ (length line ≤ u) → u < length line
+      by_place (inl l) = l
+      by_place (inr g) = absurd (false≢true (sym (no_one k) ∙ sym (ap (λ (w : ℕ). is_one w k) (get_or_past line u 0 g)) ∙ h))
+
+  tight_at : (u k : ℕ) → is_set line u k ≡ true → (u / 64 ≡ t / 64) ⊎ (u / 64 ≡ t / 64 → ⊥) → is_set (set blocks (t / 64) block) (u / 64) k ≡ true
+  tight_at u k h (inl e) =
+      ap (λ (b : ℕ). is_set (set blocks (t / 64) block) b k) e
+      ∙ ap (λ (w : ℕ). is_one w k) (get_or-set_same blocks (t / 64) block 0 (omega (arith, c.room, there)))
+      ∙ has u k (omega (arith, e)) (omega (arith, e)) (marked_within u k h) h
+  tight_at u k h (inr n) = ap (λ (w : ℕ). is_one w k) (get_or-set_other blocks (t / 64) (u / 64) block 0 n) ∙ c.covers u k h
+
+  pub covered_tight : IsCovered line (set blocks (t / 64) block)
+  covered_tight = record {
+    room = omega (arith, c.room, length-set blocks (t / 64) block);
+    covers = λ u k h. tight_at u k h (cases_eq (u / 64) (t / 64));
+  }
+
+-- a word has the marks of one cycle more
+pub marks_more : (line : List ℕ) (from u0 word : ℕ) → ((v k : ℕ) → from ≤ v → v < u0 → is_set line v k ≡ true → is_one word k ≡ true) → (w : ℕ) → w ≡ get_or line u0 0 → (v k : ℕ) → from ≤ v → v < u0 + 1 → is_set line v k ≡ true → is_one (bit_or word w) k ≡ true
+marks_more line from u0 word before w is v k low high h = by_place (cases_eq v u0)
+  where
+    by_place : (v ≡ u0) ⊎ (v ≡ u0 → ⊥) → is_one (bit_or word w) k ≡ true
+    by_place (inl e) = or_right word w k (ap (λ (x : ℕ). is_one x k) (is ∙ ap (λ (x : ℕ). get_or line x 0) (sym e)) ∙ h)
+    by_place (inr n) = or_left word w k (before v k low (omega (arith, high, n)) h)
 
 -- the cells below a component are those in front
 low_found : (cells : List Held) (i e d : ℕ) → IsAscending cells → i ≤ length cells → (i < length cells → e ≤ component_at cells i) → d < e → found (take i cells) d ≡ found cells d

@@ -6,7 +6,7 @@ ghost use Rattle.change_rows.specs.Standing.{standing};
 ghost use Rattle.change_rows.specs.Changes.{row_at, begins_at, IsChanges};
 
 use crate::cells::Cells;
-use crate::marks::{Marks, block_has_any, has_any, mark_row, rank, with_bit};
+use crate::marks::{Marks, block_has_any, has_any, mark_row, rank, tighten_lines, with_bit};
 use crate::sets::{add, is_member};
 use std::alloc::{AllocError, Global};
 
@@ -266,6 +266,7 @@ pub(crate) fn put_cells(rows: &mut Vec<Cells>, marks: &mut Vec<Marks>, t: usize,
     ensures marks { (u c : ℕ) → c < 64 * length marks.old.items → is_marked marks.new.items u c ≡ cond (nat_eq u t) (is_some (found row c)) (is_marked marks.old.items u c) }
 {
     mark_row(marks, t, &row);
+    tighten_lines(marks, t);
     rows[t] = row;
 }
 
@@ -291,5 +292,8 @@ pub(crate) fn lay(
 {
     rows[t].assign(row)?;
     mark_row(marks, t, row);
+    if t % 64 == 63 {
+        tighten_lines(marks, t);
+    }
     Ok(())
 }

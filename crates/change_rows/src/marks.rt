@@ -98,6 +98,18 @@ impl Marks {
         self.blocks[t / 64] = block;
     }
 
+    /// Of the 64 cycles that a cycle is among, keeps together just what they have: else what was marked at one of them stays there,
+    /// and they are looked at one by one.
+    pub fn tighten(&mut self, t: usize)
+        requires { t < length self.old }
+        ensures { self.new ≡ self.old }
+    {
+        let from = t / 64 * 64;
+        let to = self.words.len().min(from + 64);
+        let block = marks_of(self.words.as_slice(), from, to);
+        self.blocks[t / 64] = block;
+    }
+
     /// Room for n cycles; nothing is marked at those that come in addition.
     ///
     /// # Errors
@@ -118,6 +130,18 @@ impl Marks {
     {
         self.words.truncate(n);
     }
+}
+
+/// The marks of the cycles from one on and before another one.
+fn marks_of(words: &[u64], from: usize, to: usize) -> u64
+    requires { to ≤ length words.now }
+    ensures { (u k : ℕ) → from ≤ u → u < to → is_set words.now u k ≡ true → is_one result k ≡ true }
+{
+    let mut word = 0;
+    for u in from..to {
+        word |= words[u];
+    }
+    word
 }
 
 /// Words more, all 0.
@@ -163,6 +187,16 @@ pub(crate) fn grow_lines(lines: &mut Vec<Marks>, n: usize) -> Result<(), AllocEr
         lines[w].grow_to(n)?;
     }
     Ok(())
+}
+
+/// Of the 64 cycles that a cycle is among, keeps together just what they have, in all lines.
+pub(crate) fn tighten_lines(lines: &mut Vec<Marks>, t: usize)
+    requires { (w : ℕ) → w < length lines.old.items → t < length (slice_index_or lines.old.items w []) }
+    ensures { lines.new.items ≡ lines.old.items }
+{
+    for w in 0..lines.len() {
+        lines[w].tighten(t);
+    }
 }
 
 /// The first n cycles stay.

@@ -22,12 +22,27 @@ use std::marker::Model;
 ///
 /// A row that is put is one piece of memory written for its components and one for its words. What
 /// stood in the row behind it is held beside the rows, until another row than that one is put.
-#[derive(Drop)]
 pub struct Rows {
     changes: Changes,
     buffers: Buffers,
     kinds: Kinds,
     notes: Notes,
+}
+
+// Not derived: whoever drops a table of rows calls this, and proves nothing of its parts anew.
+impl Drop for Rows {
+    fn drop(self) {
+        let Rows {
+            changes,
+            buffers,
+            kinds,
+            notes,
+        } = self;
+        drop(changes);
+        drop(buffers);
+        drop(kinds);
+        drop(notes);
+    }
 }
 
 impl Model for Rows {

@@ -18,7 +18,6 @@ use std::alloc::Global;
 use std::marker::Model;
 
 /// The states of all components at a cycle, by levels of queues and sets of labels.
-#[derive(Drop)]
 pub struct Row {
     pub(crate) shape: Shape,
     pub(crate) low: Side,
@@ -36,6 +35,32 @@ pub struct Row {
     pub(crate) comb_answers: [Reply; 64],
     pub(crate) low_got: Replies,
     pub(crate) comb_got: Replies,
+}
+
+// Not derived: whoever drops a row calls this, and proves nothing of its parts anew.
+impl Drop for Row {
+    fn drop(self) {
+        let Row {
+            shape: _,
+            low,
+            comb,
+            waits,
+            procs,
+            words,
+            module_turns: _,
+            served: _,
+            rests: _,
+            low_answers: _,
+            comb_answers: _,
+            low_got: _,
+            comb_got: _,
+        } = self;
+        drop(low);
+        drop(comb);
+        drop(waits);
+        drop(procs);
+        drop(words);
+    }
 }
 
 impl Model for Row {

@@ -140,11 +140,11 @@ pub fn work<R: Threads + Wait + Sync + Send + Copy + 'static, G: Gate + Send + D
 
 /// Settles the bench by one worker for each gate, each in a thread of its own with a pass of its own, for as long as the gates
 /// go on. In a turn a worker asks its gate whether to go on, and settles the next slice of the bench, as
-/// `Pass::settle_some`; then it gives way to whoever waits for the turn. It claims nothing and gives nothing back, so its
-/// gate hears of no cell, and no result is counted. Behind a turn in which no cell was due, or which met a fault, its turns are
-/// looks at the journal's length, each behind a sleep of 10 milliseconds, until an edit has come; where none comes for a second
-/// it sleeps until one is made. `Pass::wake_all`, called on a pass of the opening, ends each sleep: then the worker asks its
-/// gate again. Threads, passes and faults are as `work` has them.
+/// `Pass::settle_some`; then it gives way to whoever waits for the turn. All workers but the first nap 20 milliseconds before each
+/// slice. A worker claims nothing and gives nothing back, so its gate hears of no cell, and no result is counted. Behind a turn in
+/// which no cell was due, or which met a fault, its turns are looks at the journal's length, each behind a sleep of 2 milliseconds,
+/// until an edit has come; where none comes for a second it sleeps until one is made. `Pass::wake_all`, called on a pass of the
+/// opening, ends each sleep: then the worker asks its gate again. Threads, passes and faults are as `work` has them.
 pub fn attend<R: Threads + Wait + Sync + Send + Copy + 'static, G: Gate + Send + Drop + 'static>(
     rt: &R,
     pass: Pass,

@@ -17,7 +17,7 @@ use std::time::Duration;
 /// How each worker works.
 #[derive(Clone, Copy)]
 pub struct Plan {
-    /// How many workers there are: each claims so small a part of a cycle, or settles so small a part of `CELLS`, in a turn.
+    /// How many workers there are: each claims so small a part of a cycle in a turn.
     pub workers: u32,
     /// How many turns it makes at most.
     pub turns: u64,
@@ -25,9 +25,9 @@ pub struct Plan {
     pub sleeps: bool,
 }
 
-/// How many cells the slices have together that workers settle in a turn each, at 5 to 60 nanoseconds a cell: who asks
-/// meanwhile waits for all of them at most, which is a millisecond. Each goes on by the row of the one before. A slice has a whole
-/// cycle at least.
+/// How many cells a slice has that a worker settles in a turn, at 5 to 60 nanoseconds a cell: who asks meanwhile waits for it, a
+/// millisecond at most, and seldom for that of another worker too (`ASIDE`). Each slice goes on by the row of the one before, and has a
+/// whole cycle at least.
 const CELLS: u32 = 16_384;
 
 /// For how many microseconds a worker that finds nothing to do sleeps between two looks at the journal's length. Who edits
@@ -40,6 +40,10 @@ const LOOKS: u32 = 500;
 /// For how many microseconds nobody edits before a worker that has seen an edit begins: longer than a program takes to read an
 /// answer and ask, so that a question which comes at once finds no worker before it.
 const NAP: u64 = 1_000;
+
+/// For how many microseconds a worker that isn't the first naps before each slice. One turn follows another anyway, and a bench that
+/// goes from processor to processor with each is settled half as fast; so the others are there for when the first has ended.
+const ASIDE: u64 = 20_000;
 
 impl Plan {
     /// So many turns for each of so many gates, and no sleep.
@@ -90,20 +94,20 @@ struct Watched {
 }
 
 /// Settles the next slice, in one turn.
-fn slice<R: Wait>(rt: &R, pass: &mut Pass, workers: u32) -> Came
+fn slice<R: Wait>(rt: &R, pass: &mut Pass) -> Came
     ensures kept { IsKept pass.old pass.new }
     ensures left { (d : AnyBench) × HasLeft pass.new d × (result ≡ Came.Idle → NoneDue rp3_rules d.table) }
 {
-    Came::of_slice(pass.settle_some(rt, CELLS / workers.max(1)))
+    Came::of_slice(pass.settle_some(rt, CELLS))
 }
 
 /// A slice, and the journal's length before it.
-fn watched_slice<R: Wait>(rt: &R, pass: &mut Pass, workers: u32) -> Watched
+fn watched_slice<R: Wait>(rt: &R, pass: &mut Pass) -> Watched
     ensures kept { IsKept pass.old pass.new }
     ensures looked { HasLooked pass.new result.came result.length }
 {
     let length = pass.length();
-    let came = slice(rt, pass, workers);
+    let came = slice(rt, pass);
     Watched { came, length }
 }
 
@@ -145,11 +149,14 @@ fn rest_after(watched: Watched) -> Option<Rest>
 }
 
 /// A slice, and the rest that follows one which could do nothing.
-fn slice_or_rest<R: Wait>(rt: &R, pass: &mut Pass, workers: u32) -> Option<Rest>
+fn slice_or_rest<R: Wait>(rt: &R, pass: &mut Pass, number: u32) -> Option<Rest>
     ensures kept { IsKept pass.old pass.new }
     ensures looked { IfSome result (λ rest. (came : Came) × HasLooked pass.new came rest.length × (does_nothing came ≡ true)) }
 {
-    let watched = watched_slice(rt, pass, workers);
+    if number > 0 {
+        pass.nap(rt, Duration::from_micros(ASIDE));
+    }
+    let watched = watched_slice(rt, pass);
     rest_after(watched)
 }
 
@@ -179,18 +186,18 @@ fn rested<R: Wait>(rt: &R, pass: &mut Pass, rest: Rest) -> Option<Rest>
 
 /// Settles slices until the gate stops it, or its turns are used up. After a turn that could do nothing the turns are looks at
 /// the journal's length, until an edit has come, and none any more for a millisecond.
-fn settle_slices<R: Wait, G: Gate>(rt: &R, pass: &mut Pass, gate: &mut G, plan: Plan)
+fn settle_slices<R: Wait, G: Gate>(rt: &R, pass: &mut Pass, gate: &mut G, number: u32, plan: Plan)
     ensures { IsKept pass.old pass.new }
 {
     pass.base();
     let mut rest = None;
-    'turns: for number in 0..plan.turns {
-        if !gate.go_on(number) {
+    'turns: for turn in 0..plan.turns {
+        if !gate.go_on(turn) {
             break;
         }
         rest = match rest {
             Some(rest) => rested(rt, pass, rest),
-            None => slice_or_rest(rt, pass, plan.workers),
+            None => slice_or_rest(rt, pass, number),
         };
     }
 }
@@ -236,7 +243,7 @@ pub fn run_worker<R: Wait, G: Gate + Drop>(
     ensures { IsKept pass result.pass }
 {
     if plan.sleeps {
-        settle_slices(rt, &mut pass, &mut gate, plan);
+        settle_slices(rt, &mut pass, &mut gate, number, plan);
         let tally = Tally::new();
         return Attended { pass, tally };
     }
