@@ -14,8 +14,8 @@ use std::time::{Duration, Instant};
 /// How long nobody edits before each edit, in microseconds: workers are asleep then.
 const REST: u64 = 10_000;
 
-/// How long nobody asks after an edit where workers may settle a little meanwhile, and all, in microseconds.
-const PAUSES: (u64, u64) = (10_000, 100_000);
+/// How long nobody asks after an edit where workers may settle a little meanwhile, and all, in milliseconds.
+const PAUSES: (u64, u64) = (10, 100);
 
 /// Which edits are made beside workers, and asked after.
 #[derive(Clone, Copy)]
@@ -56,9 +56,9 @@ impl Answers {
         let (without, at_once) = (Micros(self.without.best()), Micros(self.at_once.best()));
         let (soon, soon_most) = (Micros(self.soon.best()), Micros(self.soon.worst()));
         let (late, late_most) = (Micros(self.late.best()), Micros(self.late.worst()));
-        let (what, ratio) = (change.name(), self.ratio());
+        let (what, ratio, (pause, long)) = (change.name(), self.ratio(), PAUSES);
         eprintln!(rt;
-            "{load}, workers {workers}, {what}: at once {at_once}, without workers {without}: {ratio}; after 10 ms {soon}, at most {soon_most}; after 100 ms {late}, at most {late_most}"
+            "{load}, workers {workers}, {what}: at once {at_once}, without workers {without}: {ratio}; after {pause} ms {soon}, at most {soon_most}; after {long} ms {late}, at most {late_most}"
         )?;
         Ok(())
     }
@@ -88,16 +88,15 @@ impl Dearest {
 
     fn row(self, rt: &HostRuntime, plan: Plan) -> Result<()> {
         let Plan { load, workers, .. } = plan;
-        let Dearest { at_once, late } = self;
-        let late = Micros(late);
+        let (at_once, late, (_, long)) = (self.at_once, Micros(self.late), PAUSES);
         eprintln!(rt;
-            "{load}, workers {workers}, of all edits: at once, against without workers, at most {at_once}; after 100 ms at most {late}"
+            "{load}, workers {workers}, of all edits: at once, against without workers, at most {at_once}; after {long} ms at most {late}"
         )?;
         Ok(())
     }
 }
 
-/// An edit, and its answer so many microseconds later: how long the answer took, and without a pause the edit too.
+/// An edit, and its answer so many milliseconds later: how long the answer took, and without a pause the edit too.
 fn edited<H: Hall>(
     rt: &HostRuntime,
     host: &H,
@@ -111,7 +110,7 @@ fn edited<H: Hall>(
     let mut since = Instant::now(rt)?;
     pass.edit(host, change.edit(plan.load, plan.k, time))?;
     if pause > 0 {
-        thread::sleep(rt, Duration::from_micros(pause));
+        thread::sleep(rt, Duration::from_millis(pause));
         since = Instant::now(rt)?;
     }
     answered(pass, host, plan.query)?;

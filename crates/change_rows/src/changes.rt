@@ -266,6 +266,7 @@ pub(crate) fn put_cells(rows: &mut Vec<Cells>, marks: &mut Vec<Marks>, t: usize,
     ensures marks { (u c : ℕ) → c < 64 * length marks.old.items → is_marked marks.new.items u c ≡ cond (nat_eq u t) (is_some (found row c)) (is_marked marks.old.items u c) }
 {
     mark_row(marks, t, &row);
+    // The row may have fewer cells than before.
     tighten_lines(marks, t);
     rows[t] = row;
 }
@@ -292,6 +293,7 @@ pub(crate) fn lay(
 {
     rows[t].assign(row)?;
     mark_row(marks, t, row);
+    // A pass that puts row after row does so once in 64 rows, when it has put all of them.
     if t % 64 == 63 {
         tighten_lines(marks, t);
     }

@@ -98,8 +98,8 @@ impl Marks {
         self.blocks[t / 64] = block;
     }
 
-    /// Of the 64 cycles that a cycle is among, keeps together just what they have: else what was marked at one of them stays there,
-    /// and they are looked at one by one.
+    /// Makes the block of a cycle anew, from the marks that its 64 cycles have now. One that was taken away from all of them stays in it
+    /// till then, and has them looked at one by one.
     pub fn tighten(&mut self, t: usize)
         requires { t < length self.old }
         ensures { self.new ≡ self.old }
@@ -189,7 +189,7 @@ pub(crate) fn grow_lines(lines: &mut Vec<Marks>, n: usize) -> Result<(), AllocEr
     Ok(())
 }
 
-/// Of the 64 cycles that a cycle is among, keeps together just what they have, in all lines.
+/// Makes the block of a cycle anew in all lines, as `Marks::tighten`.
 pub(crate) fn tighten_lines(lines: &mut Vec<Marks>, t: usize)
     requires { (w : ℕ) → w < length lines.old.items → t < length (slice_index_or lines.old.items w []) }
     ensures { lines.new.items ≡ lines.old.items }

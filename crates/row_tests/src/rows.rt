@@ -71,11 +71,6 @@ pub(crate) fn words(alloc: Global, c: u32, number: u64) -> Result<Vec<u64>, Fail
     Ok(words)
 }
 
-/// A table without rows. It stands in a box: a function that lets go of the table itself does so part by part on each way out.
-pub(crate) fn boxed(alloc: Global) -> Result<Box<Rows>, Fail> {
-    Ok(Box::new(alloc, Rows::new(alloc, WIDTH)?)?)
-}
-
 /// A table kept cell by cell.
 #[derive(Drop)]
 pub(crate) struct Plain {
@@ -249,7 +244,7 @@ fn compare(rt: &(impl Abort + Eprint), rows: &Rows, plain: &Plain, step: Step) {
 #[test]
 fn rows_are_as_cell_by_cell(rt: HostRuntime) -> Result<(), Fail> {
     let alloc = rt.alloc();
-    let mut rows = boxed(alloc)?;
+    let mut rows = Rows::new(alloc, WIDTH)?;
     let mut plain = Plain {
         rows: Vec::new(alloc),
     };
@@ -280,7 +275,7 @@ fn a_draft_is_made_word_by_word(rt: HostRuntime) -> Result<(), Fail> {
 #[test]
 fn next_change_is_found(rt: HostRuntime) -> Result<(), Fail> {
     let alloc = rt.alloc();
-    let mut rows = boxed(alloc)?;
+    let mut rows = Rows::new(alloc, WIDTH)?;
     for step in &CHANGES {
         play(alloc, &mut rows, *step)?;
     }

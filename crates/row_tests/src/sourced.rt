@@ -4,7 +4,7 @@ ghost use Rattle.change_rows.specs.Cells.{found};
 ghost use Rattle.change_rows.specs.Marks.{is_in};
 ghost use Rattle.change_rows.specs.Rows.{words_at};
 
-use crate::rows::{Plain, WIDTH, blank_rows, boxed, grow, is_alike, is_member, push, put, words};
+use crate::rows::{Plain, WIDTH, blank_rows, grow, is_alike, is_member, push, put, words};
 use change_rows::{Cells, Rows, Source};
 use expect::{equal, equal_at};
 use std::alloc::{AllocError, Global};
@@ -274,7 +274,7 @@ fn is_told(rows: &Rows, plain: &Plain, t: u32, c: u32) -> bool {
 
 #[test]
 fn sourced_rows_are_as_cell_by_cell(rt: HostRuntime) -> Result<(), Fail> {
-    let mut rows = boxed(rt.alloc())?;
+    let mut rows = Rows::new(rt.alloc(), WIDTH)?;
     let mut plain = blank_rows(rt.alloc(), 6)?;
     grow(rt.alloc(), &mut rows, 6)?;
     for step in &STORY {
@@ -288,7 +288,7 @@ fn sourced_rows_are_as_cell_by_cell(rt: HostRuntime) -> Result<(), Fail> {
 #[test]
 fn changes_are_found_behind_quiet_rows(rt: HostRuntime) -> Result<(), Fail> {
     let alloc = rt.alloc();
-    let mut rows = boxed(alloc)?;
+    let mut rows = Rows::new(alloc, WIDTH)?;
     grow(alloc, &mut rows, 400)?;
     let mut draft = Cells::new(alloc);
     push(&mut draft, 129, &[1])?;

@@ -41,8 +41,9 @@ const LOOKS: u32 = 500;
 /// answer and ask, so that a question which comes at once finds no worker before it.
 const NAP: u64 = 1_000;
 
-/// For how many microseconds a worker that isn't the first naps before each slice. One turn follows another anyway, and a bench that
-/// goes from processor to processor with each is settled half as fast; so the others are there for when the first has ended.
+/// For how many microseconds a worker that isn't the first naps before each slice. Turns come one after another, so several workers
+/// settle no faster than one, and half as fast where the bench goes from processor to processor with each turn. The others step in
+/// where the first has ended.
 const ASIDE: u64 = 20_000;
 
 impl Plan {
@@ -184,8 +185,8 @@ fn rested<R: Wait>(rt: &R, pass: &mut Pass, rest: Rest) -> Option<Rest>
     None
 }
 
-/// Settles slices until the gate stops it, or its turns are used up. After a turn that could do nothing the turns are looks at
-/// the journal's length, until an edit has come, and none any more for a millisecond.
+/// The worker of this number settles slices until its gate stops it, or its turns are used up; number 0 is the first. After a turn
+/// that could do nothing the turns are looks at the journal's length, until an edit has come, and none any more for a millisecond.
 fn settle_slices<R: Wait, G: Gate>(rt: &R, pass: &mut Pass, gate: &mut G, number: u32, plan: Plan)
     ensures { IsKept pass.old pass.new }
 {
