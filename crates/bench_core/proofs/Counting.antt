@@ -7,8 +7,8 @@ use Rattle.std.proofs.lemmas.Bool.Decides.{nat_tests}
 use Rattle.omega_net.specs.Numbers.{components}
 use Rattle.omega_net.specs.Wires.{below}
 use Rattle.omega_net.specs.declared.component.Net.{Net}
-use Rattle.cell_table.specs.Seen.{Held, Seen, held_at, fresh, marked}
-use Rattle.cell_table.specs.Readers.{has}
+use Rattle.due_cells.specs.Seen.{Held, Seen, held_at, fresh, marked}
+use Rattle.cell_states.specs.Near.{has}
 use Rattle.cell_table.specs.Cells.{IsThere}
 use Rattle.cell_table.specs.Gives.{IsAfterStore, HoldsSame}
 use Rattle.cell_table.specs.Touches.{cell_reads, IsAfterTouch}

@@ -4,11 +4,11 @@ use Rattle.std.proofs.lemmas.Bool.Decides.{nat_tests}
 use Rattle.std.proofs.lemmas.List.Elements.{All-weaker}
 use Rattle.std.proofs.lemmas.List.Folds.{list_any_none, list_any_more}
 use Rattle.omega_net.specs.Numbers.{components}
-use Rattle.cell_table.specs.Seen.{Seen}
+use Rattle.due_cells.specs.Seen.{Seen}
 use Rattle.cell_table.specs.Cells.{IsThere}
 use Rattle.cell_table.specs.Passing.{HoldsBut}
-use Rattle.cell_table.specs.Touches.{covers, is_marked, IsWithin}
-use Rattle.cell_table.specs.declared.cell.CellRange.{CellRange}
+use Rattle.due_cells.specs.Ranges.{covers, is_marked, IsWithin}
+use Rattle.cell_states.specs.declared.cell.CellRange.{CellRange}
 use Rattle.machine_cells.specs.declared.state.MachineState.{MachineState}
 use Rattle.machine_cells.specs.GridRules.{rp3_rules}
 use Rattle.monitor_sums.specs.Kept.{Kept, StandsFor}

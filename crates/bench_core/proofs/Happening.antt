@@ -11,7 +11,7 @@ use Rattle.cell_table.specs.Made.{Made as MadeOnTable}
 use Rattle.cell_table.specs.Answers.{after_give as after_give_on_table}
 use Rattle.cell_table.specs.Gives.{GivesAs}
 use Rattle.cell_table.specs.Events.{Event as TableEvent, Claims, Stores, Start}
-use Rattle.cell_table.specs.Seen.{Seen}
+use Rattle.due_cells.specs.Seen.{Seen}
 use Rattle.cell_table.specs.Stands.{Stands as TableStands}
 use Rattle.cell_table.specs.Cost.{IsInOrder, Settles as SettlesTable, SettlesTo as SettlesTableTo, SettlesFirst as SettlesTableFirst, SettlesFirstTo as SettlesTableFirstTo}
 use Rattle.machine_cells.specs.declared.state.MachineState.{MachineState}

@@ -18,7 +18,7 @@ use Rattle.run_queries.proofs.Same.{and_true, same_query}
 use Rattle.bench_core.specs.declared.asked.Asked.TheVariants as asked
 use Rattle.bench_core.specs.declared.recent.Asking.{Asking}
 use Rattle.bench_core.specs.contracts.recent.AskingPartialEq.TheImpl as askings
-use Rattle.cell_table.specs.Seen.{Seen}
+use Rattle.due_cells.specs.Seen.{Seen}
 use Rattle.machine_cells.specs.declared.state.MachineState.{MachineState}
 use Rattle.monitor_sums.specs.Kept.{Kept}
 use Rattle.bench_core.specs.declared.noted.Noted.{Noted}

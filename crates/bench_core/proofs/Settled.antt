@@ -2,7 +2,7 @@
 use Rattle.std.proofs.Common.{◌≡◌, ℕ, ◌<◌, ◌≤◌, ◌∙◌, sym, ap, subst, refl, arith, List, length, Option, None, Some}
 use Rattle.page_map.specs.Pages.{IsPageMap}
 use Rattle.omega_net.specs.Numbers.{lines, components}
-use Rattle.cell_table.specs.Seen.{due_at}
+use Rattle.due_cells.specs.Seen.{due_at}
 use Rattle.cell_table.specs.Events.{Event as TableEvent}
 use Rattle.cell_table.specs.Settling.{IsSpent, IsSettledTo, IsClockSpent}
 use Rattle.cell_table.specs.declared.given.SettleFault.{SettleFault}

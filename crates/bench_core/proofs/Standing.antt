@@ -2,7 +2,7 @@
 use Rattle.std.proofs.Common.{◌≡◌, ◌↔◌, ℕ, ◌<◌, ◌∙◌, sym, ap, subst, refl, List, [], ◌∷◌, ◌++◌, length, Result, Ok, Err}
 use Rattle.std.specs.Prelude.{OnOk}
 use Rattle.grid_law.specs.Rules.{Differ}
-use Rattle.cell_table.specs.Seen.{Seen}
+use Rattle.due_cells.specs.Seen.{Seen}
 use Rattle.cell_table.specs.Touches.{IsAfterTouch}
 use Rattle.cell_table.specs.Cells.{IsThere}
 use Rattle.cell_table.specs.Cost.{Costs as CostsOnTable, CostsAnEdit}

@@ -5,8 +5,8 @@ use Rattle.std.proofs.Math.Nat.{min-eq_left}
 use Rattle.std.proofs.lemmas.Bool.{cases_lt}
 use Rattle.std.proofs.lemmas.Bool.Decides.{nat_tests}
 use Rattle.omega_net.specs.Numbers.{components}
-use Rattle.cell_table.specs.Cones.{count_below, count_to, count_cone}
-use Rattle.cell_table.specs.Seen.{due_at}
+use Rattle.due_cells.specs.Cones.{count_below, count_to, count_cone}
+use Rattle.due_cells.specs.Seen.{due_at}
 use Rattle.cell_table.specs.Due.{due}
 use Rattle.cell_table.specs.Settling.{IsSettled, IsSettledTo}
 use Rattle.cell_table.proofs.ConeRuns.{none_counted}

@@ -1,6 +1,6 @@
 -- What becomes of a bench that is settled as far as the answer to a query looks, and asked it.
 use Rattle.std.specs.Prelude.{◌≡◌, ◌⊎◌, ℕ, ◌+◌, ◌*◌, ◌/◌, nat_le, Bool, true, false, Option, None, Some, Result, Ok, Err}
-use Rattle.cell_table.specs.Seen.{due_at}
+use Rattle.due_cells.specs.Seen.{due_at}
 use Rattle.cell_table.specs.declared.given.SettleFault.{SettleFault}
 use Rattle.omega_net.specs.Numbers.{components}
 use Rattle.run_queries.specs.Bad.{bad_query}

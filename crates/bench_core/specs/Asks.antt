@@ -1,7 +1,7 @@
 -- What a query of a bench is answered.
 use Rattle.std.specs.Prelude.{◌≡◌, ℕ, zero, suc, ◌+◌, ◌<◌, ◌≤◌, Bool, Option, None, Some, Result, Ok, Err}
-use Rattle.cell_table.specs.Seen.{due_at}
-use Rattle.cell_table.specs.Cones.{count_to, count_cone}
+use Rattle.due_cells.specs.Seen.{due_at}
+use Rattle.due_cells.specs.Cones.{count_to, count_cone}
 use Rattle.grid_law.specs.Run.{run}
 use Rattle.omega_net.specs.Numbers.{lines, components}
 use Rattle.machine_cells.specs.GridRules.{rp3_rules}

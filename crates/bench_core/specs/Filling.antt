@@ -1,7 +1,7 @@
 -- Maps where some cells hold what another map has for them.
 use Rattle.std.specs.Prelude.{ℕ, ◌==◌, ◌&&◌, nat_le, nat_lt, if◌then◌else◌, List}
-use Rattle.cell_table.specs.declared.cell.CellRange.{CellRange}
-use Rattle.cell_table.specs.Touches.{is_marked}
+use Rattle.cell_states.specs.declared.cell.CellRange.{CellRange}
+use Rattle.due_cells.specs.Ranges.{is_marked}
 use Rattle.monitor_sums.specs.Sums.{States}
 
 -- the cells of a component at the cycles from one on to before another

@@ -1,6 +1,6 @@
 -- What a contract sees of a bench.
 use Rattle.std.specs.Prelude.{◌≡◌, ℕ, ◌≤◌, nat_le, if◌then◌else◌, Option, None, Some, List, length}
-use Rattle.cell_table.specs.Seen.{Seen, held_at}
+use Rattle.due_cells.specs.Seen.{Seen, held_at}
 use Rattle.machine_cells.specs.declared.state.MachineState.{MachineState}
 use Rattle.monitor_sums.specs.Kept.{Kept, StandsFor}
 use Rattle.project_book.specs.Project.{Project}

@@ -1,6 +1,6 @@
 //! The bench.
 ghost use Rattle.std.specs.Prelude.{◌≡◌, ℕ, IfOk, IfErr, []};
-ghost use Rattle.cell_table.specs.Seen.{held_at, fresh};
+ghost use Rattle.due_cells.specs.Seen.{held_at, fresh};
 ghost use Rattle.cell_table.specs.Cells.{IsThere};
 ghost use Rattle.machine_cells.specs.GridRules.{rp3_rules};
 ghost use Rattle.bench_core.specs.Shown.{project_of, version_of, IsBench};

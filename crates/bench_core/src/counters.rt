@@ -2,7 +2,7 @@
 ghost use Rattle.std.specs.Prelude.{◌≡◌, ◌+◌, ◌<◌, ◌≤◌, All, IfOk, OnOk, OnErr, None, Some, is_some};
 ghost use Rattle.std.specs.Option.{IsSome, IfSome};
 ghost use Rattle.omega_net.specs.Numbers.{components};
-ghost use Rattle.cell_table.specs.Touches.{IsWithin};
+ghost use Rattle.due_cells.specs.Ranges.{IsWithin};
 ghost use Rattle.bench_core.specs.Shown.{held, IsCounted, AreCounted};
 ghost use Rattle.bench_core.specs.Filling.{filled_in, filled_to, filled_over};
 ghost use Rattle.monitor_sums.specs.Kept.{StandsFor};

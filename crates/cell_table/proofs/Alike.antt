@@ -5,14 +5,15 @@ use Rattle.std.proofs.lemmas.List.Elements.{recursion_from_All, All-more, All-we
 use Rattle.std.proofs.lemmas.List.{take_all}
 use Rattle.grid_law.specs.Rules.{Rules, Laws}
 use Rattle.grid_law.specs.Run.{run}
-use Rattle.cell_table.specs.Seen.{Seen, held_at}
+use Rattle.due_cells.specs.Seen.{Seen, held_at}
 use Rattle.cell_table.specs.Cells.{IsThere}
-use Rattle.cell_table.specs.Readers.{has}
+use Rattle.cell_states.specs.Near.{has}
 use Rattle.cell_table.specs.Consistent.{IsTable}
-use Rattle.cell_table.specs.Filling.{is_awake}
-use Rattle.cell_table.specs.Repeating.{any_changes, IsAlike, BeginsAlike, StaysBefore, StaysAlikeTo}
+use Rattle.cell_states.specs.Filling.{is_awake}
+use Rattle.cell_states.specs.Versions.{any_changes}
+use Rattle.cell_table.specs.Repeating.{IsAlike, BeginsAlike, StaysBefore, StaysAlikeTo}
 use Rattle.cell_table.specs.Settling.{NoneDueBefore}
-use Rattle.cell_table.proofs.Costing.{has_item}
+use Rattle.cell_states.proofs.Cases.{has_item}
 use Rattle.cell_table.proofs.Runs.{holds_run_at}
 
 module _ {State Slots Slot : Type 0} (R : Rules State Slots Slot) (laws : Laws R) (v : Seen State Slots) (table : IsTable R v.slots v.horizon v.rows) (s c : ℕ) (there : IsThere R v s c) (later : 2 ≤ s) (none : NoneDueBefore R v s 0) (stay : All (λ m. (held_at v.rows (s - 1 - 1) m).state ≡ (held_at v.rows (s - 1) m).state) (R.near v.slots c)) (kept : Bool) (holds : (x : State) → (held_at v.rows (s - 1) c).state ≡ Some x → IsTrue kept ↔ ((held_at v.rows s c).state ≡ Some x)) where

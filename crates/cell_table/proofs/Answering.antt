@@ -4,7 +4,7 @@ use Rattle.std.proofs.lemmas.Bool.{true≢false, cases_Bool, cases_lt, and_parts
 use Rattle.grid_law.specs.Rules.{Rules, Laws, Agrees, Differ}
 use Rattle.cell_table.specs.declared.given.Given.{Given}
 use Rattle.cell_table.specs.declared.given.Given.TheVariants.{Gone, NotDue, Overtaken, Foreign, ClockSpent, Memory, Stored}
-use Rattle.cell_table.specs.Seen.{Seen, held_at}
+use Rattle.due_cells.specs.Seen.{Seen, held_at}
 use Rattle.cell_table.specs.Cells.{IsThere}
 use Rattle.cell_table.specs.Claims.{Claimed, Computed, IsClaim, IsNextRound, is_claimable}
 use Rattle.cell_table.specs.Gives.{GivesAs, IsOpen, IsPresent}

@@ -3,24 +3,22 @@ use Rattle.std.proofs.Common.{◌≡◌, ℕ, zero, suc, ◌+◌, ◌-◌, ◌<�
 use Rattle.std.specs.List.{list_any, Contains, AllByRecursion}
 use Rattle.std.proofs.lemmas.Bool.{cases_eq, cases_lt, ne_eqb, lt-ltb, le-ltb, eqb-true, true≢false, false≢true, and_parts}
 use Rattle.std.proofs.lemmas.Grind.{common_steps}
+use Rattle.due_cells.proofs.Joined.{or_false}
 use Rattle.std.proofs.lemmas.List.Elements.{All-contains, All-from_recursion, All-weaker, recursion_from_All}
 use Rattle.grid_law.specs.declared.reader.Reader.{Reader}
 use Rattle.grid_law.specs.Rules.{Rules, Laws, is_first, reader_at}
-use Rattle.cell_table.specs.Seen.{Held, Seen, row_at, held_in, held_at}
+use Rattle.due_cells.specs.Seen.{Held, Seen, row_at, held_in, held_at}
 use Rattle.cell_table.specs.Cells.{IsThere}
-use Rattle.cell_table.specs.Inputs.{with_state, states_of, inputs_of}
-use Rattle.cell_table.specs.Reads.{reads_one, reads_any, reads_by, is_reader}
+use Rattle.due_cells.specs.Inputs.{with_state, states_of, inputs_of}
+use Rattle.cell_table.specs.Reads.{reads_one, reads_any, is_reader}
+use Rattle.cell_states.specs.ReadsBy.{reads_by}
 use Rattle.cell_table.specs.Touches.{cell_reads_one}
-use Rattle.cell_table.proofs.States.{states_same, length_states_of, neither}
+use Rattle.due_cells.proofs.States.{states_same, length_states_of, neither}
 use Rattle.cell_table.proofs.Tables.{inputs_first, inputs_later, all_there}
 
 or_assoc : (a b c : Bool) → ((a || b) || c) ≡ (a || (b || c))
 or_assoc true b c = refl
 or_assoc false b c = refl
-
-pub or_false : (b : Bool) → (b || false) ≡ b
-or_false true = refl
-or_false false = refl
 
 and_or : (a b x : Bool) → ((a && x) || (b && x)) ≡ ((a || b) && x)
 and_or true true true = refl
@@ -61,26 +59,6 @@ later_more false true t cycle to x b low up same = by_place (cases_lt t cycle) (
     by_place (inl h) i = rw (lt-ltb t cycle h, lt-ltb t to (omega arith), early h) (or_false ((leb 1 t && true) && x))
     by_place (inr h) (inl i) = rw (le-ltb t cycle h, lt-ltb t to i, some h, late h) (sym (same h i))
     by_place (inr h) (inr i) = rw (le-ltb t cycle h, le-ltb t to i, some h, late h) refl
-
--- a range and the one behind it
-pub range_on : (m k : Bool) (t from mid to : ℕ) (x b : Bool) → from ≤ mid → mid ≤ to → (mid ≤ t → t < to → x ≡ b) → ((m || ((k && (leb from t && ltb t mid)) && x)) || ((k && (leb mid t && ltb t to)) && b)) ≡ (m || ((k && (leb from t && ltb t to)) && x))
-range_on true k t from mid to x b low up same = refl
-range_on false false t from mid to x b low up same = refl
-range_on false true t from mid to x b low up same = by_place (cases_lt t mid) (cases_lt t to)
-  where
-    some : mid ≤ t → leb from t ≡ true
-    some h = grind (arith, common_steps)
-
-    late : mid ≤ t → leb mid t ≡ true
-    late h = grind (arith, common_steps)
-
-    early : t < mid → leb mid t ≡ false
-    early h = grind (arith, common_steps)
-
-    by_place : (t < mid) ⊎ (mid ≤ t) → (t < to) ⊎ (to ≤ t) → (((leb from t && ltb t mid) && x) || ((leb mid t && ltb t to) && b)) ≡ ((leb from t && ltb t to) && x)
-    by_place (inl h) i = rw (lt-ltb t mid h, lt-ltb t to (omega arith), early h) (or_false ((leb from t && true) && x))
-    by_place (inr h) (inl i) = rw (le-ltb t mid h, lt-ltb t to i, some h, late h) (sym (same h i))
-    by_place (inr h) (inr i) = rw (le-ltb t mid h, le-ltb t to i, some h, late h) refl
 
 -- all later cycles are those that aren't the first
 pub later_all : (component c t last : ℕ) (x : Bool) → t ≤ last → ((eqb c component) && ((leb 1 t && ltb t (last + 1)) && x)) ≡ (is_reader (reader_at component false) t c && x)

@@ -8,13 +8,13 @@ use Rattle.std.proofs.lemmas.List.Sums.{sum_by-cons}
 use Rattle.std.proofs.lemmas.Bool.{and_from, cases_eq, false≢true}
 use Rattle.grid_law.specs.declared.no_memory.NoMemory.{NoMemory}
 use Rattle.grid_law.specs.Rules.{Rules, Laws, result_of}
-use Rattle.cell_table.specs.Seen.{Held, Seen, row_at, held_at, held_in, due_at}
+use Rattle.due_cells.specs.Seen.{Held, Seen, row_at, held_at, held_in, due_at}
 use Rattle.cell_table.specs.Cells.{IsThere}
-use Rattle.cell_table.specs.Inputs.{states_of}
+use Rattle.due_cells.specs.Inputs.{states_of}
 use Rattle.cell_table.specs.Consistent.{IsConsistent}
 use Rattle.grid_law.specs.Run.{run}
-use Rattle.cell_table.specs.Readers.{has}
-use Rattle.cell_table.specs.Cones.{every, earlier, count_in}
+use Rattle.cell_states.specs.Near.{has}
+use Rattle.due_cells.specs.Cones.{every, earlier, count_in}
 use Rattle.cell_table.proofs.Tables.{inputs_first, inputs_later}
 
 -- where none passes, none of them does

@@ -1,12 +1,12 @@
 -- Settling stores exactly the cells that cost.
-use Rattle.std.proofs.Common.{◌≡◌, ◌↔◌, ℕ, ◌+◌, ◌<◌, ◌∙◌, sym, ap, subst, refl, arith, Bool, true, false, cond, not, ◌||◌, ◌&&◌, eqb, ◌⊎◌, inl, inr, Some, List, [], ◌∷◌, ◌++◌, length}
-use Rattle.std.specs.List.{AllByRecursion}
+use Rattle.std.proofs.Common.{◌≡◌, ◌↔◌, ℕ, ◌+◌, ◌<◌, ◌∙◌, sym, ap, subst, refl, arith, Bool, true, false, cond, not, ◌&&◌, eqb, ◌⊎◌, inl, inr, Some, List, [], ◌∷◌, ◌++◌, length}
 use Rattle.std.proofs.lemmas.Bool.{true≢false, false≢true, cases_Bool, and_parts, or_cases, eqb-true, eq-eqb}
 use Rattle.std.proofs.lemmas.List.Elements.{recursion_from_All}
 use Rattle.grid_law.specs.Rules.{Rules, Laws}
-use Rattle.cell_table.specs.Seen.{Seen, held_at}
+use Rattle.due_cells.specs.Seen.{Seen, held_at}
+use Rattle.cell_states.proofs.Cases.{has_item, or_left, or_right}
 use Rattle.cell_table.specs.Cells.{IsThere, AtOrAfter, Before}
-use Rattle.cell_table.specs.Readers.{has}
+use Rattle.cell_states.specs.Near.{has}
 use Rattle.cell_table.specs.Events.{Event, Edits, Claims, Stores, Start, slots_of}
 use Rattle.cell_table.specs.Values.{val}
 use Rattle.cell_table.specs.Due.{due, changes}
@@ -14,26 +14,9 @@ use Rattle.cell_table.specs.Stands.{Stands}
 use Rattle.grid_law.specs.Run.{run}
 use Rattle.cell_table.specs.Settling.{NoneDueBefore, HoldsRunBefore, IsSettled, IsSettledCell, Settling}
 use Rattle.cell_table.specs.Cost.{is_stored, IsInOrder, HasStaleNear, Costs, SettlesFirst, Settles}
-use Rattle.cell_table.proofs.States.{neither}
+use Rattle.due_cells.proofs.States.{neither}
 use Rattle.cell_table.proofs.Ordering.{before_or_after, before_along}
 use Rattle.cell_table.proofs.Standing.{stands_stored}
-
--- a number that a list has is one of its items
-pub has_item : (P : ℕ → Type 0) (ms : List ℕ) (m : ℕ) → AllByRecursion P ms → has ms m ≡ true → P m
-has_item P [] m all h = absurd (false≢true h)
-has_item P (k ∷ ms) m all h = by_place (or_cases (eqb k m) (has ms m) h) (λ e. has_item P ms m all.1 e)
-  where
-    by_place : (eqb k m ≡ true) ⊎ (has ms m ≡ true) → (has ms m ≡ true → P m) → P m
-    by_place (inl e) rest = subst P (eqb-true k m e) all.0
-    by_place (inr e) rest = rest e
-
-pub or_right : (a b : Bool) → b ≡ true → (a || b) ≡ true
-or_right true b e = refl
-or_right false b e = e
-
-pub or_left : (a b : Bool) → a ≡ true → (a || b) ≡ true
-or_left true b e = refl
-or_left false b e = absurd (false≢true e)
 
 module _ {State Slots Slot : Type 0} (R : Rules State Slots Slot) (o : Start Slots) (h : List (Event State Slots Slot)) where
   -- stores of the run's states, each of a due cell that none of them stored before

@@ -9,14 +9,14 @@ use Rattle.std.proofs.lemmas.List.{take_all}
 use Rattle.std.proofs.lemmas.List.Sums.{sum_by_more}
 use Rattle.grid_law.specs.Rules.{Rules, Laws}
 use Rattle.grid_law.specs.Run.{run}
-use Rattle.cell_table.specs.Seen.{Held, Seen, nothing, held_in, held_at, row_at, due_at, due_in_row, due_up_to}
+use Rattle.due_cells.specs.Seen.{Held, Seen, nothing, held_in, held_at, row_at, due_at, due_in_row, due_up_to}
 use Rattle.cell_table.specs.Cells.{IsThere}
 use Rattle.cell_table.specs.Consistent.{IsWhole, IsTable}
-use Rattle.cell_table.specs.Cones.{earlier, count_below, count_to, count_in, count_cone}
+use Rattle.due_cells.specs.Cones.{earlier, count_below, count_to, count_in, count_cone}
 use Rattle.cell_table.specs.Events.{Event, Start, slots_of, horizon_of}
 use Rattle.cell_table.specs.Due.{due}
 use Rattle.cell_table.specs.Stands.{Stands}
-use Rattle.cell_table.proofs.Cones.{count_more, count_same}
+use Rattle.due_cells.proofs.Cones.{count_more, count_same}
 use Rattle.cell_table.proofs.ConeRuns.{none_counted}
 use Rattle.cell_table.proofs.Runs.{holds_run_at}
 

@@ -4,7 +4,7 @@ use Rattle.std.proofs.lemmas.Bool.{cases_lt}
 use Rattle.grid_law.specs.Rules.{Rules, Laws}
 use Rattle.cell_table.specs.declared.given.SettleFault.{SettleFault}
 use Rattle.cell_table.specs.declared.given.Settled.{Settled}
-use Rattle.cell_table.specs.Seen.{Seen, held_at}
+use Rattle.due_cells.specs.Seen.{Seen, held_at}
 use Rattle.cell_table.specs.Cells.{IsThere, AtOrAfter, Before}
 use Rattle.cell_table.specs.Events.{Event, Start}
 use Rattle.cell_table.specs.Stands.{Stands}

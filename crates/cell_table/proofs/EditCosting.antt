@@ -4,9 +4,9 @@ use Rattle.std.specs.List.{AllByRecursion}
 use Rattle.std.proofs.lemmas.Bool.{true≢false, cases_lt, or_cases, ltb-true, lt-ltb, le-ltb, eqb-false}
 use Rattle.std.proofs.lemmas.List.Elements.{recursion_from_All}
 use Rattle.grid_law.specs.Rules.{Rules, Laws, Differ}
-use Rattle.cell_table.specs.Seen.{Seen}
+use Rattle.due_cells.specs.Seen.{Seen}
 use Rattle.cell_table.specs.Cells.{IsThere}
-use Rattle.cell_table.specs.Readers.{has}
+use Rattle.cell_states.specs.Near.{has}
 use Rattle.cell_table.specs.Reads.{reads_any}
 use Rattle.cell_table.specs.Touches.{IsAfterTouch}
 use Rattle.cell_table.specs.Events.{Event, Edits, Start, slots_of, horizon_of}
@@ -16,7 +16,7 @@ use Rattle.cell_table.specs.Stands.{Stands}
 use Rattle.grid_law.specs.Run.{run, run_inputs}
 use Rattle.cell_table.specs.Settling.{IsSettled}
 use Rattle.cell_table.specs.Cost.{Costs, CostsAnEdit}
-use Rattle.cell_table.proofs.Costing.{has_item, or_left, or_right}
+use Rattle.cell_states.proofs.Cases.{has_item, or_left, or_right}
 
 vals_known : {State : Type 0} (f : ℕ → Option State) (g : ℕ → State) (ms : List ℕ) → AllByRecursion (λ m. f m ≡ Some (g m)) ms → vals f ms ≡ Some (map g ms)
 vals_known f g [] p = refl

@@ -2,15 +2,15 @@
 use Rattle.std.proofs.Common.{◌≡◌, ℕ, ◌+◌, ◌-◌, ◌<◌, ◌≤◌, ◌∙◌, sym, ap, refl, arith, Bool, true, false, cond, ltb, ◌⊎◌, inl, inr, is_some, List}
 use Rattle.std.proofs.lemmas.Bool.{cases_lt, cases_eq, le-ltb, false≢true}
 use Rattle.grid_law.specs.Rules.{Rules}
-use Rattle.cell_table.specs.Seen.{Held, Seen, held_at, fresh, stored, marked}
+use Rattle.due_cells.specs.Seen.{Held, Seen, held_at, fresh, stored, marked}
 use Rattle.cell_table.specs.Cells.{IsThere}
-use Rattle.cell_table.specs.Readers.{AreHeld}
+use Rattle.due_cells.specs.Readers.{AreHeld}
 use Rattle.cell_table.specs.Consistent.{IsTable}
-use Rattle.cell_table.specs.Gives.{held_after}
+use Rattle.due_cells.specs.Stores.{held_after}
 use Rattle.cell_table.specs.Touches.{held_touched}
 use Rattle.cell_table.specs.Settling.{NoneDueBefore}
-use Rattle.cell_table.specs.Filling.{is_awake}
-use Rattle.cell_table.specs.Layout.{cleared}
+use Rattle.cell_states.specs.Filling.{is_awake}
+use Rattle.due_cells.specs.Layout.{cleared}
 
 module _ {State : Type 0} where
   some_after : (a b : Bool) (x : State) (r : Held State) (v : ℕ) → is_some r.state ≡ true → is_some (cond a (stored x) (cond b (marked r v) r)).state ≡ true

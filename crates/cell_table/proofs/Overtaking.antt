@@ -3,7 +3,7 @@ use Rattle.std.proofs.Common.{◌≡◌, ℕ, ◌+◌, ◌-◌, ◌<◌, ◌≤�
 use Rattle.std.specs.List.{AllByRecursion}
 use Rattle.std.proofs.lemmas.Bool.{true≢false, false≢true, cases_Bool, ltb-true, ltb-false, lt-ltb, le-ltb, eqb-true, eqb-false, and_parts, and_cases, or_cases, and_right}
 use Rattle.grid_law.specs.Rules.{Rules, Laws, Agrees, Differ}
-use Rattle.cell_table.specs.Readers.{has}
+use Rattle.cell_states.specs.Near.{has}
 use Rattle.cell_table.specs.Reads.{reads_any}
 use Rattle.cell_table.specs.Events.{Event, Edits, Claims, Stores, Start, slots_of, horizon_of}
 use Rattle.cell_table.specs.Values.{val, vals, near_vals}
@@ -11,7 +11,7 @@ use Rattle.cell_table.specs.Due.{changes, stores, due}
 use Rattle.cell_table.specs.Clock.{ticks, clock_of, version_of}
 use Rattle.cell_table.specs.Stands.{IsLegal}
 use Rattle.cell_table.specs.Overtaken.{removes, affects, overtaken}
-use Rattle.cell_table.proofs.States.{none_has, neither}
+use Rattle.due_cells.proofs.States.{none_has, neither}
 use Rattle.cell_table.proofs.Touched.{not_contained}
 use Rattle.cell_table.proofs.Standing.{cond_later}
 

@@ -1,9 +1,9 @@
 -- A pass over the due cells, by cycle and then component.
 use Rattle.std.proofs.Common.{◌≡◌, ℕ, ◌+◌, ◌*◌, ◌<◌, ◌≤◌, ◌∙◌, subst, refl, arith, ◌⊎◌, inl, inr, Option, None, Some, IfNone, IfSome, List, [], ◌∷◌, Bool, true, false, cond, ◌-◌, ◌^◌}
 use Rattle.std.proofs.lemmas.Bool.{cases_lt}
-use Rattle.cell_table.specs.declared.cell.Cell.{Cell}
+use Rattle.cell_states.specs.declared.cell.Cell.{Cell}
 use Rattle.grid_law.specs.Rules.{Rules, Laws}
-use Rattle.cell_table.specs.Seen.{Seen, held_at}
+use Rattle.due_cells.specs.Seen.{Seen, held_at}
 use Rattle.cell_table.specs.Cells.{IsThere, AtOrAfter, Before}
 use Rattle.cell_table.specs.Events.{Event, Edits, Claims, Stores, Start}
 use Rattle.cell_table.specs.Stands.{Stands}

@@ -3,16 +3,19 @@ use Rattle.std.proofs.Common.{◌≡◌, ◌↔◌, ℕ, zero, suc, ◌+◌, ◌
 use Rattle.std.specs.List.{range_with_len}
 use Rattle.std.proofs.lemmas.Bool.{true≢false, cases_lt, cases_eq, ne_eqb}
 use Rattle.std.proofs.lemmas.List.FromFn.{length-map-range_with_len, get_or-map-range_with_len, fill_by_all}
-use Rattle.cell_table.specs.declared.cell.Cell.{Cell}
+use Rattle.cell_states.specs.declared.cell.Cell.{Cell}
 use Rattle.grid_law.specs.Rules.{Rules, Laws}
 use Rattle.grid_law.specs.Run.{run}
-use Rattle.cell_table.specs.Seen.{Held, Seen, nothing, stored, marked, row_at, held_in, held_at}
+use Rattle.due_cells.specs.Seen.{Held, Seen, nothing, stored, marked, row_at, held_in, held_at}
 use Rattle.cell_table.specs.Cells.{IsThere, Before}
-use Rattle.cell_table.specs.Readers.{has}
+use Rattle.cell_states.specs.Near.{has}
 use Rattle.cell_table.specs.Consistent.{IsTable, IsWhole, IsCurrentState, current_of}
-use Rattle.cell_table.specs.Gives.{held_after, IsAfterStore}
+use Rattle.due_cells.specs.Stores.{held_after}
+use Rattle.cell_table.specs.Gives.{IsAfterStore}
 use Rattle.cell_table.specs.Settling.{IsNextDue, SettlesNext, IsAt}
-use Rattle.cell_table.specs.Passing.{differing, woken, clock_behind, reached, costing, cost_of, IsPassed}
+use Rattle.due_cells.specs.Woken.{differing, woken}
+use Rattle.due_cells.proofs.MarkedCycle.{differing_le}
+use Rattle.cell_table.specs.Passing.{clock_behind, reached, costing, cost_of, IsPassed}
 use Rattle.cell_table.proofs.Tables.{is_ready}
 use Rattle.cell_table.proofs.Stores.{is_table_after, current_of_inputs}
 use Rattle.cell_table.proofs.Runs.{computes_run, holds_run_at}
@@ -29,15 +32,6 @@ and_false false b e = refl
 and_false_right : (a b : Bool) → b ≡ false → (a && b) ≡ false
 and_false_right true b e = e
 and_false_right false b e = refl
-
-cond_le : (b : Bool) (n m : ℕ) → n ≤ m → cond b (n + 1) n ≤ m + 1
-cond_le true n m h = omega arith
-cond_le false n m h = omega arith
-
--- no more components differ than there are
-pub differing_le : (differs : ℕ → ℕ → Bool) (t n : ℕ) → differing differs t n ≤ n
-differing_le differs t zero = omega arith
-differing_le differs t (suc n) = let few = cond_le (differs t n) (differing differs t n) n (differing_le differs t n) in omega (arith, few)
 
 module _ {State : Type 0} where
   abbrev built : (ℕ → ℕ → Held State) → ℕ → ℕ → List (List (Held State))

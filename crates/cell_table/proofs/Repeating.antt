@@ -5,15 +5,17 @@ use Rattle.std.proofs.lemmas.Bool.{true≢false, false≢true, cases_lt, cases_e
 use Rattle.std.proofs.lemmas.List.Elements.{recursion_from_All}
 use Rattle.grid_law.specs.Rules.{Rules, Laws}
 use Rattle.grid_law.specs.Run.{run}
-use Rattle.cell_table.specs.Seen.{Held, Seen, marked, held_at}
+use Rattle.due_cells.specs.Seen.{Held, Seen, marked, held_at}
 use Rattle.cell_table.specs.Cells.{IsThere}
-use Rattle.cell_table.specs.Readers.{has}
+use Rattle.cell_states.specs.Near.{has}
 use Rattle.cell_table.specs.Consistent.{IsTable}
-use Rattle.cell_table.specs.Filling.{is_awake}
-use Rattle.cell_table.specs.Passing.{differing, woken, clock_behind, reached, costing, cost_of}
-use Rattle.cell_table.specs.Repeating.{any_changes, is_due_here, BeginsAlike, StaysAlike, AreDueAlike}
+use Rattle.cell_states.specs.Filling.{is_awake}
+use Rattle.due_cells.specs.Woken.{differing, woken}
+use Rattle.cell_table.specs.Passing.{clock_behind, reached, costing, cost_of}
+use Rattle.cell_states.specs.Versions.{any_changes}
+use Rattle.cell_table.specs.Repeating.{is_due_here, BeginsAlike, StaysAlike, AreDueAlike}
 use Rattle.cell_table.specs.Settling.{NoneDueBefore}
-use Rattle.cell_table.proofs.Costing.{has_item, or_left, or_right}
+use Rattle.cell_states.proofs.Cases.{has_item, or_left, or_right}
 use Rattle.cell_table.proofs.Runs.{holds_run_at, step_near}
 use Rattle.cell_table.proofs.Trailing.{run_stays}
 

@@ -3,9 +3,9 @@ use Rattle.std.proofs.Common.{◌≡◌, ℕ, zero, suc, ◌+◌, ◌-◌, ◌<�
 use Rattle.std.specs.List.{AllByRecursion}
 use Rattle.std.proofs.lemmas.List.Elements.{recursion_from_All}
 use Rattle.grid_law.specs.Rules.{Rules, Laws, result_of}
-use Rattle.cell_table.specs.Seen.{Held, Seen, row_at, held_at, held_in}
+use Rattle.due_cells.specs.Seen.{Held, Seen, row_at, held_at, held_in}
 use Rattle.cell_table.specs.Cells.{IsThere}
-use Rattle.cell_table.specs.Inputs.{states_of}
+use Rattle.due_cells.specs.Inputs.{states_of}
 use Rattle.cell_table.specs.Consistent.{IsTable, IsCurrentState}
 use Rattle.cell_table.specs.Claims.{NoneDue}
 use Rattle.grid_law.specs.Run.{run}

@@ -5,17 +5,19 @@ use Rattle.std.proofs.lemmas.Bool.Decides.{nat_tests}
 use Rattle.cell_marks.specs.Marked.{count_in}
 use Rattle.grid_law.specs.Rules.{Rules, Laws}
 use Rattle.grid_law.specs.Run.{run}
-use Rattle.cell_table.specs.declared.cell.CellRange.{CellRange}
-use Rattle.cell_table.specs.Seen.{Held, Seen, nothing, marked, row_at, held_at, due_in_row}
+use Rattle.cell_states.specs.declared.cell.CellRange.{CellRange}
+use Rattle.due_cells.specs.Seen.{Held, Seen, nothing, marked, row_at, held_at, due_in_row}
 use Rattle.cell_table.specs.Cells.{IsThere}
-use Rattle.cell_table.specs.Layout.{cleared}
-use Rattle.cell_table.specs.Readers.{has, AreHeld}
+use Rattle.due_cells.specs.Layout.{cleared}
+use Rattle.cell_states.specs.Near.{has}
+use Rattle.due_cells.specs.Readers.{AreHeld}
 use Rattle.cell_table.specs.Consistent.{IsTable, IsWhole}
-use Rattle.cell_table.specs.Filling.{is_awake}
-use Rattle.cell_table.specs.Touches.{is_marked, IsWithin}
-use Rattle.cell_table.specs.Passing.{differing, woken, clock_behind, reached, costing, IsPassed, HoldsBut}
+use Rattle.cell_states.specs.Filling.{is_awake}
+use Rattle.due_cells.specs.Ranges.{is_marked, IsWithin}
+use Rattle.due_cells.specs.Woken.{differing, woken}
+use Rattle.cell_table.specs.Passing.{clock_behind, reached, costing, IsPassed, HoldsBut}
 use Rattle.cell_table.specs.Settling.{NoneDueBefore, IsAt}
-use Rattle.cell_table.specs.WholeRows.{IsRowPut}
+use Rattle.due_cells.specs.WholeRows.{IsRowPut}
 use Rattle.cell_table.proofs.Runs.{holds_run_at}
 use Rattle.cell_table.proofs.Passing.{passed_at_end, passed_table}
 use Rattle.cell_table.proofs.Repeated.{count_whole, differing_count}

@@ -1,14 +1,14 @@
 -- One due cell is settled.
 use Rattle.std.proofs.Common.{◌≡◌, ◌≢◌, ℕ, ◌+◌, ◌-◌, ◌^◌, ◌<◌, ◌∙◌, sym, ap, subst, refl, arith, Bool, true, false, cond, ◌&&◌, eqb, ◌⊎◌, inl, inr, Some, is_some}
 use Rattle.std.proofs.lemmas.Bool.{true≢false, false≢true, cases_eq, and_left, and_right, and_parts, ne_eqb, eq-eqb, eqb-true}
-use Rattle.cell_table.specs.declared.cell.Cell.{Cell}
+use Rattle.cell_states.specs.declared.cell.Cell.{Cell}
 use Rattle.cell_table.specs.declared.given.Given.TheVariants.{Stored}
 use Rattle.grid_law.specs.Rules.{Rules, Laws}
-use Rattle.cell_table.specs.Seen.{Held, Seen, held_at, stored, marked}
+use Rattle.due_cells.specs.Seen.{Held, Seen, held_at, stored, marked}
 use Rattle.cell_table.specs.Cells.{IsThere, AtOrAfter, Before}
-use Rattle.cell_table.specs.Inputs.{inputs_of}
+use Rattle.due_cells.specs.Inputs.{inputs_of}
 use Rattle.cell_table.specs.Consistent.{IsTable, IsCurrentState, current_of}
-use Rattle.cell_table.specs.Readers.{has}
+use Rattle.cell_states.specs.Near.{has}
 use Rattle.cell_table.specs.Gives.{IsAfterStore, GivesAs}
 use Rattle.grid_law.specs.Run.{run}
 use Rattle.cell_table.specs.Claims.{Computed, NoneDue, result_for}

@@ -1,12 +1,12 @@
 -- A cell's state is that of the cell before it.
 use Rattle.std.proofs.Common.{◌≡◌, ℕ, ◌-◌, ◌<◌, ◌∙◌, sym, ap, arith, false, Some, unwrap_or, List, [], ◌∷◌, All, Result, Ok, Err, IfOk}
 use Rattle.grid_law.specs.Rules.{Rules, Laws, result_of}
-use Rattle.cell_table.specs.Seen.{Seen, row_at, held_in, held_at}
+use Rattle.due_cells.specs.Seen.{Seen, row_at, held_in, held_at}
 use Rattle.cell_table.specs.Cells.{IsThere}
-use Rattle.cell_table.specs.Inputs.{states_of, inputs_of}
+use Rattle.due_cells.specs.Inputs.{states_of, inputs_of}
 use Rattle.cell_table.specs.Consistent.{IsTable, IsCurrent, current_of}
 use Rattle.cell_table.specs.Settling.{IsAsBefore}
-use Rattle.cell_table.proofs.States.{Parts, parts_of}
+use Rattle.due_cells.proofs.States.{Parts, parts_of}
 use Rattle.cell_table.proofs.Tables.{inputs_later}
 use Rattle.cell_table.proofs.Asking.{same_next}
 

@@ -4,10 +4,10 @@ use Rattle.std.specs.List.{AllByRecursion}
 use Rattle.std.proofs.lemmas.Bool.{true≢false, false≢true, ltb-false, eqb-true, eqb-false, and_parts, and_left, and_right, ne_eqb}
 use Rattle.std.proofs.lemmas.List.Elements.{recursion_from_All}
 use Rattle.grid_law.specs.Rules.{Rules, Laws, Differ}
-use Rattle.cell_table.specs.Seen.{Held, Seen, row_at, held_at, held_in, fresh, marked, stored}
+use Rattle.due_cells.specs.Seen.{Held, Seen, row_at, held_at, held_in, fresh, marked, stored}
 use Rattle.cell_table.specs.Cells.{IsThere}
-use Rattle.cell_table.specs.Inputs.{states_of, inputs_of}
-use Rattle.cell_table.specs.Readers.{has}
+use Rattle.due_cells.specs.Inputs.{states_of, inputs_of}
+use Rattle.cell_states.specs.Near.{has}
 use Rattle.cell_table.specs.Reads.{reads_any}
 use Rattle.cell_table.specs.Gives.{IsAfterStore}
 use Rattle.cell_table.specs.Touches.{cell_reads, IsAfterTouch}

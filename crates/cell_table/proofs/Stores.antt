@@ -4,13 +4,14 @@ use Rattle.std.specs.List.{AllByRecursion}
 use Rattle.std.proofs.lemmas.Bool.{true≢false, false≢true, cases_eq, and_parts, and_cases, and_left, and_right, ne_eqb, eqb-true, eqb-false}
 use Rattle.std.proofs.lemmas.List.Elements.{recursion_from_All}
 use Rattle.grid_law.specs.Rules.{Rules, Laws}
-use Rattle.cell_table.specs.Seen.{Held, Seen, row_at, held_at, stored, marked}
-use Rattle.cell_table.specs.Inputs.{inputs_of}
+use Rattle.due_cells.specs.Seen.{Held, Seen, row_at, held_at, stored, marked}
+use Rattle.due_cells.specs.Inputs.{inputs_of}
 use Rattle.cell_table.specs.Consistent.{IsTable, IsCurrent, IsCurrentState, current_of}
-use Rattle.cell_table.specs.Readers.{has}
+use Rattle.cell_states.specs.Near.{has}
 use Rattle.cell_table.specs.Claims.{Claimed, result_for}
-use Rattle.cell_table.specs.Gives.{held_after, IsPresent, IsAfterStore, HoldsSame}
-use Rattle.cell_table.proofs.States.{states_same, none_has}
+use Rattle.due_cells.specs.Stores.{held_after}
+use Rattle.cell_table.specs.Gives.{IsPresent, IsAfterStore, HoldsSame}
+use Rattle.due_cells.proofs.States.{states_same, none_has}
 use Rattle.cell_table.proofs.Tables.{inputs_first, inputs_later}
 
 all_both : {P Q S : ℕ → Type 0} (ms : List ℕ) → ((m : ℕ) → P m → Q m → S m) → AllByRecursion P ms → AllByRecursion Q ms → AllByRecursion S ms

@@ -5,9 +5,9 @@ use Rattle.std.proofs.lemmas.List.Elements.{All-weaker, recursion_from_All}
 use Rattle.std.proofs.lemmas.List.{length-replicate, get_or-replicate}
 use Rattle.std.proofs.lemmas.Bool.{true≢false, false≢true, ne_eqb, cases_eq}
 use Rattle.grid_law.specs.Rules.{Rules, Laws}
-use Rattle.cell_table.specs.Seen.{Held, Seen, fresh, nothing, row_at, held_in, held_at}
+use Rattle.due_cells.specs.Seen.{Held, Seen, fresh, nothing, row_at, held_in, held_at}
 use Rattle.cell_table.specs.Cells.{IsThere}
-use Rattle.cell_table.specs.Inputs.{with_state, states_of, inputs_of}
+use Rattle.due_cells.specs.Inputs.{with_state, states_of, inputs_of}
 use Rattle.cell_table.specs.Consistent.{IsTable}
 use Rattle.cell_table.specs.Claims.{NoneFrom, NoneDue, is_claimable}
 

@@ -4,14 +4,15 @@ use Rattle.std.specs.List.{AllByRecursion, Contains, list_any}
 use Rattle.std.proofs.lemmas.Bool.{true≢false, cases_eq, ltb-false, le-ltb, lt-ltb, cases_lt}
 use Rattle.std.proofs.lemmas.List.Elements.{recursion_from_All, All-from_recursion, All-contains}
 use Rattle.grid_law.specs.Rules.{Rules, Laws, Agrees, Differ}
-use Rattle.cell_table.specs.Seen.{Held, Seen, row_at, held_at, fresh, marked}
+use Rattle.due_cells.specs.Seen.{Held, Seen, row_at, held_at, fresh, marked}
 use Rattle.cell_table.specs.Cells.{IsThere}
-use Rattle.cell_table.specs.Inputs.{states_of, inputs_of}
+use Rattle.due_cells.specs.Inputs.{states_of, inputs_of}
 use Rattle.cell_table.specs.Consistent.{IsTable, IsCurrent}
 use Rattle.cell_table.specs.Reads.{reads_any}
-use Rattle.cell_table.specs.declared.cell.CellRange.{CellRange}
-use Rattle.cell_table.specs.Touches.{cell_reads, held_touched, held_marked, is_marked}
-use Rattle.cell_table.proofs.States.{states_same, neither}
+use Rattle.cell_states.specs.declared.cell.CellRange.{CellRange}
+use Rattle.cell_table.specs.Touches.{cell_reads, held_touched}
+use Rattle.due_cells.specs.Ranges.{held_marked, is_marked}
+use Rattle.due_cells.proofs.States.{states_same, neither}
 use Rattle.cell_table.proofs.Tables.{inputs_first, inputs_later}
 
 none_passes : {X : Type 0} (test : X → Bool) (xs : List X) → list_any test xs ≡ false → AllByRecursion (λ x. test x ≡ false) xs

@@ -1,22 +1,14 @@
 -- The run goes on from one cycle to the next.
-use Rattle.std.proofs.Common.{◌≡◌, ℕ, zero, suc, ◌+◌, ◌-◌, ◌<◌, ◌∙◌, sym, ap, subst, refl, arith, true, eqb, ◌⊎◌, inl, inr, List, [], ◌∷◌, map}
-use Rattle.std.proofs.lemmas.Bool.{cases_eq, eq-eqb}
+use Rattle.std.proofs.Common.{◌≡◌, ℕ, zero, suc, ◌+◌, ◌-◌, ◌<◌, ◌∙◌, sym, ap, refl, arith, true, eqb, List, [], ◌∷◌, map}
+use Rattle.std.proofs.lemmas.Bool.{eq-eqb}
 use Rattle.grid_law.specs.Rules.{Rules}
 use Rattle.grid_law.specs.Run.{run}
-use Rattle.cell_table.specs.Readers.{has}
-use Rattle.cell_table.proofs.Costing.{or_left, or_right}
+use Rattle.cell_states.specs.Near.{has}
+use Rattle.cell_states.proofs.Cases.{or_left, or_right}
 
 map_same : {X : Type 0} (f g : ℕ → X) (ms : List ℕ) → ((m : ℕ) → has ms m ≡ true → f m ≡ g m) → map f ms ≡ map g ms
 map_same f g [] h = refl
 map_same f g (m ∷ ms) h = rw (h m (or_left (eqb m m) (has ms m) (eq-eqb m m refl)), map_same f g ms (λ k e. h k (or_right (eqb m k) (has ms k) e))) refl
-
--- what holds at one place and at each other one
-pub at_or_other : (P : ℕ → Type 0) (c k : ℕ) → P c → ((k ≡ c → ⊥) → P k) → P k
-at_or_other P c k here other = by_place (cases_eq k c)
-  where
-    by_place : (k ≡ c) ⊎ (k ≡ c → ⊥) → P k
-    by_place (inl e) = subst P (sym e) here
-    by_place (inr n) = other n
 
 module _ {State Slots Slot : Type 0} (R : Rules State Slots Slot) (s : Slots) where
   run_steps : (t c : ℕ) → 0 < t → run R s t c ≡ R.step s (map (run R s (t - 1)) (R.near s c)) c

@@ -4,7 +4,7 @@ use Rattle.std.specs.Prelude.{if◌then◌else◌}
 use Rattle.std.proofs.lemmas.Bool.{cases_lt}
 use Rattle.std.proofs.lemmas.List.{length-append}
 use Rattle.std.proofs.lemmas.List.Elements.{All-nil, All-cons, All-append}
-use Rattle.cell_table.specs.declared.cell.Cell.{Cell}
+use Rattle.cell_states.specs.declared.cell.Cell.{Cell}
 use Rattle.cell_table.specs.Events.{Event, Stores, Start}
 use Rattle.cell_table.specs.Stands.{Stands}
 use Rattle.cell_table.specs.Cost.{SettlesFirst}
@@ -12,9 +12,9 @@ use Rattle.cell_table.proofs.Ordering.{before_next}
 use Rattle.cell_table.proofs.Costing.{settles_first}
 use Rattle.grid_law.specs.Rules.{Rules, Laws}
 use Rattle.grid_law.specs.Run.{run}
-use Rattle.cell_table.specs.Seen.{Held, Seen, held_at, due_at}
+use Rattle.due_cells.specs.Seen.{Held, Seen, held_at, due_at}
 use Rattle.cell_table.specs.Cells.{IsThere}
-use Rattle.cell_table.specs.Inputs.{inputs_of}
+use Rattle.due_cells.specs.Inputs.{inputs_of}
 use Rattle.cell_table.specs.Consistent.{IsTable, current_of}
 use Rattle.cell_table.specs.Settling.{NoneDueBefore, IsAsBefore, SettlesNext}
 use Rattle.cell_table.specs.Waves.{Worked, works_below, IsReady, IsFound, IsNextWave}

@@ -1,7 +1,7 @@
 -- Which cells there are, and their order.
 use Rattle.std.specs.Prelude.{◌≡◌, ℕ, ◌<◌, ◌≤◌}
 use Rattle.grid_law.specs.Rules.{Rules}
-use Rattle.cell_table.specs.Seen.{Seen}
+use Rattle.due_cells.specs.Seen.{Seen}
 
 module _ {State Slots Slot : Type 0} (R : Rules State Slots Slot) where
   -- the cell is there: its cycle is at most the horizon, its component is one of the slots' components

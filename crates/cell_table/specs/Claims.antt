@@ -1,9 +1,9 @@
 -- Claims: which cell can be claimed, which is the next one, and what a claim and its result hold.
 use Rattle.std.specs.Prelude.{◌≡◌, ◌⊎◌, ℕ, ◌<◌, ◌≤◌, ◌&&◌, Bool, true, false, Some, List, is_some}
-use Rattle.cell_table.specs.declared.cell.Cell.{Cell}
+use Rattle.cell_states.specs.declared.cell.Cell.{Cell}
 use Rattle.grid_law.specs.Rules.{Rules, result_of}
-use Rattle.cell_table.specs.Seen.{Seen, held_at}
-use Rattle.cell_table.specs.Inputs.{inputs_of}
+use Rattle.due_cells.specs.Seen.{Seen, held_at}
+use Rattle.due_cells.specs.Inputs.{inputs_of}
 use Rattle.cell_table.specs.Cells.{IsThere, AtOrAfter, Before}
 
 -- a cell, its version then, and the slots and near states that it is computed from

@@ -1,8 +1,8 @@
 -- What is true of every table: each cell that isn't due holds its start or its step.
 use Rattle.std.specs.Prelude.{◌≡◌, ℕ, ◌+◌, ◌<◌, ◌≤◌, false, Some, List, [], length, unwrap_or}
 use Rattle.grid_law.specs.Rules.{Rules, result_of}
-use Rattle.cell_table.specs.Seen.{Held, row_at, held_at}
-use Rattle.cell_table.specs.Inputs.{inputs_of}
+use Rattle.due_cells.specs.Seen.{Held, row_at, held_at}
+use Rattle.due_cells.specs.Inputs.{inputs_of}
 
 module _ {State Slots Slot : Type 0} (R : Rules State Slots Slot) where
   -- x is the start (cycle 0) or the step of the present slots and the present near states

@@ -1,34 +1,22 @@
 -- What a returned result does to a table.
-use Rattle.std.specs.Prelude.{◌≡◌, ◌≢◌, ◌↔◌, ℕ, ◌+◌, ◌-◌, ◌^◌, ◌<◌, ◌==◌, ◌&&◌, if◌then◌else◌, Bool, true, false, Some, List, length}
+use Rattle.std.specs.Prelude.{◌≡◌, ◌≢◌, ◌↔◌, ℕ, ◌+◌, ◌-◌, ◌^◌, ◌<◌, if◌then◌else◌, Bool, true, false, Some}
 use Rattle.grid_law.specs.Rules.{Rules, Agrees}
-use Rattle.cell_table.specs.declared.cell.Cell.{Cell}
 use Rattle.cell_table.specs.declared.given.Given.{Given}
 use Rattle.cell_table.specs.declared.given.Given.TheVariants.{Gone, NotDue, Overtaken, Foreign, ClockSpent, Memory, Stored}
-use Rattle.cell_table.specs.Seen.{Held, Seen, stored, marked, row_at, held_at}
-use Rattle.cell_table.specs.Inputs.{inputs_of}
-use Rattle.cell_table.specs.Readers.{has}
+use Rattle.due_cells.specs.Seen.{Seen, held_at}
+use Rattle.due_cells.specs.Inputs.{inputs_of}
+use Rattle.due_cells.specs.Stores.{held_after}
 use Rattle.cell_table.specs.Cells.{IsThere}
 use Rattle.cell_table.specs.Claims.{Claimed, Computed}
 
 module _ {State Slots Slot : Type 0} (R : Rules State Slots Slot) where
-  -- what is held for a cell after x was stored for (t, c): one that reads it becomes due where it changed
-  abbrev pub held_after : Slots → List (List (Held State)) → ℕ → ℕ → State → Bool → ℕ → ℕ → ℕ → Held State
-  held_after s rows t c x changed version t1 c1 =
-      if (t1 == t) && (c1 == c) then stored x else (if changed && ((t1 == t + 1) && has (R.near s c1) c) then marked (held_at rows t1 c1) version else held_at rows t1 c1)
-
-  -- the rows after x was stored for a cell, and its readers were marked where it changed
-  pub record Stores (s : Slots) (olds news : List (List (Held State))) (cell : Cell) (x : State) (changed : Bool) (version : ℕ) : Type 0 where
-    pub len : length news ≡ length olds
-    pub lens : (t : ℕ) → length (row_at news t) ≡ length (row_at olds t)
-    pub at : (t c : ℕ) → t < length olds → c < R.components s → held_at news t c ≡ held_after s olds cell.cycle cell.component x changed version t c
-
   -- the new table has x for (t, c)
   pub record IsAfterStore (old new : Seen State Slots) (t c : ℕ) (x : State) (changed : Bool) : Type 0 where
     pub changes : (changed ≡ false) ↔ ((held_at old.rows t c).state ≡ Some x)
     pub slots : new.slots ≡ old.slots
     pub horizon : new.horizon ≡ old.horizon
     pub clock : new.clock ≡ (if changed then old.clock + 1 else old.clock)
-    pub cells : (t1 c1 : ℕ) → IsThere R old t1 c1 → held_at new.rows t1 c1 ≡ held_after old.slots old.rows t c x changed new.clock t1 c1
+    pub cells : (t1 c1 : ℕ) → IsThere R old t1 c1 → held_at new.rows t1 c1 ≡ held_after R old.slots old.rows t c x changed new.clock t1 c1
 
   -- a state was stored for the cell, which is there
   pub record IsStored (old new : Seen State Slots) (t c : ℕ) : Type 0 where

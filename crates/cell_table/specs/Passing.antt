@@ -1,24 +1,12 @@
 -- Cycles of cells that are settled together: what one store after another would make of them.
-use Rattle.std.specs.Prelude.{◌≡◌, ◌↔◌, ℕ, zero, suc, ◌+◌, ◌<◌, ◌≤◌, ◌&&◌, if◌then◌else◌, Bool, false, Some, List, All}
+use Rattle.std.specs.Prelude.{◌≡◌, ◌↔◌, ℕ, zero, suc, ◌+◌, ◌<◌, ◌≤◌, if◌then◌else◌, Bool, false, Some, List, All}
 use Rattle.grid_law.specs.Rules.{Rules}
 use Rattle.grid_law.specs.Run.{run}
-use Rattle.cell_table.specs.Seen.{Held, Seen, held_at, marked, stored}
+use Rattle.due_cells.specs.Seen.{Held, Seen, held_at, stored}
 use Rattle.cell_table.specs.Cells.{IsThere}
-use Rattle.cell_table.specs.Readers.{has}
-use Rattle.cell_table.specs.Touches.{is_marked, IsWithin}
-use Rattle.cell_table.specs.declared.cell.CellRange.{CellRange}
-
--- how many of the first n components differ at a cycle
-abbrev pub differing : (ℕ → ℕ → Bool) → ℕ → ℕ → ℕ
-differing differs t zero = 0
-differing differs t (suc n) = if differs t n then differing differs t n + 1 else differing differs t n
-
-module _ {State Slots Slot : Type 0} (R : Rules State Slots Slot) (s : Slots) (rows : List (List (Held State))) (differs : ℕ → ℕ → Bool) where
-  -- what is held for a cell once the first n components were stored one cycle earlier, the clock being `clock` before
-  abbrev pub woken : ℕ → ℕ → ℕ → ℕ → Held State
-  woken clock t zero c = held_at rows (t + 1) c
-  woken clock t (suc n) c =
-      if differs t n && has (R.near s c) n then marked (woken clock t n c) (clock + (differing differs t n + 1)) else woken clock t n c
+use Rattle.due_cells.specs.Woken.{differing, woken}
+use Rattle.due_cells.specs.Ranges.{is_marked, IsWithin}
+use Rattle.cell_states.specs.declared.cell.CellRange.{CellRange}
 
 module _ {State Slots Slot : Type 0} (R : Rules State Slots Slot) (old : Seen State Slots) (differs : ℕ → ℕ → Bool) (from : ℕ) where
   -- the clock after m cycles

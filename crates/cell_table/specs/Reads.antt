@@ -1,5 +1,5 @@
 -- Which cells read a slot.
-use Rattle.std.specs.Prelude.{ℕ, ◌==◌, ◌&&◌, not, if◌then◌else◌, Bool, false, Option, None, Some, List, [], ◌∷◌}
+use Rattle.std.specs.Prelude.{ℕ, ◌==◌, ◌&&◌, not, if◌then◌else◌, Bool, false, Option, None, Some, List}
 use Rattle.std.specs.List.{list_any}
 use Rattle.grid_law.specs.declared.reader.Reader.{Reader}
 use Rattle.grid_law.specs.Rules.{Rules}
@@ -18,8 +18,3 @@ module _ {State Slots Slot : Type 0} (R : Rules State Slots Slot) where
   abbrev pub reads_one : Slots → ℕ → Slot → Option (List State) → Bool
   reads_one s c slot None = false
   reads_one s c slot (Some near) = R.reads s near c slot
-
-  -- whether it reads the slot after cycle 0, where its own state one cycle earlier was this and the other near states are there
-  abbrev pub reads_by : Slots → ℕ → Slot → Option State → Bool
-  reads_by s c slot None = false
-  reads_by s c slot (Some own) = R.reads s (own ∷ []) c slot

@@ -1,14 +1,10 @@
 -- Cycles in which the same happens as in the one before them.
-use Rattle.std.specs.Prelude.{◌≡◌, ◌≢◌, ℕ, zero, suc, ◌+◌, ◌-◌, ◌<◌, ◌≤◌, ◌&&◌, ◌||◌, Bool, true, false, List}
+use Rattle.std.specs.Prelude.{◌≡◌, ◌≢◌, ℕ, ◌+◌, ◌-◌, ◌<◌, ◌≤◌, ◌||◌, Bool, true, false, List}
 use Rattle.grid_law.specs.Rules.{Rules}
-use Rattle.cell_table.specs.Seen.{Seen, held_at}
-use Rattle.cell_table.specs.Readers.{has}
-use Rattle.cell_table.specs.Filling.{is_awake}
-
--- some of the first n components changes, and is one of these
-abbrev pub any_changes : List Bool → List ℕ → ℕ → Bool
-any_changes changes near zero = false
-any_changes changes near (suc n) = (is_awake changes n && has near n) || any_changes changes near n
+use Rattle.due_cells.specs.Seen.{Seen, held_at}
+use Rattle.cell_states.specs.Near.{has}
+use Rattle.cell_states.specs.Versions.{any_changes}
+use Rattle.cell_states.specs.Filling.{is_awake}
 
 module _ {State Slots Slot : Type 0} (R : Rules State Slots Slot) (v : Seen State Slots) (s : ℕ) where
   -- the cell of a component at cycle s gets the state of the cell before, which it holds where it doesn't change

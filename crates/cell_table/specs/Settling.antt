@@ -1,22 +1,16 @@
 -- Settling a table, one due cell after another.
 use Rattle.std.specs.Prelude.{◌≡◌, ◌≢◌, ℕ, ◌+◌, ◌-◌, ◌*◌, ◌^◌, ◌<◌, ◌≤◌, Some, Bool, true, false, List, [], ◌∷◌, length}
-use Rattle.cell_table.specs.declared.cell.Cell.{Cell}
+use Rattle.cell_states.specs.declared.cell.Cell.{Cell}
 use Rattle.cell_table.specs.declared.given.SettleFault.{SettleFault}
 use Rattle.cell_table.specs.declared.given.SettleFault.TheVariants.{ClockSpent, Memory}
 use Rattle.grid_law.specs.Rules.{Rules}
-use Rattle.cell_table.specs.Seen.{Held, Seen, held_at, held_in}
+use Rattle.due_cells.specs.Seen.{Seen, held_at}
 use Rattle.cell_table.specs.Cells.{IsThere, AtOrAfter, Before}
 use Rattle.cell_table.specs.Consistent.{current_of}
 use Rattle.cell_table.specs.Claims.{NoneDue}
 use Rattle.cell_table.specs.Gives.{IsAfterStore}
 use Rattle.cell_table.specs.Events.{Event, Edits, Claims, Stores}
 use Rattle.grid_law.specs.Run.{run}
-
--- the first component of a row, at or after that one, that is due
-pub record IsNextDueInRow {State : Type 0} (row : List (Held State)) (c0 c : ℕ) : Type 0 where
-  pub due : (held_in row c).is_due ≡ true
-  pub after : c0 ≤ c
-  pub none_between : (k : ℕ) → c0 ≤ k → k < c → (held_in row k).is_due ≡ false
 
 module _ {State Slots Slot : Type 0} (R : Rules State Slots Slot) where
   -- no cell before that one is due

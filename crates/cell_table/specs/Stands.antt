@@ -1,7 +1,7 @@
 -- A table stands for a list of events.
 use Rattle.std.specs.Prelude.{◌≡◌, ◌↔◌, ℕ, true, false, Some, List, [], ◌∷◌}
 use Rattle.grid_law.specs.Rules.{Rules, Differ}
-use Rattle.cell_table.specs.Seen.{Seen, held_at}
+use Rattle.due_cells.specs.Seen.{Seen, held_at}
 use Rattle.cell_table.specs.Cells.{IsThere}
 use Rattle.cell_table.specs.Events.{Event, Edits, Claims, Stores, Start, slots_of, horizon_of}
 use Rattle.cell_table.specs.Values.{val}

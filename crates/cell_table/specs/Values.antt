@@ -1,7 +1,7 @@
 -- The state that each cell holds after a list of events.
 use Rattle.std.specs.Prelude.{ℕ, ◌-◌, ◌==◌, ◌&&◌, nat_lt, if◌then◌else◌, Option, None, Some, List, [], ◌∷◌}
 use Rattle.grid_law.specs.Rules.{Rules}
-use Rattle.cell_table.specs.Inputs.{with_state}
+use Rattle.due_cells.specs.Inputs.{with_state}
 use Rattle.cell_table.specs.Events.{Event, Edits, Claims, Stores, Start, slots_of, horizon_of}
 
 module _ {State : Type 0} where

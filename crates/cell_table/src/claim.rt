@@ -4,7 +4,7 @@ ghost use Rattle.std.specs.Arc.{arc_value};
 ghost use Rattle.grid_law.specs.Rules.{Agrees};
 ghost use Rattle.cell_table.specs.Claims.{result_for};
 
-use crate::Cell;
+use cell_states::Cell;
 use grid_law::{Grid, NoMemory};
 use std::alloc::Global;
 use std::marker::Model;

@@ -45,46 +45,27 @@
 //!
 //! # How it is kept
 //!
-//! Callers see a list of rows, one for each cycle. Inside, a state is the words of its code and what isn't in them: the words that
-//! begin at a cycle are a row of `change_rows`, what isn't in them is a list of changes for each component (`change_lists`), and the
-//! due cells are bits that are counted (`cell_marks`). No state is kept itself: `shared` puts one together. Two states are compared
-//! by their words. So an edit asks a reader of a slot once for each stretch of cells at which nothing begins, or not at all where it
-//! is sure to read it; a cell at whose near cells nothing begins gets the state of the cell before it without a step; and where
-//! nothing is due, one number tells it. A cycle of which many cells are due is settled at once by a row of all components, and so are
-//! cycles in which the same happens as in the one before, since each due cell gets the state of the cell before it. What a cycle that
-//! is settled at once makes due is marked 64 cells in a step, and the next cycle's versions are not written: which components changed
-//! is noted there, and they follow from it.
+//! Callers see a list of rows, one for each cycle. Inside, the states are words and memories (`cell_states`), and beside them stand marks of
+//! the due cells and their versions (`due_cells`). No state is kept itself: `shared` puts one together. So an edit asks a reader of a slot
+//! once for each stretch of cells at which nothing begins, or not at all where it is sure to read it; a cell at whose near cells nothing
+//! begins gets the state of the cell before it without a step; and where nothing is due, one number tells it. A cycle of which many cells
+//! are due is settled at once by a row of all components, and so are cycles in which the same happens as in the one before, since each due
+//! cell gets the state of the cell before it.
 //!
-//! The crate stands on `grid_law` for grids and their laws, on `change_rows`, `change_lists` and `cell_marks`, on
-//! `arrayvec` for lists of near components, and on `smallvec` for short lists of versions.
+//! The crate stands on `grid_law` for grids and their laws, on `due_cells` and `cell_states` for the cells, and on `cell_marks` for sets of
+//! components.
 #![tactic(auto)]
 
-mod along;
-mod beside;
-mod cell;
-mod cells;
 mod claim;
-mod components;
-mod cone;
-mod few;
 mod given;
-mod marks;
-mod neighbours;
-mod ranges;
-mod readers;
-mod rows;
-mod stored;
 mod table;
-mod versions;
 mod watcher;
-mod whole_row;
 mod work;
 
-pub use beside::Beside;
-pub use cell::{Cell, CellRange};
+pub use cell_states::{Cell, CellRange, WholeRow};
 pub use claim::{Claim, Done};
+pub use due_cells::Beside;
 pub use given::{Given, SettleFault, Settled, StoreFault, TouchFault};
 pub use table::Table;
 pub use watcher::Watcher;
-pub use whole_row::WholeRow;
 pub use work::Work;

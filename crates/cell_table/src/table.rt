@@ -2,11 +2,11 @@
 ghost use Rattle.std.specs.Prelude.{◌≡◌, ℕ, ◌+◌, ◌<◌, ◌≤◌, IfOk, IfErr, List, replicate, None, Some, ◌↔◌, IsTrue, [], option_map};
 ghost use Rattle.std.specs.Arc.{arc_value};
 ghost use Rattle.std.specs.Option.{option_copied};
-ghost use Rattle.cell_table.specs.Seen.{held_at, due_at, fresh};
+ghost use Rattle.due_cells.specs.Seen.{held_at, due_at, fresh};
 ghost use Rattle.cell_table.specs.Cells.{IsThere};
 ghost use Rattle.cell_table.specs.Consistent.{IsWhole, IsConsistent};
 ghost use Rattle.cell_table.specs.Claims.{NoneDue};
-ghost use Rattle.cell_table.specs.Cones.{count_to};
+ghost use Rattle.due_cells.specs.Cones.{count_to};
 ghost use Rattle.cell_table.specs.Due.{due};
 ghost use Rattle.cell_table.specs.Events.{Event, Start, slots_of, horizon_of};
 ghost use Rattle.cell_table.specs.Stands.{Stands};
@@ -23,10 +23,8 @@ mod touching;
 mod wave;
 mod wide;
 
-use crate::Cell;
-use crate::cells::Cells;
-use crate::neighbours::Neighbours;
-use crate::readers::Readers;
+use cell_states::{Cell, Neighbours};
+use due_cells::{Cells, Readers};
 use grid_law::{Grid, NoMemory};
 use std::alloc::Global;
 use std::marker::Model;
@@ -65,8 +63,8 @@ impl<G: Grid> Drop for Table<G> {
 }
 
 impl<G: Grid> Model for Table<G> {
-    ghost use Rattle.cell_table.specs.Seen.{Seen};
-    ghost use Rattle.cell_table.specs.Readers.{IsKept};
+    ghost use Rattle.due_cells.specs.Seen.{Seen};
+    ghost use Rattle.cell_table.specs.Kept.{IsKept};
 
     ghost Value = { Seen G.State G.Slots };
 

@@ -1,13 +1,14 @@
 //! Who is told of the states that are stored.
 
-use crate::{Cell, CellRange, Table};
+use crate::Table;
+use cell_states::{Cell, CellRange};
 use grid_law::Grid;
 
 /// Who is told of each state that is stored, right afterwards, and whether it is another one than the
 /// cell held: `Table::settle_rows` and `settle_rows_to` tell it, and so may whoever calls `Table::give`. Of cycles that are
 /// settled together it is told at once.
 pub trait Watcher<G: Grid> {
-    ghost use Rattle.cell_table.specs.Seen.{Seen};
+    ghost use Rattle.due_cells.specs.Seen.{Seen};
     ghost use Rattle.cell_table.specs.Gives.{IsStored, HoldsSame};
     ghost use Rattle.cell_table.specs.Passing.{HoldsBut};
 

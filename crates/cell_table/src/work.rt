@@ -3,7 +3,8 @@ ghost use Rattle.std.specs.Prelude.{◌≡◌, None};
 ghost use Rattle.std.specs.Arc.{arc_value};
 ghost use Rattle.cell_table.specs.Waves.{known_of, IsReady, IsWork};
 
-use crate::{Cell, Table};
+use crate::Table;
+use cell_states::Cell;
 use grid_law::{Grid, NoMemory};
 use std::marker::Model;
 use std::sync::Arc;

@@ -4,8 +4,8 @@ use Rattle.std.proofs.lemmas.Bool.{cases_lt, le-leb, eqb-true, eq-eqb, false≢t
 use Rattle.std.proofs.lemmas.List.{get_or_default, drop_more, drop_all, take_more, take-append-drop, append-nil, set_split}
 use Rattle.std.proofs.Math.ListN.{set}
 use Rattle.change_lists.specs.declared.begun.Begun.{Begun}
-use Rattle.change_lists.specs.Changes.{standing, begins, starts, first_or, Rises, IsPlace}
-use Rattle.change_lists.proofs.Standing.{rises_append, standing_append, standing_late, begins_append, begins_early, begins_first, begins_late, rises_later}
+use Rattle.change_lists.specs.Changes.{standing, standing_before, begins, starts, first_or, Rises, IsPlace}
+use Rattle.change_lists.proofs.Standing.{rises_append, rises_to, standing_append, standing_begun, standing_late, begins_append, begins_early, begins_first, begins_late, rises_later}
 
 module _ {V : Type 0} where
   from_low : (low high : ℕ) (xs : List (Begun V)) (k : ℕ) (d : Begun V) → Rises low xs high → k < length xs → low ≤ (get_or xs k d).from
@@ -136,6 +136,21 @@ module _ {V : Type 0} where
     where
       append_none : (ys : List (Begun V)) → ys ++ [] ≡ ys
       append_none ys = append-nil ys
+
+  -- what stands before a cycle is that of those that begin before it
+  pub stood_before : (high t n : ℕ) (xs : List (Begun V)) → Rises 0 xs high → t < high → IsPlace xs t n → Rises 0 (take n xs) (t + 1) × (standing (take n xs) t None ≡ standing_before xs t)
+  stood_before high zero zero xs h l p = (omega arith, refl)
+  stood_before high zero (suc n) [] h l p = absurd (omega (arith, p.within))
+  stood_before high zero (suc n) (b ∷ rest) h l p = absurd (omega (arith, p.before 0 b (omega arith)))
+  stood_before high (suc u) n xs h l p =
+      let low : Rises 0 (take n xs) (suc u) = split_low 0 high (suc u) n xs h (omega arith) p in
+      let up : Rises (suc u) (drop n xs) high = split_high 0 high (suc u) n xs h (omega arith) p in (
+        rises_to 0 (suc u) (suc u + 1) (take n xs) (omega arith) low,
+        standing_begun 0 (suc u) (suc u) u (take n xs) None low (omega arith) (omega arith)
+            ∙ sym (ap (λ ys. standing ys u None) (sym (take-append-drop n xs))
+            ∙ standing_append (take n xs) (drop n xs) u None
+            ∙ standing_late (suc u) high u (drop n xs) (standing (take n xs) u None) up (omega arith)),
+      )
 
   -- the next one that begins, if it does before `to`
   pub next_from : (high t to n : ℕ) (xs : List (Begun V)) → Rises 0 xs high → t < high → IsPlace xs t n → t ≤ to → t ≤ first_or (drop n xs) to

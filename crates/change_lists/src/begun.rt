@@ -1,14 +1,21 @@
 //! What begins at one cycle, and how it is found among others.
-ghost use Rattle.std.specs.Prelude.{◌≡◌, ℕ, ◌+◌, ◌<◌, ◌≤◌, ◌^◌, None, true, false, length, take, drop, slice_index_or};
+ghost use Rattle.std.specs.Prelude.{◌≡◌, ℕ, ◌+◌, ◌<◌, ◌≤◌, ◌^◌, None, IfSome, is_some, true, false, length, take, drop, slice_index_or};
 ghost use Rattle.std.specs.Option.{option_copied};
 ghost use Rattle.change_lists.specs.declared.begun.Begun.{Begun};
-ghost use Rattle.change_lists.specs.Changes.{standing, begins, starts, first_or, Rises, IsPlace};
+ghost use Rattle.change_lists.specs.Changes.{standing, standing_before, begins, starts, first_or, Rises, IsPlace};
 
 /// A value, or nothing, from a cycle on.
 #[derive(Drop)]
 pub(crate) struct Begun<V> {
     pub from: u32,
     pub value: Option<V>,
+}
+
+/// What a cell holds at which something begins, and what the cell before it does.
+#[derive(Drop)]
+pub struct Sides<'a, V> {
+    pub before: Option<&'a V>,
+    pub at: Option<&'a V>,
 }
 
 /// How many begin before a cycle, sought among all.
@@ -115,6 +122,24 @@ pub(crate) fn value_at<V>(begun: &[Begun<V>], near: usize, t: u32) -> Option<&V>
         return last_of(begun, i + 1, t);
     }
     last_of(begun, i, t)
+}
+
+/// The value that stands before a cycle, and the one that begins there; nothing where none begins. How many begin before that cycle may
+/// be guessed, as for `place`.
+pub(crate) fn sides_at<V>(begun: &[Begun<V>], near: usize, t: u32) -> Option<Sides<'_, V>>
+    requires { Rises 0 begun.now (2 ^ 32) }
+    ensures begins { is_some result ≡ begins begun.now t }
+    ensures before { IfSome result (λ s. option_copied s.before ≡ standing_before begun.now t) }
+    ensures at { IfSome result (λ s. option_copied s.at ≡ standing begun.now t None) }
+{
+    let i = place(begun, near, t);
+    if !is_at(begun, i, t) {
+        return None;
+    }
+    Some(Sides {
+        before: last_of(begun, i, t),
+        at: last_of(begun, i + 1, t),
+    })
 }
 
 /// Whether one begins at a cycle.

@@ -1,10 +1,10 @@
 //! The changes of one component.
-ghost use Rattle.std.specs.Prelude.{◌≡◌, ℕ, ◌+◌, ◌<◌, ◌≤◌, ◌^◌, ◌∷◌, ◌++◌, [], None, Some, true, false, OnOk, cond, length, take, drop, slice_index_or, vec_len, vec_capacity, insert};
+ghost use Rattle.std.specs.Prelude.{◌≡◌, ℕ, ◌+◌, ◌<◌, ◌≤◌, ◌^◌, ◌∷◌, ◌++◌, [], None, Some, IfSome, is_some, true, false, OnOk, cond, length, take, drop, slice_index_or, vec_len, vec_capacity, insert};
 ghost use Rattle.std.specs.Option.{option_copied};
 ghost use Rattle.change_lists.specs.declared.begun.Begun.{Begun as Change};
 ghost use Rattle.change_lists.specs.Changes.{standing, standing_before, begins, starts, IsWritten, IsCut};
 
-use crate::begun::{Begun, has_begin, is_at, next_begin, place, value_at};
+use crate::begun::{Begun, Sides, has_begin, is_at, next_begin, place, sides_at, value_at};
 use std::alloc::{AllocError, Global};
 use std::marker::Model;
 
@@ -141,6 +141,15 @@ impl<V: Drop> ChangeList<V> {
         has_begin(self.begun.as_slice(), self.near, t)
     }
 
+    /// What stands before a cycle, and what begins there; nothing where nothing does.
+    pub fn sides(&self, t: u32) -> Option<Sides<'_, V>>
+        ensures begins { is_some result ≡ begins self.now.begun t }
+        ensures before { IfSome result (λ s. option_copied s.before ≡ standing_before self.now.begun t) }
+        ensures at { IfSome result (λ s. option_copied s.at ≡ standing self.now.begun t None) }
+    {
+        sides_at(self.begun.as_slice(), self.near, t)
+    }
+
     /// The first cycle from t on, and before `to`, at which one begins, or else `to`.
     pub fn next(&self, t: u32, to: u32) -> u32
         ensures from { t ≤ to → t ≤ result }
@@ -204,6 +213,9 @@ impl<V: Drop> ChangeList<V> {
         ensures begins { begins self.new.begun from ≡ false }
         ensures nothing { self.old.begun ≡ [] → self.new.begun ≡ [] }
     {
+        if to == from + 1 {
+            return self.go_on_once(from, to, end);
+        }
         let mut at = self.next(from + 1, to);
         let mut again = self.go_on_once(from, at, end);
         while at < to {

@@ -17,4 +17,5 @@ mod begun;
 mod change_list;
 mod lists;
 
+pub use begun::Sides;
 pub use lists::Lists;

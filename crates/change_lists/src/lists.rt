@@ -1,8 +1,9 @@
 //! The changes of all components.
-ghost use Rattle.std.specs.Prelude.{◌≡◌, ℕ, ◌+◌, ◌<◌, ◌≤◌, [], None, Some, true, false, IfOk, OnOk, ◌==◌, length};
+ghost use Rattle.std.specs.Prelude.{◌≡◌, ℕ, ◌+◌, ◌<◌, ◌≤◌, [], None, Some, IfSome, IfNone, is_some, true, false, IfOk, OnOk, ◌==◌, length};
 ghost use Rattle.std.specs.Option.{option_copied};
 ghost use Rattle.change_lists.specs.Changes.{changes_at, list_at, room_at, held_at, held_before, begins_at, IsWritten, IsCut};
 
+use crate::begun::Sides;
 use crate::change_list::ChangeList;
 use std::alloc::{AllocError, Global};
 use std::marker::Model;
@@ -102,6 +103,20 @@ impl<V: Drop> Lists<V> {
         match self.lists.get(c as usize) {
             Some(list) => list.begins(t),
             None => false,
+        }
+    }
+
+    /// What the cell before a cell holds, and what the cell does, where something begins at it. Where nothing does, both hold the same.
+    #[tactic(auto, using(crate::proofs::Standing::steady))]
+    pub fn sides(&self, c: u32, t: u32) -> Option<Sides<'_, V>>
+        ensures begins { is_some result ≡ begins_at self.now c t }
+        ensures before { IfSome result (λ s. option_copied s.before ≡ held_before self.now c t) }
+        ensures at { IfSome result (λ s. option_copied s.at ≡ held_at self.now c t) }
+        ensures steady { IfNone result (held_at self.now c t ≡ held_before self.now c t) }
+    {
+        match self.lists.get(c as usize) {
+            Some(list) => list.sides(t),
+            None => None,
         }
     }
 

@@ -9,7 +9,7 @@ use std::alloc::Global;
 
 /// A combining switch: the requests that wait, by output; the replies that wait, by input; the wait buffer; the input
 /// whose turn it is, by output; the side whose turn it is; and how many requests the last step combined.
-#[derive(PartialEq, Eq, Debug, Drop)]
+#[derive(PartialEq, Eq, Debug)]
 pub struct CombState {
     pub fwd: [Queue<Request>; 2],
     pub rev: [Queue<Reply>; 2],
@@ -17,6 +17,23 @@ pub struct CombState {
     pub turn: [u8; 2],
     pub rturn: u8,
     pub combined: u8,
+}
+
+// Not derived: whoever drops a switch calls this, and proves nothing of its parts anew.
+impl Drop for CombState {
+    fn drop(self) {
+        let CombState {
+            fwd,
+            rev,
+            wait,
+            turn: _,
+            rturn: _,
+            combined: _,
+        } = self;
+        drop(fwd);
+        drop(rev);
+        drop(wait);
+    }
 }
 
 impl CombState {

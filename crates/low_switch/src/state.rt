@@ -7,12 +7,26 @@ use std::alloc::Global;
 
 /// A low switch: by output, the requests that wait and the input whose turn it is; by input, the replies that wait and
 /// the side whose turn it is.
-#[derive(PartialEq, Eq, Debug, Drop)]
+#[derive(PartialEq, Eq, Debug)]
 pub struct LowState {
     pub fwd: [Queue<Request>; 2],
     pub turn: [u8; 2],
     pub rev: [Queue<Reply>; 2],
     pub rturn: [u8; 2],
+}
+
+// Not derived: whoever drops a switch calls this, and proves nothing of its parts anew.
+impl Drop for LowState {
+    fn drop(self) {
+        let LowState {
+            fwd,
+            turn: _,
+            rev,
+            rturn: _,
+        } = self;
+        drop(fwd);
+        drop(rev);
+    }
 }
 
 impl LowState {

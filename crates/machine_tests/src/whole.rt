@@ -5,7 +5,7 @@ ghost use Rattle.omega_net.specs.Numbers.{components};
 
 use crate::rows::four;
 use cell_marks::Row;
-use cell_table::WholeRow;
+use cell_states::WholeRow;
 use flat_row::Changed;
 use grid_law::Grid;
 use machine_cells::{MachineState, Rp3, from_scratch};

@@ -11,9 +11,17 @@ use std::sync::Arc;
 use word_ops::Op;
 
 /// Words that several states may hold at once. They are never changed: another word makes other ones.
-#[derive(Debug, Drop)]
+#[derive(Debug)]
 pub struct SharedWords {
     words: Arc<Words>,
+}
+
+// Not derived: whoever drops words calls this, and proves nothing of their parts anew.
+impl Drop for SharedWords {
+    fn drop(self) {
+        let SharedWords { words } = self;
+        drop(words);
+    }
 }
 
 impl Model for SharedWords {

@@ -11,7 +11,7 @@ use omega_net::{Net, Queue, Reply, Request, free, head, same_replies, same_reque
 use std::alloc::Global;
 
 /// A memory module between two cycles: its words, and what waits at its ports, by network, the low one first.
-#[derive(Debug, Drop)]
+#[derive(Debug)]
 pub struct ModuleState {
     pub words: SharedWords,
     /// The requests that wait to be served.
@@ -22,6 +22,22 @@ pub struct ModuleState {
     pub turn: Net,
     /// Whether a request was served in the last step.
     pub served: bool,
+}
+
+// Not derived: whoever drops a module calls this, and proves nothing of its parts anew.
+impl Drop for ModuleState {
+    fn drop(self) {
+        let ModuleState {
+            words,
+            requests,
+            replies,
+            turn: _,
+            served: _,
+        } = self;
+        drop(words);
+        drop(requests);
+        drop(replies);
+    }
 }
 
 impl ModuleState {

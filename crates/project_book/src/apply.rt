@@ -155,37 +155,21 @@ impl Project {
         ensures edited { IfOk result (λ next. next ≡ edited self.now edit) }
         ensures memory { IsOkUnless result EditFault.Memory }
     {
-        let same = self.share()?;
+        let mut next = self.share()?;
         match edit {
-            Edit::Entry { proc, index, entry } => {
-                let scripts = self.with_entry(proc, index, entry)?;
-                Ok(Project { scripts, ..same })
-            }
-            Edit::Cut { proc, length } => {
-                let scripts = self.with_cut(proc, length)?;
-                Ok(Project { scripts, ..same })
-            }
-            Edit::Word { address, word } => {
-                let words = self.with_word(address, word)?;
-                Ok(Project { words, ..same })
-            }
-            Edit::Page { page, amount, base } => {
-                let pages = self.spread(page, amount, base)?;
-                Ok(Project { pages, ..same })
-            }
-            Edit::Depth { queue, depth } => {
-                let depths = self.depths.with_depth(queue, depth);
-                Ok(Project { depths, ..same })
-            }
-            Edit::WaitDepth(wait) => Ok(Project { wait, ..same }),
-            Edit::Combine { stage, on } => {
-                let mut combine = self.combine;
-                combine[stage as usize] = on;
-                Ok(Project { combine, ..same })
-            }
-            Edit::Window(window) => Ok(Project { window, ..same }),
-            Edit::Horizon(horizon) => Ok(Project { horizon, ..same }),
+            Edit::Entry { proc, index, entry } => next.scripts = self.with_entry(
+                proc, index, entry,
+            )?,
+            Edit::Cut { proc, length } => next.scripts = self.with_cut(proc, length)?,
+            Edit::Word { address, word } => next.words = self.with_word(address, word)?,
+            Edit::Page { page, amount, base } => next.pages = self.spread(page, amount, base)?,
+            Edit::Depth { queue, depth } => next.depths = self.depths.with_depth(queue, depth),
+            Edit::WaitDepth(wait) => next.wait = wait,
+            Edit::Combine { stage, on } => next.combine[stage as usize] = on,
+            Edit::Window(window) => next.window = window,
+            Edit::Horizon(horizon) => next.horizon = horizon,
         }
+        Ok(next)
     }
 
     /// The slots whose values differ after an edit.

@@ -20,7 +20,6 @@ use std::sync::Arc;
 
 /// A machine's settings, its scripts and its first words, each within its limits. An edited copy
 /// shares with its origin what the edit leaves alone.
-#[derive(Drop)]
 pub struct Project {
     pub(crate) k: u32,
     pub(crate) horizon: u32,
@@ -32,6 +31,26 @@ pub struct Project {
     pub(crate) words: Arc<FirstWords>,
     pub(crate) scripts: Arc<Scripts>,
     pub(crate) alloc: Global,
+}
+
+// Not derived: whoever drops a project calls this, and proves nothing of its parts anew.
+impl Drop for Project {
+    fn drop(self) {
+        let Project {
+            k: _,
+            horizon: _,
+            window: _,
+            depths: _,
+            wait: _,
+            combine: _,
+            pages: _,
+            words,
+            scripts,
+            alloc: _,
+        } = self;
+        drop(words);
+        drop(scripts);
+    }
 }
 
 impl Model for Project {

@@ -31,9 +31,16 @@ impl Model for Script {
 }
 
 /// The scripts by processor. Those that an edit leaves alone are shared with its copy.
-#[derive(Drop)]
 pub struct Scripts {
     scripts: Vec<Arc<Script>>,
+}
+
+// Not derived, as for a project.
+impl Drop for Scripts {
+    fn drop(self) {
+        let Scripts { scripts } = self;
+        drop(scripts);
+    }
 }
 
 impl Model for Scripts {

@@ -22,9 +22,16 @@ pub struct FirstWord {
 
 /// The first words that aren't 0, by address upwards. They lie in pages of 256 words, each with owners of its
 /// own; a page that never got a word takes nothing, each other one a KB.
-#[derive(Drop)]
 pub struct FirstWords {
     pages: Vec<Option<Arc<PageWords>>>,
+}
+
+// Not derived, as for a project.
+impl Drop for FirstWords {
+    fn drop(self) {
+        let FirstWords { pages } = self;
+        drop(pages);
+    }
 }
 
 impl Model for FirstWords {

@@ -147,10 +147,21 @@ fn play(lists: &mut Lists<u64>, step: Step) -> Result<(), Fail> {
     }
 }
 
-/// Whether a cell is as in the plain lists, and goes on where it is said.
+/// Whether both sides of what begins at a cell are these, or nothing begins there and both are the same.
+fn has_sides(lists: &Lists<u64>, c: u32, t: u32, before: Option<u64>, at: Option<u64>) -> bool {
+    match lists.sides(c, t) {
+        Some(sides) => {
+            lists.begins(c, t) && sides.before.copied() == before && sides.at.copied() == at
+        }
+        None => !lists.begins(c, t) && before == at,
+    }
+}
+
+/// Whether a cell is as in the plain lists, and what begins at it stands beside what stood before.
 fn is_alike(lists: &Lists<u64>, plain: &Plain, c: u32, t: u32) -> bool {
     let before = if t == 0 { None } else { plain.at(c, t - 1) };
-    held(lists, c, t) == plain.at(c, t) && (lists.begins(c, t) || before == plain.at(c, t))
+    let at = plain.at(c, t);
+    held(lists, c, t) == at && has_sides(lists, c, t, before, at)
 }
 
 fn compare(rt: &(impl Abort + Eprint), lists: &Lists<u64>, plain: &Plain, step: Step) {

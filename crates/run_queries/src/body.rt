@@ -32,9 +32,16 @@ impl fmt::Display for Received {
 }
 
 /// A state that several may own. Contracts see the state.
-#[derive(Drop)]
 pub struct SharedState {
     state: Arc<MachineState>,
+}
+
+// Not derived: whoever drops an answer calls this, and proves nothing of a state's parts anew.
+impl Drop for SharedState {
+    fn drop(self) {
+        let SharedState { state } = self;
+        drop(state);
+    }
 }
 
 impl Model for SharedState {

@@ -3,9 +3,9 @@ use Rattle.std.proofs.Common.{◌≡◌, inl, inr, ℕ, zero, suc, ◌+◌, ◌-
 use Rattle.std.specs.Prelude.{IfOk, IfSome, MatchOption}
 use Rattle.std.proofs.lemmas.List.Elements.{All-nil, All-cons, All-push}
 use Rattle.grid_law.specs.declared.no_memory.NoMemory.{NoMemory}
-use Rattle.cell_table.specs.declared.cell.Cell.{Cell}
+use Rattle.cell_states.specs.declared.cell.Cell.{Cell}
 use Rattle.cell_table.specs.declared.given.Given.{Given}
-use Rattle.cell_table.specs.Seen.{held_at}
+use Rattle.due_cells.specs.Seen.{held_at}
 use Rattle.cell_table.specs.Claims.{Claimed, Computed, is_claimable, NoneDue, IsNextRound, IsClaim}
 use Rattle.cell_table.specs.Settling.{NoneDueFrom, IsNextDue}
 use Rattle.machine_cells.specs.declared.state.MachineState.{MachineState}

@@ -1,7 +1,7 @@
 -- The next slice of a bench, and a bench that is settled to its end.
 use Rattle.std.proofs.Common.{◌≡◌, ℕ, ◌<◌, ◌≤◌, arith, subst, List, Some, Ok, Err}
 use Rattle.std.proofs.lemmas.Nat.{pow_pos}
-use Rattle.cell_table.specs.declared.cell.Cell.{Cell}
+use Rattle.cell_states.specs.declared.cell.Cell.{Cell}
 use Rattle.cell_table.specs.declared.given.SettleFault.{SettleFault}
 use Rattle.cell_table.specs.Claims.{NoneDue}
 use Rattle.cell_table.specs.Events.{Event as TableEvent}

@@ -1,7 +1,7 @@
 -- What the calls of a pass answer. What the headline says stands first.
 use Rattle.std.specs.Prelude.{◌≡◌, ℕ, ◌+◌, List, [], ◌∷◌, length, drop, Option, Result, Ok, Err, IfOk, IfNone, IfSome}
 use Rattle.grid_law.specs.declared.no_memory.NoMemory.{NoMemory}
-use Rattle.cell_table.specs.declared.cell.Cell.{Cell}
+use Rattle.cell_states.specs.declared.cell.Cell.{Cell}
 use Rattle.cell_table.specs.declared.given.Given.{Given}
 use Rattle.cell_table.specs.declared.given.Given.TheVariants.{ClockSpent as GivenSpent}
 use Rattle.cell_table.specs.Claims.{Claimed, Computed, NoneDue, IsNextRound, IsClaim}

@@ -1,6 +1,6 @@
 -- Lots: cells of one cycle that are claimed in one turn, and results that are given back in one.
 use Rattle.std.specs.Prelude.{◌≡◌, ℕ, ◌+◌, ◌≤◌, zero, suc, false, List, [], ◌∷◌}
-use Rattle.cell_table.specs.declared.cell.Cell.{Cell}
+use Rattle.cell_states.specs.declared.cell.Cell.{Cell}
 use Rattle.cell_table.specs.declared.given.Given.{Given}
 use Rattle.cell_table.specs.Cells.{IsThere}
 use Rattle.cell_table.specs.Claims.{Claimed, Computed, is_claimable, NoneDue, IsNextInRow, IsNextRound, IsClaim}

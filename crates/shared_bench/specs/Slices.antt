@@ -1,6 +1,6 @@
 -- Slices: a bench is settled some cycles further in a turn.
 use Rattle.std.specs.Prelude.{◌≡◌, ℕ, ◌+◌, ◌-◌, ◌/◌, min, Option, None, Some, Result, Ok, Err}
-use Rattle.cell_table.specs.declared.cell.Cell.{Cell}
+use Rattle.cell_states.specs.declared.cell.Cell.{Cell}
 use Rattle.cell_table.specs.declared.given.SettleFault.{SettleFault}
 use Rattle.cell_table.specs.Claims.{NoneDue}
 use Rattle.cell_table.specs.Settling.{IsNextDue, IsClockSpent}

@@ -13,7 +13,7 @@ use Rattle.machine_cells.specs.Words.{words_of, memory_of, with_memory}
 use Rattle.machine_cells.specs.Codec.{memory_in, rp3_codec}
 use Rattle.flat_row.specs.Row.{Arrays, IsRowOf, state_of}
 use Rattle.flat_row.specs.Loading.{CanHold}
-use Rattle.cell_table.specs.Codes.{IsCodeOf}
+use Rattle.cell_states.specs.Codes.{IsCodeOf}
 use Rattle.whole_rows.specs.Rows.{state_in}
 use Rattle.whole_rows.proofs.Stepping.{state_is}
 

@@ -13,7 +13,7 @@ use Rattle.omega_net.proofs.Numbering.{component_has, half_twice, switch_within}
 use Rattle.flat_row.specs.declared.changed.Changed.{Changed}
 use Rattle.flat_row.specs.Changed.{has_changed}
 use Rattle.flat_row.specs.Masks.{has}
-use Rattle.cell_table.specs.Filling.{is_awake}
+use Rattle.cell_states.specs.Filling.{is_awake}
 use Rattle.whole_rows.specs.Among.{is_among, in_stage, in_stages}
 use Rattle.whole_rows.specs.Rows.{is_outside, wrote_in}
 use Rattle.whole_rows.proofs.Placing.{inside, outside, half_in_word}

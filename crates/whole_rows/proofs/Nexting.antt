@@ -33,7 +33,7 @@ use Rattle.machine_cells.specs.GridLaws.{rp3_laws}
 use Rattle.machine_cells.proofs.Parts.{parts-get}
 use Rattle.machine_cells.proofs.Rows.{cells_are_parts}
 use Rattle.machine_cells.proofs.Runs.{below-get, length-below}
-use Rattle.cell_table.specs.NextWords.{IsOfWords}
+use Rattle.cell_states.specs.NextWords.{IsOfWords}
 use Rattle.flat_row.specs.Next.{given, memory_given, memory_left, next_state, part_given}
 use Rattle.flat_row.specs.Row.{Arrays, IsRowOf, state_of, states_of}
 use Rattle.flat_row.proofs.Handing.{forgotten, moves_forgotten, next_is}

@@ -6,8 +6,8 @@ use Rattle.omega_net.specs.Numbers.{component_of}
 use Rattle.machine_cells.specs.declared.state.MachineState.{MachineState}
 use Rattle.machine_cells.specs.Codec.{rp3_codec}
 use Rattle.machine_cells.specs.GridRules.{rp3_rules}
-use Rattle.cell_table.specs.Spares.{AreKept}
-use Rattle.cell_table.specs.declared.beside.Beside.{Beside}
+use Rattle.due_cells.specs.Spares.{AreKept}
+use Rattle.due_cells.specs.declared.beside.Beside.{Beside}
 use Rattle.mem_module.specs.declared.words.Stored.{Stored}
 use Rattle.mem_module.specs.Memory.{with_word}
 use Rattle.project_book.specs.Project.{Project}

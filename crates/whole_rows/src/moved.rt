@@ -1,7 +1,7 @@
 //! What a step moved, by the numbers of components.
 ghost use Rattle.std.specs.Prelude.{◌≡◌, ℕ, ◌<◌, ◌≤◌, ◌*◌, ◌+◌, ◌%◌, ◌==◌, ◌&&◌, ◌||◌, length, nat_lt, not};
 ghost use Rattle.omega_net.specs.Numbers.{components, component_of, half, lines};
-ghost use Rattle.cell_table.specs.Filling.{is_awake};
+ghost use Rattle.cell_states.specs.Filling.{is_awake};
 ghost use Rattle.flat_row.specs.Labels.{switch_label};
 ghost use Rattle.flat_row.specs.Masks.{has};
 ghost use Rattle.whole_rows.specs.Among.{is_among, in_stage, in_stages};

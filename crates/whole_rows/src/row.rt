@@ -11,7 +11,7 @@ use crate::memory::{is_ascending, left_in};
 use crate::moved::{mark_moved, mark_written};
 use crate::words::{are_of_a_state, can_hold};
 use cell_marks::Row as Marks;
-use cell_table::WholeRow;
+use cell_states::WholeRow;
 use flat_row::{Beside, Changed, Row};
 use grid_law::NoMemory;
 use machine_cells::Rp3;

@@ -1,7 +1,7 @@
 //! Answering queries.
 ghost use Rattle.std.specs.Prelude.{◌≡◌, ℕ, ◌^◌, ◌<◌, ◌≤◌, Bool, None, Some, IfOk, OnErr, List};
-ghost use Rattle.cell_table.specs.Cones.{count_to, count_cone};
-ghost use Rattle.cell_table.specs.Seen.{due_at};
+ghost use Rattle.due_cells.specs.Cones.{count_to, count_cone};
+ghost use Rattle.due_cells.specs.Seen.{due_at};
 ghost use Rattle.grid_law.specs.Run.{run};
 ghost use Rattle.omega_net.specs.Numbers.{components};
 ghost use Rattle.machine_cells.specs.GridRules.{rp3_rules};

@@ -1,64 +1,25 @@
 //! Settling at once the cycles in which the same happens as in the one before them.
 ghost use Rattle.std.specs.Prelude.{◌≡◌, ℕ, ◌+◌, ◌-◌, ◌*◌, ◌^◌, ◌<◌, ◌≤◌, ◌||◌, IfNone, IfSome, IfOk, true, false, length, MatchOption};
-ghost use Rattle.cell_table.specs.Seen.{Seen, held_at};
+ghost use Rattle.due_cells.specs.Seen.{Seen, held_at};
 ghost use Rattle.cell_table.specs.Cells.{IsThere, AtOrAfter};
-ghost use Rattle.cell_table.specs.Readers.{has};
-ghost use Rattle.cell_table.specs.Filling.{is_awake};
+ghost use Rattle.cell_states.specs.Near.{has};
+ghost use Rattle.cell_states.specs.Filling.{is_awake};
 ghost use Rattle.cell_table.specs.Settling.{NoneDueBefore, IsAt, IsFurther};
 ghost use Rattle.cell_table.specs.Passing.{HoldsBut};
-ghost use Rattle.cell_table.specs.Repeating.{any_changes, BeginsAlike, StaysBefore, StaysAlike, IsAlike, StaysAlikeTo};
-ghost use Rattle.cell_table.specs.Spares.{IsSpare, IsWide};
+ghost use Rattle.cell_states.specs.Versions.{any_changes};
+ghost use Rattle.cell_table.specs.Repeating.{BeginsAlike, StaysBefore, StaysAlike, IsAlike, StaysAlikeTo};
+ghost use Rattle.due_cells.specs.Spares.{IsSpare, IsWide};
 
 use super::Table;
-use crate::cells::repeat_cells;
-use crate::ranges::ranges_of;
-use crate::rows::{clock_filled, has_room, mark_changed, reach_in};
 use crate::watcher::Watcher;
-use crate::{Cell, CellRange};
 use cell_marks::Row;
+use cell_states::{Cell, CellRange};
+use due_cells::{Spare, clock_filled, has_room, mark_changed, ranges_of, reach_in, repeat_cells};
 use grid_law::{Grid, NoMemory};
 use std::alloc::Global;
 
-/// What settling at once takes beside the table: which components change, which read one of those, and the cells that may
-/// hold other states afterwards.
-#[derive(Drop)]
-pub(super) struct Spare {
-    pub changes: Row,
-    pub reached: Row,
-    pub ranges: Vec<CellRange>,
-    /// The components that got other words, those whose cells are settled by what is near them, and the cells of a cycle that are due and
-    /// hold the run already.
-    pub worded: Row,
-    pub left: Row,
-    pub known: Row,
-    pub known_at: u32,
-    /// How many cycles in a row were tried in vain, and how many are to be let by before the next try.
-    failed: u32,
-    wait: u32,
-}
-
 /// How many cycles are let by at most before the next try.
 const LONGEST_WAIT: u32 = 16;
-
-impl Spare {
-    /// For so many components.
-    pub(super) fn new(alloc: Global, count: u32) -> Result<Spare, NoMemory>
-        ensures wide { IfOk result (IsWide count) }
-        ensures none { IfOk result (λ s. s.known_at ≡ 0) }
-    {
-        Ok(Spare {
-            changes: Row::new(alloc, count, false)?,
-            reached: Row::new(alloc, count, false)?,
-            ranges: Vec::new(alloc),
-            worded: Row::new(alloc, count, false)?,
-            left: Row::new(alloc, count, false)?,
-            known: Row::new(alloc, count, false)?,
-            known_at: 0,
-            failed: 0,
-            wait: 0,
-        })
-    }
-}
 
 /// Where a pass over the due cells has come to, and how many of them were computed on the way.
 #[derive(Clone, Copy)]

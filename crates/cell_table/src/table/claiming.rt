@@ -1,8 +1,8 @@
 //! Claiming a due cell.
 ghost use Rattle.std.specs.Prelude.{◌≡◌, ℕ, ◌+◌, ◌<◌, ◌≤◌, IfOk, is_some, MatchOption, false, IfNone, IfSome, map, Some, None, if◌then◌else◌, List, ◌∷◌, length};
 ghost use Rattle.std.specs.Arc.{arc_value};
-ghost use Rattle.cell_table.specs.Seen.{held_at};
-ghost use Rattle.cell_table.specs.Inputs.{inputs_of};
+ghost use Rattle.due_cells.specs.Seen.{held_at};
+ghost use Rattle.due_cells.specs.Inputs.{inputs_of};
 ghost use Rattle.cell_table.specs.Cells.{IsThere};
 ghost use Rattle.cell_table.specs.Claims.{is_claimable, IsNextInRow, IsNext, IsNextRound, NoneFrom, NoneDue, IsClaim};
 ghost use Rattle.cell_table.specs.Events.{Event, Start, Claims};
@@ -10,7 +10,8 @@ ghost use Rattle.cell_table.specs.Stands.{Stands};
 ghost use Rattle.cell_table.specs.Made.{Made};
 
 use super::Table;
-use crate::{Cell, Claim};
+use crate::Claim;
+use cell_states::Cell;
 use grid_law::{Grid, NoMemory};
 use std::sync::Arc;
 
@@ -36,7 +37,7 @@ impl<G: Grid> Table<G> {
     }
 
     /// Whether some cell of the cycle is due; no cell is looked at.
-    #[tactic(auto, using(crate::proofs::Counts::none_due_in))]
+    #[tactic(auto, using(due_cells::proofs::Counts::none_due_in))]
     pub(super) fn is_row_due(&self, cycle: u32) -> bool
         requires { cycle ≤ self.now.horizon }
         ensures { result ≡ false → (c : ℕ) → (held_at self.now.rows cycle c).is_due ≡ false }

@@ -1,16 +1,16 @@
 //! The due cells that a cell's state rests on.
 ghost use Rattle.std.specs.Prelude.{◌≡◌, IfOk, List, Some};
-ghost use Rattle.cell_table.specs.Seen.{held_at, due_at};
+ghost use Rattle.due_cells.specs.Seen.{held_at, due_at};
 ghost use Rattle.cell_table.specs.Cells.{IsThere};
-ghost use Rattle.cell_table.specs.Cones.{count_cone};
+ghost use Rattle.due_cells.specs.Cones.{count_cone};
 ghost use Rattle.cell_table.specs.Due.{due};
 ghost use Rattle.cell_table.specs.Events.{Event, Start, slots_of, horizon_of};
 ghost use Rattle.cell_table.specs.Stands.{Stands};
 ghost use Rattle.grid_law.specs.Run.{run};
 
 use super::Table;
-use crate::Cell;
-use crate::cone::due_down;
+use cell_states::Cell;
+use due_cells::due_down;
 use grid_law::{Grid, NoMemory};
 
 impl<G: Grid> Table<G> {

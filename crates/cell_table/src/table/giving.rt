@@ -1,8 +1,8 @@
 //! Giving a result back.
 ghost use Rattle.std.specs.Prelude.{◌≡◌, ℕ, ◌<◌, ◌-◌, ◌^◌, ◌↔◌, IsTrue, true, false, Some, map, List, OnOk, OnErr, IfErr};
 ghost use Rattle.std.specs.Arc.{arc_value};
-ghost use Rattle.cell_table.specs.Seen.{held_at};
-ghost use Rattle.cell_table.specs.Inputs.{inputs_of};
+ghost use Rattle.due_cells.specs.Seen.{held_at};
+ghost use Rattle.due_cells.specs.Inputs.{inputs_of};
 ghost use Rattle.cell_table.specs.Cells.{IsThere};
 ghost use Rattle.cell_table.specs.Consistent.{IsCurrentState, current_of};
 ghost use Rattle.cell_table.specs.Gives.{IsPresent, GivesAs, IsAfterStore};
@@ -12,9 +12,9 @@ ghost use Rattle.cell_table.specs.Made.{Made};
 ghost use Rattle.cell_table.specs.Answers.{AnswersMade, after_give};
 
 use super::Table;
-use crate::cells::are_held;
-use crate::rows::{clock_after, repeat_in, store_in};
-use crate::{Cell, Claim, Done, Given};
+use crate::{Claim, Done, Given};
+use cell_states::Cell;
+use due_cells::{are_held, clock_after, repeat_in, store_in};
 use grid_law::{Grid, NoMemory};
 use std::sync::Arc;
 

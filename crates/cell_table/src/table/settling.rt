@@ -1,25 +1,25 @@
 //! Settling: computing the due cells, by cycle and then component, until none is left.
 ghost use Rattle.std.specs.Prelude.{◌≡◌, ◌≢◌, ℕ, ◌+◌, ◌-◌, ◌^◌, ◌<◌, ◌≤◌, ◌↔◌, IsTrue, IfOk, IfErr, OnOk, OnErr, IfNone, IfSome, MatchOption, is_some, true, false, Some, List, length};
 ghost use Rattle.std.specs.Arc.{arc_value};
-ghost use Rattle.cell_table.specs.Seen.{Seen, held_at, row_at};
+ghost use Rattle.due_cells.specs.Seen.{Seen, held_at, row_at};
 ghost use Rattle.cell_table.specs.Cells.{IsThere, AtOrAfter};
-ghost use Rattle.cell_table.specs.Inputs.{inputs_of};
+ghost use Rattle.due_cells.specs.Inputs.{inputs_of};
 ghost use Rattle.cell_table.specs.Consistent.{current_of};
 ghost use Rattle.cell_table.specs.Gives.{IsAfterStore, IsStored, HoldsSame};
 ghost use Rattle.cell_table.specs.Events.{Event, Start};
 ghost use Rattle.cell_table.specs.Stands.{Stands};
-ghost use Rattle.cell_table.specs.Settling.{IsAsBefore, IsNextDueInRow, NoneDueBefore, NoneDueFrom, HoldsRunBefore, IsNextDue, IsSettled, IsSettledTo, SettlesNext, IsSpent, IsSpentBefore, IsAt, StopsBefore, IsFurther, computed_of, IsClockSpent};
-ghost use Rattle.cell_table.specs.Spares.{AreKept, GoesAlong, IsSpare};
-ghost use Rattle.cell_table.specs.NextWords.{AreBeside};
+ghost use Rattle.cell_table.specs.Settling.{IsAsBefore, NoneDueBefore, NoneDueFrom, HoldsRunBefore, IsNextDue, IsSettled, IsSettledTo, SettlesNext, IsSpent, IsSpentBefore, IsAt, StopsBefore, IsFurther, computed_of, IsClockSpent};
+ghost use Rattle.due_cells.specs.NextDue.{IsNextDueInRow};
+ghost use Rattle.due_cells.specs.Spares.{AreKept, GoesAlong, IsSpare};
+ghost use Rattle.due_cells.specs.Beside.{AreBeside};
 ghost use Rattle.cell_table.specs.Cost.{Settles, SettlesTo, SettlesFirst, SettlesFirstTo};
 
 use super::Table;
-use super::alike::{Passed, Spare};
-use crate::along::Along;
-use crate::beside::{Beside, renew};
+use super::alike::Passed;
 use crate::watcher::{Nobody, Watcher};
-use crate::whole_row::NoRow;
-use crate::{Cell, SettleFault, Settled, StoreFault, WholeRow};
+use crate::{SettleFault, Settled, StoreFault};
+use cell_states::{Cell, NoRow, WholeRow};
+use due_cells::{Along, Beside, Spare, renew};
 use grid_law::{Grid, NoMemory};
 use std::sync::Arc;
 

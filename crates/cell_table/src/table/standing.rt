@@ -1,10 +1,10 @@
 //! How long cells hold their states.
 ghost use Rattle.std.specs.Prelude.{◌≡◌, ℕ, ◌+◌, ◌<◌, ◌≤◌};
-ghost use Rattle.cell_table.specs.Seen.{held_at};
+ghost use Rattle.due_cells.specs.Seen.{held_at};
 ghost use Rattle.cell_table.specs.Cells.{IsThere};
 
 use super::Table;
-use crate::Cell;
+use cell_states::Cell;
 use grid_law::Grid;
 
 impl<G: Grid> Table<G> {

@@ -2,10 +2,12 @@
 ghost use Rattle.std.specs.Prelude.{◌≡◌, ℕ, is_some, ◌+◌, ◌<◌, ◌≤◌, ◌-◌, ◌^◌, ◌↔◌, IfOk, OnOk, OnErr, unwrap_or, Some, true, false, ◌||◌, ◌&&◌, ◌==◌, nat_le, nat_lt, All, List, ◌∷◌};
 ghost use Rattle.grid_law.specs.Rules.{Differ, reader_at};
 ghost use Rattle.cell_table.specs.Cells.{IsThere};
-ghost use Rattle.cell_table.specs.Inputs.{inputs_of};
-ghost use Rattle.cell_table.specs.Reads.{reads_by, is_reader};
-ghost use Rattle.cell_table.specs.Seen.{held_at};
-ghost use Rattle.cell_table.specs.Touches.{covers, is_marked, IsWithin, AreReady, cell_reads, cell_reads_one, IsAfterTouch};
+ghost use Rattle.due_cells.specs.Inputs.{inputs_of};
+ghost use Rattle.cell_states.specs.ReadsBy.{reads_by};
+ghost use Rattle.cell_table.specs.Reads.{is_reader};
+ghost use Rattle.due_cells.specs.Seen.{held_at};
+ghost use Rattle.due_cells.specs.Ranges.{covers, is_marked, IsWithin};
+ghost use Rattle.cell_table.specs.Touches.{AreReady, cell_reads, cell_reads_one, IsAfterTouch};
 ghost use Rattle.cell_table.specs.Events.{Event, Start, Edits};
 ghost use Rattle.cell_table.specs.Stands.{Stands};
 ghost use Rattle.cell_table.specs.Settling.{IsSettled};
@@ -13,8 +15,9 @@ ghost use Rattle.grid_law.specs.Run.{run};
 ghost use Rattle.cell_table.specs.Cost.{Costs, CostsAnEdit};
 
 use super::Table;
-use crate::marks::{add_where, retouch};
-use crate::{Cell, CellRange, TouchFault};
+use crate::TouchFault;
+use cell_states::{Cell, CellRange};
+use due_cells::{add_where, retouch};
 use grid_law::{Changed, Grid, NoMemory, Reader, Turn};
 use std::alloc::Global;
 use std::sync::Arc;

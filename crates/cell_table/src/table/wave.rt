@@ -1,16 +1,17 @@
 //! Settling by states that were computed beside the table, a cycle at a time.
 ghost use Rattle.std.specs.Prelude.{◌≡◌, ◌≢◌, ℕ, ◌+◌, ◌-◌, ◌^◌, ◌<◌, ◌≤◌, ◌++◌, ◌∷◌, [], All, IfOk, OnOk, OnErr, IfNone, IfSome, Err, is_some, option_map, true, false, None, Some, if◌then◌else◌};
 ghost use Rattle.std.specs.Arc.{arc_value};
-ghost use Rattle.cell_table.specs.Seen.{due_at, held_at};
+ghost use Rattle.due_cells.specs.Seen.{due_at, held_at};
 ghost use Rattle.cell_table.specs.Cells.{IsThere};
-ghost use Rattle.cell_table.specs.Inputs.{inputs_of};
+ghost use Rattle.due_cells.specs.Inputs.{inputs_of};
 ghost use Rattle.cell_table.specs.Consistent.{current_of};
 ghost use Rattle.cell_table.specs.Gives.{IsAfterStore};
 ghost use Rattle.cell_table.specs.Settling.{NoneDueBefore, IsSettled, SettlesNext, IsSpent};
 ghost use Rattle.cell_table.specs.Waves.{known_of, works_below, IsFound, IsWork, IsReady, IsNextWave};
 
 use super::Table;
-use crate::{Cell, StoreFault, Work};
+use crate::{StoreFault, Work};
+use cell_states::Cell;
 use grid_law::{Grid, NoMemory};
 use std::sync::Arc;
 

@@ -1,7 +1,7 @@
 use Rattle.std.proofs.Common.{◌≡◌, ℕ, ◌-◌, ◌/◌, ◌^◌, ◌<◌, ◌≤◌, ◌∙◌, ap, subst, arith}
 use Rattle.std.specs.Prelude.{◌||◌, ◌&&◌, nat_lt, bit_and}
 use Rattle.omega_net.specs.Numbers.{lines}
-use Rattle.cell_table.specs.Filling.{is_awake}
+use Rattle.cell_states.specs.Filling.{is_awake}
 use Rattle.flat_row.specs.Masks.{has}
 use Rattle.whole_rows.proofs.Placing.{below_bits, word_marks}
 use Rattle.whole_rows.proofs.moved.mark_lines.Goals as goal

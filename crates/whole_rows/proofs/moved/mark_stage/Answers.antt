@@ -2,7 +2,7 @@ use Rattle.std.proofs.Common.{◌∙◌, ap, arith}
 use Rattle.std.specs.Prelude.{◌||◌}
 use Rattle.omega_net.specs.Numbers.{half}
 use Rattle.omega_net.proofs.Numbering.{half_some}
-use Rattle.cell_table.specs.Filling.{is_awake}
+use Rattle.cell_states.specs.Filling.{is_awake}
 use Rattle.whole_rows.specs.Among.{in_stage}
 use Rattle.whole_rows.proofs.Placing.{word_marks}
 use Rattle.whole_rows.proofs.moved.mark_stage.Goals as goal

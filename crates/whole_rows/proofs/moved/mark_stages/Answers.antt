@@ -1,7 +1,7 @@
 use Rattle.std.proofs.Common.{◌+◌, ◌*◌, ◌∙◌, ap, arith}
 use Rattle.std.specs.Prelude.{◌||◌, slice_index_or}
 use Rattle.omega_net.specs.Numbers.{half}
-use Rattle.cell_table.specs.Filling.{is_awake}
+use Rattle.cell_states.specs.Filling.{is_awake}
 use Rattle.whole_rows.specs.Among.{is_among, in_stage}
 use Rattle.whole_rows.proofs.Marking.{stage_joins}
 use Rattle.whole_rows.proofs.moved.mark_stages.Goals as goal

@@ -1,7 +1,7 @@
 use Rattle.std.proofs.Common.{◌≡◌, ℕ, ◌*◌, ◌<◌, length}
 use Rattle.std.specs.Prelude.{◌||◌}
 use Rattle.omega_net.specs.Numbers.{components, half}
-use Rattle.cell_table.specs.Filling.{is_awake}
+use Rattle.cell_states.specs.Filling.{is_awake}
 use Rattle.whole_rows.specs.Among.{is_among, in_stages}
 use Rattle.whole_rows.proofs.moved.mark_stages.Given as goal
 

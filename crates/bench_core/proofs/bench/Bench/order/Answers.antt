@@ -1,5 +1,5 @@
 use Rattle.std.proofs.Common.{◌≡◌, ap, sym, subst, arith}
-use Rattle.cell_table.specs.Seen.{Seen}
+use Rattle.due_cells.specs.Seen.{Seen}
 use Rattle.machine_cells.specs.declared.state.MachineState.{MachineState}
 use Rattle.project_book.specs.Project.{Project}
 use Rattle.serial_order.specs.Answers.{HoldsRun}

@@ -1,6 +1,7 @@
 use Rattle.std.proofs.Common.{◌+◌, ◌∙◌, sym, arith, eqb}
 use Rattle.cell_table.specs.Cells.{IsThere}
-use Rattle.cell_table.specs.Touches.{is_marked, cell_reads_one}
+use Rattle.due_cells.specs.Ranges.{is_marked}
+use Rattle.cell_table.specs.Touches.{cell_reads_one}
 use Rattle.cell_table.proofs.Asking.{always_more, sure_reads}
 use Rattle.cell_table.proofs.table.Table.add_always.Goals as goal
 

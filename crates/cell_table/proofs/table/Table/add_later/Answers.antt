@@ -1,8 +1,9 @@
 use Rattle.std.proofs.Common.{ℕ, ◌≡◌, ◌<◌, ◌≤◌, ◌+◌, ◌-◌, ◌∙◌, ◌&&◌, ◌||◌, sym, ap, arith, eqb, leb, ltb, is_some}
 use Rattle.std.proofs.lemmas.Bool.{lt-ltb, ltb-true}
-use Rattle.cell_table.specs.Seen.{held_at}
-use Rattle.cell_table.specs.Inputs.{inputs_of}
-use Rattle.cell_table.specs.Touches.{is_marked, cell_reads_one}
+use Rattle.due_cells.specs.Seen.{held_at}
+use Rattle.due_cells.specs.Inputs.{inputs_of}
+use Rattle.due_cells.specs.Ranges.{is_marked}
+use Rattle.cell_table.specs.Touches.{cell_reads_one}
 use Rattle.cell_table.proofs.Asking.{later_more, up_to_more, later_all, by_own}
 use Rattle.cell_table.proofs.Begun.{none_more, none_behind}
 use Rattle.cell_table.proofs.table.Table.add_later.Goals as goal

@@ -1,5 +1,6 @@
 use Rattle.std.proofs.Common.{◌≡◌, ℕ, ◌+◌, ◌-◌, ◌≤◌, ◌==◌, ◌&&◌, ◌||◌, nat_le, nat_lt, All}
-use Rattle.cell_table.specs.Touches.{is_marked, IsWithin, cell_reads_one}
+use Rattle.due_cells.specs.Ranges.{is_marked, IsWithin}
+use Rattle.cell_table.specs.Touches.{cell_reads_one}
 use Rattle.cell_table.proofs.table.Table.add_later.Given as goal
 
 abbrev pub invariant-loop-from : goal.invariant-loop-from

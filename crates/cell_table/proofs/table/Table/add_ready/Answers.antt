@@ -1,7 +1,7 @@
 use Rattle.std.proofs.Common.{◌≡◌, ◌+◌, ◌∙◌, ◌&&◌, ◌||◌, sym, ap, arith, eqb, leb, ltb, is_some}
-use Rattle.cell_table.specs.Inputs.{inputs_of}
-use Rattle.cell_table.specs.Touches.{is_marked}
-use Rattle.cell_table.proofs.Asking.{range_on}
+use Rattle.due_cells.specs.Inputs.{inputs_of}
+use Rattle.due_cells.specs.Ranges.{is_marked}
+use Rattle.due_cells.proofs.Joined.{range_on}
 use Rattle.cell_table.proofs.table.Table.add_ready.Goals as goal
 
 pub loop-cycle-preserved : goal.loop-cycle-preserved

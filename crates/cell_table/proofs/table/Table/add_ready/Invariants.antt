@@ -1,6 +1,6 @@
 use Rattle.std.proofs.Common.{◌≡◌, ℕ, ◌&&◌, ◌||◌, ◌==◌, nat_le, nat_lt, is_some, All}
-use Rattle.cell_table.specs.Touches.{is_marked, IsWithin}
-use Rattle.cell_table.specs.Inputs.{inputs_of}
+use Rattle.due_cells.specs.Ranges.{is_marked, IsWithin}
+use Rattle.due_cells.specs.Inputs.{inputs_of}
 use Rattle.cell_table.proofs.table.Table.add_ready.Given as goal
 
 abbrev pub invariant-loop-cycle : goal.invariant-loop-cycle

@@ -3,8 +3,10 @@ use Rattle.std.specs.List.{list_any}
 use Rattle.std.proofs.lemmas.List.{drop_all, drop_more}
 use Rattle.grid_law.specs.declared.reader.Reader.{Reader}
 use Rattle.cell_table.specs.Reads.{is_reader}
-use Rattle.cell_table.specs.Touches.{is_marked, cell_reads_one}
-use Rattle.cell_table.proofs.Asking.{or_false, reader_more, of_reader, readers_all}
+use Rattle.due_cells.specs.Ranges.{is_marked}
+use Rattle.cell_table.specs.Touches.{cell_reads_one}
+use Rattle.due_cells.proofs.Joined.{or_false}
+use Rattle.cell_table.proofs.Asking.{reader_more, of_reader, readers_all}
 use Rattle.cell_table.proofs.table.Table.add_slot.Goals as goal
 
 pub loop-reader-preserved : goal.loop-reader-preserved

@@ -1,7 +1,8 @@
 use Rattle.std.proofs.Common.{◌≡◌, ℕ, ◌+◌, ◌≤◌, ◌&&◌, ◌||◌, All, drop}
 use Rattle.std.specs.List.{list_any}
 use Rattle.cell_table.specs.Reads.{is_reader}
-use Rattle.cell_table.specs.Touches.{is_marked, IsWithin, cell_reads_one}
+use Rattle.due_cells.specs.Ranges.{is_marked, IsWithin}
+use Rattle.cell_table.specs.Touches.{cell_reads_one}
 use Rattle.cell_table.proofs.table.Table.add_slot.Given as goal
 
 abbrev pub invariant-loop-reader : goal.invariant-loop-reader

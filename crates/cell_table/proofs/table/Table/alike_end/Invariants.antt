@@ -1,5 +1,5 @@
 use Rattle.std.proofs.Common.{◌≡◌, ℕ, ◌-◌, ◌<◌, ◌≤◌, true, length}
-use Rattle.cell_table.specs.Seen.{held_at}
+use Rattle.due_cells.specs.Seen.{held_at}
 use Rattle.cell_table.specs.Repeating.{StaysAlikeTo}
 use Rattle.cell_table.proofs.table.Table.alike_end.Given as goal
 

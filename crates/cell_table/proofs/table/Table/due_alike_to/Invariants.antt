@@ -1,6 +1,6 @@
 use Rattle.std.proofs.Common.{◌≡◌, ℕ, ◌<◌, ◌||◌}
-use Rattle.cell_table.specs.Seen.{held_at}
-use Rattle.cell_table.specs.Filling.{is_awake}
+use Rattle.due_cells.specs.Seen.{held_at}
+use Rattle.cell_states.specs.Filling.{is_awake}
 use Rattle.cell_table.proofs.table.Table.due_alike_to.Given as goal
 
 abbrev pub invariant-loop-to : goal.invariant-loop-to

@@ -1,5 +1,5 @@
 use Rattle.std.proofs.Common.{rules}
-use Rattle.cell_table.specs.Seen.{Seen}
+use Rattle.due_cells.specs.Seen.{Seen}
 use Rattle.cell_table.proofs.ConeRuns.{cone_settled}
 use Rattle.cell_table.proofs.Counted.{cone_stands}
 use Rattle.cell_table.proofs.table.Table.due_cone.Goals as goal

@@ -1,8 +1,8 @@
 use Rattle.std.proofs.Common.{◌∙◌, sym, arith}
-use Rattle.cell_table.specs.Seen.{Seen}
+use Rattle.due_cells.specs.Seen.{Seen}
 use Rattle.grid_law.specs.Rules.{Differ}
 use Rattle.cell_table.proofs.Held.{held_edited}
-use Rattle.cell_table.proofs.Reading.{index_along, near_along}
+use Rattle.due_cells.proofs.Reading.{index_along, near_along}
 use Rattle.cell_table.proofs.Touched.{is_table_touched, touched_from_marks}
 use Rattle.cell_table.proofs.table.Table.follow.Goals as goal
 

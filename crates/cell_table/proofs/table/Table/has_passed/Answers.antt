@@ -1,6 +1,6 @@
 use Rattle.std.proofs.Common.{◌≡◌, ℕ, ◌-◌, ◌≤◌, arith, Some, false, [], ◌∷◌}
 use Rattle.grid_law.specs.Run.{run}
-use Rattle.cell_table.specs.Seen.{held_at}
+use Rattle.due_cells.specs.Seen.{held_at}
 use Rattle.cell_table.proofs.Begun.{not_read}
 use Rattle.cell_table.proofs.table.Table.has_passed.Goals as goal
 

@@ -1,9 +1,9 @@
 use Rattle.std.proofs.Common.{◌≡◌, ◌-◌, ◌∙◌, ap, subst, true, All}
 use Rattle.std.proofs.lemmas.List.{get_or-set_same}
-use Rattle.cell_table.specs.Seen.{Seen, held_at}
+use Rattle.due_cells.specs.Seen.{Seen, held_at}
 use Rattle.cell_table.specs.Settling.{NoneDueBefore}
 use Rattle.cell_table.specs.Cells.{IsThere}
-use Rattle.cell_table.specs.Filling.{is_awake}
+use Rattle.cell_states.specs.Filling.{is_awake}
 use Rattle.cell_table.proofs.Alike.{is_kept, is_changed}
 use Rattle.cell_table.proofs.table.Table.is_alike.Goals as goal
 

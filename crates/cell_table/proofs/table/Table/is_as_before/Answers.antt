@@ -1,5 +1,5 @@
 use Rattle.std.proofs.Common.{◌≡◌, ◌-◌, ◌∙◌, sym, arith, All, subst}
-use Rattle.cell_table.specs.Seen.{Seen, held_at}
+use Rattle.due_cells.specs.Seen.{Seen, held_at}
 use Rattle.cell_table.proofs.Shortcut.{as_before}
 use Rattle.cell_table.proofs.table.Table.is_as_before.Goals as goal
 

@@ -1,5 +1,6 @@
 use Rattle.std.proofs.Common.{◌≡◌, ℕ, ◌+◌, ◌<◌, ◌≤◌, ◌||◌, All, drop}
-use Rattle.cell_table.specs.Touches.{is_marked, IsWithin, cell_reads}
+use Rattle.due_cells.specs.Ranges.{is_marked, IsWithin}
+use Rattle.cell_table.specs.Touches.{cell_reads}
 use Rattle.cell_table.proofs.table.Table.marks.Given as goal
 
 abbrev pub invariant-loop-slot : goal.invariant-loop-slot

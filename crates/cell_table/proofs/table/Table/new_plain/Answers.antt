@@ -1,5 +1,5 @@
 use Rattle.std.proofs.Common.{ℕ, ◌+◌, ◌∙◌, sym, ap, subst, arith, List, replicate}
-use Rattle.cell_table.specs.Seen.{Held, fresh}
+use Rattle.due_cells.specs.Seen.{Held, fresh}
 use Rattle.cell_table.specs.Consistent.{IsTable}
 use Rattle.cell_table.proofs.Tables.{is_table_new}
 use Rattle.cell_table.proofs.table.Table.new_plain.Goals as goal

@@ -1,5 +1,5 @@
 use Rattle.std.proofs.Common.{◌≡◌, ℕ, ◌<◌, false}
-use Rattle.cell_table.specs.Seen.{held_at}
+use Rattle.due_cells.specs.Seen.{held_at}
 use Rattle.cell_table.specs.Cells.{IsThere, AtOrAfter}
 use Rattle.cell_table.proofs.table.Table.next_due_before.Given as goal
 

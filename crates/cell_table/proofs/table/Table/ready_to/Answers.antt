@@ -1,6 +1,6 @@
 use Rattle.std.proofs.Common.{◌≡◌, arith, ap}
 use Rattle.grid_law.specs.Run.{run}
-use Rattle.cell_table.specs.Seen.{Seen}
+use Rattle.due_cells.specs.Seen.{Seen}
 use Rattle.cell_table.proofs.Asking.{ready_before, ready_where_held}
 use Rattle.cell_table.proofs.table.Table.ready_to.Goals as goal
 

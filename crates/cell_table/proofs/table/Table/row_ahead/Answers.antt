@@ -1,4 +1,4 @@
-use Rattle.cell_table.specs.Seen.{Seen}
+use Rattle.due_cells.specs.Seen.{Seen}
 use Rattle.cell_table.specs.Settling.{NoneDueBefore, IsNextDue}
 use Rattle.cell_table.proofs.Passes.{comes_ahead}
 use Rattle.cell_table.proofs.table.Table.row_ahead.Goals as goal

@@ -2,12 +2,13 @@ use Rattle.std.proofs.Common.{◌≡◌, ℕ, ◌+◌, ◌-◌, ◌*◌, ◌^◌
 use Rattle.std.proofs.lemmas.List.{length-replicate}
 use Rattle.std.proofs.lemmas.List.Sums.{count_by-le-length}
 use Rattle.cell_marks.specs.Marked.{count_in}
-use Rattle.cell_table.specs.Seen.{Held, Seen, held_at, row_at, due_in_row}
+use Rattle.due_cells.specs.Seen.{Held, Seen, held_at, row_at, due_in_row}
 use Rattle.cell_table.specs.Consistent.{IsWhole}
-use Rattle.cell_table.specs.Filling.{is_awake}
-use Rattle.cell_table.specs.Passing.{woken}
+use Rattle.cell_states.specs.Filling.{is_awake}
+use Rattle.due_cells.specs.Woken.{woken}
 use Rattle.cell_table.specs.Settling.{NoneDueBefore, IsAt}
-use Rattle.cell_table.specs.Repeating.{any_changes, BeginsAlike, StaysAlike, AreDueAlike}
+use Rattle.cell_states.specs.Versions.{any_changes}
+use Rattle.cell_table.specs.Repeating.{BeginsAlike, StaysAlike, AreDueAlike}
 use Rattle.cell_table.proofs.Held.{kept_alike, kept_behind}
 use Rattle.cell_table.proofs.Passing.{woken_state}
 use Rattle.cell_table.proofs.Passes.{begins_at}

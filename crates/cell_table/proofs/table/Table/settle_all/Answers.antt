@@ -1,5 +1,5 @@
 use Rattle.std.proofs.Common.{◌≡◌, ℕ, ◌+◌, ◌<◌, ◌-◌, ◌*◌, ◌∙◌, Err, ap, sym, subst, arith}
-use Rattle.cell_table.specs.Seen.{Seen}
+use Rattle.due_cells.specs.Seen.{Seen}
 use Rattle.cell_table.specs.Cells.{AtOrAfter}
 use Rattle.cell_table.specs.Settling.{NoneDueBefore, HoldsRunBefore, IsSpentBefore, IsAt, IsFurther}
 use Rattle.cell_table.proofs.Passes.{spent_before, nearer, of_some, of_none}

@@ -1,8 +1,8 @@
 use Rattle.std.proofs.Common.{◌+◌, ◌-◌, ◌*◌, ◌≤◌, IfSome}
 use Rattle.cell_table.specs.Cells.{AtOrAfter}
 use Rattle.cell_table.specs.Settling.{IsAt}
-use Rattle.cell_table.specs.NextWords.{AreBeside}
-use Rattle.cell_table.specs.Spares.{GoesAlong, IsSpare}
+use Rattle.due_cells.specs.Beside.{AreBeside}
+use Rattle.due_cells.specs.Spares.{GoesAlong, IsSpare}
 use Rattle.cell_table.proofs.table.Table.settle_all.Given as goal
 
 abbrev pub invariant-loop-passed : goal.invariant-loop-passed

@@ -1,5 +1,5 @@
 use Rattle.std.proofs.Common.{◌≡◌, ℕ, zero, suc, ◌<◌, ◌≤◌, refl, arith, ◌⊎◌, inl, inr}
-use Rattle.cell_table.specs.Seen.{Seen}
+use Rattle.due_cells.specs.Seen.{Seen}
 use Rattle.cell_table.specs.Settling.{IsNextDue}
 use Rattle.cell_table.proofs.Passes.{begins, comes_ahead, runs_here}
 use Rattle.cell_table.proofs.LeftOut.{new_spare}

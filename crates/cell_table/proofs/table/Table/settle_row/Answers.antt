@@ -1,14 +1,15 @@
 use Rattle.std.proofs.Common.{◌≡◌, ℕ, ◌+◌, ◌*◌, ◌^◌, ◌<◌, ◌≤◌, ◌∙◌, sym, ap, subst, arith, length, Some}
 use Rattle.cell_marks.specs.Marked.{count_in}
 use Rattle.grid_law.specs.Run.{run}
-use Rattle.cell_table.specs.Seen.{Seen, held_at, row_at, due_in_row}
+use Rattle.due_cells.specs.Seen.{Seen, held_at, row_at, due_in_row}
 use Rattle.cell_table.specs.Cells.{IsThere}
 use Rattle.cell_table.specs.Consistent.{IsWhole}
-use Rattle.cell_table.specs.Filling.{is_awake}
-use Rattle.cell_table.specs.Passing.{woken, HoldsBut}
+use Rattle.cell_states.specs.Filling.{is_awake}
+use Rattle.due_cells.specs.Woken.{woken}
+use Rattle.cell_table.specs.Passing.{HoldsBut}
 use Rattle.cell_table.specs.Settling.{NoneDueBefore, IsAt}
-use Rattle.cell_table.specs.WholeRows.{IsRowPut}
-use Rattle.cell_table.specs.Spares.{IsSpare}
+use Rattle.due_cells.specs.WholeRows.{IsRowPut}
+use Rattle.due_cells.specs.Spares.{IsSpare}
 use Rattle.cell_table.proofs.LeftOut.{holds_already}
 use Rattle.cell_table.proofs.Passes.{begins_at}
 use Rattle.cell_table.proofs.Repeated.{ranges_within}

@@ -1,6 +1,6 @@
 use Rattle.std.proofs.Common.{◌∙◌, ap, sym, map, Some}
 use Rattle.std.specs.Arc.{arc_value}
-use Rattle.cell_table.specs.Seen.{Seen}
+use Rattle.due_cells.specs.Seen.{Seen}
 use Rattle.cell_table.proofs.Shortcut.{steps_current, ok_along}
 use Rattle.cell_table.proofs.table.Table.stepped.Goals as goal
 

@@ -1,7 +1,7 @@
 use Rattle.std.proofs.Common.{◌≡◌, ℕ, ◌+◌, ◌-◌, ◌<◌, ◌≤◌, ◌/◌, ◌⊎◌, inl, inr, arith, Some, false, [], ◌∷◌}
 use Rattle.std.proofs.lemmas.Bool.{cases_lt}
 use Rattle.grid_law.specs.Run.{run}
-use Rattle.cell_table.specs.Seen.{held_at}
+use Rattle.due_cells.specs.Seen.{held_at}
 use Rattle.cell_table.specs.Touches.{cell_reads_one}
 use Rattle.cell_table.proofs.Begun.{not_read}
 use Rattle.cell_table.proofs.table.Table.turn_from.Goals as goal

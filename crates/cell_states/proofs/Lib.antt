@@ -1,0 +1,14 @@
+pub mod Cases
+pub mod Codes
+pub mod Coded
+pub mod Changed
+pub mod Grown
+pub mod ChangedRows
+pub mod Whole
+pub mod Stepped
+pub mod Knowing
+pub mod Looking
+pub mod PutRow
+pub mod Drafted
+pub mod Next
+pub mod Since

@@ -1,0 +1,10 @@
+pub mod Filling
+pub mod Near
+pub mod Stated
+pub mod Codes
+pub mod Coded
+pub mod ReadsBy
+pub mod Versions
+pub mod Ready
+pub mod NextWords
+pub mod Sets

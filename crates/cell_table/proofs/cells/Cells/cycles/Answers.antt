@@ -1,9 +1,0 @@
-use Rattle.std.proofs.Common.{◌∙◌, sym}
-use Rattle.cell_table.specs.Layout.{state_at}
-use Rattle.cell_table.proofs.Keeping.{seen_cycles}
-use Rattle.cell_table.proofs.cells.Cells.cycles.Goals as goal
-
-pub returns : goal.returns
-returns g c =
-    let i = c.self.inside in
-    c.len.ensures ∙ sym (seen_cycles (state_at i.states) i.due i.versions.items c.args.self.now c.self.view_is)

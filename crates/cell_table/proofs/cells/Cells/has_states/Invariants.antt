@@ -1,7 +1,0 @@
-use Rattle.std.proofs.Common.{◌≡◌, drop, is_some}
-use Rattle.cell_table.specs.Seen.{row_at}
-use Rattle.cell_table.specs.Inputs.{states_of}
-use Rattle.cell_table.proofs.cells.Cells.has_states.Given as goal
-
-abbrev pub invariant-loop-component : goal.invariant-loop-component
-invariant-loop-component g l = is_some (states_of (row_at l.self l.cycle) (drop l.component-index l.near)) ≡ is_some (states_of (row_at l.self l.cycle) l.near)

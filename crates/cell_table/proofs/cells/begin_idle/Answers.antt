@@ -1,6 +1,0 @@
-use Rattle.cell_table.proofs.NotedRows.{idle_versions}
-use Rattle.cell_table.proofs.cells.begin_idle.Goals as goal
-
-pub returns-clause-due : goal.returns-clause-due
-returns-clause-due c =
-    idle_versions c.args.due.now.rows c.args.versions.now.items c.begin_in.new.rows.items c.args.t c.row_count.result c.row_count.ensures c.if-row_count-gt0.false c.begin_in.ensures.others

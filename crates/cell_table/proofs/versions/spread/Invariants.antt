@@ -1,5 +1,0 @@
-use Rattle.std.proofs.Common.{◌≡◌, ◌≤◌, replicate}
-use Rattle.cell_table.proofs.versions.spread.Given as goal
-
-abbrev pub invariant-loop-c : goal.invariant-loop-c
-invariant-loop-c l = (l.each.items ≡ replicate l._c l.version) × (l.each.capacity ≡ l.initial.each.capacity) × (l.count ≤ l.each.capacity)

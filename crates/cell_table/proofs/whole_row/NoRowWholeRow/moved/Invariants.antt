@@ -1,9 +1,0 @@
-use Rattle.std.proofs.Common.{◌≡◌, ℕ, ◌<◌, true, length}
-use Rattle.cell_table.specs.Filling.{is_awake}
-use Rattle.cell_table.proofs.whole_row.NoRowWholeRow.moved.Given as goal
-
-abbrev pub invariant-loop-c : goal.invariant-loop-c
-invariant-loop-c g l = record {
-  len : length l.moved ≡ length l.initial.moved;
-  marks : (d : ℕ) → d < l.c → is_awake l.moved d ≡ true;
-}

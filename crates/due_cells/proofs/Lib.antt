@@ -1,0 +1,17 @@
+pub mod Keeping
+pub mod Stated
+pub mod Counts
+pub mod Marking
+pub mod States
+pub mod FilledRows
+pub mod WideRows
+pub mod MarkedCycle
+pub mod MarkedRow
+pub mod Reading
+pub mod Cones
+pub mod Noted
+pub mod NotedRows
+pub mod Ranging
+pub mod Gathered
+pub mod Taken
+pub mod Joined

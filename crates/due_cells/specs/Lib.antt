@@ -1,0 +1,13 @@
+pub mod Seen
+pub mod Inputs
+pub mod Readers
+pub mod Ranges
+pub mod Woken
+pub mod Stores
+pub mod NextDue
+pub mod Layout
+pub mod Cones
+pub mod WholeRows
+pub mod Noted
+pub mod Spares
+pub mod Beside

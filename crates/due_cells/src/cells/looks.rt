@@ -1,0 +1,54 @@
+//! What is asked of the states that cells hold; none of them is lent.
+ghost use Rattle.std.specs.Prelude.{◌≡◌, ℕ, ◌-◌, ◌<◌, ◌≤◌, ◌↔◌, ◌∷◌, [], IsTrue, is_some, false, Some};
+ghost use Rattle.grid_law.specs.declared.turn.Turn.TheVariants.{Ahead, Passed};
+ghost use Rattle.grid_law.specs.Run.{run};
+ghost use Rattle.due_cells.specs.Seen.{held_at};
+ghost use Rattle.cell_states.specs.ReadsBy.{reads_by};
+
+use super::Cells;
+use cell_states::Cell;
+use grid_law::{Grid, Turn};
+
+impl<G: Grid> Cells<G> {
+    /// Whether a cell holds a state.
+    #[inline(always)]
+    pub fn has_state(&self, cell: Cell) -> bool
+        ensures { result ≡ is_some (held_at self.now cell.cycle cell.component).state }
+    {
+        self.states.has(cell)
+    }
+
+    /// Whether a cell holds this state, the whole of it.
+    #[inline(always)]
+    pub fn holds(&self, cell: Cell, state: &G::State) -> bool
+        ensures { IsTrue result ↔ ((held_at self.now cell.cycle cell.component).state ≡ Some state.now) }
+    {
+        self.states.holds(cell, state)
+    }
+
+    /// Whether a cell holds what the cell one cycle earlier holds: the same state, or none as that one.
+    pub fn is_as_before(&self, cell: Cell) -> bool
+        requires later { 0 < cell.cycle }
+        ensures { IsTrue result ↔ ((held_at self.now (cell.cycle - 1) cell.component).state ≡ (held_at self.now cell.cycle cell.component).state) }
+    {
+        self.states.is_as_before(cell)
+    }
+
+    /// Whether a component reads the slot after cycle 0, where its own state one cycle earlier is the cell's and the other near states
+    /// are there. One that has no state reads none.
+    pub fn reads(&self, slots: &G::Slots, cell: Cell, slot: &G::Slot) -> bool
+        requires { cell.component < G.rules.components slots.now }
+        ensures { result ≡ reads_by G.rules slots.now cell.component slot.now (held_at self.now cell.cycle cell.component).state }
+    {
+        self.states.reads(slots, cell, slot)
+    }
+
+    /// Where along a run a component reads the slot, of which the cell's state is one.
+    pub fn turn(&self, slots: &G::Slots, cell: Cell, slot: &G::Slot) -> Turn
+        requires { cell.component < G.rules.components slots.now }
+        ensures ahead { result ≡ Ahead → (t u : ℕ) → (held_at self.now cell.cycle cell.component).state ≡ Some (run G.rules slots.now t cell.component) → u ≤ t → G.rules.reads slots.now (run G.rules slots.now u cell.component ∷ []) cell.component slot.now ≡ false }
+        ensures passed { result ≡ Passed → (t u : ℕ) → (held_at self.now cell.cycle cell.component).state ≡ Some (run G.rules slots.now t cell.component) → t ≤ u → G.rules.reads slots.now (run G.rules slots.now u cell.component ∷ []) cell.component slot.now ≡ false }
+    {
+        self.states.turn(slots, cell, slot)
+    }
+}

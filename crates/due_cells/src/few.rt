@@ -1,0 +1,157 @@
+//! The due cells of a cycle get what the run has there: many of them by a step of all components, few by a step of each.
+ghost use Rattle.std.specs.Prelude.{◌≡◌, ℕ, ◌-◌, ◌<◌, IfSome, Some, true, false, length};
+ghost use Rattle.grid_law.specs.Run.{run};
+ghost use Rattle.due_cells.specs.Seen.{held_at, row_at};
+ghost use Rattle.cell_states.specs.Near.{AreNear};
+ghost use Rattle.due_cells.specs.Beside.{AreBeside};
+ghost use Rattle.due_cells.specs.Spares.{GoesAlong};
+ghost use Rattle.due_cells.specs.WholeRows.{HasWords, IsRowPut, IsToPut};
+ghost use Rattle.cell_states.specs.Filling.{is_awake};
+
+use crate::along::{Along, go_along};
+use crate::beside::{Beside, make_near};
+use crate::cells::{Cells, no_versions, put_due, put_each};
+use cell_marks::Row;
+use cell_states::{Neighbours, WholeRow};
+use grid_law::Grid;
+
+/// How many cells of a cycle are due at least where a row of all components is loaded to settle it.
+const WIDE: u32 = 24;
+
+/// The same where the row holds the cycle before already.
+const STILL_WIDE: u32 = 16;
+
+/// How many cells of a cycle are due at least where a row settles it.
+fn least_due<M>(along: &Option<Along<M>>, cycle: u32) -> u32 {
+    match along {
+        Some(a) => {
+            if cycle > 0 && a.cycle == cycle - 1 {
+                STILL_WIDE
+            } else {
+                WIDE
+            }
+        }
+        None => WIDE,
+    }
+}
+
+/// By the row that goes along: whether they got it.
+fn put_stepped<G: Grid, M: WholeRow<G>>(
+    cells: &mut Cells<G>,
+    slots: &G::Slots,
+    along: &mut Option<Along<M>>,
+    beside: &mut Beside<M>,
+    cycle: u32,
+    set: &Row,
+    changes: &mut Row,
+    worded: &mut Row,
+) -> bool
+    requires ready { IsToPut G.rules slots.now cells.old cycle set.now }
+    requires width { length changes.old ≡ G.rules.components slots.now }
+    requires worded { length worded.old ≡ G.rules.components slots.now }
+    requires along { IfSome along.old (GoesAlong G.rules M.stands M.state slots.now) }
+    requires beside { AreBeside G.rules G.codec M.stands M.state slots.now beside.old }
+    ensures len { length cells.new ≡ length cells.old }
+    ensures lens { (t : ℕ) → t < length cells.old → length (row_at cells.new t) ≡ G.rules.components slots.now }
+    ensures width { length changes.new ≡ length changes.old }
+    ensures worded { length worded.new ≡ length worded.old }
+    ensures words { result ≡ true → HasWords G.rules G.codec cells.old cells.new cycle worded.new }
+    ensures among { result ≡ true → (c : ℕ) → is_awake worded.new c ≡ true → is_awake changes.new c ≡ true }
+    ensures put { result ≡ true → IsRowPut G.rules slots.now cells.old cells.new cycle changes.new }
+    ensures versions { (t c : ℕ) → (held_at cells.old t c).is_due ≡ false → (held_at cells.old t c).version ≡ 0 }
+    ensures err { result ≡ false → cells.new ≡ cells.old }
+    ensures along { IfSome along.new (GoesAlong G.rules M.stands M.state slots.now) }
+    ensures beside { AreBeside G.rules G.codec M.stands M.state slots.now beside.new }
+{
+    no_versions(cells);
+    let step = match go_along::<G, M>(cells, slots, along, beside, cycle) {
+        Some(step) => step,
+        None => return false,
+    };
+    let row = match along {
+        Some(a) => &a.row,
+        None => return false,
+    };
+    match put_due(cells, slots, row, &step, cycle, set, changes, worded) {
+        Ok(()) => true,
+        Err(_) => false,
+    }
+}
+
+/// One after another: whether they got it.
+fn put_few<G: Grid, M: WholeRow<G>>(
+    cells: &mut Cells<G>,
+    slots: &G::Slots,
+    near: &Neighbours,
+    beside: &mut Beside<M>,
+    cycle: u32,
+    set: &Row,
+    changes: &mut Row,
+    worded: &mut Row,
+) -> bool
+    requires ready { IsToPut G.rules slots.now cells.old cycle set.now }
+    requires width { length changes.old ≡ G.rules.components slots.now }
+    requires worded { length worded.old ≡ G.rules.components slots.now }
+    requires near { AreNear G.rules slots.now near.now }
+    requires beside { AreBeside G.rules G.codec M.stands M.state slots.now beside.old }
+    ensures len { length cells.new ≡ length cells.old }
+    ensures lens { (t : ℕ) → t < length cells.old → length (row_at cells.new t) ≡ G.rules.components slots.now }
+    ensures width { length changes.new ≡ length changes.old }
+    ensures worded { length worded.new ≡ length worded.old }
+    ensures among { result ≡ true → (c : ℕ) → is_awake worded.new c ≡ true → is_awake changes.new c ≡ true }
+    ensures words { result ≡ true → HasWords G.rules G.codec cells.old cells.new cycle worded.new }
+    ensures put { result ≡ true → IsRowPut G.rules slots.now cells.old cells.new cycle changes.new }
+    ensures versions { (t c : ℕ) → (held_at cells.old t c).is_due ≡ false → (held_at cells.old t c).version ≡ 0 }
+    ensures err { result ≡ false → cells.new ≡ cells.old }
+    ensures beside { AreBeside G.rules G.codec M.stands M.state slots.now beside.new }
+{
+    no_versions(cells);
+    if !make_near::<G, M>(cells.allocator(), slots, beside) {
+        return false;
+    }
+    match &mut beside.near {
+        Some(held) => match put_each(cells, slots, near, held, cycle, set, changes, worded) {
+            Ok(()) => true,
+            Err(_) => false,
+        },
+        None => false,
+    }
+}
+
+/// Gives the due cells of a cycle the states of the run, and none of that cycle is due then: whether it did. Of `changes` those components
+/// are marked that held another state, or none. Where it didn't, nothing is changed but those marks and the rows.
+pub fn put_row<G: Grid, M: WholeRow<G>>(
+    cells: &mut Cells<G>,
+    slots: &G::Slots,
+    near: &Neighbours,
+    along: &mut Option<Along<M>>,
+    beside: &mut Beside<M>,
+    cycle: u32,
+    set: &Row,
+    changes: &mut Row,
+    worded: &mut Row,
+) -> bool
+    requires ready { IsToPut G.rules slots.now cells.old cycle set.now }
+    requires width { length changes.old ≡ G.rules.components slots.now }
+    requires worded { length worded.old ≡ G.rules.components slots.now }
+    requires near { AreNear G.rules slots.now near.now }
+    requires along { IfSome along.old (GoesAlong G.rules M.stands M.state slots.now) }
+    requires beside { AreBeside G.rules G.codec M.stands M.state slots.now beside.old }
+    ensures len { length cells.new ≡ length cells.old }
+    ensures lens { (t : ℕ) → t < length cells.old → length (row_at cells.new t) ≡ G.rules.components slots.now }
+    ensures width { length changes.new ≡ length changes.old }
+    ensures worded { length worded.new ≡ length worded.old }
+    ensures among { result ≡ true → (c : ℕ) → is_awake worded.new c ≡ true → is_awake changes.new c ≡ true }
+    ensures words { result ≡ true → HasWords G.rules G.codec cells.old cells.new cycle worded.new }
+    ensures put { result ≡ true → IsRowPut G.rules slots.now cells.old cells.new cycle changes.new }
+    ensures versions { (t c : ℕ) → (held_at cells.old t c).is_due ≡ false → (held_at cells.old t c).version ≡ 0 }
+    ensures err { result ≡ false → cells.new ≡ cells.old }
+    ensures along { IfSome along.new (GoesAlong G.rules M.stands M.state slots.now) }
+    ensures beside { AreBeside G.rules G.codec M.stands M.state slots.now beside.new }
+{
+    if set.count() >= least_due(along, cycle) {
+        put_stepped::<G, M>(cells, slots, along, beside, cycle, set, changes, worded)
+    } else {
+        put_few::<G, M>(cells, slots, near, beside, cycle, set, changes, worded)
+    }
+}
