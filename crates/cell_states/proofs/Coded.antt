@@ -11,6 +11,7 @@ use Rattle.change_rows.specs.Rows.{Table as Words, words_at, overlaid, IsWhole}
 use Rattle.change_lists.specs.Changes.{Changes, list_at, standing, held_at as memory_at}
 use Rattle.cell_states.specs.Codes.{state_of, IsCode}
 use Rattle.cell_states.specs.Coded.{coded_at, states_in, IsCoded}
+use Rattle.cell_states.specs.Kept.{AreSameCells}
 use Rattle.cell_states.specs.Stated.{Stated, state_at, IsAsMany, IsSameStates, IsOtherState}
 use Rattle.cell_states.proofs.Cases.{at_set, lens_set}
 use Rattle.cell_states.proofs.Codes.{same_code, code_along, no_state, no_code}
@@ -25,6 +26,14 @@ none_beside words whole t c h = by_cycle (cases_lt t (length words.rows))
     by_cycle : (t < length words.rows) ⊎ (length words.rows ≤ t) → words_at words.rows t c ≡ []
     by_cycle (inl k) = get_or_past (get_or words.rows t []) c [] (omega (arith, h, whole t k))
     by_cycle (inr k) = none_past words t c k
+
+-- words are of the same cells as they are
+pub same_cells : (words : Words) → AreSameCells words words
+same_cells words = record {
+  width = refl;
+  cycles = refl;
+  lens = λ t. refl;
+}
 
 -- one cell's words over those of a row
 pub overlaid_one : (row : List (List ℕ)) (c : ℕ) (ws : List ℕ) → c < length row → overlaid row (record { component = c; words = ws } ∷ []) ≡ set row c ws
@@ -74,32 +83,32 @@ module _ {State Memory : Type 0} (C : Codec State Memory) where
       seen_at whole t c = ap (λ s. state_at s t c) (sym e) ∙ state_is whole t c
 
   -- other words and memories of the same cells
-  module _ (words words1 : Words) (memories memories1 : List (Changes Memory)) (coded : IsCoded C words memories) (width : words1.width ≡ words.width) (cycles : length words1.rows ≡ length words.rows) (lens : (t : ℕ) → length (get_or words1.rows t []) ≡ length (get_or words.rows t [])) where
+  module _ (words words1 : Words) (memories memories1 : List (Changes Memory)) (coded : IsCoded C words memories) (cells : AreSameCells words words1) where
     pub whole_along : IsWhole words1
-    whole_along t h = lens t ∙ coded.whole t (omega (arith, h, cycles)) ∙ sym width
+    whole_along t h = cells.lens t ∙ coded.whole t (omega (arith, h, cells.cycles)) ∙ sym cells.width
 
     pub coded_along : length memories1 ≡ length memories → ((t c : ℕ) → t < length words.rows → c < words.width → IsCode C (words_at words1.rows t c) (memory_at memories1 c t)) → IsCoded C words1 memories1
     coded_along many each = record {
       whole = whole_along;
-      many = many ∙ coded.many ∙ sym width;
+      many = many ∙ coded.many ∙ sym cells.width;
       codes = λ t c. by_place t c (cases_lt t (length words.rows)) (cases_lt c words.width);
     }
       where
         by_place : (t c : ℕ) → (t < length words.rows) ⊎ (length words.rows ≤ t) → (c < words.width) ⊎ (words.width ≤ c) → IsCode C (words_at words1.rows t c) (memory_at memories1 c t)
         by_place t c (inl h) (inl k) = each t c h k
-        by_place t c (inl h) (inr k) = no_code C _ _ (none_beside words1 whole_along t c (omega (arith, k, width)))
-        by_place t c (inr h) k = no_code C _ _ (none_past words1 t c (omega (arith, h, cycles)))
+        by_place t c (inl h) (inr k) = no_code C _ _ (none_beside words1 whole_along t c (omega (arith, k, cells.width)))
+        by_place t c (inr h) k = no_code C _ _ (none_past words1 t c (omega (arith, h, cells.cycles)))
 
     pub many_along : IsAsMany (states_in C words memories) (states_in C words1 memories1)
     many_along = record {
-      width = width;
-      cycles = length_states words1 memories1 ∙ cycles ∙ sym (length_states words memories);
+      width = cells.width;
+      cycles = length_states words1 memories1 ∙ cells.cycles ∙ sym (length_states words memories);
       lens = λ t. by_cycle t (cases_lt t (length words.rows));
     }
       where
         by_cycle : (t : ℕ) → (t < length words.rows) ⊎ (length words.rows ≤ t) → length (get_or (states_in C words1 memories1).rows t []) ≡ length (get_or (states_in C words memories).rows t [])
-        by_cycle t (inl h) = length_row words1 memories1 t (omega (arith, h, cycles)) ∙ width ∙ sym (length_row words memories t h)
-        by_cycle t (inr h) = length_past words1 memories1 t (omega (arith, h, cycles)) ∙ sym (length_past words memories t h)
+        by_cycle t (inl h) = length_row words1 memories1 t (omega (arith, h, cells.cycles)) ∙ cells.width ∙ sym (length_row words memories t h)
+        by_cycle t (inr h) = length_past words1 memories1 t (omega (arith, h, cells.cycles)) ∙ sym (length_past words memories t h)
 
     -- where a cell has the words and the memory that another one had, it has the state of that one; it may be that there is none
     pub state_along : (t c u d : ℕ) → words_at words1.rows t c ≡ words_at words.rows u d → (t < length words.rows → memory_at memories1 c t ≡ memory_at memories d u) → state_at (states_in C words1 memories1) t c ≡ state_at (states_in C words memories) u d
@@ -107,7 +116,7 @@ module _ {State Memory : Type 0} (C : Codec State Memory) where
       where
         by_cycle : (t < length words.rows) ⊎ (length words.rows ≤ t) → coded_at C words1 memories1 t c ≡ coded_at C words memories u d
         by_cycle (inl h) = same_code C _ _ _ _ e (m h)
-        by_cycle (inr h) = let none = none_past words1 t c (omega (arith, h, cycles)) in no_state C _ _ none ∙ sym (no_state C _ _ (sym e ∙ none))
+        by_cycle (inr h) = let none = none_past words1 t c (omega (arith, h, cells.cycles)) in no_state C _ _ none ∙ sym (no_state C _ _ (sym e ∙ none))
 
   -- what stands where a list of changes is the same
   pub memory_along : (memories memories1 : List (Changes Memory)) (c t : ℕ) → list_at memories1 c ≡ list_at memories c → memory_at memories1 c t ≡ memory_at memories c t
@@ -116,12 +125,12 @@ module _ {State Memory : Type 0} (C : Codec State Memory) where
   -- nothing is changed of what is seen
   module _ (words : Words) (memories memories1 : List (Changes Memory)) (coded : IsCoded C words memories) (same : (c t : ℕ) → memory_at memories1 c t ≡ memory_at memories c t) where
     pub coded_same : length memories1 ≡ length memories → IsCoded C words memories1
-    coded_same many = coded_along words words memories memories1 coded refl refl (λ t. refl) many (λ t c h k. code_along C _ _ _ _ refl (same c t) (coded.codes t c))
+    coded_same many = coded_along words words memories memories1 coded (same_cells words) many (λ t c h k. code_along C _ _ _ _ refl (same c t) (coded.codes t c))
 
     pub states_same : IsSameStates (states_in C words memories) (states_in C words memories1)
     states_same = record {
-      many = many_along words words memories memories1 coded refl refl (λ t. refl);
-      same = λ t c. state_along words words memories memories1 coded refl refl (λ t. refl) t c t c refl (λ h. same c t);
+      many = many_along words words memories memories1 coded (same_cells words);
+      same = λ t c. state_along words words memories memories1 coded (same_cells words) t c t c refl (λ h. same c t);
     }
 
   module _ (words words1 : Words) (memories memories1 : List (Changes Memory)) (coded : IsCoded C words memories) (rows : words1 ≡ words) (same : (c t : ℕ) → memory_at memories1 c t ≡ memory_at memories c t) where
@@ -147,6 +156,13 @@ module _ {State Memory : Type 0} (C : Codec State Memory) where
     lens : (u : ℕ) → length (get_or words1.rows u []) ≡ length (get_or words.rows u [])
     lens u = ap (λ rows. length (get_or rows u [])) rows_put ∙ lens_set words.rows t c ws u
 
+    cells : AreSameCells words words1
+    cells = record {
+      width = width;
+      cycles = cycles;
+      lens = lens;
+    }
+
     words_put : (u d : ℕ) → words_at words1.rows u d ≡ cond ((eqb u t) && (eqb d c)) ws (words_at words.rows u d)
     words_put u d = ap (λ rows. words_at rows u d) rows_put ∙ at_set words.rows t c ws [] there (omega (arith, inside, coded.whole t there)) u d
 
@@ -169,7 +185,7 @@ module _ {State Memory : Type 0} (C : Codec State Memory) where
         by_place (inr p) q = inr (rw (ne_eqb u t p) refl, λ a b. p a)
 
     pub coded_put : length memories1 ≡ length memories → IsCoded C words1 memories1
-    coded_put many = coded_along words words1 memories memories1 coded width cycles lens many (λ u d h k. by_cell u d h (is_cell u d))
+    coded_put many = coded_along words words1 memories memories1 coded cells many (λ u d h k. by_cell u d h (is_cell u d))
       where
         by_cell : (u d : ℕ) → u < length words.rows → (((eqb u t) && (eqb d c) ≡ true) × (u ≡ t) × (d ≡ c)) ⊎ (((eqb u t) && (eqb d c) ≡ false) × (u ≡ t → d ≡ c → ⊥)) → IsCode C (words_at words1.rows u d) (memory_at memories1 d u)
         by_cell u d h (inl p) =
@@ -179,17 +195,17 @@ module _ {State Memory : Type 0} (C : Codec State Memory) where
 
     pub other_state : IsOtherState (states_in C words memories) (states_in C words1 memories1) t c (state_of C ws m)
     other_state = record {
-      many = many_along words words1 memories memories1 coded width cycles lens;
+      many = many_along words words1 memories memories1 coded cells;
       at = λ u d. by_cell u d (is_cell u d);
     }
       where
         by_cell : (u d : ℕ) → (((eqb u t) && (eqb d c) ≡ true) × (u ≡ t) × (d ≡ c)) ⊎ (((eqb u t) && (eqb d c) ≡ false) × (u ≡ t → d ≡ c → ⊥)) → state_at (states_in C words1 memories1) u d ≡ cond ((eqb u t) && (eqb d c)) (state_of C ws m) (state_at (states_in C words memories) u d)
         by_cell u d (inl p) =
-            state_is words1 memories1 (whole_along words words1 memories memories1 coded width cycles lens) u d
+            state_is words1 memories1 (whole_along words words1 memories memories1 coded cells) u d
             ∙ same_code C _ _ _ _ (words_put u d ∙ ap (λ b. cond b ws (words_at words.rows u d)) p.0) (ap (λ k. memory_at memories1 k u) p.2 ∙ ap (memory_at memories1 c) p.1 ∙ here)
             ∙ ap (λ b. cond b (state_of C ws m) (state_at (states_in C words memories) u d)) (sym p.0)
         by_cell u d (inr p) =
-            state_along words words1 memories memories1 coded width cycles lens u d u d (words_put u d ∙ ap (λ b. cond b ws (words_at words.rows u d)) p.0) (λ h. memory_other u d h (cases_eq d c) (cases_eq u t) p.1)
+            state_along words words1 memories memories1 coded cells u d u d (words_put u d ∙ ap (λ b. cond b ws (words_at words.rows u d)) p.0) (λ h. memory_other u d h (cases_eq d c) (cases_eq u t) p.1)
             ∙ ap (λ b. cond b (state_of C ws m) (state_at (states_in C words memories) u d)) (sym p.0)
 
     pub other_seen : (s : Stated State) → states_in C words memories ≡ s → (o : Option State) → state_of C ws m ≡ o → IsOtherState s (states_in C words1 memories1) t c o

@@ -1,7 +1,7 @@
 -- The cells of a draft have its words, and all others have theirs.
 use Rattle.std.proofs.Common.{◌≡◌, ◌↔◌, ℕ, ◌+◌, ◌<◌, ◌≤◌, ◌∙◌, ◌⊎◌, inl, inr, sym, ap, refl, arith, Bool, true, false, cond, ◌||◌, nat_eq, Option, None, Some, is_some, List, [], ◌∷◌, ◌++◌, length, take, replicate, get_or}
 use Rattle.std.specs.Prelude.{unwrap_or}
-use Rattle.std.proofs.Math.ListN.{set}
+use Rattle.std.proofs.Math.ListN.{set, length-set}
 use Rattle.std.proofs.lemmas.Bool.{true≢false, cases_lt, cases_eq, eq-eqb, ne_eqb}
 use Rattle.std.proofs.lemmas.List.{get_or_past, get_or-set_same, get_or-set_other, get_or-replicate, length-replicate}
 use Rattle.std.proofs.lemmas.List.FromFn.{length-map-range_with_len, get_or-map-range_with_len}
@@ -13,7 +13,9 @@ use Rattle.change_rows.proofs.Merging.{pushed_end}
 use Rattle.change_rows.proofs.Editing.{pushed_same}
 use Rattle.cell_marks.specs.Marked.{union, is_set}
 use Rattle.cell_states.specs.Filling.{is_awake}
+use Rattle.cell_states.specs.Kept.{AreSameCells}
 use Rattle.cell_states.specs.NextWords.{IsDrafted}
+use Rattle.cell_states.specs.PutCodes.{AreWordsPut}
 use Rattle.cell_states.proofs.Whole.{marks_joined, marks_past, either_false, both_false, awake_within}
 
 -- behind all cells there is none
@@ -41,12 +43,19 @@ module _ (v v1 : Words) (whole : IsWhole v) (t : ℕ) (there : t < length v.rows
   there_other : (u : ℕ) → (u ≡ t → ⊥) → get_or v1.rows u [] ≡ get_or v.rows u []
   there_other u n = ap (λ rows. get_or rows u []) rows_are ∙ get_or-set_other v.rows t u row [] n
 
-  pub lens_drafted : (u : ℕ) → length (get_or v1.rows u []) ≡ length (get_or v.rows u [])
+  lens_drafted : (u : ℕ) → length (get_or v1.rows u []) ≡ length (get_or v.rows u [])
   lens_drafted u = by_cycle (cases_eq u t)
     where
       by_cycle : (u ≡ t) ⊎ (u ≡ t → ⊥) → length (get_or v1.rows u []) ≡ length (get_or v.rows u [])
       by_cycle (inl p) = ap (λ n. length (get_or v1.rows n [])) p ∙ ap length here ∙ length-map-range_with_len _ 0 (length (get_or v.rows t [])) ∙ ap (λ n. length (get_or v.rows n [])) (sym p)
       by_cycle (inr n) = ap length (there_other u n)
+
+  pub cells_drafted : AreSameCells v v1
+  cells_drafted = record {
+    width = ap (λ (w : Words). w.width) e;
+    cycles = ap length rows_are ∙ length-set v.rows t row;
+    lens = lens_drafted;
+  }
 
   pub words_drafted : (c : ℕ) → words_at v1.rows t c ≡ unwrap_or (found cells c) (words_at v.rows t c)
   words_drafted c = by_place (cases_lt c v.width)
@@ -64,6 +73,21 @@ drafted_is rows cells t c ws drafted = by_found (found cells c) refl
     by_found : (o : Option (List ℕ)) → found cells c ≡ o → unwrap_or (found cells c) (words_at rows t c) ≡ ws
     by_found None f = ap (λ o. unwrap_or o (words_at rows t c)) f ∙ drafted.same f
     by_found (Some us) f = ap (λ o. unwrap_or o (words_at rows t c)) f ∙ (drafted.other us f).0
+
+-- the components of a set have their words where these are drafted for them, and none for others
+module _ (v v1 : Words) (t : ℕ) (set : List Bool) (ws : ℕ → List ℕ) (cells : List Held) (same : AreSameCells v v1) (here : (c : ℕ) → words_at v1.rows t c ≡ unwrap_or (found cells c) (words_at v.rows t c)) (there : (u c : ℕ) → (u ≡ t → ⊥) → words_at v1.rows u c ≡ words_at v.rows u c)
+    (drafted : (c : ℕ) → is_awake set c ≡ true → IsDrafted v.rows cells t c (ws c)) (none : (c : ℕ) → is_awake set c ≡ false → found cells c ≡ None) where
+  pub drafted_put : AreWordsPut v v1 t set ws
+  drafted_put = record {
+    cells = same;
+    put = λ c a. here c ∙ drafted_is v.rows cells t c (ws c) (drafted c a);
+    others = λ u c a. by_cycle u c a (cases_eq u t);
+    other_cycles = there;
+  }
+    where
+      by_cycle : (u c : ℕ) → is_awake set c ≡ false → (u ≡ t) ⊎ (u ≡ t → ⊥) → words_at v1.rows u c ≡ words_at v.rows u c
+      by_cycle u c a (inl p) = ap (λ n. words_at v1.rows n c) p ∙ here c ∙ ap (λ o. unwrap_or o (words_at v.rows t c)) (none c a) ∙ ap (λ n. words_at v.rows n c) (sym p)
+      by_cycle u c a (inr n) = there u c n
 
 -- the draft has a cell just where it has other words
 pub found_other : (rows : List (List (List ℕ))) (cells : List Held) (t c : ℕ) (ws : List ℕ) → IsDrafted rows cells t c ws → (is_some (found cells c) ≡ false) ↔ (words_at rows t c ≡ ws)

@@ -11,4 +11,6 @@ pub mod Looking
 pub mod PutRow
 pub mod Drafted
 pub mod Next
+pub mod Rooms
+pub mod Readied
 pub mod Since

@@ -1,24 +1,22 @@
 -- A row that holds words near a cell, and the next state of the run out of them.
-use Rattle.std.proofs.Common.{◌≡◌, ◌↔◌, ℕ, suc, ◌+◌, ◌-◌, ◌<◌, ◌∙◌, ◌⊎◌, inl, inr, sym, ap, subst, refl, arith, Bool, true, false, cond, All, Option, Some, List, [], ◌∷◌, length, map, get_or}
+use Rattle.std.proofs.Common.{◌≡◌, ℕ, suc, ◌+◌, ◌-◌, ◌<◌, ◌∙◌, ◌⊎◌, inl, inr, sym, ap, subst, refl, arith, All, Option, Some, List, [], ◌∷◌, length, map, get_or}
 use Rattle.std.specs.List.{AllByRecursion}
 use Rattle.std.specs.Option.{option_or}
-use Rattle.std.proofs.lemmas.Bool.{true≢false, cases_eq}
+use Rattle.std.proofs.lemmas.Bool.{cases_eq}
 use Rattle.std.proofs.Math.ListN.{set, length-set}
 use Rattle.std.proofs.lemmas.List.{get_or-set_same, get_or-set_other}
 use Rattle.std.proofs.lemmas.List.Elements.{recursion_from_All, All-weaker}
 use Rattle.grid_law.specs.Rules.{Rules, Laws}
 use Rattle.grid_law.specs.Codec.{Codec, CodecLaws, IsTold}
-use Rattle.grid_law.specs.ByWords.{AreOfWords}
 use Rattle.grid_law.specs.Run.{run}
 use Rattle.change_rows.specs.Cells.{Held, found}
-use Rattle.change_rows.specs.Rows.{Table as Words, words_at}
+use Rattle.change_rows.specs.Rows.{words_at}
 use Rattle.change_lists.specs.Changes.{Changes, list_at, held_at as memory_at}
 use Rattle.cell_states.specs.declared.near.Near.{Near}
-use Rattle.cell_states.specs.Coded.{states_in, IsCoded}
-use Rattle.cell_states.specs.Stated.{state_at}
-use Rattle.cell_states.specs.NextWords.{HoldsRunAt, HoldsWords, IsDrafted, IsOfWords}
+use Rattle.cell_states.specs.Codes.{state_of, IsCode}
+use Rattle.cell_states.specs.NextWords.{HoldsRunAt, HoldsRunBefore, HoldsWords, IsDrafted, IsOfWords}
 use Rattle.cell_states.proofs.Changed.{memory_same}
-use Rattle.cell_states.proofs.Coded.{state_is}
+use Rattle.cell_states.proofs.Codes.{holds_only}
 use Rattle.cell_states.proofs.Whole.{is_told_by}
 use Rattle.cell_states.proofs.Stepped.{same_told, run_steps}
 
@@ -39,11 +37,18 @@ drafted_along rows draft draft1 t c ws e drafted = record {
 
 module _ {State Slots Slot Memory : Type 0} (R : Rules State Slots Slot) (C : Codec State Memory) (s : Slots) (rows : List (List (List ℕ))) where
   -- the lists are the same
-  pub run_along : (memories memories1 : List (Changes Memory)) (t : ℕ) → ((c : ℕ) → list_at memories1 c ≡ list_at memories c) → HoldsRunAt R C s rows memories t → HoldsRunAt R C s rows memories1 t
+  run_along : (memories memories1 : List (Changes Memory)) (t : ℕ) → ((c : ℕ) → list_at memories1 c ≡ list_at memories c) → HoldsRunAt R C s rows memories t → HoldsRunAt R C s rows memories1 t
   run_along memories memories1 t same held = record {
     told = held.told;
     words = held.words;
     memory = λ c h. memory_same memories memories1 c t (same c) ∙ held.memory c h;
+  }
+
+  pub before_along : (memories memories1 : List (Changes Memory)) (t : ℕ) → ((c : ℕ) → list_at memories1 c ≡ list_at memories c) → HoldsRunBefore R C s rows memories t → HoldsRunBefore R C s rows memories1 t
+  before_along memories memories1 t same held = record {
+    later = held.later;
+    before = run_along memories memories1 (t - 1) same held.before;
+    earlier = λ later. run_along memories memories1 (t - 1 - 1) same (held.earlier later);
   }
 
   module _ (memories : List (Changes Memory)) where
@@ -64,6 +69,16 @@ module _ {State Slots Slot Memory : Type 0} (R : Rules State Slots Slot) (C : Co
         sym (run_steps R s t c (omega (arith, h)))
         ∙ ap (λ xs. R.step s xs c) (map_all (run R s (t - 1)) (run R s (t - 1 - 1)) (R.near s c) (recursion_from_All _ (R.near s c) same))
         ∙ run_steps R s (t - 1) c (omega (arith, h))
+
+-- coded cells that hold the states of the run have its words and memories
+module _ {State Slots Slot Memory : Type 0} (R : Rules State Slots Slot) (C : Codec State Memory) (laws : CodecLaws C) (s : Slots) (rows : List (List (List ℕ))) (memories : List (Changes Memory)) (t : ℕ) (coded : (c : ℕ) → IsCode C (words_at rows t c) (memory_at memories c t))
+    (held : (c : ℕ) → c < R.components s → state_of C (words_at rows t c) (memory_at memories c t) ≡ Some (run R s t c)) where
+  pub holds_run : HoldsRunAt R C s rows memories t
+  holds_run = record {
+    told = λ c h. (is_told_by C laws _ _ (coded c) (run R s t c) (held c h)).0;
+    words = λ c h. sym (is_told_by C laws _ _ (coded c) (run R s t c) (held c h)).1;
+    memory = λ c h. sym (holds_only C laws _ _ (run R s t c) (coded c) (held c h)).memory_is;
+  }
 
 -- what is known of those that were passed
 pub passed_more : (at at1 : List ℕ) (c n : ℕ) (ms : List ℕ) → get_or at1 c 0 ≡ n → ((d : ℕ) → (d ≡ c → ⊥) → get_or at1 d 0 ≡ get_or at d 0) → All (λ d. get_or at d 0 ≡ n) ms → All (λ d. get_or at1 d 0 ≡ n) ms
@@ -139,27 +154,3 @@ module _ {State Slots Slot Memory : Type 0} (R : Rules State Slots Slot) (C : Co
   -- the memory of the run's next state
   pub memory_next : (t d : ℕ) → 0 < t → (left m : Option Memory) → m ≡ C.memory (run R s (t - 1) d) → C.memory (run R s (suc (t - 1)) d) ≡ option_or left (C.memory (run R s (t - 1) d)) → option_or left m ≡ C.memory (run R s t d)
   memory_next t d later left m here next = let one : suc (t - 1) ≡ t = omega (arith, later) in ap (option_or left) here ∙ sym next ∙ ap (λ k. C.memory (run R s k d)) one
-
--- a cell that has the words that it had has a state of the same words, where it has and had one
-module _ {State Memory : Type 0} (C : Codec State Memory) (words words1 : Words) (memories memories1 : List (Changes Memory)) (coded : IsCoded C words memories) (coded1 : IsCoded C words1 memories1) where
-  pub same_words_of : CodecLaws C → (t c : ℕ) (x y : State) → words_at words1.rows t c ≡ words_at words.rows t c → state_at (states_in C words memories) t c ≡ Some x → state_at (states_in C words1 memories1) t c ≡ Some y → AreOfWords C x y
-  same_words_of laws t c x y same e e1 =
-      let old = is_told_by C laws _ _ (coded.codes t c) x (sym (state_is C words memories coded.whole t c) ∙ e) in
-      let new = is_told_by C laws _ _ (coded1.codes t c) y (sym (state_is C words1 memories1 coded1.whole t c) ∙ e1) in
-      record { told = old.0; other_told = new.0; words = old.1 ∙ sym same ∙ sym new.1 }
-
--- a mark tells just what is so, whether the component was asked or known without
-pub asked_exactly : (asked mark : Bool) (P : Type 0) → (asked ≡ true → (mark ≡ false) ↔ P) → (asked ≡ false → P × (mark ≡ false)) → (mark ≡ false) ↔ P
-asked_exactly true mark P tells known = tells refl
-asked_exactly false mark P tells known = let q = known refl in (λ e. q.0, λ p. q.1)
-
--- a cell that isn't due isn't in a set of due ones
-pub not_asked : (set due : Bool) → (set ≡ true → due ≡ true) → due ≡ false → set ≡ false
-not_asked true due is e = absurd (true≢false (sym (is refl) ∙ e))
-not_asked false due is e = refl
-
--- what a cell of a set gets is what a due one gets, where each due one beside the set has that
-pub asked_value : {X : Type 0} (set due : Bool) (run held state : X) → held ≡ state → (set ≡ true → due ≡ true) → (due ≡ true → set ≡ false → state ≡ run) → cond set run held ≡ cond due run state
-asked_value true due run held state f is rest = rw (is refl) refl
-asked_value false true run held state f is rest = f ∙ rest refl refl
-asked_value false false run held state f is rest = f

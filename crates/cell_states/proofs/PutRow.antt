@@ -1,5 +1,5 @@
 -- The components of a set have what a row holds for them, where a memory beside no words means nothing.
-use Rattle.std.proofs.Common.{◌≡◌, ◌↔◌, ℕ, ◌+◌, ◌<◌, ◌||◌, ◌&&◌, not, ◌≤◌, ◌∙◌, ◌⊎◌, inl, inr, sym, ap, subst, arith, Bool, true, false, cond, Some, List, [], ◌∷◌, length, get_or, refl}
+use Rattle.std.proofs.Common.{◌≡◌, ◌↔◌, ℕ, ◌+◌, ◌<◌, ◌||◌, ◌&&◌, not, ◌≤◌, ◌∙◌, ◌⊎◌, inl, inr, sym, ap, subst, arith, Bool, true, false, cond, Some, List, [], ◌∷◌, length, refl}
 use Rattle.std.proofs.Math.ListN.{set}
 use Rattle.std.proofs.lemmas.Bool.{true≢false, not-true, and_parts, and_from, and_left, and_right, not_from_true, not_from_false, cases_lt, cases_eq}
 use Rattle.std.proofs.lemmas.List.{get_or_past}
@@ -7,16 +7,17 @@ use Rattle.cell_marks.specs.Marked.{is_set, count_in, union}
 use Rattle.cell_marks.proofs.Bits.{count_set}
 use Rattle.grid_law.specs.Codec.{Codec, CodecLaws, IsTold}
 use Rattle.grid_law.specs.ByWords.{AreOfWords}
-use Rattle.change_rows.specs.Rows.{Table as Words, words_at}
+use Rattle.change_rows.specs.Rows.{Table as Words, words_at, IsWhole}
 use Rattle.change_lists.specs.Changes.{Changes, held_at as memory_at}
 use Rattle.cell_states.specs.Codes.{state_of, IsCode}
 use Rattle.cell_states.specs.Coded.{states_in, IsCoded}
-use Rattle.cell_states.specs.Stated.{state_at}
+use Rattle.cell_states.specs.Put.{ArePut}
+use Rattle.cell_states.specs.PutCodes.{AreCodesPut}
+use Rattle.cell_states.specs.Stated.{Stated, state_at, IsAsMany}
 use Rattle.cell_states.specs.Filling.{is_awake}
 use Rattle.cell_states.proofs.Codes.{same_code, code_along, no_state, no_code, put_is}
-use Rattle.cell_states.proofs.Coded.{none_past, state_is, coded_along, whole_along, state_along}
-use Rattle.cell_states.proofs.Changed.{code_of, state_from}
-use Rattle.cell_states.proofs.Whole.{awake_within, is_told_by, marks_joined, marks_past, both_false}
+use Rattle.cell_states.proofs.Coded.{none_past, state_is, seen_at, coded_along, many_along, whole_along}
+use Rattle.cell_states.proofs.Whole.{awake_within, has_exactly, is_told_by, marks_joined, marks_past, both_false}
 
 abbrev is_none : List ℕ → Bool
 is_none [] = true
@@ -29,62 +30,70 @@ some_not_none w ws us e p = true≢false (sym (ap is_none p) ∙ ap is_none e)
 told_code : {State Memory : Type 0} (C : Codec State Memory) → CodecLaws C → (x : State) → IsTold C x → (state_of C (C.words x) (C.memory x) ≡ Some x) × IsCode C (C.words x) (C.memory x)
 told_code C laws x is_told = put_is C laws (C.words x) (C.memory x) x is_told (record { words_are = refl; memory_is = refl })
 
-module _ {State Memory : Type 0} (C : Codec State Memory) (words words1 : Words) (memories memories1 : List (Changes Memory)) (coded : IsCoded C words memories) (width : words1.width ≡ words.width) (cycles : length words1.rows ≡ length words.rows) (lens : (t : ℕ) → length (get_or words1.rows t []) ≡ length (get_or words.rows t [])) where
-  -- a cell has the words that it had, and the memory where there are words
-  abbrev pub KeepsAt : ℕ → ℕ → Type 0
-  KeepsAt t c = (words_at words1.rows t c ≡ words_at words.rows t c) × ((words_at words.rows t c ≡ [] → ⊥) → memory_at memories1 c t ≡ memory_at memories c t)
-
-  code_kept : (t c : ℕ) → KeepsAt t c → IsCode C (words_at words1.rows t c) (memory_at memories1 c t)
-  code_kept t c h = by_words (words_at words.rows t c) refl
+-- the components of a set have the words and memories of these states at a cycle
+module _ {State Memory : Type 0} (C : Codec State Memory) (laws : CodecLaws C) (words words1 : Words) (memories memories1 : List (Changes Memory)) (coded : IsCoded C words memories) (many : length memories1 ≡ length memories) (at : ℕ) (set changes worded : List Bool) (new : ℕ → State)
+    (put : AreCodesPut C words words1 memories memories1 at set changes worded new) where
+  same_at : (t c : ℕ) → words_at words1.rows t c ≡ words_at words.rows t c → ((words_at words.rows t c ≡ [] → ⊥) → memory_at memories1 c t ≡ memory_at memories c t) → IsCode C (words_at words1.rows t c) (memory_at memories1 c t)
+  same_at t c e m = by_words (words_at words.rows t c) refl
     where
       by_words : (ws : List ℕ) → words_at words.rows t c ≡ ws → IsCode C (words_at words1.rows t c) (memory_at memories1 c t)
-      by_words [] e = no_code C _ _ (h.0 ∙ e)
-      by_words (w ∷ ws) e = code_along C _ _ _ _ h.0 (h.1 (some_not_none w ws _ e)) (coded.codes t c)
+      by_words [] none = no_code C _ _ (e ∙ none)
+      by_words (w ∷ ws) some = code_along C _ _ _ _ e (m (some_not_none w ws _ some)) (coded.codes t c)
 
-  pub state_stays : (t c : ℕ) → (t < length words.rows → KeepsAt t c) → state_at (states_in C words1 memories1) t c ≡ state_at (states_in C words memories) t c
-  state_stays t c h = by_cycle (cases_lt t (length words.rows))
+  pub coded_row : IsCoded C words1 memories1
+  coded_row = coded_along C words words1 memories memories1 coded put.words.cells many (λ t c h k. by_place t c h (is_awake set c) refl (cases_eq t at))
     where
-      by_words : KeepsAt t c → (ws : List ℕ) → words_at words.rows t c ≡ ws → state_at (states_in C words1 memories1) t c ≡ state_at (states_in C words memories) t c
-      by_words k [] e =
-          state_is C words1 memories1 (whole_along C words words1 memories memories1 coded width cycles lens) t c ∙ no_state C _ _ (k.0 ∙ e)
-          ∙ sym (state_is C words memories coded.whole t c ∙ no_state C _ _ e)
-      by_words k (w ∷ ws) e = state_from C words words1 memories memories1 coded width cycles lens t c t c (k.0, k.1 (some_not_none w ws _ e))
+      by_place : (t c : ℕ) → t < length words.rows → (b : Bool) → is_awake set c ≡ b → (t ≡ at) ⊎ (t ≡ at → ⊥) → IsCode C (words_at words1.rows t c) (memory_at memories1 c t)
+      by_place t c h false e p = code_along C _ _ _ _ (put.words.others t c e) (put.others t c e) (coded.codes t c)
+      by_place t c h true e (inr n) = same_at t c (put.words.other_cycles t c n) (put.other_cycles t c h n)
+      by_place t c h true e (inl p) = code_along C _ _ _ _ (ap (λ u. words_at words1.rows u c) p ∙ put.words.put c e) (ap (memory_at memories1 c) p ∙ put.memory c e) (told_code C laws (new c) (put.told c e)).1
 
-      by_cycle : (t < length words.rows) ⊎ (length words.rows ≤ t) → state_at (states_in C words1 memories1) t c ≡ state_at (states_in C words memories) t c
-      by_cycle (inl k) = by_words (h k) (words_at words.rows t c) refl
-      by_cycle (inr k) = state_along C words words1 memories memories1 coded width cycles lens t c t c (none_past words1 t c (omega (arith, k, cycles)) ∙ sym (none_past words t c k)) (λ l. absurd (omega (arith, k, l)))
+  whole1 : IsWhole words1
+  whole1 = whole_along C words words1 memories memories1 coded put.words.cells
 
-  -- what has the words that it had has a state of the same words, where it has and had one
-  pub of_words : CodecLaws C → IsCoded C words1 memories1 → (t c : ℕ) (x y : State) → words_at words1.rows t c ≡ words_at words.rows t c → state_at (states_in C words memories) t c ≡ Some x → state_at (states_in C words1 memories1) t c ≡ Some y → AreOfWords C x y
-  of_words laws coded1 t c x y same e e1 =
-      let old = is_told_by C laws _ _ (coded.codes t c) x (sym (state_is C words memories coded.whole t c) ∙ e) in
-      let new = is_told_by C laws _ _ (coded1.codes t c) y (sym (state_is C words1 memories1 coded1.whole t c) ∙ e1) in
-      record { told = old.0; other_told = new.0; words = old.1 ∙ sym same ∙ sym new.1 }
+  -- and so they have these states
+  module _ (s : Stated State) (seen : states_in C words memories ≡ s) where
+    seen_row : (t c : ℕ) → state_at s t c ≡ state_of C (words_at words.rows t c) (memory_at memories c t)
+    seen_row t c = seen_at C words memories s seen coded.whole t c
 
-  -- the components of a set have other states at a cycle
-  module _ (changes : List Bool) (many : length memories1 ≡ length memories) (laws : CodecLaws C) (at : ℕ) (new : ℕ → State) (told : (c : ℕ) → is_awake changes c ≡ true → IsTold C (new c))
-      (put : (c : ℕ) → is_awake changes c ≡ true → (words_at words1.rows at c ≡ C.words (new c)) × (memory_at memories1 c at ≡ C.memory (new c)))
-      (others : (t c : ℕ) → is_awake changes c ≡ false → (words_at words1.rows t c ≡ words_at words.rows t c) × (memory_at memories1 c t ≡ memory_at memories c t)) (at_others : (t c : ℕ) → t < length words.rows → (t ≡ at → ⊥) → KeepsAt t c) where
-    pub coded_row : IsCoded C words1 memories1
-    coded_row = coded_along C words words1 memories memories1 coded width cycles lens many (λ t c h k. by_place t c h (is_awake changes c) refl (cases_eq t at))
+    now_is : (t c : ℕ) → state_at (states_in C words1 memories1) t c ≡ state_of C (words_at words1.rows t c) (memory_at memories1 c t)
+    now_is t c = state_is C words1 memories1 whole1 t c
+
+    state_row : (c : ℕ) → state_at (states_in C words1 memories1) at c ≡ cond (is_awake set c) (Some (new c)) (state_at s at c)
+    state_row c = now_is at c ∙ by_set (is_awake set c) refl
       where
-        by_place : (t c : ℕ) → t < length words.rows → (b : Bool) → is_awake changes c ≡ b → (t ≡ at) ⊎ (t ≡ at → ⊥) → IsCode C (words_at words1.rows t c) (memory_at memories1 c t)
-        by_place t c h false e p = code_of C words words1 memories memories1 coded width cycles lens t c t c (others t c e)
-        by_place t c h true e (inr n) = code_kept t c (at_others t c h n)
-        by_place t c h true e (inl p) =
-            let q = put c e in
-            code_along C _ _ _ _ (ap (λ u. words_at words1.rows u c) p ∙ q.0) (ap (memory_at memories1 c) p ∙ q.1) (told_code C laws (new c) (told c e)).1
+        by_set : (b : Bool) → is_awake set c ≡ b → state_of C (words_at words1.rows at c) (memory_at memories1 c at) ≡ cond b (Some (new c)) (state_at s at c)
+        by_set false e = same_code C _ _ _ _ (put.words.others at c e) (put.others at c e) ∙ sym (seen_row at c)
+        by_set true e = same_code C _ _ _ _ (put.words.put c e) (put.memory c e) ∙ (told_code C laws (new c) (put.told c e)).0
 
-    pub state_row : (c : ℕ) → state_at (states_in C words1 memories1) at c ≡ cond (is_awake changes c) (Some (new c)) (state_at (states_in C words memories) at c)
-    state_row c = by_change (is_awake changes c) refl
+    state_stays : (t c : ℕ) → (t ≡ at → ⊥) → state_at (states_in C words1 memories1) t c ≡ state_at s t c
+    state_stays t c n = now_is t c ∙ by_words (words_at words.rows t c) refl (cases_lt t (length words.rows)) ∙ sym (seen_row t c)
       where
-        by_change : (b : Bool) → is_awake changes c ≡ b → state_at (states_in C words1 memories1) at c ≡ cond b (Some (new c)) (state_at (states_in C words memories) at c)
-        by_change false e = state_from C words words1 memories memories1 coded width cycles lens at c at c (others at c e)
-        by_change true e =
-            let q = put c e in
-            state_is C words1 memories1 (whole_along C words words1 memories memories1 coded width cycles lens) at c
-            ∙ same_code C _ _ _ _ q.0 q.1
-            ∙ (told_code C laws (new c) (told c e)).0
+        by_words : (ws : List ℕ) → words_at words.rows t c ≡ ws → (t < length words.rows) ⊎ (length words.rows ≤ t) → state_of C (words_at words1.rows t c) (memory_at memories1 c t) ≡ state_of C (words_at words.rows t c) (memory_at memories c t)
+        by_words [] none h = no_state C _ _ (put.words.other_cycles t c n ∙ none) ∙ sym (no_state C _ _ none)
+        by_words (w ∷ ws) some (inl h) = same_code C _ _ _ _ (put.words.other_cycles t c n) (put.other_cycles t c h n (some_not_none w ws _ some))
+        by_words (w ∷ ws) some (inr h) = absurd (some_not_none w ws _ some (none_past words t c h))
+
+    -- what has the words that it had has a state of the same words, where it has and had one
+    same_state_words : (c : ℕ) (x y : State) → is_awake worded c ≡ false → state_at s at c ≡ Some x → state_at (states_in C words1 memories1) at c ≡ Some y → AreOfWords C x y
+    same_state_words c x y a e e1 =
+        let old = is_told_by C laws _ _ (coded.codes at c) x (sym (seen_row at c) ∙ e) in
+        let now = is_told_by C laws _ _ (coded_row.codes at c) y (sym (now_is at c) ∙ e1) in
+        record { told = old.0; other_told = now.0; words = old.1 ∙ sym (put.same_words c a) ∙ sym now.1 }
+
+    pub states_put : ArePut C s (states_in C words1 memories1) at set changes worded new
+    states_put = record {
+      many = subst (λ v. IsAsMany v (states_in C words1 memories1)) seen (many_along C words words1 memories memories1 coded put.words.cells);
+      put = state_row;
+      others = state_stays;
+      tells = λ c a.
+          let q = put.tells c a in
+          let x = has_exactly C laws _ _ (coded.codes at c) (new c) (put.told c a) in
+          (λ p. seen_row at c ∙ x.0 (q.0 p), λ e. q.1 (x.1 (sym (seen_row at c) ∙ e)));
+      unmarked = put.unmarked;
+      words = same_state_words;
+      among = put.among;
+    }
 
 -- a mark tells just what is so, whether the component was asked or known without
 pub marked_exactly : (asked mark : Bool) (P : Type 0) → (asked ≡ true → (mark ≡ false) ↔ P) → (asked ≡ false → P × (mark ≡ false)) → (mark ≡ false) ↔ P

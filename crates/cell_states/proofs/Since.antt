@@ -102,17 +102,7 @@ union_none n row h =
     ap (λ k. map (λ c. is_set (replicate n false) c || is_set row c) (range_with_len 0 k)) (length-replicate n false)
     ∙ sym (fill_by_all (λ c. is_set (replicate n false) c || is_set row c) row n false h (λ c k. sym (ap (λ b. b || is_set row c) (get_or-replicate n c false false k))))
 
--- the stores of the components that changed, one after another, make of a cell what is noted
-
 -- the versions of a cycle at which no change is noted and none stands for a component alone
 pub one_version : (near : Option (List (List ℕ))) (changes : List Bool) (clock count all : ℕ) (each : List ℕ) → near ≡ None → each ≡ [] → shown near changes clock (versions_of count all each) ≡ replicate count all
 one_version near changes clock count all each e f =
     ap (λ o. shown o changes clock (versions_of count all each)) e ∙ ap (λ (vs : List ℕ). versions_of count all vs) f
-
--- what all have is given to some
-pub given_to_some : (ms : List ℕ) (olds : List ℕ) (version c : ℕ) → All (λ m. m < length olds) ms → ((c : ℕ) → c < length olds → get_or olds c 0 ≡ version) → get_or olds c 0 ≡ cond (has ms c) version (get_or olds c 0)
-given_to_some ms olds version c within all = by_test (has ms c) refl
-  where
-    by_test : (b : Bool) → has ms c ≡ b → get_or olds c 0 ≡ cond b version (get_or olds c 0)
-    by_test true e = all c (has_item (λ m. m < length olds) ms c (recursion_from_All (λ m. m < length olds) ms within) e)
-    by_test false e = refl

@@ -13,6 +13,7 @@ use Rattle.cell_marks.specs.Marked.{union, is_set, count_in}
 use Rattle.cell_marks.proofs.Bits.{at_bits, count_set}
 use Rattle.cell_states.specs.Codes.{state_of, IsCode}
 use Rattle.cell_states.specs.Filling.{is_awake}
+use Rattle.cell_states.specs.PutCodes.{AreWordsPut}
 use Rattle.cell_states.proofs.Codes.{holds_only, put_is}
 
 -- there is a state
@@ -32,7 +33,7 @@ module _ (v v1 : Words) (whole : IsWhole v) (t : ℕ) (there : t < length v.rows
   long : length (get_or v.rows t []) ≡ v.width
   long = whole t there
 
-  pub cycles_put : length v1.rows ≡ length v.rows
+  cycles_put : length v1.rows ≡ length v.rows
   cycles_put = ap length rows_are ∙ length-set v.rows t row
 
   here : get_or v1.rows t [] ≡ row
@@ -41,7 +42,7 @@ module _ (v v1 : Words) (whole : IsWhole v) (t : ℕ) (there : t < length v.rows
   there_other : (u : ℕ) → (u ≡ t → ⊥) → get_or v1.rows u [] ≡ get_or v.rows u []
   there_other u n = ap (λ rows. get_or rows u []) rows_are ∙ get_or-set_other v.rows t u row [] n
 
-  pub lens_put : (u : ℕ) → length (get_or v1.rows u []) ≡ length (get_or v.rows u [])
+  lens_put : (u : ℕ) → length (get_or v1.rows u []) ≡ length (get_or v.rows u [])
   lens_put u = by_cycle (cases_eq u t)
     where
       by_cycle : (u ≡ t) ⊎ (u ≡ t → ⊥) → length (get_or v1.rows u []) ≡ length (get_or v.rows u [])
@@ -62,10 +63,10 @@ module _ (v v1 : Words) (whole : IsWhole v) (t : ℕ) (there : t < length v.rows
       by_place (inl h) = h
       by_place (inr h) = absurd (true≢false (sym a ∙ get_or_past marks c false h))
 
-  pub words_put : (c : ℕ) → is_awake marks c ≡ true → words_at v1.rows t c ≡ ws c
+  words_put : (c : ℕ) → is_awake marks c ≡ true → words_at v1.rows t c ≡ ws c
   words_put c a = let h = not_past c a in at_row c h ∙ ap (λ b. cond b (ws c) (words_at v.rows t c)) (bits c h ∙ a)
 
-  pub words_others : (u c : ℕ) → is_awake marks c ≡ false → words_at v1.rows u c ≡ words_at v.rows u c
+  words_others : (u c : ℕ) → is_awake marks c ≡ false → words_at v1.rows u c ≡ words_at v.rows u c
   words_others u c a = by_place (cases_eq u t) (cases_lt c (length marks))
     where
       by_place : (u ≡ t) ⊎ (u ≡ t → ⊥) → (c < length marks) ⊎ (length marks ≤ c) → words_at v1.rows u c ≡ words_at v.rows u c
@@ -73,8 +74,20 @@ module _ (v v1 : Words) (whole : IsWhole v) (t : ℕ) (there : t < length v.rows
       by_place (inl p) (inr h) = ap (λ n. words_at v1.rows n c) p ∙ past_row c h ∙ ap (λ n. words_at v.rows n c) (sym p)
       by_place (inr n) h = ap (λ r. get_or r c []) (there_other u n)
 
-  pub words_other_cycles : (u c : ℕ) → (u ≡ t → ⊥) → words_at v1.rows u c ≡ words_at v.rows u c
+  words_other_cycles : (u c : ℕ) → (u ≡ t → ⊥) → words_at v1.rows u c ≡ words_at v.rows u c
   words_other_cycles u c n = ap (λ r. get_or r c []) (there_other u n)
+
+  pub words_are_put : AreWordsPut v v1 t marks ws
+  words_are_put = record {
+    cells = record {
+      width = ap (λ (w : Words). w.width) e;
+      cycles = cycles_put;
+      lens = lens_put;
+    };
+    put = words_put;
+    others = words_others;
+    other_cycles = words_other_cycles;
+  }
 
 -- all are marked where as many are as there are
 pub all_awake : (marks : List Bool) → count_in marks ≡ length marks → (c : ℕ) → c < length marks → is_awake marks c ≡ true
@@ -114,20 +127,8 @@ module _ (v v1 : Words) (whole : IsWhole v) (t : ℕ) (there : t < length v.rows
       ∙ ap (λ (r : List (List ℕ)). some_words v.width (set v.rows t r))
       (same_lists (filled v.width ws) (replaced (get_or v.rows t []) members ws) (long_filled ∙ sym (whole t there) ∙ sym (length-map-range_with_len put 0 (length (get_or v.rows t [])))) each)
 
-  pub cycles_filled : length v1.rows ≡ length v.rows
-  cycles_filled = cycles_put v v1 whole t there members ws marks wide bits is_put
-
-  pub lens_filled : (u : ℕ) → length (get_or v1.rows u []) ≡ length (get_or v.rows u [])
-  lens_filled = lens_put v v1 whole t there members ws marks wide bits is_put
-
-  pub words_filled : (c : ℕ) → is_awake marks c ≡ true → words_at v1.rows t c ≡ ws c
-  words_filled = words_put v v1 whole t there members ws marks wide bits is_put
-
-  pub others_filled : (u c : ℕ) → is_awake marks c ≡ false → words_at v1.rows u c ≡ words_at v.rows u c
-  others_filled = words_others v v1 whole t there members ws marks wide bits is_put
-
-  pub other_cycles_filled : (u c : ℕ) → (u ≡ t → ⊥) → words_at v1.rows u c ≡ words_at v.rows u c
-  other_cycles_filled = words_other_cycles v v1 whole t there members ws marks wide bits is_put
+  pub words_filled : AreWordsPut v v1 t marks ws
+  words_filled = words_are_put v v1 whole t there members ws marks wide bits is_put
 
 -- what a coded cell has where its state is known
 module _ {State Memory : Type 0} (C : Codec State Memory) (laws : CodecLaws C) where

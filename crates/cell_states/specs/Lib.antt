@@ -5,6 +5,11 @@ pub mod Codes
 pub mod Coded
 pub mod ReadsBy
 pub mod Versions
+pub mod Kept
+pub mod Put
+pub mod PutCodes
 pub mod Ready
+pub mod Readied
 pub mod NextWords
+pub mod Found
 pub mod Sets

@@ -1,5 +1,5 @@
 -- The words of a component one cycle later, out of the words near it.
-use Rattle.std.specs.Prelude.{◌≡◌, ◌≢◌, ℕ, suc, ◌<◌, All, List, None, Some, length, slice_index_or}
+use Rattle.std.specs.Prelude.{◌≡◌, ◌≢◌, ℕ, suc, ◌-◌, ◌<◌, All, List, None, Some, length, slice_index_or}
 use Rattle.grid_law.specs.Rules.{Rules}
 use Rattle.grid_law.specs.Codec.{Codec, IsTold}
 use Rattle.grid_law.specs.Run.{run}
@@ -25,6 +25,12 @@ module _ {State Slots Slot Memory : Type 0} (R : Rules State Slots Slot) (C : Co
     pub told : (c : ℕ) → c < R.components s → IsTold C (run R s t c)
     pub words : (c : ℕ) → c < R.components s → words_at rows t c ≡ C.words (run R s t c)
     pub memory : (c : ℕ) → c < R.components s → memory_at memories c t ≡ C.memory (run R s t c)
+
+  -- so are those of the cycle before one, and of the cycle before that, where there is one
+  pub record HoldsRunBefore (s : Slots) (rows : List (List (List ℕ))) (memories : List (Changes Memory)) (t : ℕ) : Type 0 where
+    pub later : 0 < t
+    pub before : HoldsRunAt s rows memories (t - 1)
+    pub earlier : 0 < t - 1 → HoldsRunAt s rows memories (t - 1 - 1)
 
 -- a draft has for a component these words where its cell has other ones, and else none
 pub record IsDrafted (rows : List (List (List ℕ))) (draft : List Held) (t c : ℕ) (words : List ℕ) : Type 0 where

@@ -15,6 +15,19 @@ abbrev pub IsEach : ℕ → List ℕ → Type 0
 IsEach count [] = Unit {0}
 IsEach count (first ∷ others) = length (first ∷ others) ≡ count
 
+-- the versions of the components at one cycle, and for how many of them there is room to have one each
+pub record VersionRow : Type 0 where
+  pub at : List ℕ
+  pub room : ℕ
+
+-- the versions, row by row
+abbrev pub lists : List VersionRow → List (List ℕ)
+lists rows = map (λ (row : VersionRow). row.at) rows
+
+-- for how many components there is room at a cycle
+abbrev pub room_at : List VersionRow → ℕ → ℕ
+room_at rows t = (slice_index_or rows t (record { at = []; room = 0 })).room
+
 -- the version of a cell
 abbrev pub version_at : List (List ℕ) → ℕ → ℕ → ℕ
 version_at versions t c = slice_index_or (slice_index_or versions t []) c 0
@@ -35,3 +48,10 @@ abbrev pub shown : Option (List (List ℕ)) → List Bool → ℕ → List ℕ �
 shown None changes clock standing = standing
 shown (Some near) changes clock standing =
     map (λ c. version_by changes (near_at near c) clock (slice_index_or standing c 0) (length changes)) (range_with_len 0 (length standing))
+
+-- at the other cycles stands what stood there, and at each as much
+pub record IsOtherRow (olds news : List VersionRow) (t : ℕ) : Type 0 where
+  pub len : length (lists news) ≡ length (lists olds)
+  pub lens : (u : ℕ) → length (slice_index_or (lists news) u []) ≡ length (slice_index_or (lists olds) u [])
+  pub others : (u c : ℕ) → (u ≡ t → ⊥) → version_at (lists news) u c ≡ version_at (lists olds) u c
+  pub rooms : (u : ℕ) → (u ≡ t → ⊥) → room_at news u ≡ room_at olds u

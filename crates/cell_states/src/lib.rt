@@ -33,6 +33,7 @@ pub use neighbours::Neighbours;
 pub use no_row::NoRow;
 pub use states::States;
 pub use versions::{
-    Versions, begin_in, grow_rows, note_in, rows_of, set_version, set_versions, version_in,
+    Room, Versions, begin_in, give_in, grow_rows, make_room_in, note_in, rows_of, take_room_in,
+    version_in,
 };
 pub use whole_row::WholeRow;

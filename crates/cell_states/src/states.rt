@@ -1,5 +1,5 @@
 //! The states of all cells, as words by cycle and what isn't in them by component.
-ghost use Rattle.std.specs.Prelude.{◌≡◌, ◌≢◌, ℕ, ◌+◌, ◌-◌, ◌<◌, ◌≤◌, ◌++◌, ◌^◌, ◌↔◌, IsTrue, IfOk, OnOk, OnErr, MatchResult, length, replicate, take, option_map, is_some, true, false, None, Some, if◌then◌else◌, slice_index_or, ◌∷◌, []};
+ghost use Rattle.std.specs.Prelude.{◌≡◌, ℕ, ◌+◌, ◌-◌, ◌<◌, ◌≤◌, ◌++◌, ◌^◌, ◌↔◌, IsTrue, IfOk, OnOk, OnErr, length, replicate, take, option_map, is_some, true, false, None, Some, if◌then◌else◌, ◌∷◌, []};
 ghost use Rattle.grid_law.specs.declared.turn.Turn.TheVariants.{Ahead, Passed};
 ghost use Rattle.std.specs.Option.{option_copied};
 ghost use Rattle.grid_law.specs.Codec.{IsTold};
@@ -9,8 +9,8 @@ ghost use Rattle.cell_states.specs.ReadsBy.{reads_by};
 ghost use Rattle.cell_states.specs.Filling.{is_awake};
 ghost use Rattle.cell_states.specs.Near.{AreNear};
 ghost use Rattle.cell_states.specs.NextWords.{HoldsWords};
+ghost use Rattle.cell_states.specs.Put.{IsSetAt, AreMarks, ArePut};
 ghost use Rattle.grid_law.specs.Run.{run};
-ghost use Rattle.grid_law.specs.ByWords.{AreOfWords};
 
 mod changed;
 mod each;
@@ -321,25 +321,14 @@ impl<G: Grid> States<G> {
         worded: &mut Row,
         cycle: u32,
     ) -> Result<(), NoMemory>
-        requires later { 0 < cycle }
-        requires within { cycle < length self.old.rows }
-        requires width { length set.now ≡ self.old.width }
-        requires components { length set.now ≡ G.rules.components slots.now }
-        requires changes { length changes.old ≡ length set.now }
-        requires worded { length worded.old ≡ length set.now }
+        requires at { IsSetAt (G.rules.components slots.now) self.old.width (length self.old.rows) cycle set.now }
+        requires marks { AreMarks (length set.now) changes.old worded.old }
         requires stands { M.stands row.now slots.now }
         requires before { (c : ℕ) → is_awake set.now c ≡ true → is_some (state_at self.old (cycle - 1) c) ≡ true }
         requires still { (c : ℕ) (x : G.State) → is_awake set.now c ≡ true → state_at self.old (cycle - 1) c ≡ Some x → M.is_still step.now slots.now c ≡ true → M.state row.now c ≡ x }
         requires kept { (c : ℕ) (x : G.State) → is_awake set.now c ≡ true → state_at self.old (cycle - 1) c ≡ Some x → M.has_written step.now slots.now c ≡ false → G.codec.memory (M.state row.now c) ≡ G.codec.memory x }
-        ensures many { IsAsMany self.old self.new }
-        ensures changes { length changes.new ≡ length changes.old }
-        ensures worded { length worded.new ≡ length worded.old }
-        ensures words { OnOk result ((c : ℕ) (x y : G.State) → is_awake worded.new c ≡ false → state_at self.old cycle c ≡ Some x → state_at self.new cycle c ≡ Some y → AreOfWords G.codec x y) }
-        ensures among { OnOk result ((c : ℕ) → is_awake worded.new c ≡ true → is_awake changes.new c ≡ true) }
-        ensures put { OnOk result ((c : ℕ) → state_at self.new cycle c ≡ (if is_awake set.now c then Some (M.state row.now c) else state_at self.old cycle c)) }
-        ensures others { OnOk result ((t c : ℕ) → (t ≡ cycle → ⊥) → state_at self.new t c ≡ state_at self.old t c) }
-        ensures tells { OnOk result ((c : ℕ) → is_awake set.now c ≡ true → (is_awake changes.new c ≡ false) ↔ (state_at self.old cycle c ≡ Some (M.state row.now c))) }
-        ensures unmarked { OnOk result ((c : ℕ) → is_awake set.now c ≡ false → is_awake changes.new c ≡ false) }
+        ensures marks { AreMarks (length set.now) changes.new worded.new }
+        ensures put { OnOk result (ArePut G.codec self.old self.new cycle set.now changes.new worded.new (M.state row.now)) }
         ensures err { OnErr result (IsSameStates self.old self.new) }
     {
         match put_whole::<G, M>(
@@ -375,25 +364,14 @@ impl<G: Grid> States<G> {
         worded: &mut Row,
         cycle: u32,
     ) -> Result<(), NoMemory>
-        requires later { 0 < cycle }
-        requires within { cycle < length self.old.rows }
-        requires width { length set.now ≡ self.old.width }
-        requires components { length set.now ≡ G.rules.components slots.now }
-        requires changes { length changes.old ≡ length set.now }
-        requires worded { length worded.old ≡ length set.now }
+        requires at { IsSetAt (G.rules.components slots.now) self.old.width (length self.old.rows) cycle set.now }
+        requires marks { AreMarks (length set.now) changes.old worded.old }
         requires held { HoldsWords G.rules G.codec M.stands M.state slots.now held.old }
         requires near { AreNear G.rules slots.now near.now }
         requires before { (t c : ℕ) → t < cycle → c < length set.now → state_at self.old t c ≡ Some (run G.rules slots.now t c) }
-        ensures many { IsAsMany self.old self.new }
-        ensures changes { length changes.new ≡ length changes.old }
-        ensures worded { length worded.new ≡ length worded.old }
-        ensures words { OnOk result ((c : ℕ) (x y : G.State) → is_awake worded.new c ≡ false → state_at self.old cycle c ≡ Some x → state_at self.new cycle c ≡ Some y → AreOfWords G.codec x y) }
-        ensures among { OnOk result ((c : ℕ) → is_awake worded.new c ≡ true → is_awake changes.new c ≡ true) }
+        ensures marks { AreMarks (length set.now) changes.new worded.new }
         ensures held { HoldsWords G.rules G.codec M.stands M.state slots.now held.new }
-        ensures put { OnOk result ((c : ℕ) → state_at self.new cycle c ≡ (if is_awake set.now c then Some (run G.rules slots.now cycle c) else state_at self.old cycle c)) }
-        ensures others { OnOk result ((t c : ℕ) → (t ≡ cycle → ⊥) → state_at self.new t c ≡ state_at self.old t c) }
-        ensures tells { OnOk result ((c : ℕ) → is_awake set.now c ≡ true → (is_awake changes.new c ≡ false) ↔ (state_at self.old cycle c ≡ Some (run G.rules slots.now cycle c))) }
-        ensures unmarked { OnOk result ((c : ℕ) → is_awake set.now c ≡ false → is_awake changes.new c ≡ false) }
+        ensures put { OnOk result (ArePut G.codec self.old self.new cycle set.now changes.new worded.new (run G.rules slots.now cycle)) }
         ensures err { OnErr result (IsSameStates self.old self.new) }
     {
         match put_each::<G, M>(

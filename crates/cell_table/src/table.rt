@@ -23,7 +23,7 @@ mod touching;
 mod wave;
 mod wide;
 
-use cell_states::{Cell, Neighbours};
+use cell_states::{Cell, Neighbours, Room};
 use due_cells::{Cells, Readers};
 use grid_law::{Grid, NoMemory};
 use std::alloc::Global;
@@ -41,6 +41,8 @@ pub struct Table<G: Grid> {
     neighbours: Neighbours,
     /// Before which cycle each cell is known to hold a state; there may be more of them.
     held: u32,
+    /// For the versions of a cycle in which a store makes cells due.
+    room: Room,
 }
 
 // Not derived: whoever drops a table calls this, and proves nothing of its parts anew.
@@ -54,11 +56,13 @@ impl<G: Grid> Drop for Table<G> {
             readers,
             neighbours,
             held: _,
+            room,
         } = self;
         drop(slots);
         drop(cells);
         drop(readers);
         drop(neighbours);
+        drop(room);
     }
 }
 
@@ -113,6 +117,7 @@ impl<G: Grid> Table<G> {
             readers,
             neighbours,
             held: 0,
+            room: Room::new(alloc),
         })
     }
 

@@ -50,6 +50,22 @@ layout_new due versions w n v de ve few short = record {
     cycles : length due.rows ≡ n
     cycles = ap (λ (m : Marked). length m.rows) de ∙ length-replicate n (replicate w true)
 
+-- and those of fewer cycles
+pub layout_cut : (due due1 : Marked) (versions versions1 : List (List ℕ)) (n : ℕ) → IsLayout due versions → due1 ≡ record { width = due.width; rows = take n due.rows } → versions1 ≡ take n versions → IsLayout due1 versions1
+layout_cut due due1 versions versions1 n layout de ve = record {
+  marks = λ t h. ap (λ (m : Marked). length (marks_at m.rows t)) de ∙ ap length (get_or-take n due.rows t [] (omega (arith, h, cycles))) ∙ layout.marks t (omega (arith, h, cycles)) ∙ sym width;
+  rows = ap length ve ∙ length-take n versions ∙ ap (min n) layout.rows ∙ sym cycles;
+  numbers = λ t h. ap (λ vs. length (get_or vs t [])) ve ∙ ap length (get_or-take n versions t [] (omega (arith, h, cycles))) ∙ layout.numbers t (omega (arith, h, cycles)) ∙ sym width;
+  few = omega (arith, layout.few, width);
+  short = omega (arith, layout.short, cycles);
+}
+  where
+    width : due1.width ≡ due.width
+    width = ap (λ (m : Marked). m.width) de
+
+    cycles : length due1.rows ≡ min n (length due.rows)
+    cycles = ap (λ (m : Marked). length m.rows) de ∙ length-take n due.rows
+
 module _ {State : Type 0} where
   -- a list of rows, cell by cell
   pub rows_are : (rows : List (List (Held State))) (states : ℕ → ℕ → Option State) (due : Marked) (versions : List (List ℕ)) → length rows ≡ length due.rows → ((t : ℕ) → t < length due.rows → length (row_at rows t) ≡ due.width) → ((t c : ℕ) → t < length due.rows → c < due.width → held_at rows t c ≡ kept_at states due versions t c) → rows ≡ rows_of states due versions
@@ -220,33 +236,6 @@ module _ {State : Type 0} where
     -- the state of the cell is kept
     pub kept_other : (u d : ℕ) → states u d ≡ cond ((eqb u t) && (eqb d c)) (held_at rows t c).state (states u d)
     kept_other u d = same_at states t c u d ∙ ap (λ s. cond ((eqb u t) && (eqb d c)) s (states u d)) (sym (seen_state states due versions rows e bounded layout t c))
-
-    -- a cell is marked
-    pub marked_cell : (due1 : Marked) (versions1 : List (List ℕ)) (v : ℕ) → due1 ≡ record { width = due.width; rows = set due.rows t (set (marks_at due.rows t) c true) } → versions1 ≡ set versions t (set (get_or versions t []) c v) → IsOtherCell rows (rows_of states due1 versions1) t c (marked (held_at rows t c) v)
-    marked_cell due1 versions1 v de ve =
-        other_cell states due versions rows e states due1 versions1 t c (marked (held_at rows t c) v) bounded layout bounds both (ap (λ (m : Marked). m.width) de) (ap (λ (m : Marked). length m.rows) de ∙ length-set due.rows t _) (λ u d. at u d)
-      where
-        once : IsLayout due1 versions
-        once = layout_stored due1 true de
-
-        bounds : IsBounded states due1.width (length due1.rows)
-        bounds = bounded_along states (ap (λ (m : Marked). m.width) de) (ap (λ (m : Marked). length m.rows) de ∙ length-set due.rows t _) bounded
-
-        both : IsLayout due1 versions1
-        both = record {
-          marks = once.marks;
-          rows = ap length ve ∙ length-set versions t _ ∙ once.rows;
-          numbers = λ u h. ap (λ vs. length (get_or vs u [])) ve ∙ lens_set versions t c v u ∙ once.numbers u h;
-          few = once.few;
-          short = once.short;
-        }
-
-        at : (u d : ℕ) → kept_at states due1 versions1 u d ≡ cond ((eqb u t) && (eqb d c)) (marked (held_at rows t c) v) (kept_at states due versions u d)
-        at u d =
-            ap (λ (b : Bool). kept (states u d) b (version_at versions1 u d)) (ap (λ (m : Marked). has_mark m.rows u d) de ∙ marks_after true u d)
-            ∙ ap (λ (w : ℕ). kept (states u d) (cond ((eqb u t) && (eqb d c)) true (has_mark due.rows u d)) w) (ap (λ ws. version_at ws u d) ve ∙ at_set versions t c v 0 (omega (arith, layout.rows)) (omega (arith, layout.numbers t there)) u d)
-            ∙ ap (λ (s : Option State). kept s (cond ((eqb u t) && (eqb d c)) true (has_mark due.rows u d)) (cond ((eqb u t) && (eqb d c)) v (version_at versions u d))) (same_at states t c u d ∙ ap (λ s. cond ((eqb u t) && (eqb d c)) s (states u d)) (sym (seen_state states due versions rows e bounded layout t c)))
-            ∙ three ((eqb u t) && (eqb d c)) (states u d) (held_at rows t c).state (has_mark due.rows u d) true (version_at versions u d) v
 
   module _ (states : ℕ → ℕ → Option State) (due : Marked) (versions : List (List ℕ)) (bounded : IsBounded states due.width (length due.rows)) (layout : IsLayout due versions) (rows : List (List (Held State))) (e : rows_of states due versions ≡ rows) where
     same_lengths : (t : ℕ) → length (row_at rows t) ≡ length (marks_at due.rows t)

@@ -7,6 +7,7 @@ pub mod FilledRows
 pub mod WideRows
 pub mod MarkedCycle
 pub mod MarkedRow
+pub mod MarkedCells
 pub mod Reading
 pub mod Cones
 pub mod Noted

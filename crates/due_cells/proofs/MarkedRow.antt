@@ -1,8 +1,8 @@
 -- Cells of a row that are marked together.
 use Rattle.std.proofs.Common.{◌≡◌, ℕ, zero, suc, ◌<◌, ◌≤◌, ◌∙◌, sym, ap, refl, arith, Bool, true, false, cond, eqb, leb, ltb, not, eq-eqb, ◌&&◌, ◌||◌, ◌⊎◌, inl, inr, List, [], ◌∷◌, length, get_or, replicate, take, ◌+◌, Option}
 use Rattle.std.proofs.Math.ListN.{set, length-set}
-use Rattle.std.proofs.lemmas.Bool.{cases_lt, cases_eq, ne_eqb, eqb-true, and_parts}
-use Rattle.std.proofs.lemmas.List.{get_or-set_same, get_or-set_other, get_or_past, get_or-replicate}
+use Rattle.std.proofs.lemmas.Bool.{cases_lt, cases_eq, ne_eqb, eqb-true, and_parts, lt-ltb, le-ltb}
+use Rattle.std.proofs.lemmas.List.{get_or-set_same, get_or-set_other, get_or_past, get_or-replicate, length-replicate}
 use Rattle.std.proofs.lemmas.List.FromFn.{length-map-range_with_len, get_or-map-range_with_len}
 use Rattle.std.proofs.lemmas.List.Folds.{list_any_more}
 use Rattle.cell_marks.specs.Marked.{Marked, is_set, union, row_at as marks_at, has as has_mark}
@@ -11,7 +11,6 @@ use Rattle.cell_states.specs.Versions.{version_at}
 use Rattle.due_cells.specs.Layout.{kept, rows_of, IsLayout, IsBounded}
 use Rattle.cell_states.specs.declared.cell.CellRange.{CellRange}
 use Rattle.due_cells.specs.Ranges.{GoesOn, covers, is_later, has_later, is_marked, is_marked_else, held_marked}
-use Rattle.due_cells.proofs.Marking.{both}
 use Rattle.due_cells.proofs.Joined.{range_on}
 use Rattle.due_cells.proofs.Keeping.{seen, seen_cycles, seen_length, held_kept, length_rows, length_row, lens_past, bounded_along}
 
@@ -32,7 +31,7 @@ module _ (rows : List (List Bool)) (t : ℕ) (row : List Bool) (there : t < leng
   abbrev joined : List (List Bool)
   joined = set rows t (union (marks_at rows t) row)
 
-  has_joined : (u d : ℕ) → has_mark joined u d ≡ (has_mark rows u d || ((eqb u t) && is_set row d))
+  pub has_joined : (u d : ℕ) → has_mark joined u d ≡ (has_mark rows u d || ((eqb u t) && is_set row d))
   has_joined u d = by_row (cases_eq u t)
     where
       or_false : (b : Bool) → b ≡ (b || false)
@@ -44,7 +43,7 @@ module _ (rows : List (List Bool)) (t : ℕ) (row : List Bool) (there : t < leng
           rw (eq-eqb u t p) (ap (λ i. get_or (get_or joined i []) d false) p ∙ ap (λ r. get_or r d false) (get_or-set_same rows t _ [] there) ∙ is_set_union (marks_at rows t) row d wide ∙ ap (λ i. has_mark rows i d || is_set row d) (sym p))
       by_row (inr p) = rw (ne_eqb u t p) (ap (λ r. get_or r d false) (get_or-set_other rows t u _ [] p) ∙ or_false (has_mark rows u d))
 
-  length_joined : (u : ℕ) → length (marks_at joined u) ≡ length (marks_at rows u)
+  pub length_joined : (u : ℕ) → length (marks_at joined u) ≡ length (marks_at rows u)
   length_joined u = by_row (cases_eq u t)
     where
       by_row : (u ≡ t) ⊎ (u ≡ t → ⊥) → length (marks_at joined u) ≡ length (marks_at rows u)
@@ -53,18 +52,6 @@ module _ (rows : List (List Bool)) (t : ℕ) (row : List Bool) (there : t < leng
       by_row (inr p) = ap length (get_or-set_other rows t u _ [] p)
 
 module _ {State : Type 0} where
-  held_both : (a b : Bool) (s : Option State) (m : Bool) (v version : ℕ) → ◌≡◌ {A = Held State} (kept s (m || (a && b)) (cond (a && b) version v)) (cond (a && b) (marked (kept s m v) version) (kept s m v))
-  held_both true true s true v version = refl
-  held_both true true s false v version = refl
-  held_both true false s true v version = refl
-  held_both true false s false v version = refl
-  held_both false b s true v version = refl
-  held_both false b s false v version = refl
-
-  held_more : (a b : Bool) (s : Option State) (m m1 : Bool) (v v1 version : ℕ) → m1 ≡ (m || (a && b)) → v1 ≡ cond (a && b) version v → ◌≡◌ {A = Held State} (kept s m1 v1) (cond (a && b) (marked (kept s m v) version) (kept s m v))
-  held_more a b s m m1 v v1 version e f =
-      ap (λ (x : Bool). kept s x v1) e ∙ ap (λ (x : ℕ). kept s (m || (a && b)) x) f ∙ held_both a b s m v version
-
   module _ (states : ℕ → ℕ → Option State) (due due1 : Marked) (versions versions1 : List (List ℕ)) (bounded : IsBounded states due.width (length due.rows)) (layout : IsLayout due versions) (rows : List (List (Held State))) (e : rows_of states due versions ≡ rows) (t : ℕ) (row : List Bool) (version : ℕ) (there : t < length due.rows) (wide : length row ≡ length (marks_at due.rows t)) (joins : due1 ≡ record { width = due.width; rows = set due.rows t (union (marks_at due.rows t) row) }) (len : length versions1 ≡ length versions) (lens : (u : ℕ) → length (get_or versions1 u []) ≡ length (get_or versions u [])) where
     cycles : length due1.rows ≡ length due.rows
     cycles = ap (λ (m : Marked). length m.rows) joins ∙ length-set due.rows t _
@@ -84,9 +71,6 @@ module _ {State : Type 0} where
       short = omega (arith, layout.short, cycles);
     }
 
-    pub rows_len : length (rows_of states due1 versions1) ≡ length rows
-    rows_len = length_rows states due1 versions1 ∙ cycles ∙ sym (seen_cycles states due versions rows e)
-
     pub rows_lens : (u : ℕ) → length (row_at (rows_of states due1 versions1) u) ≡ length (row_at rows u)
     rows_lens u = by_cycle (cases_lt u (length due.rows))
       where
@@ -99,12 +83,6 @@ module _ {State : Type 0} where
     joined_row u c =
         held_kept states due1 versions1 bounded_joined layout_joined u c
         ∙ ap (λ b. kept (states u c) b (version_at versions1 u c)) (ap (λ (m : Marked). has_mark m.rows u c) joins ∙ has_joined due.rows t row there wide u c)
-
-    pub marked_row : (has : ℕ → Bool) → ((c : ℕ) → is_set row c ≡ has c) → ((u c : ℕ) → version_at versions1 u c ≡ cond ((eqb u t) && has c) version (version_at versions u c)) → (u c : ℕ) → held_at (rows_of states due1 versions1) u c ≡ cond ((eqb u t) && has c) (marked (held_at rows u c) version) (held_at rows u c)
-    marked_row has same at u c =
-        held_kept states due1 versions1 bounded_joined layout_joined u c
-        ∙ held_more (eqb u t) (has c) (states u c) (has_mark due.rows u c) (has_mark due1.rows u c) (version_at versions u c) (version_at versions1 u c) version (ap (λ (m : Marked). has_mark m.rows u c) joins ∙ has_joined due.rows t row there wide u c ∙ ap (λ b. has_mark due.rows u c || ((eqb u t) && b)) (same c)) (at u c)
-        ∙ ap (λ (k : Held State). cond ((eqb u t) && has c) (marked k version) k) (sym (seen states due versions rows e bounded layout u c))
 
 abbrev pub none_range : CellRange
 none_range = record { component = 0; from = 0; to = 0 }
@@ -151,13 +129,9 @@ module _ (to t c : ℕ) where
       ap (λ b. covers r t c || b) (marked_apart rs)
       ∙ mix (is_later to r) (eqb c r.component) (covers r t c) within (has_later rs to c) (is_marked_else rs to t c) (covers_later r)
 
-  pub retouched : {State : Type 0} (rows mids laters news : List (List (Held State))) (ranges : List CellRange) (v : ℕ) (listed : Bool) → listed ≡ has_later ranges to c → held_at laters t c ≡ cond (listed && within) (marked (held_at mids t c) v) (held_at mids t c) → held_at news t c ≡ cond (is_marked_else ranges to t c) (marked (held_at laters t c) v) (held_at laters t c) → row_at mids t ≡ cond (ltb t (length rows)) (row_at rows t) (replicate (length (row_at rows 0)) (fresh v)) → c < length (row_at rows 0) → held_at news t c ≡ held_marked rows ranges v t c
-  retouched {State = State} rows mids laters news ranges v listed same later else resized inside =
-      else
-      ∙ ap (λ k. cond (is_marked_else ranges to t c) (marked k v) k) (later ∙ ap (λ b. cond (b && within) (marked (held_at mids t c) v) (held_at mids t c)) same)
-      ∙ both (has_later ranges to c && within) (is_marked_else ranges to t c) (held_at mids t c) v
-      ∙ ap (λ b. cond b (marked (held_at mids t c) v) (held_at mids t c)) (sym (marked_apart ranges))
-      ∙ by_cycle (ltb t (length rows)) resized
+  -- once cycles of new cells were added
+  pub grown_marked : {State : Type 0} (rows mids : List (List (Held State))) (ranges : List CellRange) (v : ℕ) → row_at mids t ≡ cond (ltb t (length rows)) (row_at rows t) (replicate (length (row_at rows 0)) (fresh v)) → c < length (row_at rows 0) → cond (is_marked ranges t c) (marked (held_at mids t c) v) (held_at mids t c) ≡ held_marked rows ranges v t c
+  grown_marked {State = State} rows mids ranges v grown inside = by_cycle (ltb t (length rows)) grown
     where
       fresh_marked : (b : Bool) → cond b (marked (fresh v) v) (fresh {State = State} v) ≡ fresh v
       fresh_marked true = refl
@@ -168,6 +142,17 @@ module _ (to t c : ℕ) where
       by_cycle false e =
           ap (λ k. cond (is_marked ranges t c) (marked k v) k) (ap (λ row. held_in row c) e ∙ get_or-replicate (length (row_at rows 0)) c (fresh v) nothing inside)
           ∙ fresh_marked (is_marked ranges t c)
+
+-- the rows are as wide then
+pub grown_whole : {State : Type 0} (rows mids : List (List (Held State))) (v count t : ℕ) → row_at mids t ≡ cond (ltb t (length rows)) (row_at rows t) (replicate (length (row_at rows 0)) (fresh v)) → 0 < length rows → ((t : ℕ) → t < length rows → length (row_at rows t) ≡ count) → length (row_at mids t) ≡ count
+grown_whole rows mids v count t grown some whole = ap length grown ∙ by_place (cases_lt t (length rows))
+  where
+    by_place : (t < length rows) ⊎ (length rows ≤ t) → length (cond (ltb t (length rows)) (row_at rows t) (replicate (length (row_at rows 0)) (fresh v))) ≡ count
+    by_place (inl h) = ap (λ b. length (cond b (row_at rows t) (replicate (length (row_at rows 0)) (fresh v)))) (lt-ltb t (length rows) h) ∙ whole t h
+    by_place (inr h) =
+        ap (λ b. length (cond b (row_at rows t) (replicate (length (row_at rows 0)) (fresh v)))) (le-ltb t (length rows) h)
+        ∙ length-replicate (length (row_at rows 0)) (fresh v)
+        ∙ whole 0 some
 
 -- a range that goes on from another one
 pub and_true : (a : Bool) → a ≡ (a && true)
@@ -198,9 +183,3 @@ pub marked_joined : (t c : ℕ) (ranges : List CellRange) (i : ℕ) (range joine
 marked_joined t c [] i range joined h e = absurd (omega (arith, h))
 marked_joined t c (r ∷ rs) zero range joined h e = ap (λ b. b || is_marked rs t c) e ∙ or_swap (covers r t c) (covers range t c) (is_marked rs t c)
 marked_joined t c (r ∷ rs) (suc i) range joined h e = ap (λ b. covers r t c || b) (marked_joined t c rs i range joined (omega (arith, h)) e) ∙ sym (or_assoc (covers r t c) (is_marked rs t c) (covers range t c))
-
--- what stands at a place hangs on no default
-pub same_get : {X : Type 0} (xs : List X) (i : ℕ) (d e : X) → i < length xs → get_or xs i d ≡ get_or xs i e
-same_get [] i d e h = absurd (omega (arith, h))
-same_get (x ∷ xs) zero d e h = refl
-same_get (x ∷ xs) (suc i) d e h = same_get xs i d e (omega (arith, h))

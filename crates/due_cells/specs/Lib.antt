@@ -6,8 +6,10 @@ pub mod Woken
 pub mod Stores
 pub mod NextDue
 pub mod Layout
+pub mod Marking
 pub mod Cones
 pub mod WholeRows
+pub mod DuePut
 pub mod Noted
 pub mod Spares
 pub mod Beside

@@ -6,21 +6,24 @@ ghost use Rattle.due_cells.specs.Inputs.{states_of};
 ghost use Rattle.cell_states.specs.Near.{has, near_at};
 ghost use Rattle.due_cells.specs.NextDue.{IsNextDueInRow};
 ghost use Rattle.due_cells.specs.Layout.{cleared, IsOtherCell};
-ghost use Rattle.cell_states.specs.Versions.{version_at, any_changes};
+ghost use Rattle.cell_states.specs.Versions.{version_at, room_at, lists, IsOtherRow, any_changes};
 ghost use Rattle.due_cells.specs.Noted.{noted};
+ghost use Rattle.due_cells.specs.Ranges.{is_marked, has_later, IsWithin};
 ghost use Rattle.cell_marks.specs.Marked.{has as has_mark};
 ghost use Rattle.cell_states.specs.Filling.{is_awake};
 
 mod looks;
+mod marking;
 mod standing;
 mod whole;
 
 use cell_marks::{Marks, Row};
 use cell_states::{
-    Cell, Neighbours, States, Versions, begin_in, grow_rows, note_in, rows_of, set_version,
-    set_versions, version_in,
+    Cell, CellRange, Neighbours, Room, States, Versions, begin_in, grow_rows, note_in, rows_of,
+    take_room_in, version_in,
 };
 use grid_law::{Grid, NoMemory};
+use marking::{make_rooms, mark_later, mark_list, mark_others};
 use std::alloc::Global;
 use std::marker::Model;
 use std::sync::Arc;
@@ -52,12 +55,13 @@ impl<G: Grid> Model for Cells<G> {
     ghost use Rattle.due_cells.specs.Seen.{Held};
     ghost use Rattle.due_cells.specs.Layout.{rows_of, IsLayout, IsStated};
     ghost use Rattle.cell_states.specs.Stated.{state_at};
+    ghost use Rattle.cell_states.specs.Versions.{lists};
 
     ghost Value = { List (List (Held G.State)) };
 
-    ghost view = { λ k. rows_of (state_at k.states) k.due k.versions.items };
+    ghost view = { λ k. rows_of (state_at k.states) k.due (lists k.versions.items) };
 
-    ghost invariant = { λ k. IsStated k.states k.due × IsLayout k.due k.versions.items };
+    ghost invariant = { λ k. IsStated k.states k.due × IsLayout k.due (lists k.versions.items) };
 }
 
 impl<G: Grid> Cells<G> {
@@ -216,36 +220,60 @@ impl<G: Grid> Cells<G> {
         self.due.clear(cell.cycle, cell.component);
     }
 
-    /// Makes a cell due, with that version.
-    pub fn mark(&mut self, cell: Cell, version: u64)
-        requires cycle { cell.cycle < length self.old }
-        requires component { cell.component < length (row_at self.old cell.cycle) }
-        ensures { IsOtherCell self.old self.new cell.cycle cell.component (marked (held_at self.old cell.cycle cell.component) version) }
-    {
-        begin_idle(&mut self.versions, &self.due, cell.cycle, version);
-        self.due.set(cell.cycle, cell.component);
-        set_version(&mut self.versions, cell.cycle, cell.component, version);
-    }
-
-    /// Makes cells of a cycle due, with that version: those of the components that are marked, which are listed too.
-    pub fn mark_row(&mut self, cycle: u32, row: &Row, list: &[u32], version: u64)
+    /// Makes the cells of these components at a cycle due, with that version. Takes no memory but that room.
+    pub fn mark(&mut self, cycle: u32, components: &[u32], version: u64, room: &mut Room)
         requires cycle { cycle < length self.old }
-        requires width { length row.now ≡ length (row_at self.old cycle) }
-        requires listed { (c : ℕ) → is_awake row.now c ≡ has list.now c }
-        requires there { All (λ c. c < length (row_at self.old cycle)) list.now }
+        requires there { All (λ c. c < length (row_at self.old cycle)) components.now }
+        requires room { length (row_at self.old cycle) ≤ room.old }
         ensures len { length self.new ≡ length self.old }
         ensures lens { (t : ℕ) → length (row_at self.new t) ≡ length (row_at self.old t) }
         ensures at { (t c : ℕ) → held_at self.new t c
-            ≡ (if (t == cycle) && has list.now c then marked (held_at self.old t c) version else held_at self.old t c) }
+            ≡ (if (t == cycle) && has components.now c then marked (held_at self.old t c) version else held_at self.old t c) }
     {
-        begin_idle(&mut self.versions, &self.due, cycle, version);
-        self.due.set_all(cycle, row);
-        set_versions(&mut self.versions, cycle, list, version);
+        take_room_in(&mut self.versions, cycle, room);
+        mark_list(
+            &mut self.due,
+            &mut self.versions,
+            cycle,
+            components,
+            version,
+        );
+    }
+
+    /// Makes the cells of these ranges due, with that version, none of which is before a cycle. The components of those ranges that have
+    /// all cycles from 1 on to before one are marked, and listed too: they are marked together, a cycle at a time. Where memory is
+    /// wanting, nothing is changed.
+    pub fn mark_ranges(
+        &mut self,
+        ranges: &[CellRange],
+        from: u32,
+        to: u32,
+        row: &Row,
+        list: &[u32],
+        version: u64,
+    ) -> Result<(), NoMemory>
+        requires some { 0 < to }
+        requires to { to ≤ length self.old }
+        requires within { All (IsWithin to (length row.now)) ranges.now }
+        requires after { All (λ range. from ≤ range.from) ranges.now }
+        requires whole { (t : ℕ) → t < length self.old → length (row_at self.old t) ≡ length row.now }
+        requires listed { (c : ℕ) → is_awake row.now c ≡ has_later ranges.now to c }
+        requires list { (c : ℕ) → has list.now c ≡ has_later ranges.now to c }
+        requires there { All (λ c. c < length row.now) list.now }
+        ensures marked { OnOk result ((t c : ℕ) → held_at self.new t c
+            ≡ (if is_marked ranges.now t c then marked (held_at self.old t c) version else held_at self.old t c)) }
+        ensures lens { OnOk result ((length self.new ≡ length self.old) × ((t : ℕ) → length (row_at self.new t) ≡ length (row_at self.old t))) }
+        ensures err { OnErr result (self.new ≡ self.old) }
+    {
+        make_rooms(&self.due, &mut self.versions, from, to)?;
+        mark_later(&mut self.due, &mut self.versions, row, list, to, version);
+        mark_others(&mut self.due, &mut self.versions, ranges, to, version);
+        Ok(())
     }
 
     /// Makes cells of a cycle due, as the stores of the components that changed one cycle earlier do one after another, the clock being
-    /// `clock` before them. That they changed is noted, and no version is written. Where changes are noted already of which cells are
-    /// due, or what is near has as many owners as can be counted, nothing is changed.
+    /// `clock` before them. That they changed is noted, and no version is written, but where changes are noted already of which cells
+    /// are due. Takes no memory but that room.
     pub fn note(
         &mut self,
         cycle: u32,
@@ -253,25 +281,23 @@ impl<G: Grid> Cells<G> {
         changes: &Row,
         reached: &Row,
         clock: u64,
-    ) -> bool
+        room: &mut Room,
+    )
         requires cycle { cycle < length self.old }
         requires width { length changes.now ≡ length (row_at self.old cycle) }
         requires reached_width { length reached.now ≡ length (row_at self.old cycle) }
         requires reached { (c : ℕ) → c < length changes.now → is_awake reached.now c ≡ any_changes changes.now (near_at (arc_value near.now) c) (length changes.now) }
-        requires room { clock + length changes.now < 2 ^ 64 }
+        requires fits { clock + length changes.now < 2 ^ 64 }
+        requires room { length changes.now ≤ room.old }
         ensures len { length self.new ≡ length self.old }
         ensures lens { (t : ℕ) → length (row_at self.new t) ≡ length (row_at self.old t) }
         ensures others { (t c : ℕ) → (t ≡ cycle → ⊥) → held_at self.new t c ≡ held_at self.old t c }
-        ensures no { result ≡ false → self.new ≡ self.old }
-        ensures noted { result ≡ true → (c : ℕ) → c < length changes.now
+        ensures noted { (c : ℕ) → c < length changes.now
             → held_at self.new cycle c ≡ noted (held_at self.old cycle c) changes.now (near_at (arc_value near.now) c) clock (length changes.now) }
     {
         begin_idle(&mut self.versions, &self.due, cycle, clock);
-        if !note_in(&mut self.versions, cycle, near, changes, clock) {
-            return false;
-        }
+        note_in(&mut self.versions, cycle, near, changes, clock, room);
         self.due.set_all(cycle, reached);
-        true
     }
 
     /// Removes the cycles from n on.
@@ -391,7 +417,7 @@ fn grow_due(
     ensures due { MatchResult result
         (λ _. due.new ≡ record { width = due.old.width; rows = due.old.rows ++ replicate m (replicate due.old.width true) })
         (λ _. due.new ≡ due.old) }
-    ensures ok { OnOk result (versions.new.items ≡ versions.old.items ++ replicate m (replicate count version)) }
+    ensures ok { OnOk result (lists versions.new.items ≡ lists versions.old.items ++ replicate m (replicate count version)) }
     ensures err { OnErr result (versions.new.items ≡ versions.old.items) }
 {
     let n = due.len();
@@ -413,9 +439,9 @@ fn grow_due(
 /// one, without a version for each.
 #[inline(always)]
 fn begin_idle(versions: &mut Vec<Versions>, due: &Marks, t: u32, version: u64)
-    ensures len { length versions.new.items ≡ length versions.old.items }
-    ensures lens { (u : ℕ) → length (slice_index_or versions.new.items u []) ≡ length (slice_index_or versions.old.items u []) }
-    ensures due { (u c : ℕ) → has_mark due.now.rows u c ≡ true → version_at versions.new.items u c ≡ version_at versions.old.items u c }
+    ensures row { IsOtherRow versions.old.items versions.new.items t }
+    ensures room { room_at versions.new.items t ≡ room_at versions.old.items t }
+    ensures due { (u c : ℕ) → has_mark due.now.rows u c ≡ true → version_at (lists versions.new.items) u c ≡ version_at (lists versions.old.items) u c }
 {
     if due.row_count(t) > 0 {
         return;

@@ -1,13 +1,13 @@
 //! Following an edit: the cells that it marks, and the cycles up to its horizon.
-ghost use Rattle.std.specs.Prelude.{IsTrue, ◌↔◌, ◌≡◌, ℕ, ◌+◌, ◌++◌, ◌<◌, ◌≤◌, IfOk, OnOk, OnErr, length, map, replicate, All, Some, if◌then◌else◌, nat_lt, ◌^◌, ◌&&◌, ◌||◌, ◌==◌, nat_le};
-ghost use Rattle.due_cells.specs.Seen.{held_at, row_at, marked, fresh};
+ghost use Rattle.std.specs.Prelude.{IsTrue, ◌↔◌, ◌≡◌, ℕ, ◌+◌, ◌<◌, ◌≤◌, OnOk, OnErr, length, take, replicate, All, Some, if◌then◌else◌, nat_lt, ◌^◌, ◌&&◌, ◌||◌, ◌==◌, nat_le};
+ghost use Rattle.due_cells.specs.Seen.{held_at, row_at, fresh};
 ghost use Rattle.cell_states.specs.Near.{has};
 ghost use Rattle.cell_states.specs.Filling.{is_awake};
-ghost use Rattle.due_cells.specs.Ranges.{GoesOn, covers, is_later, has_later, is_marked, is_marked_else, IsWithin, held_marked};
+ghost use Rattle.due_cells.specs.Ranges.{GoesOn, covers, is_later, has_later, is_marked, IsWithin, held_marked};
 
 use crate::cells::Cells;
 use cell_marks::Row;
-use cell_states::{Cell, CellRange};
+use cell_states::CellRange;
 use grid_law::{Grid, NoMemory};
 
 /// Whether a range begins where another one of its component ends.
@@ -37,24 +37,8 @@ pub fn add_where(ranges: &mut Vec<CellRange>, range: CellRange, reads: bool) -> 
     Ok(())
 }
 
-/// Marks the cells of a range.
-fn mark_range<G: Grid>(cells: &mut Cells<G>, range: CellRange, count: u32, version: u64)
-    requires within { IsWithin (length cells.old) count range }
-    requires whole { (t : ℕ) → t < length cells.old → length (row_at cells.old t) ≡ count }
-    ensures len { length cells.new ≡ length cells.old }
-    ensures lens { (t : ℕ) → length (row_at cells.new t) ≡ length (row_at cells.old t) }
-    ensures at { (t c : ℕ) → held_at cells.new t c
-        ≡ (if covers range t c then marked (held_at cells.old t c) version else held_at cells.old t c) }
-{
-    let _ = count;
-    for cycle in range.from..range.to {
-        let component = range.component;
-        cells.mark(Cell { cycle, component }, version);
-    }
-}
-
 /// Whether a range has all cycles from 1 on to before one.
-fn is_later(range: CellRange, to: u32) -> bool
+pub(crate) fn is_later(range: CellRange, to: u32) -> bool
     ensures { result ≡ is_later to range }
 {
     range.from == 1 && range.to == to
@@ -89,63 +73,28 @@ fn gather(ranges: &[CellRange], to: u32, row: &mut Row, list: &mut Vec<u32>) -> 
     Ok(())
 }
 
-/// Marks the cells of these components at the cycles from 1 on to before one. What lies side by side is marked together:
-/// a cycle at a time.
-fn mark_later<G: Grid>(cells: &mut Cells<G>, row: &Row, list: &[u32], to: u32, version: u64)
-    requires some { 0 < to }
-    requires to { to ≤ length cells.old }
-    requires whole { (t : ℕ) → t < length cells.old → length (row_at cells.old t) ≡ length row.now }
-    requires listed { (c : ℕ) → is_awake row.now c ≡ has list.now c }
-    requires there { All (λ c. c < length row.now) list.now }
-    ensures len { length cells.new ≡ length cells.old }
-    ensures lens { (t : ℕ) → length (row_at cells.new t) ≡ length (row_at cells.old t) }
-    ensures at { (t c : ℕ) → held_at cells.new t c
-        ≡ (if has list.now c && (nat_le 1 t && nat_lt t to) then marked (held_at cells.old t c) version else held_at cells.old t c) }
+/// The first cycle of which one of these ranges has a cell.
+fn first_of(ranges: &[CellRange]) -> u32
+    ensures { All (λ range. result ≤ range.from) ranges.now }
 {
-    if list.is_empty() {
-        return;
-    }
-    for cycle in 1..to {
-        cells.mark_row(cycle, row, list, version);
-    }
-}
-
-/// Marks the cells of the ranges that haven't all cycles from 1 on to before one.
-fn mark_others<G: Grid>(
-    cells: &mut Cells<G>,
-    ranges: &[CellRange],
-    to: u32,
-    count: u32,
-    version: u64,
-)
-    requires within { All (IsWithin (length cells.old) count) ranges.now }
-    requires whole { (t : ℕ) → t < length cells.old → length (row_at cells.old t) ≡ count }
-    ensures len { length cells.new ≡ length cells.old }
-    ensures lens { (t : ℕ) → length (row_at cells.new t) ≡ length (row_at cells.old t) }
-    ensures at { (t c : ℕ) → held_at cells.new t c
-        ≡ (if is_marked_else ranges.now to t c then marked (held_at cells.old t c) version else held_at cells.old t c) }
-{
+    let mut first = u32::MAX;
     for range in ranges {
-        if !is_later(*range, to) {
-            mark_range(cells, *range, count, version);
-        }
+        first = first.min(range.from);
     }
+    first
 }
 
-/// Drops the cycles past the horizon, or adds cycles of new cells up to it.
-fn resize<G: Grid>(cells: &mut Cells<G>, horizon: u32, version: u64) -> Result<(), NoMemory>
+/// Adds cycles of new cells up to the horizon, where there are fewer.
+fn grow_to<G: Grid>(cells: &mut Cells<G>, horizon: u32, version: u64) -> Result<(), NoMemory>
     requires some { 0 < length cells.old }
-    ensures len { OnOk result (length cells.new ≡ horizon + 1) }
-    ensures at { OnOk result ((t : ℕ) → t ≤ horizon → row_at cells.new t
+    ensures len { OnOk result (horizon < length cells.new) }
+    ensures at { OnOk result ((t : ℕ) → t < length cells.new → row_at cells.new t
         ≡ (if nat_lt t (length cells.old) then row_at cells.old t else replicate (length (row_at cells.old 0)) (fresh version))) }
+    ensures before { OnOk result (take (length cells.old) cells.new ≡ cells.old) }
     ensures err { OnErr result (cells.new ≡ cells.old) }
 {
     let before = cells.cycles();
     if horizon < before {
-        if horizon + 1 == before {
-            return Ok(());
-        }
-        cells.truncate(horizon + 1);
         return Ok(());
     }
     if horizon == u32::MAX {
@@ -155,6 +104,21 @@ fn resize<G: Grid>(cells: &mut Cells<G>, horizon: u32, version: u64) -> Result<(
         Ok(()) => Ok(()),
         Err(_) => Err(NoMemory),
     }
+}
+
+/// Removes the cycles past the horizon, if there are some.
+fn cut<G: Grid>(cells: &mut Cells<G>, horizon: u32)
+    ensures { cells.new ≡ take (horizon + 1) cells.old }
+{
+    let cycles = cells.cycles();
+    if horizon >= cycles {
+        return;
+    }
+    // A truncation at the end looks at all that it leaves.
+    if horizon + 1 == cycles {
+        return;
+    }
+    cells.truncate(horizon + 1);
 }
 
 /// Follows an edit: the cycles up to the horizon, with these cells marked.
@@ -179,17 +143,20 @@ pub fn retouch<G: Grid>(
 {
     let alloc = cells.allocator();
     // The cycles are at most this many, so the next cycle's number fits.
-    let _cycles = cells.cycles();
+    let before = cells.cycles();
     let to = last + 1;
     let mut row = Row::new(alloc, count, false)?;
     let mut list = Vec::new(alloc);
     gather(ranges, to, &mut row, &mut list)?;
-    match resize(cells, horizon, version) {
-        Ok(()) => {
-            mark_later(cells, &row, list.as_slice(), to, version);
-            mark_others(cells, ranges, to, count, version);
-            Ok(())
+    grow_to(cells, horizon, version)?;
+    let from = first_of(ranges);
+    match cells.mark_ranges(ranges, from, to, &row, list.as_slice(), version) {
+        Ok(()) => {}
+        Err(_) => {
+            cells.truncate(before);
+            return Err(NoMemory);
         }
-        Err(_) => Err(NoMemory),
     }
+    cut(cells, horizon);
+    Ok(())
 }

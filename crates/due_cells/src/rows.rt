@@ -12,27 +12,19 @@ ghost use Rattle.cell_states.specs.Versions.{any_changes};
 use crate::cells::Cells;
 use crate::readers::Readers;
 use cell_marks::Row;
-use cell_states::Cell;
+use cell_states::{Cell, Room};
 use grid_law::{Grid, NoMemory};
 use std::sync::Arc;
 
-/// Marks the cells of these components at a cycle.
-pub(crate) fn mark_each<G: Grid>(cells: &mut Cells<G>, cycle: u32, components: &[u32], version: u64)
-    requires cycle { cycle < length cells.old }
-    requires within { All (λ k. k < length (row_at cells.old cycle)) components.now }
-    ensures len { length cells.new ≡ length cells.old }
-    ensures lens { (t : ℕ) → length (row_at cells.new t) ≡ length (row_at cells.old t) }
-    ensures at { (t c : ℕ) → held_at cells.new t c
-        ≡ (if (t == cycle) && has components.now c then marked (held_at cells.old t c) version else held_at cells.old t c) }
-{
-    for component in components {
-        let component = *component;
-        cells.mark(Cell { cycle, component }, version);
-    }
-}
-
 /// Marks the cells that read a cell, one cycle later.
-fn mark_readers<G: Grid>(cells: &mut Cells<G>, readers: &Readers, cell: Cell, version: u64)
+fn mark_readers<G: Grid>(
+    cells: &mut Cells<G>,
+    readers: &Readers,
+    cell: Cell,
+    version: u64,
+    room: &mut Room,
+)
+    requires room { (t : ℕ) → t < length cells.old → length (row_at cells.old t) ≤ room.old }
     requires cycle { cell.cycle < length cells.old }
     requires within { (t : ℕ) → t < length cells.old → All (λ k. k < length (row_at cells.old t)) (readers_at readers.now cell.component) }
     ensures len { length cells.new ≡ length cells.old }
@@ -42,7 +34,7 @@ fn mark_readers<G: Grid>(cells: &mut Cells<G>, readers: &Readers, cell: Cell, ve
 {
     let cycles = cells.cycles();
     if cell.cycle + 1 < cycles {
-        mark_each(cells, cell.cycle + 1, readers.of(cell.component), version);
+        cells.mark(cell.cycle + 1, readers.of(cell.component), version, room);
     }
 }
 
@@ -59,40 +51,8 @@ pub fn reach_in<G: Grid>(slots: &G::Slots, readers: &Readers, changes: &Row, rea
     readers.gather(changes, reached);
 }
 
-/// As `mark_changed`, by the list of readers of each component.
-fn mark_in_turn<G: Grid>(
-    cells: &mut Cells<G>,
-    slots: &G::Slots,
-    readers: &Readers,
-    changes: &Row,
-    cycle: u32,
-    clock: u64,
-)
-    requires cycle { cycle < length cells.old }
-    requires whole { (t : ℕ) → t < length cells.old → length (row_at cells.old t) ≡ G.rules.components slots.now }
-    requires index { IsIndex G.rules slots.now readers.now }
-    requires width { length changes.now ≡ G.rules.components slots.now }
-    requires room { clock + length changes.now < 2 ^ 64 }
-    ensures len { length cells.new ≡ length cells.old }
-    ensures lens { (t : ℕ) → length (row_at cells.new t) ≡ length (row_at cells.old t) }
-    ensures others { (t c : ℕ) → t < length cells.old → (t ≡ cycle + 1 → ⊥) → held_at cells.new t c ≡ held_at cells.old t c }
-    ensures marked { cycle + 1 < length cells.old → (c : ℕ) → c < G.rules.components slots.now
-        → held_at cells.new (cycle + 1) c ≡ woken G.rules slots.now cells.old (λ t k. is_awake changes.now k) clock cycle (G.rules.components slots.now) c }
-{
-    let _ = slots;
-    // The number of a component is below this one, so that of the next fits.
-    let _count = changes.len();
-    let mut version = clock;
-    let mut from = 0;
-    while let Some(component) = changes.first_from(from) {
-        version += 1;
-        mark_readers(cells, readers, Cell { cycle, component }, version);
-        from = component + 1;
-    }
-}
-
 /// Marks the cells one cycle later, as the stores of the components that change do one after another, the clock being
-/// `clock` before them. Which cells read one of them is known.
+/// `clock` before them. Which cells read one of them is known. Takes no memory but that room.
 pub fn mark_changed<G: Grid>(
     cells: &mut Cells<G>,
     slots: &G::Slots,
@@ -101,14 +61,14 @@ pub fn mark_changed<G: Grid>(
     reached: &Row,
     cycle: u32,
     clock: u64,
+    room: &mut Room,
 )
     requires cycle { cycle < length cells.old }
     requires whole { (t : ℕ) → t < length cells.old → length (row_at cells.old t) ≡ G.rules.components slots.now }
     requires index { IsIndex G.rules slots.now readers.now }
-    requires width { length changes.now ≡ G.rules.components slots.now }
-    requires reached_width { length reached.now ≡ G.rules.components slots.now }
+    requires width { (length changes.now ≡ G.rules.components slots.now) × (length reached.now ≡ G.rules.components slots.now) × (length changes.now ≤ room.old) }
     requires reached { (c : ℕ) → c < G.rules.components slots.now → is_awake reached.now c ≡ any_changes changes.now (G.rules.near slots.now c) (G.rules.components slots.now) }
-    requires room { clock + length changes.now < 2 ^ 64 }
+    requires fits { clock + length changes.now < 2 ^ 64 }
     ensures len { length cells.new ≡ length cells.old }
     ensures lens { (t : ℕ) → length (row_at cells.new t) ≡ length (row_at cells.old t) }
     ensures others { (t c : ℕ) → t < length cells.old → (t ≡ cycle + 1 → ⊥) → held_at cells.new t c ≡ held_at cells.old t c }
@@ -119,10 +79,7 @@ pub fn mark_changed<G: Grid>(
     if cycle + 1 >= cycles {
         return;
     }
-    if cells.note(cycle + 1, readers.near(), changes, reached, clock) {
-        return;
-    }
-    mark_in_turn::<G>(cells, slots, readers, changes, cycle, clock);
+    cells.note(cycle + 1, readers.near(), changes, reached, clock, room);
 }
 
 /// Whether the clock has room for so many cells in each of so many cycles.
@@ -159,9 +116,11 @@ pub fn store_in<G: Grid>(
     state: Arc<G::State>,
     changed: bool,
     version: u64,
+    room: &mut Room,
 ) -> Result<(), Arc<G::State>>
     requires cycle { cell.cycle < length cells.old }
     requires component { cell.component < G.rules.components slots.now }
+    requires room { changed ≡ true → G.rules.components slots.now ≤ room.old }
     requires whole { (t : ℕ) → t < length cells.old → length (row_at cells.old t) ≡ G.rules.components slots.now }
     requires index { IsIndex G.rules slots.now readers.now }
     requires changes { (changed ≡ false) ↔ ((held_at cells.old cell.cycle cell.component).state ≡ Some (arc_value state)) }
@@ -175,7 +134,7 @@ pub fn store_in<G: Grid>(
     }
     match cells.put(cell, state) {
         Ok(()) => {
-            mark_readers(cells, readers, cell, version);
+            mark_readers(cells, readers, cell, version, room);
             Ok(())
         }
         Err(state) => Err(state),
@@ -193,10 +152,12 @@ pub fn repeat_in<G: Grid>(
     stays: bool,
     changed: bool,
     version: u64,
+    room: &mut Room,
 ) -> Result<(), NoMemory>
     requires cycle { cell.cycle < length cells.old }
     requires later { 0 < cell.cycle }
     requires component { cell.component < G.rules.components slots.now }
+    requires room { changed ≡ true → G.rules.components slots.now ≤ room.old }
     requires whole { (t : ℕ) → t < length cells.old → length (row_at cells.old t) ≡ G.rules.components slots.now }
     requires index { IsIndex G.rules slots.now readers.now }
     requires stays { stays ≡ true → (held_at cells.old (cell.cycle - 1) cell.component).state ≡ (held_at cells.old cell.cycle cell.component).state }
@@ -212,7 +173,7 @@ pub fn repeat_in<G: Grid>(
     match cells.repeat(cell) {
         Ok(()) => {
             if changed {
-                mark_readers(cells, readers, cell, version);
+                mark_readers(cells, readers, cell, version, room);
             }
             Ok(())
         }

@@ -10,7 +10,7 @@ use crate::cells::Cells;
 use crate::readers::Readers;
 use crate::rows::reach_in;
 use cell_marks::Row;
-use cell_states::CellRange;
+use cell_states::{CellRange, Room};
 use grid_law::{Grid, NoMemory};
 use std::alloc::Global;
 
@@ -21,6 +21,8 @@ pub struct Spare {
     pub changes: Row,
     pub reached: Row,
     pub ranges: Vec<CellRange>,
+    /// For the versions of a cycle.
+    pub room: Room,
     /// The components that got other words, those whose cells are settled by what is near them, and the cells of a cycle that are due and
     /// hold the run already.
     pub worded: Row,
@@ -42,6 +44,7 @@ impl Spare {
             changes: Row::new(alloc, count, false)?,
             reached: Row::new(alloc, count, false)?,
             ranges: Vec::new(alloc),
+            room: Room::new(alloc),
             worded: Row::new(alloc, count, false)?,
             left: Row::new(alloc, count, false)?,
             known: Row::new(alloc, count, false)?,
@@ -116,8 +119,7 @@ pub fn find_reached<G: Grid>(
     requires wide { IsWide (G.rules.components slots.now) spare.old }
     requires among { (c : ℕ) → is_awake spare.old.worded c ≡ true → is_awake spare.old.changes c ≡ true }
     ensures wide { IsWide (G.rules.components slots.now) spare.new }
-    ensures changes { spare.new.changes ≡ spare.old.changes }
-    ensures ranges { spare.new.ranges ≡ spare.old.ranges }
+    ensures kept { (spare.new.changes ≡ spare.old.changes) × (spare.new.ranges ≡ spare.old.ranges) × (spare.new.room ≡ spare.old.room) }
     ensures reached { (c : ℕ) → c < G.rules.components slots.now
         → is_awake spare.new.reached c ≡ any_changes spare.old.changes (G.rules.near slots.now c) (G.rules.components slots.now) }
     ensures at { 0 < spare.new.known_at → (spare.new.known_at ≡ cycle + 1) × (cycle + 1 < length cells.now) }

@@ -112,12 +112,13 @@ fn touches(
     }
 }
 
-/// A table, touched and settled: each state is that of a line that always had these numbers.
+/// A table, touched while its cells are due and when it is settled: each state is that of a line that always had these numbers.
 pub(crate) fn touched(alloc: Global) -> bool {
     let Some(mut table) = fresh(alloc) else {
         return false;
     };
-    settled(&mut table) == Some(9)
+    touches(alloc, &mut table, (LineSlot::Seed(2), 5), None)
+        && settled(&mut table) == Some(9)
         && touches(alloc, &mut table, (LineSlot::Seed(2), 6), None)
         && settled(&mut table) == Some(6)
         && row(&table, 2) == [Some(5), Some(9), Some(17)]

@@ -1,8 +1,8 @@
 //! Other states for all components that change.
-ghost use Rattle.std.specs.Prelude.{◌≡◌, ℕ, ◌-◌, ◌<◌, ◌≤◌, OnOk, OnErr, MatchResult, length, true, false, None, slice_index_or, []};
-ghost use Rattle.change_rows.specs.Rows.{repeated, words_at};
+ghost use Rattle.std.specs.Prelude.{◌≡◌, ℕ, ◌-◌, ◌<◌, ◌≤◌, OnOk, OnErr, length, true, false, None, slice_index_or};
 ghost use Rattle.change_lists.specs.Changes.{changes_at, held_at as memory_at};
 ghost use Rattle.cell_states.specs.Filling.{is_awake};
+ghost use Rattle.cell_states.specs.Kept.{AreRepeated};
 ghost use Rattle.cell_states.specs.Ready.{value_in, IsReady};
 
 use super::memory::{Change, put_memory};
@@ -48,14 +48,7 @@ pub(super) fn repeat_changed<M: Drop>(
     requires within { to ≤ length rows.old.rows }
     requires width { length changes.now ≡ rows.old.width }
     requires memories { length memories.old ≡ rows.old.width }
-    ensures width { rows.new.width ≡ rows.old.width }
-    ensures len { length rows.new.rows ≡ length rows.old.rows }
-    ensures lens { (t : ℕ) → length (slice_index_or rows.new.rows t []) ≡ length (slice_index_or rows.old.rows t []) }
-    ensures many { length memories.new ≡ length memories.old }
-    ensures repeated { OnOk result ((t c : ℕ) → is_awake changes.now c ≡ true → from ≤ t → t < to → (words_at rows.new.rows t c ≡ words_at rows.old.rows (from - 1) c) × (memory_at memories.new c t ≡ memory_at memories.old c (from - 1))) }
-    ensures others { OnOk result ((t c : ℕ) → is_awake changes.now c ≡ false → (words_at rows.new.rows t c ≡ words_at rows.old.rows t c) × (memory_at memories.new c t ≡ memory_at memories.old c t)) }
-    ensures earlier { OnOk result ((t c : ℕ) → t < from → (words_at rows.new.rows t c ≡ words_at rows.old.rows t c) × (memory_at memories.new c t ≡ memory_at memories.old c t)) }
-    ensures behind { OnOk result ((t c : ℕ) → to ≤ t → t < length rows.old.rows → (words_at rows.new.rows t c ≡ words_at rows.old.rows t c) × (memory_at memories.new c t ≡ memory_at memories.old c t)) }
+    ensures ok { OnOk result (AreRepeated rows.old rows.new memories.old memories.new changes.now from to) }
     ensures err { OnErr result ((rows.new ≡ rows.old) × (memories.new ≡ memories.old)) }
 {
     let end = rows.len();

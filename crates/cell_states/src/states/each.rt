@@ -1,15 +1,19 @@
 //! The states that a step gives the components of a set, one after another, each out of the words near it.
-ghost use Rattle.std.specs.Prelude.{◌≡◌, ◌≢◌, ℕ, ◌+◌, ◌-◌, ◌^◌, ◌<◌, ◌≤◌, ◌↔◌, ◌||◌, ◌⊎◌, All, IfOk, OnOk, OnErr, length, true, false, None, Some, is_some, slice_index_or, unwrap_or, []};
-ghost use Rattle.std.specs.Option.{option_copied, option_or};
+ghost use Rattle.std.specs.Prelude.{◌≡◌, ℕ, ◌+◌, ◌-◌, ◌^◌, ◌<◌, ◌≤◌, ◌||◌, ◌⊎◌, All, OnOk, OnErr, length, true, false, None, Some, is_some, slice_index_or, unwrap_or};
+ghost use Rattle.std.specs.Option.{option_or};
 ghost use Rattle.grid_law.specs.Codec.{IsTold};
 ghost use Rattle.grid_law.specs.Run.{run};
 ghost use Rattle.change_rows.specs.Rows.{words_at};
 ghost use Rattle.change_rows.specs.Cells.{end_of, found};
-ghost use Rattle.change_lists.specs.Changes.{list_at, changes_at, held_at as memory_at};
+ghost use Rattle.change_lists.specs.Changes.{list_at, held_at as memory_at};
 ghost use Rattle.cell_states.specs.Filling.{is_awake};
-ghost use Rattle.cell_states.specs.NextWords.{HoldsRunAt, HoldsWords, IsDrafted, IsOfWords};
+ghost use Rattle.cell_states.specs.Found.{IsFoundTo, IsFound, AreFound};
+ghost use Rattle.cell_states.specs.Kept.{AreSameCells};
 ghost use Rattle.cell_states.specs.Near.{AreNear};
-ghost use Rattle.cell_states.specs.Ready.{value_in, IsReady};
+ghost use Rattle.cell_states.specs.NextWords.{HoldsRunBefore, HoldsWords, IsDrafted, IsOfWords};
+ghost use Rattle.cell_states.specs.Put.{IsSetAt};
+ghost use Rattle.cell_states.specs.PutCodes.{AreCodesPut};
+ghost use Rattle.cell_states.specs.Readied.{AreEach, AreAllEach, IsReadied, KeepsOthers};
 
 use super::changed::put_memories;
 use super::memory::{Change, is_same, ready_memory};
@@ -165,19 +169,11 @@ fn ready_left<G: Grid>(
 ) -> Result<(), NoMemory>
     requires later { 0 < cell.cycle }
     requires component { cell.component < length memories.old }
-    requires len { length ready.old.items ≡ length memories.old }
-    requires changes { length changes.old ≡ length memories.old }
+    requires each { AreEach (length memories.old) memories.old ready.old.items changes.old }
     requires unmarked { is_awake changes.old cell.component ≡ false }
-    ensures width { length memories.new ≡ length memories.old }
-    ensures len { length ready.new.items ≡ length ready.old.items }
-    ensures changes { length changes.new ≡ length changes.old }
-    ensures same { (c : ℕ) → list_at memories.new c ≡ list_at memories.old c }
-    ensures others { (c : ℕ) → (c ≡ cell.component → ⊥) → changes_at memories.new c ≡ changes_at memories.old c }
-    ensures other_ready { (c : ℕ) → (c ≡ cell.component → ⊥) → slice_index_or ready.new.items c None ≡ slice_index_or ready.old.items c None }
-    ensures other_changes { (c : ℕ) → (c ≡ cell.component → ⊥) → is_awake changes.new c ≡ is_awake changes.old c }
-    ensures ready { OnOk result (is_awake changes.new cell.component ≡ true → IsReady memories.new cell.component cell.cycle (slice_index_or ready.new.items cell.component None)) }
-    ensures value { OnOk result (is_awake changes.new cell.component ≡ true → value_in memories.new cell.component cell.cycle (slice_index_or ready.new.items cell.component None) ≡ option_or left (memory_at memories.old cell.component (cell.cycle - 1))) }
-    ensures marked { OnOk result ((is_awake changes.new cell.component ≡ false) ↔ (memory_at memories.old cell.component cell.cycle ≡ option_or left (memory_at memories.old cell.component (cell.cycle - 1)))) }
+    ensures each { AreEach (length memories.old) memories.new ready.new.items changes.new }
+    ensures others { KeepsOthers cell.component memories.old memories.new ready.old.items ready.new.items changes.old changes.new }
+    ensures ready { OnOk result (IsReadied memories.new ready.new.items changes.new cell.cycle cell.component (option_or left (memory_at memories.old cell.component (cell.cycle - 1)))) }
 {
     let (t, c) = (cell.cycle, cell.component);
     match left {
@@ -213,32 +209,16 @@ fn find_step<G: Grid, M: WholeRow<G>>(
     changes: &mut Row,
     cell: Cell,
 ) -> Result<(), NoMemory>
-    requires later { 0 < cell.cycle }
+    requires run { HoldsRunBefore G.rules G.codec slots.now rows.now.rows memories.old cell.cycle }
     requires there { cell.component < G.rules.components slots.now }
-    requires memories { length memories.old ≡ G.rules.components slots.now }
-    requires len { length ready.old.items ≡ G.rules.components slots.now }
-    requires changes { length changes.old ≡ G.rules.components slots.now }
-    requires unmarked { is_awake changes.old cell.component ≡ false }
-    requires after { end_of draft.old ≤ cell.component }
+    requires so_far { IsFoundTo (G.rules.components slots.now) draft.old memories.old ready.old.items changes.old cell.component }
     requires held { HoldsWords G.rules G.codec M.stands M.state slots.now held.old }
     requires near { near.now ≡ G.rules.near slots.now cell.component }
-    requires before { HoldsRunAt G.rules G.codec slots.now rows.now.rows memories.old (cell.cycle - 1) }
-    requires earlier { 0 < cell.cycle - 1 → HoldsRunAt G.rules G.codec slots.now rows.now.rows memories.old (cell.cycle - 1 - 1) }
+    ensures so_far { IsFoundTo (G.rules.components slots.now) draft.new memories.new ready.new.items changes.new (cell.component + 1) }
     ensures held { HoldsWords G.rules G.codec M.stands M.state slots.now held.new }
-    ensures after { end_of draft.new ≤ cell.component + 1 }
     ensures other_words { (c : ℕ) → (c ≡ cell.component → ⊥) → found draft.new c ≡ found draft.old c }
-    ensures width { length memories.new ≡ length memories.old }
-    ensures len { length ready.new.items ≡ length ready.old.items }
-    ensures changes { length changes.new ≡ length changes.old }
-    ensures same { (c : ℕ) → list_at memories.new c ≡ list_at memories.old c }
-    ensures others { (c : ℕ) → (c ≡ cell.component → ⊥) → changes_at memories.new c ≡ changes_at memories.old c }
-    ensures other_ready { (c : ℕ) → (c ≡ cell.component → ⊥) → slice_index_or ready.new.items c None ≡ slice_index_or ready.old.items c None }
-    ensures other_changes { (c : ℕ) → (c ≡ cell.component → ⊥) → is_awake changes.new c ≡ is_awake changes.old c }
-    ensures ready { OnOk result (is_awake changes.new cell.component ≡ true → IsReady memories.new cell.component cell.cycle (slice_index_or ready.new.items cell.component None)) }
-    ensures told { OnOk result (IsTold G.codec (run G.rules slots.now cell.cycle cell.component)) }
-    ensures words { OnOk result (IsDrafted rows.now.rows draft.new cell.cycle cell.component (G.codec.words (run G.rules slots.now cell.cycle cell.component))) }
-    ensures value { OnOk result (is_awake changes.new cell.component ≡ true → value_in memories.new cell.component cell.cycle (slice_index_or ready.new.items cell.component None) ≡ G.codec.memory (run G.rules slots.now cell.cycle cell.component)) }
-    ensures marked { OnOk result ((is_awake changes.new cell.component ≡ false) ↔ (memory_at memories.old cell.component cell.cycle ≡ G.codec.memory (run G.rules slots.now cell.cycle cell.component))) }
+    ensures others { KeepsOthers cell.component memories.old memories.new ready.old.items ready.new.items changes.old changes.new }
+    ensures found { OnOk result (IsFound G.codec rows.now.rows draft.new memories.new ready.new.items changes.new cell.cycle cell.component (run G.rules slots.now cell.cycle cell.component)) }
 {
     let (t, c) = (cell.cycle, cell.component);
     if !load_near::<G, M>(rows, slots, held, near, t - 1) {
@@ -265,32 +245,16 @@ fn find_one<G: Grid, M: WholeRow<G>>(
     changes: &mut Row,
     cell: Cell,
 ) -> Result<(), NoMemory>
-    requires later { 0 < cell.cycle }
+    requires run { HoldsRunBefore G.rules G.codec slots.now rows.now.rows memories.old cell.cycle }
     requires there { cell.component < G.rules.components slots.now }
-    requires memories { length memories.old ≡ G.rules.components slots.now }
-    requires len { length ready.old.items ≡ G.rules.components slots.now }
-    requires changes { length changes.old ≡ G.rules.components slots.now }
-    requires unmarked { is_awake changes.old cell.component ≡ false }
-    requires after { end_of draft.old ≤ cell.component }
+    requires so_far { IsFoundTo (G.rules.components slots.now) draft.old memories.old ready.old.items changes.old cell.component }
     requires held { HoldsWords G.rules G.codec M.stands M.state slots.now held.old }
     requires near { near.now ≡ G.rules.near slots.now cell.component }
-    requires before { HoldsRunAt G.rules G.codec slots.now rows.now.rows memories.old (cell.cycle - 1) }
-    requires earlier { 0 < cell.cycle - 1 → HoldsRunAt G.rules G.codec slots.now rows.now.rows memories.old (cell.cycle - 1 - 1) }
+    ensures so_far { IsFoundTo (G.rules.components slots.now) draft.new memories.new ready.new.items changes.new (cell.component + 1) }
     ensures held { HoldsWords G.rules G.codec M.stands M.state slots.now held.new }
-    ensures after { end_of draft.new ≤ cell.component + 1 }
     ensures other_words { (c : ℕ) → (c ≡ cell.component → ⊥) → found draft.new c ≡ found draft.old c }
-    ensures width { length memories.new ≡ length memories.old }
-    ensures len { length ready.new.items ≡ length ready.old.items }
-    ensures changes { length changes.new ≡ length changes.old }
-    ensures same { (c : ℕ) → list_at memories.new c ≡ list_at memories.old c }
-    ensures others { (c : ℕ) → (c ≡ cell.component → ⊥) → changes_at memories.new c ≡ changes_at memories.old c }
-    ensures other_ready { (c : ℕ) → (c ≡ cell.component → ⊥) → slice_index_or ready.new.items c None ≡ slice_index_or ready.old.items c None }
-    ensures other_changes { (c : ℕ) → (c ≡ cell.component → ⊥) → is_awake changes.new c ≡ is_awake changes.old c }
-    ensures ready { OnOk result (is_awake changes.new cell.component ≡ true → IsReady memories.new cell.component cell.cycle (slice_index_or ready.new.items cell.component None)) }
-    ensures told { OnOk result (IsTold G.codec (run G.rules slots.now cell.cycle cell.component)) }
-    ensures words { OnOk result (IsDrafted rows.now.rows draft.new cell.cycle cell.component (G.codec.words (run G.rules slots.now cell.cycle cell.component))) }
-    ensures value { OnOk result (is_awake changes.new cell.component ≡ true → value_in memories.new cell.component cell.cycle (slice_index_or ready.new.items cell.component None) ≡ G.codec.memory (run G.rules slots.now cell.cycle cell.component)) }
-    ensures marked { OnOk result ((is_awake changes.new cell.component ≡ false) ↔ (memory_at memories.old cell.component cell.cycle ≡ G.codec.memory (run G.rules slots.now cell.cycle cell.component))) }
+    ensures others { KeepsOthers cell.component memories.old memories.new ready.old.items ready.new.items changes.old changes.new }
+    ensures found { OnOk result (IsFound G.codec rows.now.rows draft.new memories.new ready.new.items changes.new cell.cycle cell.component (run G.rules slots.now cell.cycle cell.component)) }
 {
     if cell.cycle > 1 && all_stay(rows, memories, cell.cycle - 1, near) {
         draft_same(rows, draft, cell)?;
@@ -315,28 +279,15 @@ fn find_all<G: Grid, M: WholeRow<G>>(
     changes: &mut Row,
     cycle: u32,
 ) -> Result<(), NoMemory>
-    requires later { 0 < cycle }
+    requires run { HoldsRunBefore G.rules G.codec slots.now rows.now.rows memories.old cycle }
     requires components { length set.now ≡ G.rules.components slots.now }
-    requires memories { length memories.old ≡ length set.now }
-    requires len { length ready.old.items ≡ length set.now }
-    requires changes { length changes.old ≡ length set.now }
+    requires each { AreEach (G.rules.components slots.now) memories.old ready.old.items changes.old }
     requires held { HoldsWords G.rules G.codec M.stands M.state slots.now held.old }
     requires near { AreNear G.rules slots.now near.now }
-    requires before { HoldsRunAt G.rules G.codec slots.now rows.now.rows memories.old (cycle - 1) }
-    requires earlier { 0 < cycle - 1 → HoldsRunAt G.rules G.codec slots.now rows.now.rows memories.old (cycle - 1 - 1) }
+    ensures each { AreEach (G.rules.components slots.now) memories.new ready.new.items changes.new }
     ensures held { HoldsWords G.rules G.codec M.stands M.state slots.now held.new }
-    ensures changes { length changes.new ≡ length changes.old }
-    ensures width { length memories.new ≡ length memories.old }
-    ensures len { length ready.new.items ≡ length ready.old.items }
     ensures same { (c : ℕ) → list_at memories.new c ≡ list_at memories.old c }
-    ensures within { end_of draft.new ≤ length set.now }
-    ensures told { OnOk result ((c : ℕ) → is_awake set.now c ≡ true → IsTold G.codec (run G.rules slots.now cycle c)) }
-    ensures words { OnOk result ((c : ℕ) → is_awake set.now c ≡ true → IsDrafted rows.now.rows draft.new cycle c (G.codec.words (run G.rules slots.now cycle c))) }
-    ensures other_words { OnOk result ((c : ℕ) → is_awake set.now c ≡ false → found draft.new c ≡ None) }
-    ensures ready { OnOk result ((c : ℕ) → is_awake changes.new c ≡ true → IsReady memories.new c cycle (slice_index_or ready.new.items c None)) }
-    ensures value { OnOk result ((c : ℕ) → is_awake changes.new c ≡ true → value_in memories.new c cycle (slice_index_or ready.new.items c None) ≡ G.codec.memory (run G.rules slots.now cycle c)) }
-    ensures marked { OnOk result ((c : ℕ) → is_awake set.now c ≡ true → (is_awake changes.new c ≡ false) ↔ (memory_at memories.old c cycle ≡ G.codec.memory (run G.rules slots.now cycle c))) }
-    ensures unmarked { OnOk result ((c : ℕ) → is_awake set.now c ≡ false → is_awake changes.new c ≡ false) }
+    ensures found { OnOk result (AreFound G.codec rows.now.rows draft.new memories.new ready.new.items changes.new cycle set.now (run G.rules slots.now cycle)) }
 {
     changes.clear_all();
     draft.clear();
@@ -369,9 +320,7 @@ fn mark_draft(draft: &Draft, changes: &mut Row)
 fn put_draft(alloc: Global, rows: &mut Rows, draft: &Draft, cycle: u32) -> Result<(), NoMemory>
     requires within { cycle < length rows.old.rows }
     requires components { end_of draft.now ≤ rows.old.width }
-    ensures width { rows.new.width ≡ rows.old.width }
-    ensures cycles { length rows.new.rows ≡ length rows.old.rows }
-    ensures lens { (t : ℕ) → length (slice_index_or rows.new.rows t []) ≡ length (slice_index_or rows.old.rows t []) }
+    ensures cells { OnOk result (AreSameCells rows.old rows.new) }
     ensures here { OnOk result ((c : ℕ) → words_at rows.new.rows cycle c ≡ unwrap_or (found draft.now c) (words_at rows.old.rows cycle c)) }
     ensures others { OnOk result ((t c : ℕ) → (t ≡ cycle → ⊥) → words_at rows.new.rows t c ≡ words_at rows.old.rows t c) }
     ensures err { OnErr result (rows.new ≡ rows.old) }
@@ -403,34 +352,14 @@ pub(super) fn put_each<G: Grid, M: WholeRow<G>>(
     worded: &mut Row,
     cycle: u32,
 ) -> Result<(), NoMemory>
-    requires later { 0 < cycle }
-    requires within { cycle < length rows.old.rows }
-    requires width { length set.now ≡ rows.old.width }
-    requires components { length set.now ≡ G.rules.components slots.now }
-    requires changes { length changes.old ≡ length set.now }
-    requires worded { length worded.old ≡ length set.now }
-    requires memories { length memories.old ≡ length set.now }
-    requires len { length ready.old.items ≡ length set.now }
+    requires at { IsSetAt (G.rules.components slots.now) rows.old.width (length rows.old.rows) cycle set.now }
+    requires each { AreAllEach (G.rules.components slots.now) memories.old ready.old.items changes.old worded.old }
     requires held { HoldsWords G.rules G.codec M.stands M.state slots.now held.old }
     requires near { AreNear G.rules slots.now near.now }
-    requires before { HoldsRunAt G.rules G.codec slots.now rows.old.rows memories.old (cycle - 1) }
-    requires earlier { 0 < cycle - 1 → HoldsRunAt G.rules G.codec slots.now rows.old.rows memories.old (cycle - 1 - 1) }
+    requires run { HoldsRunBefore G.rules G.codec slots.now rows.old.rows memories.old cycle }
+    ensures each { AreAllEach (G.rules.components slots.now) memories.new ready.new.items changes.new worded.new }
     ensures held { HoldsWords G.rules G.codec M.stands M.state slots.now held.new }
-    ensures changes { length changes.new ≡ length changes.old }
-    ensures worded { length worded.new ≡ length worded.old }
-    ensures words { OnOk result ((c : ℕ) → is_awake worded.new c ≡ false → words_at rows.new.rows cycle c ≡ words_at rows.old.rows cycle c) }
-    ensures among { OnOk result ((c : ℕ) → is_awake worded.new c ≡ true → is_awake changes.new c ≡ true) }
-    ensures width { rows.new.width ≡ rows.old.width }
-    ensures cycles { length rows.new.rows ≡ length rows.old.rows }
-    ensures lens { (t : ℕ) → length (slice_index_or rows.new.rows t []) ≡ length (slice_index_or rows.old.rows t []) }
-    ensures many { length memories.new ≡ length memories.old }
-    ensures len { length ready.new.items ≡ length ready.old.items }
-    ensures told { OnOk result ((c : ℕ) → is_awake set.now c ≡ true → IsTold G.codec (run G.rules slots.now cycle c)) }
-    ensures put { OnOk result ((c : ℕ) → is_awake set.now c ≡ true → (words_at rows.new.rows cycle c ≡ G.codec.words (run G.rules slots.now cycle c)) × (memory_at memories.new c cycle ≡ G.codec.memory (run G.rules slots.now cycle c))) }
-    ensures others { OnOk result ((t c : ℕ) → is_awake set.now c ≡ false → (words_at rows.new.rows t c ≡ words_at rows.old.rows t c) × (memory_at memories.new c t ≡ memory_at memories.old c t)) }
-    ensures other_cycles { OnOk result ((t c : ℕ) → t < length rows.old.rows → (t ≡ cycle → ⊥) → (words_at rows.new.rows t c ≡ words_at rows.old.rows t c) × (memory_at memories.new c t ≡ memory_at memories.old c t)) }
-    ensures tells { OnOk result ((c : ℕ) → is_awake set.now c ≡ true → (is_awake changes.new c ≡ false) ↔ ((words_at rows.old.rows cycle c ≡ G.codec.words (run G.rules slots.now cycle c)) × (memory_at memories.old c cycle ≡ G.codec.memory (run G.rules slots.now cycle c)))) }
-    ensures unmarked { OnOk result ((c : ℕ) → is_awake set.now c ≡ false → is_awake changes.new c ≡ false) }
+    ensures put { OnOk result (AreCodesPut G.codec rows.old rows.new memories.old memories.new cycle set.now changes.new worded.new (run G.rules slots.now cycle)) }
     ensures err { OnErr result ((rows.new ≡ rows.old) × ((c t : ℕ) → memory_at memories.new c t ≡ memory_at memories.old c t)) }
 {
     let alloc = *buffer.allocator();

@@ -1,11 +1,12 @@
 //! The states that a row of all components holds, for those of a set.
-ghost use Rattle.std.specs.Prelude.{◌≡◌, ℕ, ◌+◌, ◌-◌, ◌*◌, ◌<◌, ◌≤◌, ◌↔◌, ◌||◌, IfOk, OnOk, OnErr, MatchResult, length, true, false, None, slice_index_or, slice_set, [], not};
+ghost use Rattle.std.specs.Prelude.{◌≡◌, ℕ, ◌+◌, ◌-◌, ◌*◌, ◌<◌, ◌≤◌, ◌↔◌, OnOk, OnErr, length, true, false, None, [], not};
 ghost use Rattle.grid_law.specs.Codec.{IsTold};
-ghost use Rattle.change_rows.specs.Rows.{words_at, replaced};
-ghost use Rattle.change_rows.specs.Marks.{is_in};
-ghost use Rattle.change_lists.specs.Changes.{list_at, changes_at, held_at as memory_at, held_before};
+ghost use Rattle.change_rows.specs.Rows.{words_at};
+ghost use Rattle.change_lists.specs.Changes.{list_at, changes_at, held_at as memory_at};
 ghost use Rattle.cell_states.specs.Filling.{is_awake};
-ghost use Rattle.cell_states.specs.Ready.{value_in, IsReady};
+ghost use Rattle.cell_states.specs.Put.{IsSetAt};
+ghost use Rattle.cell_states.specs.PutCodes.{AreWordsPut, AreReworded, AreCodesPut};
+ghost use Rattle.cell_states.specs.Readied.{AreEach, AreAllEach, IsReadied, KeepsOthers};
 ghost use Rattle.cell_states.specs.Sets.{IsWide};
 
 use super::changed::put_memories;
@@ -59,22 +60,13 @@ fn ready_cell<G: Grid, M: WholeRow<G>>(
     changes: &mut Row,
     cell: Cell,
 ) -> Result<(), NoMemory>
-    requires component { cell.component < length memories.old }
-    requires len { length ready.old.items ≡ length memories.old }
-    requires changes { length changes.old ≡ length memories.old }
     requires there { cell.component < G.rules.components slots.now }
+    requires each { AreEach (G.rules.components slots.now) memories.old ready.old.items changes.old }
     requires stands { M.stands row.now slots.now }
     requires unmarked { is_awake changes.old cell.component ≡ false }
-    ensures width { length memories.new ≡ length memories.old }
-    ensures len { length ready.new.items ≡ length ready.old.items }
-    ensures changes { length changes.new ≡ length changes.old }
-    ensures same { (c : ℕ) → list_at memories.new c ≡ list_at memories.old c }
-    ensures others { (c : ℕ) → (c ≡ cell.component → ⊥) → changes_at memories.new c ≡ changes_at memories.old c }
-    ensures other_ready { (c : ℕ) → (c ≡ cell.component → ⊥) → slice_index_or ready.new.items c None ≡ slice_index_or ready.old.items c None }
-    ensures other_changes { (c : ℕ) → (c ≡ cell.component → ⊥) → is_awake changes.new c ≡ is_awake changes.old c }
-    ensures ready { OnOk result (is_awake changes.new cell.component ≡ true → IsReady memories.new cell.component cell.cycle (slice_index_or ready.new.items cell.component None)) }
-    ensures value { OnOk result (is_awake changes.new cell.component ≡ true → value_in memories.new cell.component cell.cycle (slice_index_or ready.new.items cell.component None) ≡ G.codec.memory (M.state row.now cell.component)) }
-    ensures marked { (is_awake changes.new cell.component ≡ false) ↔ (memory_at memories.old cell.component cell.cycle ≡ G.codec.memory (M.state row.now cell.component)) }
+    ensures each { AreEach (G.rules.components slots.now) memories.new ready.new.items changes.new }
+    ensures others { KeepsOthers cell.component memories.old memories.new ready.old.items ready.new.items changes.old changes.new }
+    ensures ready { OnOk result (IsReadied memories.new ready.new.items changes.new cell.cycle cell.component (G.codec.memory (M.state row.now cell.component))) }
 {
     if row.has_memory(
         slots,
@@ -101,17 +93,11 @@ fn ready_all<G: Grid, M: WholeRow<G>>(
     cycle: u32,
 ) -> Result<(), NoMemory>
     requires components { length set.now ≡ G.rules.components slots.now }
-    requires changes { length changes.old ≡ length set.now }
-    requires memories { length memories.old ≡ length set.now }
-    requires len { length ready.old.items ≡ length set.now }
+    requires each { AreEach (G.rules.components slots.now) memories.old ready.old.items changes.old }
     requires stands { M.stands row.now slots.now }
-    ensures changes { length changes.new ≡ length changes.old }
-    ensures width { length memories.new ≡ length memories.old }
-    ensures len { length ready.new.items ≡ length ready.old.items }
+    ensures each { AreEach (G.rules.components slots.now) memories.new ready.new.items changes.new }
     ensures same { (c : ℕ) → list_at memories.new c ≡ list_at memories.old c }
-    ensures ready { OnOk result ((c : ℕ) → is_awake changes.new c ≡ true → IsReady memories.new c cycle (slice_index_or ready.new.items c None)) }
-    ensures value { OnOk result ((c : ℕ) → is_awake changes.new c ≡ true → value_in memories.new c cycle (slice_index_or ready.new.items c None) ≡ G.codec.memory (M.state row.now c)) }
-    ensures marked { OnOk result ((c : ℕ) → is_awake set.now c ≡ true → (is_awake changes.new c ≡ false) ↔ (memory_at memories.old c cycle ≡ G.codec.memory (M.state row.now c))) }
+    ensures ready { OnOk result ((c : ℕ) → is_awake set.now c ≡ true → IsReadied memories.new ready.new.items changes.new cycle c (G.codec.memory (M.state row.now c))) }
     ensures unmarked { OnOk result ((c : ℕ) → is_awake set.now c ≡ false → is_awake changes.new c ≡ false) }
 {
     changes.clear_all();
@@ -165,8 +151,7 @@ fn carry_cell<G: Grid>(
     ensures here { is_awake set.now cell.component ≡ true → memory_at memories.new cell.component cell.cycle ≡ memory_at memories.old cell.component (cell.cycle - 1) }
     ensures marked { is_awake set.now cell.component ≡ true → is_awake changes.old cell.component ≡ false → (is_awake changes.new cell.component ≡ false) ↔ (memory_at memories.old cell.component cell.cycle ≡ memory_at memories.old cell.component (cell.cycle - 1)) }
     ensures cycles { (t : ℕ) → t < end → (t ≡ cell.cycle → ⊥) → memory_at memories.new cell.component t ≡ memory_at memories.old cell.component t }
-    ensures out { is_awake set.now cell.component ≡ false → (changes_at memories.new cell.component ≡ changes_at memories.old cell.component) × (is_awake changes.new cell.component ≡ is_awake changes.old cell.component) }
-    ensures others { (c : ℕ) → (c ≡ cell.component → ⊥) → (changes_at memories.new c ≡ changes_at memories.old c) × (is_awake changes.new c ≡ is_awake changes.old c) }
+    ensures others { (c : ℕ) → (c ≡ cell.component → is_awake set.now c ≡ false) → (changes_at memories.new c ≡ changes_at memories.old c) × (is_awake changes.new c ≡ is_awake changes.old c) }
 {
     if set.has(cell.component) && carry::<G>(memories, cell, end) {
         changes.set(cell.component);
@@ -230,21 +215,11 @@ fn put_words<G: Grid, M: WholeRow<G>>(
     moved: &Row,
     cycle: u32,
 ) -> Result<(), NoMemory>
-    requires later { 0 < cycle }
-    requires within { cycle < length rows.old.rows }
-    requires width { length set.now ≡ rows.old.width }
-    requires components { length set.now ≡ G.rules.components slots.now }
+    requires at { IsSetAt (G.rules.components slots.now) rows.old.width (length rows.old.rows) cycle set.now }
     requires stands { M.stands row.now slots.now }
     requires still { (c : ℕ) → is_awake set.now c ≡ true → is_awake moved.now c ≡ false → G.codec.words (M.state row.now c) ≡ words_at rows.old.rows (cycle - 1) c }
-    ensures width { rows.new.width ≡ rows.old.width }
-    ensures cycles { length rows.new.rows ≡ length rows.old.rows }
-    ensures lens { (t : ℕ) → length (slice_index_or rows.new.rows t []) ≡ length (slice_index_or rows.old.rows t []) }
-    ensures put { OnOk result ((c : ℕ) → is_awake set.now c ≡ true → words_at rows.new.rows cycle c ≡ G.codec.words (M.state row.now c)) }
-    ensures others { OnOk result ((t c : ℕ) → is_awake set.now c ≡ false → words_at rows.new.rows t c ≡ words_at rows.old.rows t c) }
-    ensures other_cycles { OnOk result ((t c : ℕ) → (t ≡ cycle → ⊥) → words_at rows.new.rows t c ≡ words_at rows.old.rows t c) }
-    ensures room { OnOk result (length set.now ≤ 64 * length buffer.new.items) }
-    ensures changed { OnOk result ((c : ℕ) → c < length set.now → is_in buffer.new.items c ≡ true → (is_awake set.now c ≡ true) × (words_at rows.old.rows cycle c ≡ G.codec.words (M.state row.now c) → ⊥)) }
-    ensures same { OnOk result ((c : ℕ) → is_awake set.now c ≡ true → is_in buffer.new.items c ≡ false → words_at rows.old.rows cycle c ≡ G.codec.words (M.state row.now c)) }
+    ensures put { OnOk result (AreWordsPut rows.old rows.new cycle set.now (λ c. G.codec.words (M.state row.now c))) }
+    ensures reworded { OnOk result (AreReworded rows.old cycle set.now (λ c. G.codec.words (M.state row.now c)) buffer.new.items) }
     ensures err { OnErr result (rows.new ≡ rows.old) }
 {
     // Each row has a cell for each component.
@@ -299,34 +274,15 @@ pub(super) fn put_whole<G: Grid, M: WholeRow<G>>(
     worded: &mut Row,
     cycle: u32,
 ) -> Result<(), NoMemory>
-    requires later { 0 < cycle }
-    requires within { cycle < length rows.old.rows }
-    requires width { length set.now ≡ rows.old.width }
-    requires components { length set.now ≡ G.rules.components slots.now }
-    requires changes { length changes.old ≡ length set.now }
-    requires worded { length worded.old ≡ length set.now }
-    requires memories { length memories.old ≡ length set.now }
-    requires len { length ready.old.items ≡ length set.now }
+    requires at { IsSetAt (G.rules.components slots.now) rows.old.width (length rows.old.rows) cycle set.now }
+    requires each { AreAllEach (G.rules.components slots.now) memories.old ready.old.items changes.old worded.old }
+    requires sets { IsWide (length set.now) sets.old }
     requires stands { M.stands row.now slots.now }
-    requires wide { IsWide (length set.now) sets.old }
     requires still { (c : ℕ) → is_awake set.now c ≡ true → M.is_still step.now slots.now c ≡ true → G.codec.words (M.state row.now c) ≡ words_at rows.old.rows (cycle - 1) c }
     requires kept { (c : ℕ) → is_awake set.now c ≡ true → M.has_written step.now slots.now c ≡ false → memory_at memories.old c (cycle - 1) ≡ G.codec.memory (M.state row.now c) }
-    ensures changes { length changes.new ≡ length changes.old }
-    ensures worded { length worded.new ≡ length worded.old }
-    ensures words { OnOk result ((c : ℕ) → is_awake worded.new c ≡ false → words_at rows.new.rows cycle c ≡ words_at rows.old.rows cycle c) }
-    ensures among { OnOk result ((c : ℕ) → is_awake worded.new c ≡ true → is_awake changes.new c ≡ true) }
-    ensures wide { IsWide (length set.now) sets.new }
-    ensures width { rows.new.width ≡ rows.old.width }
-    ensures cycles { length rows.new.rows ≡ length rows.old.rows }
-    ensures lens { (t : ℕ) → length (slice_index_or rows.new.rows t []) ≡ length (slice_index_or rows.old.rows t []) }
-    ensures many { length memories.new ≡ length memories.old }
-    ensures len { length ready.new.items ≡ length ready.old.items }
-    ensures told { OnOk result ((c : ℕ) → is_awake set.now c ≡ true → IsTold G.codec (M.state row.now c)) }
-    ensures put { OnOk result ((c : ℕ) → is_awake set.now c ≡ true → (words_at rows.new.rows cycle c ≡ G.codec.words (M.state row.now c)) × (memory_at memories.new c cycle ≡ G.codec.memory (M.state row.now c))) }
-    ensures others { OnOk result ((t c : ℕ) → is_awake set.now c ≡ false → (words_at rows.new.rows t c ≡ words_at rows.old.rows t c) × (memory_at memories.new c t ≡ memory_at memories.old c t)) }
-    ensures other_cycles { OnOk result ((t c : ℕ) → t < length rows.old.rows → (t ≡ cycle → ⊥) → (words_at rows.new.rows t c ≡ words_at rows.old.rows t c) × ((words_at rows.old.rows t c ≡ [] → ⊥) → memory_at memories.new c t ≡ memory_at memories.old c t)) }
-    ensures tells { OnOk result ((c : ℕ) → is_awake set.now c ≡ true → (is_awake changes.new c ≡ false) ↔ ((words_at rows.old.rows cycle c ≡ G.codec.words (M.state row.now c)) × (memory_at memories.old c cycle ≡ G.codec.memory (M.state row.now c)))) }
-    ensures unmarked { OnOk result ((c : ℕ) → is_awake set.now c ≡ false → is_awake changes.new c ≡ false) }
+    ensures each { AreAllEach (G.rules.components slots.now) memories.new ready.new.items changes.new worded.new }
+    ensures sets { IsWide (length set.now) sets.new }
+    ensures put { OnOk result (AreCodesPut G.codec rows.old rows.new memories.old memories.new cycle set.now changes.new worded.new (M.state row.now)) }
     ensures err { OnErr result ((rows.new ≡ rows.old) × ((c t : ℕ) → memory_at memories.new c t ≡ memory_at memories.old c t)) }
 {
     let end = last_held(rows, set, cycle);

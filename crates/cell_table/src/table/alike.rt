@@ -239,6 +239,10 @@ impl<G: Grid> Table<G> {
             Ok(()) => {}
             Err(_) => return None,
         }
+        match spare.room.make(count) {
+            Ok(()) => {}
+            Err(_) => return None,
+        }
         let changed = spare.changes.count();
         let due = self.cells.due_count(cycle);
         match repeat_cells(&mut self.cells, &spare.changes, cycle, end) {
@@ -254,6 +258,7 @@ impl<G: Grid> Table<G> {
             &spare.reached,
             end - 1,
             before,
+            &mut spare.room,
         );
         let clock = clock_filled(self.clock, cycles, changed);
         self.clock = clock;

@@ -1,5 +1,5 @@
 //! Giving a result back.
-ghost use Rattle.std.specs.Prelude.{◌≡◌, ℕ, ◌<◌, ◌-◌, ◌^◌, ◌↔◌, IsTrue, true, false, Some, map, List, OnOk, OnErr, IfErr};
+ghost use Rattle.std.specs.Prelude.{◌≡◌, ℕ, ◌<◌, ◌≤◌, ◌-◌, ◌^◌, ◌↔◌, IsTrue, true, false, Some, map, List, OnOk, OnErr, IfErr};
 ghost use Rattle.std.specs.Arc.{arc_value};
 ghost use Rattle.due_cells.specs.Seen.{held_at};
 ghost use Rattle.due_cells.specs.Inputs.{inputs_of};
@@ -13,10 +13,21 @@ ghost use Rattle.cell_table.specs.Answers.{AnswersMade, after_give};
 
 use super::Table;
 use crate::{Claim, Done, Given};
-use cell_states::Cell;
+use cell_states::{Cell, Room};
 use due_cells::{are_held, clock_after, repeat_in, store_in};
 use grid_law::{Grid, NoMemory};
 use std::sync::Arc;
+
+/// Takes room for the versions of a cycle, where a store changes a state and so makes cells due.
+fn make_room(room: &mut Room, count: u32, changed: bool) -> Result<(), NoMemory>
+    ensures ok { OnOk result (changed ≡ true → count ≤ room.new) }
+    ensures err { OnErr result (changed ≡ true) }
+{
+    if !changed {
+        return Ok(());
+    }
+    room.make(count)
+}
 
 impl<G: Grid> Table<G> {
     /// Whether these are the states that the cell is computed from now.
@@ -64,6 +75,10 @@ impl<G: Grid> Table<G> {
         ensures err { OnErr result (self.new ≡ self.old) }
         ensures back { IfErr result (λ back. (arc_value back ≡ arc_value state) × (changed ≡ true)) }
     {
+        match make_room(&mut self.room, G::components(&self.slots), changed) {
+            Ok(()) => {}
+            Err(_) => return Err(state),
+        }
         let clock = clock_after(self.clock, changed);
         match store_in::<G>(
             &mut self.cells,
@@ -73,6 +88,7 @@ impl<G: Grid> Table<G> {
             state,
             changed,
             clock,
+            &mut self.room,
         ) {
             Ok(()) => {
                 self.clock = clock;
@@ -102,6 +118,7 @@ impl<G: Grid> Table<G> {
         ensures ok { OnOk result (IsAfterStore G.rules self.old self.new cell.cycle cell.component (current_of G.rules self.old.slots self.old.rows cell.cycle cell.component) changed) }
         ensures err { OnErr result (self.new ≡ self.old) }
     {
+        make_room(&mut self.room, G::components(&self.slots), changed)?;
         let clock = clock_after(self.clock, changed);
         match repeat_in::<G>(
             &mut self.cells,
@@ -111,6 +128,7 @@ impl<G: Grid> Table<G> {
             stays,
             changed,
             clock,
+            &mut self.room,
         ) {
             Ok(()) => {
                 self.clock = clock;

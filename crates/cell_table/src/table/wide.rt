@@ -54,6 +54,10 @@ impl<G: Grid> Table<G> {
             Ok(()) => {}
             Err(_) => return None,
         }
+        match spare.room.make(count) {
+            Ok(()) => {}
+            Err(_) => return None,
+        }
         let (known, known_at) = (&spare.known, spare.known_at);
         let due_row = self.cells.due_row(cycle);
         find_left(&mut spare.left, due_row, known, known_at, cycle);
@@ -82,6 +86,7 @@ impl<G: Grid> Table<G> {
             &spare.reached,
             cycle,
             self.clock,
+            &mut spare.room,
         );
         let clock = self.clock + u64::from(changed);
         self.clock = clock;

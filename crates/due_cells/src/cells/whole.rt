@@ -1,5 +1,5 @@
 //! What cells hold as a row of all components takes it, and gives it.
-ghost use Rattle.std.specs.Prelude.{true, ◌≡◌, ◌↔◌, ℕ, ◌-◌, ◌<◌, ◌≤◌, OnOk, OnErr, None, Some, [], false, length};
+ghost use Rattle.std.specs.Prelude.{◌≡◌, ◌↔◌, ℕ, ◌-◌, ◌<◌, ◌≤◌, OnOk, OnErr, None, Some, [], false, length};
 ghost use Rattle.cell_states.specs.Filling.{is_awake};
 ghost use Rattle.std.specs.Option.{option_copied};
 ghost use Rattle.grid_law.specs.Codec.{IsTold};
@@ -7,7 +7,9 @@ ghost use Rattle.grid_law.specs.Run.{run};
 ghost use Rattle.due_cells.specs.Seen.{held_at, row_at};
 ghost use Rattle.cell_states.specs.Near.{AreNear};
 ghost use Rattle.cell_states.specs.NextWords.{HoldsWords};
-ghost use Rattle.due_cells.specs.WholeRows.{HoldsRow, HasWords, IsKnown, IsRowPut, IsToPut};
+ghost use Rattle.cell_states.specs.Put.{AreMarks};
+ghost use Rattle.due_cells.specs.DuePut.{IsDuePut};
+ghost use Rattle.due_cells.specs.WholeRows.{HoldsRow, IsKnown, IsToPut};
 
 use super::{Cells, clear_rows};
 use cell_marks::Row;
@@ -74,17 +76,11 @@ pub(crate) fn put_due<G: Grid, M: WholeRow<G>>(
     worded: &mut Row,
 ) -> Result<(), NoMemory>
     requires ready { IsToPut G.rules slots.now cells.old cycle set.now }
-    requires width { length changes.old ≡ G.rules.components slots.now }
-    requires worded { length worded.old ≡ G.rules.components slots.now }
+    requires marks { AreMarks (G.rules.components slots.now) changes.old worded.old }
     requires row { HoldsRow G.rules M.stands M.state slots.now row.now cycle }
     requires known { IsKnown G.rules G.codec (M.is_still step.now slots.now) (M.has_written step.now slots.now) slots.now cycle }
-    ensures len { length cells.new ≡ length cells.old }
-    ensures lens { (t : ℕ) → t < length cells.old → length (row_at cells.new t) ≡ G.rules.components slots.now }
-    ensures width { length changes.new ≡ length changes.old }
-    ensures worded { length worded.new ≡ length worded.old }
-    ensures words { OnOk result (HasWords G.rules G.codec cells.old cells.new cycle worded.new) }
-    ensures among { OnOk result ((c : ℕ) → is_awake worded.new c ≡ true → is_awake changes.new c ≡ true) }
-    ensures put { OnOk result (IsRowPut G.rules slots.now cells.old cells.new cycle changes.new) }
+    ensures marks { AreMarks (G.rules.components slots.now) changes.new worded.new }
+    ensures put { OnOk result (IsDuePut G.rules G.codec slots.now cells.old cells.new cycle changes.new worded.new) }
     ensures versions { (t c : ℕ) → (held_at cells.old t c).is_due ≡ false → (held_at cells.old t c).version ≡ 0 }
     ensures err { OnErr result (cells.new ≡ cells.old) }
 {
@@ -111,18 +107,12 @@ pub(crate) fn put_each<G: Grid, M: WholeRow<G>>(
     worded: &mut Row,
 ) -> Result<(), NoMemory>
     requires ready { IsToPut G.rules slots.now cells.old cycle set.now }
-    requires width { length changes.old ≡ G.rules.components slots.now }
-    requires worded { length worded.old ≡ G.rules.components slots.now }
+    requires marks { AreMarks (G.rules.components slots.now) changes.old worded.old }
     requires near { AreNear G.rules slots.now near.now }
     requires held { HoldsWords G.rules G.codec M.stands M.state slots.now held.old }
     ensures held { HoldsWords G.rules G.codec M.stands M.state slots.now held.new }
-    ensures len { length cells.new ≡ length cells.old }
-    ensures lens { (t : ℕ) → t < length cells.old → length (row_at cells.new t) ≡ G.rules.components slots.now }
-    ensures width { length changes.new ≡ length changes.old }
-    ensures worded { length worded.new ≡ length worded.old }
-    ensures words { OnOk result (HasWords G.rules G.codec cells.old cells.new cycle worded.new) }
-    ensures among { OnOk result ((c : ℕ) → is_awake worded.new c ≡ true → is_awake changes.new c ≡ true) }
-    ensures put { OnOk result (IsRowPut G.rules slots.now cells.old cells.new cycle changes.new) }
+    ensures marks { AreMarks (G.rules.components slots.now) changes.new worded.new }
+    ensures put { OnOk result (IsDuePut G.rules G.codec slots.now cells.old cells.new cycle changes.new worded.new) }
     ensures versions { (t c : ℕ) → (held_at cells.old t c).is_due ≡ false → (held_at cells.old t c).version ≡ 0 }
     ensures err { OnErr result (cells.new ≡ cells.old) }
 {

@@ -1,5 +1,6 @@
 use Rattle.std.proofs.Common.{◌-◌, ◌<◌, ◌∙◌, sym, ap, arith, cond, length, refl}
 use Rattle.cell_states.specs.Stated.{state_at}
+use Rattle.cell_states.specs.Versions.{lists}
 use Rattle.due_cells.specs.Layout.{cleared}
 use Rattle.cell_states.specs.Filling.{is_awake}
 use Rattle.due_cells.proofs.Keeping.{seen_cycles, seen_state, seen_due, seen_no_version, length_row}
@@ -10,35 +11,35 @@ use Rattle.due_cells.proofs.cells.repeat_cells.Goals as goal
 pub repeat_changed-requires-clause-within : goal.repeat_changed-requires-clause-within
 repeat_changed-requires-clause-within g c =
     let i = c.cells.inside in
-    omega (arith, c.cells.invariant.0.cycles, seen_cycles (state_at i.states) i.due i.versions.items c.args.cells.now c.cells.view_is, c.requires.within)
+    omega (arith, c.cells.invariant.0.cycles, seen_cycles (state_at i.states) i.due (lists i.versions.items) c.args.cells.now c.cells.view_is, c.requires.within)
 
 pub repeat_changed-requires-clause-width : goal.repeat_changed-requires-clause-width
 repeat_changed-requires-clause-width g c =
     let i = c.cells.inside in
     let some : 0 < length c.args.cells.now = omega (arith, c.requires.later, c.requires.after, c.requires.within) in
-    sym (width_each i.states i.due i.versions.items c.args.cells.now (length c.args.changes.now) c.cells.invariant.0 c.cells.view_is some c.requires.width)
+    sym (width_each i.states i.due (lists i.versions.items) c.args.cells.now (length c.args.changes.now) c.cells.invariant.0 c.cells.view_is some c.requires.width)
 
 pub clear_rows-requires-clause-end : goal.clear_rows-requires-clause-end
 clear_rows-requires-clause-end g c =
     let i = c.cells.inside in
-    omega (arith, c.requires.within, seen_cycles (state_at i.states) i.due i.versions.items c.args.cells.now c.cells.view_is)
+    omega (arith, c.requires.within, seen_cycles (state_at i.states) i.due (lists i.versions.items) c.args.cells.now c.cells.view_is)
 
 pub returns-in-Err-clause-versions : goal.returns-in-Err-clause-versions
 returns-in-Err-clause-versions g c = λ t d e.
     let i = c.cells.inside in
-    seen_no_version (state_at i.states) i.due i.versions.items c.args.cells.now c.cells.view_is (bounded_by i.states i.due c.cells.invariant.0) c.cells.invariant.1 t d (sym (seen_due (state_at i.states) i.due i.versions.items c.args.cells.now c.cells.view_is (bounded_by i.states i.due c.cells.invariant.0) c.cells.invariant.1 t d) ∙ e)
+    seen_no_version (state_at i.states) i.due (lists i.versions.items) c.args.cells.now c.cells.view_is (bounded_by i.states i.due c.cells.invariant.0) c.cells.invariant.1 t d (sym (seen_due (state_at i.states) i.due (lists i.versions.items) c.args.cells.now c.cells.view_is (bounded_by i.states i.due c.cells.invariant.0) c.cells.invariant.1 t d) ∙ e)
 
 pub returns-clause-versions : goal.returns-clause-versions
 returns-clause-versions g c = λ t d e.
     let i = c.cells.inside in
-    seen_no_version (state_at i.states) i.due i.versions.items c.args.cells.now c.cells.view_is (bounded_by i.states i.due c.cells.invariant.0) c.cells.invariant.1 t d (sym (seen_due (state_at i.states) i.due i.versions.items c.args.cells.now c.cells.view_is (bounded_by i.states i.due c.cells.invariant.0) c.cells.invariant.1 t d) ∙ e)
+    seen_no_version (state_at i.states) i.due (lists i.versions.items) c.args.cells.now c.cells.view_is (bounded_by i.states i.due c.cells.invariant.0) c.cells.invariant.1 t d (sym (seen_due (state_at i.states) i.due (lists i.versions.items) c.args.cells.now c.cells.view_is (bounded_by i.states i.due c.cells.invariant.0) c.cells.invariant.1 t d) ∙ e)
 
 pub returns-clause-lens : goal.returns-clause-lens
 returns-clause-lens g c = λ t h.
     let i = c.cells.inside in
     let some : 0 < length c.args.cells.now = omega (arith, c.requires.later, c.requires.after, c.requires.within) in
-    length_row (state_at c.repeat_changed.new.self) c.clear_rows.new.due i.versions.items t (omega (arith, h, seen_cycles (state_at i.states) i.due i.versions.items c.args.cells.now c.cells.view_is, c.clear_rows.ensures.len))
-    ∙ c.clear_rows.ensures.width ∙ sym c.cells.invariant.0.width ∙ width_each i.states i.due i.versions.items c.args.cells.now (length c.args.changes.now) c.cells.invariant.0 c.cells.view_is some c.requires.width
+    length_row (state_at c.repeat_changed.new.self) c.clear_rows.new.due (lists i.versions.items) t (omega (arith, h, seen_cycles (state_at i.states) i.due (lists i.versions.items) c.args.cells.now c.cells.view_is, c.clear_rows.ensures.len))
+    ∙ c.clear_rows.ensures.width ∙ sym c.cells.invariant.0.width ∙ width_each i.states i.due (lists i.versions.items) c.args.cells.now (length c.args.changes.now) c.cells.invariant.0 c.cells.view_is some c.requires.width
 
 pub returns-clause-earlier : goal.returns-clause-earlier
 returns-clause-earlier g c = λ t d h.
@@ -47,7 +48,7 @@ returns-clause-earlier g c = λ t d h.
     let states1 = c.repeat_changed.new.self in
     let marks = marks_filled i.due c.clear_rows.new.due c.args.from c.args.to c.cells.invariant.1.marks r.cleared r.earlier r.later in
     let bounded1 = bounded_by states1 i.due (stated_along i.states states1 i.due i.due c.cells.invariant.0 c.repeat_changed.ensures.many refl refl) in
-    same_cell (state_at i.states) (state_at states1) i.due c.clear_rows.new.due i.versions.items c.args.cells.now (bounded_by i.states i.due c.cells.invariant.0) c.cells.invariant.1 c.cells.view_is bounded1 r.width r.len marks t d (c.in-Ok.ensures.earlier t d h) (r.earlier t h)
+    same_cell (state_at i.states) (state_at states1) i.due c.clear_rows.new.due (lists i.versions.items) c.args.cells.now (bounded_by i.states i.due c.cells.invariant.0) c.cells.invariant.1 c.cells.view_is bounded1 r.width r.len marks t d (c.in-Ok.ensures.earlier t d h) (r.earlier t h)
 
 pub returns-clause-later : goal.returns-clause-later
 returns-clause-later g c = λ t d h.
@@ -56,7 +57,7 @@ returns-clause-later g c = λ t d h.
     let states1 = c.repeat_changed.new.self in
     let marks = marks_filled i.due c.clear_rows.new.due c.args.from c.args.to c.cells.invariant.1.marks r.cleared r.earlier r.later in
     let bounded1 = bounded_by states1 i.due (stated_along i.states states1 i.due i.due c.cells.invariant.0 c.repeat_changed.ensures.many refl refl) in
-    same_cell (state_at i.states) (state_at states1) i.due c.clear_rows.new.due i.versions.items c.args.cells.now (bounded_by i.states i.due c.cells.invariant.0) c.cells.invariant.1 c.cells.view_is bounded1 r.width r.len marks t d (c.in-Ok.ensures.later t d h) (r.later t h)
+    same_cell (state_at i.states) (state_at states1) i.due c.clear_rows.new.due (lists i.versions.items) c.args.cells.now (bounded_by i.states i.due c.cells.invariant.0) c.cells.invariant.1 c.cells.view_is bounded1 r.width r.len marks t d (c.in-Ok.ensures.later t d h) (r.later t h)
 
 pub returns-clause-repeated : goal.returns-clause-repeated
 returns-clause-repeated g c = λ t d h k l.
@@ -67,6 +68,6 @@ returns-clause-repeated g c = λ t d h k l.
     let bounded1 = bounded_by states1 i.due (stated_along i.states states1 i.due i.due c.cells.invariant.0 c.repeat_changed.ensures.many refl refl) in
     let some : 0 < length c.args.cells.now = omega (arith, c.requires.later, c.requires.after, c.requires.within) in
     let at = cond (is_awake c.args.changes.now d) (c.args.from - 1) t in
-    let wide : d < i.due.width = omega (arith, h, width_each i.states i.due i.versions.items c.args.cells.now (length c.args.changes.now) c.cells.invariant.0 c.cells.view_is some c.requires.width, c.cells.invariant.0.width) in
-    cleared_cell (state_at i.states) (state_at states1) i.due c.clear_rows.new.due i.versions.items c.args.cells.now (bounded_by i.states i.due c.cells.invariant.0) c.cells.invariant.1 c.cells.view_is bounded1 r.width r.len marks t d _ wide (r.cleared t k l) (c.in-Ok.ensures.repeated t d k l)
-    ∙ ap cleared (sym (seen_state (state_at i.states) i.due i.versions.items c.args.cells.now c.cells.view_is (bounded_by i.states i.due c.cells.invariant.0) c.cells.invariant.1 at d))
+    let wide : d < i.due.width = omega (arith, h, width_each i.states i.due (lists i.versions.items) c.args.cells.now (length c.args.changes.now) c.cells.invariant.0 c.cells.view_is some c.requires.width, c.cells.invariant.0.width) in
+    cleared_cell (state_at i.states) (state_at states1) i.due c.clear_rows.new.due (lists i.versions.items) c.args.cells.now (bounded_by i.states i.due c.cells.invariant.0) c.cells.invariant.1 c.cells.view_is bounded1 r.width r.len marks t d _ wide (r.cleared t k l) (c.in-Ok.ensures.repeated t d k l)
+    ∙ ap cleared (sym (seen_state (state_at i.states) i.due (lists i.versions.items) c.args.cells.now c.cells.view_is (bounded_by i.states i.due c.cells.invariant.0) c.cells.invariant.1 at d))

@@ -1,7 +1,8 @@
 use Rattle.std.proofs.Common.{◌≡◌, ◌-◌, ◌<◌, ◌∙◌, ◌&&◌, ◌||◌, sym, ap, subst, arith, get_or, length}
 use Rattle.cell_states.specs.declared.cell.CellRange.{CellRange}
 use Rattle.due_cells.specs.Ranges.{GoesOn, covers, is_marked}
-use Rattle.due_cells.proofs.MarkedRow.{and_true, covers_joined, marked_joined, none_range, same_get}
+use Rattle.cell_states.proofs.Rooms.{same_get}
+use Rattle.due_cells.proofs.MarkedRow.{and_true, covers_joined, marked_joined, none_range}
 use Rattle.due_cells.proofs.marks.add_where.Goals as goal
 
 pub returns-then-goes_on-clause-at : goal.returns-then-goes_on-clause-at

@@ -1,10 +1,18 @@
-use Rattle.std.proofs.Common.{◌+◌, ◌∙◌, ◌||◌, ap, arith}
-use Rattle.cell_states.specs.Near.{has}
-use Rattle.due_cells.specs.Ranges.{has_later}
-use Rattle.due_cells.proofs.MarkedRow.{retouched}
+use Rattle.std.proofs.Common.{◌≡◌, ◌<◌, ◌+◌, ◌∙◌, ap, arith, length, []}
+use Rattle.std.proofs.lemmas.List.{get_or-take, length-replicate}
+use Rattle.due_cells.specs.Seen.{held_in, held_at}
+use Rattle.due_cells.proofs.MarkedRow.{grown_marked, grown_whole}
 use Rattle.due_cells.proofs.marks.retouch.Goals as goal
 
-pub returns-in-Ok-clause-at : goal.returns-in-Ok-clause-at
-returns-in-Ok-clause-at g c = λ t d h k.
-    let made = c.in_ok-gather.ensures in
-    retouched (c.args.last + 1) t d c.args.cells.now c.resize.new.cells c.mark_later.new.cells c.mark_others.new.cells c.args.ranges.now c.args.version (has c.as_slice.result.now d) (ap (λ xs. has xs d) c.as_slice.ensures.value ∙ made.listed d ∙ ap (λ xs. has xs d || has_later c.args.ranges.now (c.args.last + 1) d) c.new-list.ensures.items) (c.mark_later.ensures.at t d) (c.mark_others.ensures.at t d) (c.in-Ok.ensures.at t h) (omega (arith, k, c.requires.whole 0 c.requires.some))
+pub mark_ranges-requires-clause-whole : goal.mark_ranges-requires-clause-whole
+mark_ranges-requires-clause-whole g c = λ t h.
+    let wide : length c.gather.new.row ≡ c.args.count = c.gather.ensures.len ∙ ap length c.in_ok-row.ensures ∙ length-replicate c.args.count _ in
+    omega (arith, wide, grown_whole c.args.cells.now c.grow_to.new.cells c.args.version c.args.count t (c.in_ok-grow_to.ensures.at t h) c.requires.some c.requires.whole)
+
+pub returns-clause-at : goal.returns-clause-at
+returns-clause-at g c = λ t d h k.
+    let grown = c.in_ok-grow_to.ensures in
+    ap (λ rows. held_at rows t d) c.cut.ensures
+    ∙ ap (λ row. held_in row d) (get_or-take (c.args.horizon + 1) c.mark_ranges.new.self t [] (omega (arith, h)))
+    ∙ c.in-Ok.ensures.marked t d
+    ∙ grown_marked (c.args.last + 1) t d c.args.cells.now c.grow_to.new.cells c.args.ranges.now c.args.version (grown.at t (omega (arith, h, grown.len))) (omega (arith, k, c.requires.whole 0 c.requires.some))

@@ -14,7 +14,7 @@ note-requires-clause-reached g c = λ d h.
     let s = c.args.slots.now in
     let n = R.components s in
     let changes = c.args.changes.now in
-    let width = c.requires.width in
+    let width = c.requires.width.0 in
     let index = c.requires.index in
     let near = near_at (arc_value c.near.result.now) d in
     let inside : d < n = omega (arith, h, width) in
@@ -23,17 +23,17 @@ note-requires-clause-reached g c = λ d h.
     ∙ any_same changes (R.near s d) near n same
     ∙ ap (any_changes changes near) (sym width)
 
-pub returns-then-note-clause-marked : goal.returns-then-note-clause-marked
-returns-then-note-clause-marked g c = λ m d inside.
+pub returns-clause-marked : goal.returns-clause-marked
+returns-clause-marked g c = λ m d inside.
     let R = g.G.Grid.rules in
     let s = c.args.slots.now in
     let n = R.components s in
     let t = c.args.cycle in
     let changes = c.args.changes.now in
-    let width = c.requires.width in
+    let width = c.requires.width.0 in
     let index = c.requires.index in
     let near = near_at (arc_value c.near.result.now) d in
     let same : (k : ℕ) → k < n → has near k ≡ has (R.near s d) k = λ k l. c.near.ensures k d (omega (arith, l, index.one_each)) (omega (arith, inside, index.one_each)) ∙ index.readers k d l inside in
-    c.note.ensures.noted c.if-note.true d (omega (arith, inside, width))
+    c.note.ensures.noted d (omega (arith, inside, width))
     ∙ ap (noted (held_at c.args.cells.now (t + 1) d) changes near c.args.clock) width
     ∙ sym (woken_noted R s c.args.cells.now changes t c.args.clock d near n (omega (arith, width)) same)

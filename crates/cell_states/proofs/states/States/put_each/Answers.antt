@@ -1,86 +1,68 @@
-use Rattle.std.proofs.Common.{◌≡◌, ℕ, ◌<◌, ◌-◌, ◌∙◌, sym, ap, subst, arith, cond, Some}
+use Rattle.std.proofs.Common.{◌≡◌, ℕ, ◌<◌, ◌-◌, ◌∙◌, sym, ap, subst, arith}
 use Rattle.grid_law.specs.Run.{run}
-use Rattle.cell_states.specs.Coded.{states_in}
-use Rattle.cell_states.specs.Stated.{state_at, IsAsMany}
-use Rattle.cell_states.specs.Filling.{is_awake}
+use Rattle.change_rows.specs.Rows.{Table}
 use Rattle.cell_states.specs.Sets.{IsWide}
-use Rattle.cell_states.proofs.Coded.{seen_width, seen_cycles, seen_at, coded_err, states_err, many_along}
-use Rattle.cell_states.proofs.Changed.{coded_row, state_row, state_kept}
-use Rattle.cell_states.proofs.Codes.{holds_only}
-use Rattle.cell_states.proofs.Whole.{is_told_by, has_exactly}
-use Rattle.cell_states.proofs.Next.{same_words_of}
+use Rattle.cell_states.proofs.Coded.{seen_width, seen_cycles, seen_at, coded_err, states_err}
+use Rattle.cell_states.proofs.Next.{holds_run}
+use Rattle.cell_states.proofs.PutRow.{coded_row, states_put}
 use Rattle.cell_states.proofs.states.States.put_each.Goals as goal
 
-pub put_each-requires-clause-within : goal.put_each-requires-clause-within
-put_each-requires-clause-within g c =
+pub put_each-requires-clause-at : goal.put_each-requires-clause-at
+put_each-requires-clause-at g c =
     let i = c.self.inside in
-    omega (arith, c.requires.within, seen_cycles g.G.Grid.codec i.words i.memories c.args.self.now c.self.view_is)
-
-pub put_each-requires-clause-width : goal.put_each-requires-clause-width
-put_each-requires-clause-width g c =
-    let i = c.self.inside in
-    c.requires.width ∙ seen_width g.G.Grid.codec i.words i.memories c.args.self.now c.self.view_is
-
-pub put_each-requires-clause-memories : goal.put_each-requires-clause-memories
-put_each-requires-clause-memories g c =
-    let i = c.self.inside in
-    c.self.invariant.0.many ∙ sym (c.requires.width ∙ seen_width g.G.Grid.codec i.words i.memories c.args.self.now c.self.view_is)
-
-pub put_each-requires-clause-len : goal.put_each-requires-clause-len
-put_each-requires-clause-len g c =
-    let i = c.self.inside in
-    c.self.invariant.1 ∙ sym (c.requires.width ∙ seen_width g.G.Grid.codec i.words i.memories c.args.self.now c.self.view_is)
-
-pub put_each-requires-clause-before : goal.put_each-requires-clause-before
-put_each-requires-clause-before g c =
-    let i = c.self.inside in
-    let C = g.G.Grid.codec in
-    let laws = g.G.Grid.codec_laws in
-    let R = g.G.Grid.rules in
-    let s = c.args.slots.now in
-    let later = c.requires.later in
-    let u = c.args.cycle - 1 in
-    let seen = λ (d : ℕ). seen_at C i.words i.memories c.args.self.now c.self.view_is c.self.invariant.0.whole u d in
-    let same = λ (d : ℕ) (h : d < R.components s). sym (seen d) ∙ c.requires.before u d (omega (arith, later)) (subst (λ n. d < n) (sym c.requires.components) h) in
-    let code = c.self.invariant.0.codes u in
     record {
-      told = λ d h. (is_told_by C laws _ _ (code d) (run R s u d) (same d h)).0;
-      words = λ d h. sym (is_told_by C laws _ _ (code d) (run R s u d) (same d h)).1;
-      memory = λ d h. sym (holds_only C laws _ _ (run R s u d) (code d) (same d h)).memory_is;
+      later = c.requires.at.later;
+      within = omega (arith, c.requires.at.within, seen_cycles g.G.Grid.codec i.words i.memories c.args.self.now c.self.view_is);
+      wide = c.requires.at.wide ∙ seen_width g.G.Grid.codec i.words i.memories c.args.self.now c.self.view_is;
+      components = c.requires.at.components;
     }
 
-pub put_each-requires-clause-earlier : goal.put_each-requires-clause-earlier
-put_each-requires-clause-earlier g c = λ later.
+pub put_each-requires-clause-each : goal.put_each-requires-clause-each
+put_each-requires-clause-each g c =
+    let i = c.self.inside in
+    let wide : i.words.width ≡ g.G.Grid.rules.components c.args.slots.now = sym (c.requires.at.wide ∙ seen_width g.G.Grid.codec i.words i.memories c.args.self.now c.self.view_is) ∙ c.requires.at.components in
+    record {
+      each = record {
+        lists = c.self.invariant.0.many ∙ wide;
+        places = c.self.invariant.1 ∙ wide;
+        marked = c.requires.marks.marks ∙ c.requires.at.components;
+      };
+      other = c.requires.marks.others ∙ c.requires.at.components;
+    }
+
+pub put_each-requires-clause-run : goal.put_each-requires-clause-run
+put_each-requires-clause-run g c =
     let i = c.self.inside in
     let C = g.G.Grid.codec in
-    let laws = g.G.Grid.codec_laws in
     let R = g.G.Grid.rules in
     let s = c.args.slots.now in
-    let u = c.args.cycle - 1 - 1 in
-    let seen = λ (d : ℕ). seen_at C i.words i.memories c.args.self.now c.self.view_is c.self.invariant.0.whole u d in
-    let same = λ (d : ℕ) (h : d < R.components s). sym (seen d) ∙ c.requires.before u d (omega (arith, later)) (subst (λ n. d < n) (sym c.requires.components) h) in
-    let code = c.self.invariant.0.codes u in
+    let later = c.requires.at.later in
+    let at = λ (u : ℕ) (k : u < c.args.cycle). holds_run R C g.G.Grid.codec_laws s i.words.rows i.memories u (c.self.invariant.0.codes u) (λ d h. sym (seen_at C i.words i.memories c.args.self.now c.self.view_is c.self.invariant.0.whole u d) ∙ c.requires.before u d k (subst (λ n. d < n) (sym c.requires.at.components) h)) in
     record {
-      told = λ d h. (is_told_by C laws _ _ (code d) (run R s u d) (same d h)).0;
-      words = λ d h. sym (is_told_by C laws _ _ (code d) (run R s u d) (same d h)).1;
-      memory = λ d h. sym (holds_only C laws _ _ (run R s u d) (code d) (same d h)).memory_is;
+      later = later;
+      before = at (c.args.cycle - 1) (omega (arith, later));
+      earlier = λ more. at (c.args.cycle - 1 - 1) (omega (arith, more));
     }
 
 pub invariant_of-self : goal.invariant_of-self
 invariant_of-self g c =
     let i = c.self.inside in
-    let C = g.G.Grid.codec in
-    let e = c.in-Err.ensures.err in (
-      coded_err C i.words c.put_each.new.rows i.memories c.put_each.new.memories c.self.invariant.0 e.0 e.1 c.put_each.ensures.many,
-      c.put_each.ensures.len ∙ c.self.invariant.1 ∙ sym c.put_each.ensures.width,
-      subst (λ n. IsWide n i.sets) (sym c.put_each.ensures.width) c.self.invariant.2,
+    let e = c.in-Err.ensures.err in
+    let each = c.put_each.ensures.each.each in
+    let wide : i.words.width ≡ g.G.Grid.rules.components c.args.slots.now = sym (c.requires.at.wide ∙ seen_width g.G.Grid.codec i.words i.memories c.args.self.now c.self.view_is) ∙ c.requires.at.components in
+    let same : c.put_each.new.rows.width ≡ i.words.width = ap (λ (w : Table). w.width) e.0 in (
+      coded_err g.G.Grid.codec i.words c.put_each.new.rows i.memories c.put_each.new.memories c.self.invariant.0 e.0 e.1 (each.lists ∙ sym wide ∙ sym c.self.invariant.0.many),
+      each.places ∙ sym wide ∙ sym same,
+      subst (λ n. IsWide n i.sets) (sym same) c.self.invariant.2,
     )
 
-pub returns-in-Err-clause-many : goal.returns-in-Err-clause-many
-returns-in-Err-clause-many g c =
-    let i = c.self.inside in
-    let e = c.in-Err.ensures.err in
-    (states_err g.G.Grid.codec i.words c.put_each.new.rows i.memories c.put_each.new.memories c.self.invariant.0 e.0 e.1 c.args.self.now c.self.view_is).many
+pub returns-in-Err-clause-marks : goal.returns-in-Err-clause-marks
+returns-in-Err-clause-marks g c =
+    let e = c.put_each.ensures.each in
+    record {
+      marks = e.each.marked ∙ sym c.requires.at.components;
+      others = e.other ∙ sym c.requires.at.components;
+    }
 
 pub returns-in-Err-clause-err : goal.returns-in-Err-clause-err
 returns-in-Err-clause-err g c =
@@ -91,57 +73,26 @@ returns-in-Err-clause-err g c =
 pub invariant_of-self-2 : goal.invariant_of-self-2
 invariant_of-self-2 g c =
     let i = c.self.inside in
-    let C = g.G.Grid.codec in
-    let e = c.put_each.ensures in
-    let ok = c.in-Ok.ensures in
-    let new = run g.G.Grid.rules c.args.slots.now c.args.cycle in (
-      coded_row C i.words c.put_each.new.rows i.memories c.put_each.new.memories c.self.invariant.0 e.width e.cycles e.lens c.args.set.now e.many g.G.Grid.codec_laws c.args.cycle new ok.told ok.put ok.others ok.other_cycles,
-      e.len ∙ c.self.invariant.1 ∙ sym e.width,
-      subst (λ n. IsWide n i.sets) (sym e.width) c.self.invariant.2,
+    let put = c.in-Ok.ensures.put in
+    let each = c.put_each.ensures.each.each in
+    let wide : i.words.width ≡ g.G.Grid.rules.components c.args.slots.now = sym (c.requires.at.wide ∙ seen_width g.G.Grid.codec i.words i.memories c.args.self.now c.self.view_is) ∙ c.requires.at.components in
+    let same : c.put_each.new.rows.width ≡ i.words.width = put.words.cells.width in (
+      coded_row g.G.Grid.codec g.G.Grid.codec_laws i.words c.put_each.new.rows i.memories c.put_each.new.memories c.self.invariant.0 (each.lists ∙ sym wide ∙ sym c.self.invariant.0.many) c.args.cycle c.args.set.now c.put_each.new.changes c.put_each.new.worded (run g.G.Grid.rules c.args.slots.now c.args.cycle) put,
+      each.places ∙ sym wide ∙ sym same,
+      subst (λ n. IsWide n i.sets) (sym same) c.self.invariant.2,
     )
 
-pub returns-clause-many : goal.returns-clause-many
-returns-clause-many g c =
-    let i = c.self.inside in
-    let C = g.G.Grid.codec in
-    let e = c.put_each.ensures in
-    subst (λ v. IsAsMany v (states_in C c.put_each.new.rows c.put_each.new.memories)) c.self.view_is (many_along C i.words c.put_each.new.rows i.memories c.put_each.new.memories c.self.invariant.0 e.width e.cycles e.lens)
+pub returns-clause-marks : goal.returns-clause-marks
+returns-clause-marks g c =
+    let e = c.put_each.ensures.each in
+    record {
+      marks = e.each.marked ∙ sym c.requires.at.components;
+      others = e.other ∙ sym c.requires.at.components;
+    }
 
 pub returns-clause-put : goal.returns-clause-put
-returns-clause-put g c = λ d.
+returns-clause-put g c =
     let i = c.self.inside in
-    let C = g.G.Grid.codec in
-    let e = c.put_each.ensures in
-    let ok = c.in-Ok.ensures in
-    let new = run g.G.Grid.rules c.args.slots.now c.args.cycle in
-    subst (λ v. state_at (states_in C c.put_each.new.rows c.put_each.new.memories) c.args.cycle d ≡ cond (is_awake c.args.set.now d) (Some (run g.G.Grid.rules c.args.slots.now c.args.cycle d)) (state_at v c.args.cycle d)) c.self.view_is
-    (state_row C i.words c.put_each.new.rows i.memories c.put_each.new.memories c.self.invariant.0 e.width e.cycles e.lens c.args.set.now e.many g.G.Grid.codec_laws c.args.cycle new ok.told ok.put ok.others ok.other_cycles d)
-
-pub returns-clause-others : goal.returns-clause-others
-returns-clause-others g c = λ t d n.
-    let i = c.self.inside in
-    let C = g.G.Grid.codec in
-    let e = c.put_each.ensures in
-    let ok = c.in-Ok.ensures in
-    subst (λ v. state_at (states_in C c.put_each.new.rows c.put_each.new.memories) t d ≡ state_at v t d) c.self.view_is (state_kept C i.words c.put_each.new.rows i.memories c.put_each.new.memories c.self.invariant.0 e.width e.cycles e.lens t d (λ h. ok.other_cycles t d h n))
-
-pub returns-clause-tells : goal.returns-clause-tells
-returns-clause-tells g c = λ d a.
-    let i = c.self.inside in
-    let C = g.G.Grid.codec in
-    let t = c.args.cycle in
-    let seen = seen_at C i.words i.memories c.args.self.now c.self.view_is c.self.invariant.0.whole t d in
-    let q = c.in-Ok.ensures.tells d a in
-    let x = has_exactly C g.G.Grid.codec_laws _ _ (c.self.invariant.0.codes t d) (run g.G.Grid.rules c.args.slots.now c.args.cycle d) (c.in-Ok.ensures.told d a) in
-    (λ p. seen ∙ x.0 (q.0 p), λ e. q.1 (x.1 (sym seen ∙ e)))
-
-pub returns-clause-words : goal.returns-clause-words
-returns-clause-words g c = λ d x y a e1 e2.
-    let i = c.self.inside in
-    let C = g.G.Grid.codec in
-    let e = c.put_each.ensures in
-    let ok = c.in-Ok.ensures in
-    let t = c.args.cycle in
-    let new = run g.G.Grid.rules c.args.slots.now t in
-    let coded1 = coded_row C i.words c.put_each.new.rows i.memories c.put_each.new.memories c.self.invariant.0 e.width e.cycles e.lens c.args.set.now e.many g.G.Grid.codec_laws t new ok.told ok.put ok.others ok.other_cycles in
-    same_words_of C i.words c.put_each.new.rows i.memories c.put_each.new.memories c.self.invariant.0 coded1 g.G.Grid.codec_laws t d x y (ok.words d a) (ap (λ v. state_at v t d) c.self.view_is ∙ e1) e2
+    let each = c.put_each.ensures.each.each in
+    let wide : i.words.width ≡ g.G.Grid.rules.components c.args.slots.now = sym (c.requires.at.wide ∙ seen_width g.G.Grid.codec i.words i.memories c.args.self.now c.self.view_is) ∙ c.requires.at.components in
+    states_put g.G.Grid.codec g.G.Grid.codec_laws i.words c.put_each.new.rows i.memories c.put_each.new.memories c.self.invariant.0 (each.lists ∙ sym wide ∙ sym c.self.invariant.0.many) c.args.cycle c.args.set.now c.put_each.new.changes c.put_each.new.worded (run g.G.Grid.rules c.args.slots.now c.args.cycle) c.in-Ok.ensures.put c.args.self.now c.self.view_is

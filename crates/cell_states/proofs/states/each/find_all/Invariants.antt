@@ -1,31 +1,21 @@
-use Rattle.std.proofs.Common.{◌≡◌, ◌↔◌, ℕ, ◌-◌, ◌<◌, ◌≤◌, length, true, false, None}
-use Rattle.std.specs.Prelude.{slice_index_or}
-use Rattle.grid_law.specs.Codec.{IsTold}
+use Rattle.std.proofs.Common.{◌≡◌, ℕ, ◌-◌, ◌<◌, ◌≤◌, length, true, false, None}
 use Rattle.grid_law.specs.Run.{run}
-use Rattle.change_rows.specs.Cells.{end_of, found}
-use Rattle.change_lists.specs.Changes.{list_at, held_at as memory_at}
+use Rattle.change_rows.specs.Cells.{found}
+use Rattle.change_lists.specs.Changes.{list_at}
 use Rattle.cell_states.specs.Filling.{is_awake}
-use Rattle.cell_states.specs.NextWords.{HoldsWords, IsDrafted}
-use Rattle.cell_states.specs.Ready.{value_in, IsReady}
+use Rattle.cell_states.specs.Found.{IsFoundTo, IsFound}
+use Rattle.cell_states.specs.NextWords.{HoldsWords}
 use Rattle.cell_states.proofs.states.each.find_all.Given as goal
 
 abbrev pub invariant-loop-component : goal.invariant-loop-component
 invariant-loop-component g l = record {
   within : l.next ≤ length l.set;
+  so_far : IsFoundTo (g.G.Grid.rules.components l.slots) l.draft l.memories l.ready.items l.changes l.next;
   held : HoldsWords g.G.Grid.rules g.G.Grid.codec g.M.WholeRow.stands g.M.WholeRow.state l.slots l.held;
-  changes : length l.changes ≡ length l.initial.changes;
-  width : length l.memories ≡ length l.initial.memories;
-  len : length l.ready.items ≡ length l.initial.ready.items;
   same : (c : ℕ) → list_at l.memories c ≡ list_at l.initial.memories c;
-  after : end_of l.draft ≤ l.next;
-  told : (c : ℕ) → c < l.next → is_awake l.set c ≡ true → IsTold g.G.Grid.codec (run g.G.Grid.rules l.slots l.cycle c);
-  words : (c : ℕ) → c < l.next → is_awake l.set c ≡ true → IsDrafted l.rows.rows l.draft l.cycle c (g.G.Grid.codec.words (run g.G.Grid.rules l.slots l.cycle c));
-  other_words : (c : ℕ) → is_awake l.set c ≡ false → found l.draft c ≡ None;
-  ready : (c : ℕ) → is_awake l.changes c ≡ true → IsReady l.memories c l.cycle (slice_index_or l.ready.items c None);
-  value : (c : ℕ) → is_awake l.changes c ≡ true → value_in l.memories c l.cycle (slice_index_or l.ready.items c None) ≡ g.G.Grid.codec.memory (run g.G.Grid.rules l.slots l.cycle c);
-  marked : (c : ℕ) → c < l.next → is_awake l.set c ≡ true → (is_awake l.changes c ≡ false) ↔ (memory_at l.initial.memories c l.cycle ≡ g.G.Grid.codec.memory (run g.G.Grid.rules l.slots l.cycle c));
+  each : (c : ℕ) → c < l.next → is_awake l.set c ≡ true → IsFound g.G.Grid.codec l.rows.rows l.draft l.memories l.ready.items l.changes l.cycle c (run g.G.Grid.rules l.slots l.cycle c);
+  no_words : (c : ℕ) → is_awake l.set c ≡ false → found l.draft c ≡ None;
   unmarked : (c : ℕ) → is_awake l.set c ≡ false → is_awake l.changes c ≡ false;
-  later : (c : ℕ) → l.next ≤ c → is_awake l.changes c ≡ false;
 }
 
 abbrev pub decreases-loop-component : goal.decreases-loop-component

@@ -9,31 +9,28 @@ use Rattle.cell_states.proofs.Changed.{memory_same}
 use Rattle.cell_states.proofs.Whole.{awake_within, by_mark}
 use Rattle.cell_states.proofs.Looking.{joined_at, long_of, long_union, marks_of}
 use Rattle.cell_states.proofs.PutRow.{by_part, both_told, neither_marked, not_so, is_left, is_out, by_writing}
+use Rattle.cell_states.proofs.Readied.{marked_before, of_set}
 use Rattle.cell_states.proofs.states.whole.put_whole.Goals as goal
 
 pub ready_all-requires-clause-components : goal.ready_all-requires-clause-components
-ready_all-requires-clause-components g c = c.find_sets.ensures.wide.written ∙ c.requires.components
-
-pub ready_all-requires-clause-changes : goal.ready_all-requires-clause-changes
-ready_all-requires-clause-changes g c = c.requires.changes ∙ sym c.find_sets.ensures.wide.written
-
-pub ready_all-requires-clause-memories : goal.ready_all-requires-clause-memories
-ready_all-requires-clause-memories g c = c.requires.memories ∙ sym c.find_sets.ensures.wide.written
-
-pub ready_all-requires-clause-len : goal.ready_all-requires-clause-len
-ready_all-requires-clause-len g c = c.requires.len ∙ sym c.find_sets.ensures.wide.written
+ready_all-requires-clause-components g c = c.find_sets.ensures.wide.written ∙ c.requires.at.components
 
 pub put_words-requires-clause-still : goal.put_words-requires-clause-still
 put_words-requires-clause-still g c = λ d a n. c.requires.still d a (not-false _ (sym (c.find_sets.ensures.moved d (awake_within c.args.set.now d a)) ∙ n))
 
 pub put_memories-requires-clause-memories : goal.put_memories-requires-clause-memories
-put_memories-requires-clause-memories g c = c.ready_all.ensures.width ∙ c.requires.memories ∙ sym c.requires.changes ∙ sym c.ready_all.ensures.changes
+put_memories-requires-clause-memories g c = let e = c.ready_all.ensures.each in e.lists ∙ sym e.marked
 
 pub put_memories-requires-clause-len : goal.put_memories-requires-clause-len
-put_memories-requires-clause-len g c = c.ready_all.ensures.len ∙ c.requires.len ∙ sym c.requires.changes ∙ sym c.ready_all.ensures.changes
+put_memories-requires-clause-len g c = let e = c.ready_all.ensures.each in e.places ∙ sym e.marked
+
+pub put_memories-requires-clause-ready : goal.put_memories-requires-clause-ready
+put_memories-requires-clause-ready g c = λ d a.
+    let ok = c.in-Ok.ensures in
+    (ok.ready d (of_set (is_awake c.find_sets.new.sets.written d) (is_awake c.ready_all.new.changes d) (ok.unmarked d) a)).is_ready a
 
 pub carry_all-requires-clause-changes : goal.carry_all-requires-clause-changes
-carry_all-requires-clause-changes g c = c.ready_all.ensures.changes ∙ c.requires.changes ∙ sym c.requires.memories ∙ sym c.ready_all.ensures.width ∙ sym c.put_memories.ensures.width
+carry_all-requires-clause-changes g c = let e = c.ready_all.ensures.each in e.marked ∙ sym e.lists ∙ sym c.put_memories.ensures.width
 
 pub carry_all-requires-clause-unmarked : goal.carry_all-requires-clause-unmarked
 carry_all-requires-clause-unmarked g c = λ d a. c.in-Ok.ensures.unmarked d (is_left c.args.set.now c.find_sets.new.sets.written c.find_sets.new.sets.unwritten (λ n. g.M.WholeRow.has_written c.args.step.now c.args.slots.now n) c.find_sets.ensures.wide.written c.find_sets.ensures.wide.unwritten c.find_sets.ensures.written c.find_sets.ensures.unwritten d a).2
@@ -45,30 +42,31 @@ pub returns-in-Err-put_words-clause-err : goal.returns-in-Err-put_words-clause-e
 returns-in-Err-put_words-clause-err g c = (c.in-Err-put_words.ensures.err, λ d t. memory_same c.args.memories.now c.ready_all.new.memories d t (c.ready_all.ensures.same d))
 
 pub add_words-requires : goal.add_words-requires
-add_words-requires g c = omega (arith, c.in-Ok-put_words.ensures.room, c.requires.worded, ap length c.clear_all.ensures, length-replicate (length c.args.worded.now) false, ap length c.as_slice.ensures.value)
+add_words-requires g c = omega (arith, c.in-Ok-put_words.ensures.reworded.room, c.requires.at.components, c.requires.each.other, ap length c.clear_all.ensures, length-replicate (length c.args.worded.now) false, ap length c.as_slice.ensures.value)
 
 pub add-requires : goal.add-requires
 add-requires g c =
-    long_of c.args.worded.now c.clear_all.new.self c.add_words.new.self c.as_slice.result.now c.clear_all.ensures c.add_words.ensures ∙ c.requires.worded ∙ sym c.requires.changes ∙ sym c.ready_all.ensures.changes ∙ sym c.carry_all.ensures.changes
+    long_of c.args.worded.now c.clear_all.new.self c.add_words.new.self c.as_slice.result.now c.clear_all.ensures c.add_words.ensures ∙ c.requires.each.other ∙ sym c.ready_all.ensures.each.marked ∙ sym c.carry_all.ensures.changes
 
-pub returns-clause-changes : goal.returns-clause-changes
-returns-clause-changes g c = long_union c.carry_all.new.changes c.add_words.new.self c.add.new.self c.add.ensures ∙ c.carry_all.ensures.changes ∙ c.ready_all.ensures.changes
+pub returns-clause-each : goal.returns-clause-each
+returns-clause-each g c =
+    let e = c.ready_all.ensures.each in
+    let put = c.put_memories.ensures in
+    record {
+      each = record {
+        lists = c.carry_all.ensures.width ∙ put.width ∙ e.lists;
+        places = put.len ∙ e.places;
+        marked = long_union c.carry_all.new.changes c.add_words.new.self c.add.new.self c.add.ensures ∙ c.carry_all.ensures.changes ∙ e.marked;
+      };
+      other = long_of c.args.worded.now c.clear_all.new.self c.add_words.new.self c.as_slice.result.now c.clear_all.ensures c.add_words.ensures ∙ c.requires.each.other;
+    }
 
-pub returns-clause-worded : goal.returns-clause-worded
-returns-clause-worded g c = long_of c.args.worded.now c.clear_all.new.self c.add_words.new.self c.as_slice.result.now c.clear_all.ensures c.add_words.ensures
-
-pub returns-clause-told : goal.returns-clause-told
-returns-clause-told g c = λ d a. c.are_told.ensures d (omega (arith, awake_within c.args.set.now d a, c.len.ensures))
-
-pub returns-clause-among : goal.returns-clause-among
-returns-clause-among g c = λ d a.
-    let wide = long_of c.args.worded.now c.clear_all.new.self c.add_words.new.self c.as_slice.result.now c.clear_all.ensures c.add_words.ensures in
-    joined_at c.carry_all.new.changes c.add_words.new.self c.add.new.self c.add.ensures d (omega (arith, awake_within c.add_words.new.self d a, wide, c.requires.worded, c.requires.changes, c.ready_all.ensures.changes, c.carry_all.ensures.changes))
-    ∙ or_right _ _ a
-
-pub returns-clause-words : goal.returns-clause-words
-returns-clause-words g c = λ d a.
+pub returns-clause-put : goal.returns-clause-put
+returns-clause-put g c =
     let e = c.find_sets.ensures in
+    let written = c.find_sets.new.sets.written in
+    let unwritten = c.find_sets.new.sets.unwritten in
+    let has = λ (n : ℕ). g.M.WholeRow.has_written c.args.step.now c.args.slots.now n in
     let set = c.args.set.now in
     let C = g.G.Grid.codec in
     let W = g.M.WholeRow in
@@ -76,99 +74,63 @@ returns-clause-words g c = λ d a.
     let t = c.args.cycle in
     let m0 = c.args.memories.now in
     let m1 = c.ready_all.new.memories in
-    let worded = c.args.worded.now in
-    let items = λ (d : ℕ). ap (λ (ws : List ℕ). is_in ws d) c.as_slice.ensures.value in
-    let wide : length worded ≡ length set = c.requires.worded in
-    let bit = λ (d : ℕ) (h : d < length worded). marks_of worded c.clear_all.new.self c.add_words.new.self c.as_slice.result.now c.clear_all.ensures c.add_words.ensures d h ∙ items d in
-    let ok = c.in-Ok-put_words.ensures in
-    by_part (is_awake set d) _ _
-    (λ s. ok.put d s ∙ sym (ok.same d s (sym (bit d (omega (arith, awake_within set d s, wide))) ∙ a)))
-    (λ s. ok.others t d s)
-
-pub returns-clause-put : goal.returns-clause-put
-returns-clause-put g c = λ d a.
-    let ok = c.in-Ok.ensures in
+    let m2 = c.put_memories.new.memories in
+    let m3 = c.carry_all.new.memories in
+    let each = c.ready_all.ensures.each in
+    let ready = c.in-Ok.ensures in
     let put = c.put_memories.ensures in
     let carried = c.carry_all.ensures in
-    let t = c.args.cycle in
-    let m0 = c.args.memories.now in
-    let m1 = c.ready_all.new.memories in
-    let same = c.ready_all.ensures.same d in (
-      c.in-Ok-put_words.ensures.put d a,
-      by_writing c.args.set.now c.find_sets.new.sets.written c.find_sets.new.sets.unwritten (λ n. g.M.WholeRow.has_written c.args.step.now c.args.slots.now n) c.find_sets.ensures.wide.written c.find_sets.ensures.wide.unwritten c.find_sets.ensures.written c.find_sets.ensures.unwritten d a
-          (λ w n. memory_same c.put_memories.new.memories c.carry_all.new.memories d t (ap (λ x. x.begun) (carried.others d n).0)
-          ∙ by_mark (is_awake c.ready_all.new.changes d) _ _ (λ k. put.put d k ∙ ok.value d k) (λ k. put.others d t k ∙ memory_same m0 m1 d t same ∙ (ok.marked d w).0 k))
-          (λ u n w. carried.here d u ∙ put.others d (t - 1) (ok.unmarked d w) ∙ memory_same m0 m1 d (t - 1) same ∙ c.requires.kept d a n),
-    )
-
-pub returns-clause-others : goal.returns-clause-others
-returns-clause-others g c = λ u d a. (
-  c.in-Ok-put_words.ensures.others u d a,
-  (let out = is_out c.args.set.now c.find_sets.new.sets.written c.find_sets.new.sets.unwritten (λ n. g.M.WholeRow.has_written c.args.step.now c.args.slots.now n) c.find_sets.ensures.wide.written c.find_sets.ensures.wide.unwritten c.find_sets.ensures.written c.find_sets.ensures.unwritten d a in
-      memory_same c.put_memories.new.memories c.carry_all.new.memories d u (ap (λ x. x.begun) (c.carry_all.ensures.others d out.1).0) ∙ c.put_memories.ensures.others d u (c.in-Ok.ensures.unmarked d out.0) ∙ memory_same c.args.memories.now c.ready_all.new.memories d u (c.ready_all.ensures.same d)),
-)
-
-pub returns-clause-other_cycles : goal.returns-clause-other_cycles
-returns-clause-other_cycles g c = λ u d h n. (
-  c.in-Ok-put_words.ensures.other_cycles u d n,
-  λ some.
-      (by_part (is_awake c.args.set.now d) _ _
-      (λ s. by_end (cases_lt u c.last_held-end.result) (λ l. c.carry_all.ensures.cycles d u l n ∙ c.put_memories.ensures.cycles d u l n) (λ l. some (c.last_held-end.ensures.none u d l s)))
-      (λ s. let out = is_out c.args.set.now c.find_sets.new.sets.written c.find_sets.new.sets.unwritten (λ n. g.M.WholeRow.has_written c.args.step.now c.args.slots.now n) c.find_sets.ensures.wide.written c.find_sets.ensures.wide.unwritten c.find_sets.ensures.written c.find_sets.ensures.unwritten d s in
-      memory_same c.put_memories.new.memories c.carry_all.new.memories d u (ap (λ x. x.begun) (c.carry_all.ensures.others d out.1).0) ∙ c.put_memories.ensures.others d u (c.in-Ok.ensures.unmarked d out.0)))
-      ∙ memory_same c.args.memories.now c.ready_all.new.memories d u (c.ready_all.ensures.same d),
-)
+    let ok = c.in-Ok-put_words.ensures in
+    let marks2 = c.carry_all.new.changes in
+    let worded = c.args.worded.now in
+    let worded1 = c.add_words.new.self in
+    let marks3 = c.add.new.self in
+    let long : length worded1 ≡ length worded = long_of worded c.clear_all.new.self worded1 c.as_slice.result.now c.clear_all.ensures c.add_words.ensures in
+    let wide : length worded ≡ length set = c.requires.each.other ∙ sym c.requires.at.components in
+    let wide2 : length marks2 ≡ length set = carried.changes ∙ each.marked ∙ sym c.requires.at.components in
+    let bit = λ (d : ℕ) (h : d < length worded). marks_of worded c.clear_all.new.self worded1 c.as_slice.result.now c.clear_all.ensures c.add_words.ensures d h ∙ ap (λ (ws : List ℕ). is_in ws d) c.as_slice.ensures.value in
+    let same = λ (d u : ℕ). memory_same m0 m1 d u (c.ready_all.ensures.same d) in
+    let out = λ (d : ℕ) (a : is_awake set d ≡ false). is_out set written unwritten has e.wide.written e.wide.unwritten e.written e.unwritten d a in
+    let kept = λ (d u : ℕ) (a : is_awake set d ≡ false). memory_same m2 m3 d u (ap (λ x. x.begun) (carried.others d (out d a).1).0) ∙ put.others d u (ready.unmarked d (out d a).0) in
+    record {
+      told = λ d a. c.are_told.ensures d (omega (arith, awake_within set d a, c.len.ensures));
+      words = ok.put;
+      memory = λ d a.
+          by_writing set written unwritten has e.wide.written e.wide.unwritten e.written e.unwritten d a
+          (λ w n. memory_same m2 m3 d t (ap (λ x. x.begun) (carried.others d n).0)
+          ∙ by_mark (is_awake c.ready_all.new.changes d) _ _ (λ k. put.put d k ∙ (ready.ready d w).is_value k) (λ k. put.others d t k ∙ (ready.ready d w).marked.0 k))
+          (λ u n w. carried.here d u ∙ put.others d (t - 1) (ready.unmarked d w) ∙ same d (t - 1) ∙ c.requires.kept d a n);
+      others = λ u d a. kept d u a ∙ same d u;
+      other_cycles = λ u d h n some.
+          by_part (is_awake set d) _ _
+          (λ s. by_end (cases_lt u c.last_held-end.result) (λ l. carried.cycles d u l n ∙ put.cycles d u l n) (λ l. some (c.last_held-end.ensures.none u d l s)))
+          (λ s. kept d u s)
+          ∙ same d u;
+      tells = λ d a.
+          let h = awake_within set d a in
+          let k : d < length worded = omega (arith, h, wide) in
+          both_told (is_awake marks2 d) (is_awake worded1 d) (is_awake marks3 d)
+          (words_at c.args.rows.now.rows t d ≡ C.words (W.state row d)) (memory_at m0 d t ≡ C.memory (W.state row d))
+          (joined_at marks2 worded1 marks3 c.add.ensures d (omega (arith, h, wide2)))
+          (by_writing set written unwritten has e.wide.written e.wide.unwritten e.written e.unwritten d a
+          (λ w n. (let f = (carried.others d n).1 in let q = marked_before m0 m1 d t (is_awake c.ready_all.new.changes d) (C.memory (W.state row d)) (c.ready_all.ensures.same d) (ready.ready d w).marked in (λ p. q.0 (sym f ∙ p), λ p. f ∙ q.1 p)))
+          (λ u n w.
+          let at = λ (v : ℕ). put.others d v (ready.unmarked d w) ∙ same d v in
+          let before = at (t - 1) ∙ c.requires.kept d a n in
+          let q = carried.marked d u in
+          (λ p. sym (at t) ∙ q.0 p ∙ before, λ p. q.1 (at t ∙ p ∙ sym before))))
+          (λ p q. (ok.reworded.changed d h (sym (bit d k) ∙ p)).1 q)
+          (λ p. ok.reworded.same d a (sym (bit d k) ∙ p));
+      unmarked = λ d a.
+          neither_marked marks2 worded1 marks3 c.add.ensures d ((carried.others d (out d a).1).1 ∙ ready.unmarked d (out d a).0)
+          (λ h. (let k : d < length worded = omega (arith, h, wide, wide2) in not_so _ (λ p. true≢false (sym (ok.reworded.changed d (omega (arith, k, wide)) (sym (bit d k) ∙ p)).0 ∙ a))));
+      same_words = λ d a.
+          by_part (is_awake set d) _ _
+          (λ s. ok.put.put d s ∙ sym (ok.reworded.same d s (sym (bit d (omega (arith, awake_within set d s, wide))) ∙ a)))
+          (λ s. ok.put.others t d s);
+      among = λ d a. joined_at marks2 worded1 marks3 c.add.ensures d (omega (arith, awake_within worded1 d a, long, wide, wide2)) ∙ or_right _ _ a;
+    }
   where
     by_end : {X : Type 0} {u end : ℕ} {x y : X} → (u < end) ⊎ (end ≤ u) → (u < end → x ≡ y) → (end ≤ u → ⊥) → x ≡ y
     by_end (inl h) before past = before h
     by_end (inr h) before past = absurd (past h)
-
-pub returns-clause-tells : goal.returns-clause-tells
-returns-clause-tells g c = λ d a.
-    let e = c.find_sets.ensures in
-    let set = c.args.set.now in
-    let C = g.G.Grid.codec in
-    let W = g.M.WholeRow in
-    let row = c.args.row.now in
-    let t = c.args.cycle in
-    let m0 = c.args.memories.now in
-    let m1 = c.ready_all.new.memories in
-    let worded = c.args.worded.now in
-    let items = λ (d : ℕ). ap (λ (ws : List ℕ). is_in ws d) c.as_slice.ensures.value in
-    let wide : length worded ≡ length set = c.requires.worded in
-    let bit = λ (d : ℕ) (h : d < length worded). marks_of worded c.clear_all.new.self c.add_words.new.self c.as_slice.result.now c.clear_all.ensures c.add_words.ensures d h ∙ items d in
-    let h = awake_within set d a in
-    let k : d < length worded = omega (arith, h, wide) in
-    let ok = c.in-Ok-put_words.ensures in
-    both_told (is_awake c.carry_all.new.changes d) (is_awake c.add_words.new.self d) (is_awake c.add.new.self d)
-    (words_at c.args.rows.now.rows t d ≡ C.words (W.state row d)) (memory_at m0 d t ≡ C.memory (W.state row d))
-    (joined_at c.carry_all.new.changes c.add_words.new.self c.add.new.self c.add.ensures d (omega (arith, h, c.requires.changes, c.ready_all.ensures.changes, c.carry_all.ensures.changes)))
-    (by_writing c.args.set.now c.find_sets.new.sets.written c.find_sets.new.sets.unwritten (λ n. g.M.WholeRow.has_written c.args.step.now c.args.slots.now n) c.find_sets.ensures.wide.written c.find_sets.ensures.wide.unwritten c.find_sets.ensures.written c.find_sets.ensures.unwritten d a
-    (λ w n. let e = (c.carry_all.ensures.others d n).1 in let q = c.in-Ok.ensures.marked d w in (λ p. q.0 (sym e ∙ p), λ p. e ∙ q.1 p))
-    (λ u n w.
-    let at = λ (v : ℕ). c.put_memories.ensures.others d v (c.in-Ok.ensures.unmarked d w) ∙ memory_same m0 m1 d v (c.ready_all.ensures.same d) in
-    let before = at (t - 1) ∙ c.requires.kept d a n in
-    let q = c.carry_all.ensures.marked d u in
-    (λ p. sym (at t) ∙ q.0 p ∙ before, λ p. q.1 (at t ∙ p ∙ sym before))))
-    (λ p q. (ok.changed d h (sym (bit d k) ∙ p)).1 q)
-    (λ p. ok.same d a (sym (bit d k) ∙ p))
-
-pub returns-clause-unmarked : goal.returns-clause-unmarked
-returns-clause-unmarked g c = λ d a.
-    let e = c.find_sets.ensures in
-    let set = c.args.set.now in
-    let C = g.G.Grid.codec in
-    let W = g.M.WholeRow in
-    let row = c.args.row.now in
-    let t = c.args.cycle in
-    let m0 = c.args.memories.now in
-    let m1 = c.ready_all.new.memories in
-    let worded = c.args.worded.now in
-    let items = λ (d : ℕ). ap (λ (ws : List ℕ). is_in ws d) c.as_slice.ensures.value in
-    let wide : length worded ≡ length set = c.requires.worded in
-    let bit = λ (d : ℕ) (h : d < length worded). marks_of worded c.clear_all.new.self c.add_words.new.self c.as_slice.result.now c.clear_all.ensures c.add_words.ensures d h ∙ items d in
-    let ok = c.in-Ok-put_words.ensures in
-    let out = is_out c.args.set.now c.find_sets.new.sets.written c.find_sets.new.sets.unwritten (λ n. g.M.WholeRow.has_written c.args.step.now c.args.slots.now n) c.find_sets.ensures.wide.written c.find_sets.ensures.wide.unwritten c.find_sets.ensures.written c.find_sets.ensures.unwritten d a in
-    neither_marked c.carry_all.new.changes c.add_words.new.self c.add.new.self c.add.ensures d
-    ((c.carry_all.ensures.others d out.1).1 ∙ c.in-Ok.ensures.unmarked d out.0)
-    (λ h. (let k : d < length worded = omega (arith, h, wide, c.requires.changes, c.ready_all.ensures.changes, c.carry_all.ensures.changes) in not_so _ (λ p. true≢false (sym (ok.changed d (omega (arith, k, wide)) (sym (bit d k) ∙ p)).0 ∙ a))))

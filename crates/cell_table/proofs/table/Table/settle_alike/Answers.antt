@@ -15,8 +15,8 @@ use Rattle.cell_table.proofs.Passes.{begins_at}
 use Rattle.cell_table.proofs.Repeated.{room_changed, stays_less, goes_on_to, stays_table, holds_but, ranges_within}
 use Rattle.cell_table.proofs.table.Table.settle_alike.Goals as goal
 
-pub mark_changed-requires-clause-room : goal.mark_changed-requires-clause-room
-mark_changed-requires-clause-room g c =
+pub mark_changed-requires-clause-fits : goal.mark_changed-requires-clause-fits
+mark_changed-requires-clause-fits g c =
     let R = g.G.Grid.rules in
     let i = c.self.inside in
     let n = c.components-count.result in
@@ -31,10 +31,18 @@ mark_changed-requires-clause-room g c =
     let is_before : c.clock_filled-before.result ≡ i.clock + (m - 1) * count_in changes = c.clock_filled-before.ensures ∙ ap (λ k. i.clock + (m - 1) * k) c.count-changed.ensures in
     omega (arith, is_before, width, room_changed i.clock m n (count_in changes) some few room)
 
-pub mark_changed-requires-clause-reached_width : goal.mark_changed-requires-clause-reached_width
-mark_changed-requires-clause-reached_width g c =
-    let wide : length c.args.spare.now.reached ≡ g.G.Grid.rules.components c.self.inside.slots = (rw (← c.self.view_is) at c.requires.spare).wide.reached in
-    c.reach.ensures.len ∙ wide
+pub mark_changed-requires-clause-width : goal.mark_changed-requires-clause-width
+mark_changed-requires-clause-width g c =
+    let R = g.G.Grid.rules in
+    let i = c.self.inside in
+    let spare = rw (← c.self.view_is) at c.requires.spare in
+    let wide : length c.args.spare.now.changes ≡ R.components i.slots = spare.wide.changes in
+    let reached : length c.args.spare.now.reached ≡ R.components i.slots = spare.wide.reached in
+    let width : length c.begins_alike.new.changes ≡ R.components i.slots = c.begins_alike.ensures.len ∙ ap length c.clear_all.ensures ∙ length-replicate (length c.args.spare.now.changes) false ∙ wide in (
+      width,
+      c.reach.ensures.len ∙ reached,
+      omega (arith, width, c.components-count.ensures, c.in-Ok-make.ensures),
+    )
 
 pub mark_changed-requires-clause-reached : goal.mark_changed-requires-clause-reached
 mark_changed-requires-clause-reached g c = rw (← c.self.view_is) at c.reach.ensures.reached

@@ -4,10 +4,10 @@ use Rattle.cell_table.proofs.Held.{held_stored}
 use Rattle.cell_table.proofs.Stores.{is_table_after}
 use Rattle.cell_table.proofs.table.Table.store.Goals as goal
 
-pub invariant_of-self : goal.invariant_of-self
-invariant_of-self g c =
+pub invariant_of-self-in-Ok-store_in : goal.invariant_of-self-in-Ok-store_in
+invariant_of-self-in-Ok-store_in g c =
     let i = c.self.inside in
-    let s = c.in-Ok.ensures.ok in
+    let s = c.in-Ok-store_in.ensures.ok in
     let below : (t : ℕ) → t ≤ i.horizon → t < length i.cells = λ t h. omega (arith, c.self.invariant.table.whole.cycles) in
     record {
       table = is_table_after g.G.Grid.rules g.G.Grid.laws i.slots i.horizon i.cells c.store_in.new.cells c.self.invariant.table c.args.cell.cycle c.args.cell.component (arc_value c.args.state) c.args.changed c.clock_after-clock.result (rw (← c.self.view_is) at c.requires.changes).0 (λ t1 c1 h k. s.at t1 c1 (below t1 h) k) (rw (← c.self.view_is) at c.requires.computed) s.len (λ t1 h. s.lens t1 ∙ c.self.invariant.table.whole.components t1 h);

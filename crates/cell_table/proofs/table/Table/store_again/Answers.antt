@@ -4,8 +4,8 @@ use Rattle.cell_table.proofs.Held.{held_stored}
 use Rattle.cell_table.proofs.Stores.{is_table_after}
 use Rattle.cell_table.proofs.table.Table.store_again.Goals as goal
 
-pub invariant_of-self : goal.invariant_of-self
-invariant_of-self g c =
+pub invariant_of-self-in-Ok : goal.invariant_of-self-in-Ok
+invariant_of-self-in-Ok g c =
     let i = c.self.inside in
     let x = current_of g.G.Grid.rules i.slots i.cells c.args.cell.cycle c.args.cell.component in
     let s = c.in-Ok.ensures.ok x (rw (← c.self.view_is) at c.requires.repeats) in

@@ -1,5 +1,6 @@
 use Rattle.std.proofs.Common.{◌-◌, ◌∙◌, sym}
 use Rattle.cell_states.specs.Stated.{state_at}
+use Rattle.cell_states.specs.Versions.{lists}
 use Rattle.due_cells.proofs.Keeping.{seen_state}
 use Rattle.due_cells.proofs.Stated.{bounded_by}
 use Rattle.due_cells.proofs.cells.Cells.is_as_before.Goals as goal
@@ -7,7 +8,7 @@ use Rattle.due_cells.proofs.cells.Cells.is_as_before.Goals as goal
 pub returns : goal.returns
 returns g c =
     let i = c.self.inside in
-    let e = seen_state (state_at i.states) i.due i.versions.items c.args.self.now c.self.view_is (bounded_by i.states i.due c.self.invariant.0) c.self.invariant.1 c.args.cell.cycle c.args.cell.component in
-    let f = seen_state (state_at i.states) i.due i.versions.items c.args.self.now c.self.view_is (bounded_by i.states i.due c.self.invariant.0) c.self.invariant.1 (c.args.cell.cycle - 1) c.args.cell.component in
+    let e = seen_state (state_at i.states) i.due (lists i.versions.items) c.args.self.now c.self.view_is (bounded_by i.states i.due c.self.invariant.0) c.self.invariant.1 c.args.cell.cycle c.args.cell.component in
+    let f = seen_state (state_at i.states) i.due (lists i.versions.items) c.args.self.now c.self.view_is (bounded_by i.states i.due c.self.invariant.0) c.self.invariant.1 (c.args.cell.cycle - 1) c.args.cell.component in
     let h = c.is_as_before.ensures in
     (λ t. f ∙ h.0 t ∙ sym e, λ p. h.1 (sym f ∙ p ∙ e))

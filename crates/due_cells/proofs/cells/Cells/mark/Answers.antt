@@ -1,43 +1,69 @@
-use Rattle.std.proofs.Common.{arith}
+use Rattle.std.proofs.Common.{◌≡◌, ℕ, ◌<◌, ◌∙◌, ap, refl, sym, arith, inl, length, get_or, true}
+use Rattle.cell_marks.specs.Marked.{has as has_mark}
 use Rattle.cell_states.specs.Stated.{state_at}
-use Rattle.due_cells.proofs.Keeping.{seen_cycle, seen_component, marked_cell}
+use Rattle.cell_states.specs.Versions.{lists, version_at}
+use Rattle.cell_states.proofs.Rooms.{length_lists}
+use Rattle.due_cells.proofs.Keeping.{seen_cycle, seen_length}
+use Rattle.due_cells.proofs.MarkedCells.{same_over, held_are, lens_are}
 use Rattle.due_cells.proofs.NotedRows.{layout_versions, same_versions}
-use Rattle.due_cells.proofs.Stated.{bounded_by}
+use Rattle.due_cells.proofs.Stated.{bounded_by, stated_along}
 use Rattle.due_cells.proofs.cells.Cells.mark.Goals as goal
 
-pub set-requires-clause-row : goal.set-requires-clause-row
-set-requires-clause-row g c =
+pub take_room_in-requires-clause-cycle : goal.take_room_in-requires-clause-cycle
+take_room_in-requires-clause-cycle g c =
     let i = c.self.inside in
-    seen_cycle (state_at i.states) i.due i.versions.items c.args.self.now c.self.view_is c.args.cell.cycle c.requires.cycle
+    omega (arith, length_lists i.versions.items, c.self.invariant.1.rows, seen_cycle (state_at i.states) i.due (lists i.versions.items) c.args.self.now c.self.view_is c.args.cycle c.requires.cycle)
 
-pub set-requires-clause-component : goal.set-requires-clause-component
-set-requires-clause-component g c =
+pub take_room_in-requires-clause-room : goal.take_room_in-requires-clause-room
+take_room_in-requires-clause-room g c =
     let i = c.self.inside in
-    seen_component (state_at i.states) i.due i.versions.items c.args.self.now c.self.view_is c.args.cell.cycle c.args.cell.component c.requires.cycle c.requires.component
+    let there = seen_cycle (state_at i.states) i.due (lists i.versions.items) c.args.self.now c.self.view_is c.args.cycle c.requires.cycle in
+    omega (arith, c.requires.room, seen_length (state_at i.states) i.due (lists i.versions.items) c.args.self.now c.self.view_is c.args.cycle there, c.self.invariant.1.numbers c.args.cycle there)
 
-pub set_version-requires-clause-cycle : goal.set_version-requires-clause-cycle
-set_version-requires-clause-cycle g c =
+pub mark_list-requires-clause-layout : goal.mark_list-requires-clause-layout
+mark_list-requires-clause-layout g c =
     let i = c.self.inside in
-    omega (arith, c.begin_idle.ensures.len, c.self.invariant.1.rows, seen_cycle (state_at i.states) i.due i.versions.items c.args.self.now c.self.view_is c.args.cell.cycle c.requires.cycle)
+    let row = c.take_room_in.ensures.row in
+    layout_versions (state_at i.states) i.due (lists i.versions.items) (lists c.take_room_in.new.rows.items) (bounded_by i.states i.due c.self.invariant.0) c.self.invariant.1 row.len row.lens
 
-pub set_version-requires-clause-component : goal.set_version-requires-clause-component
-set_version-requires-clause-component g c =
+pub mark_list-requires-clause-cycle : goal.mark_list-requires-clause-cycle
+mark_list-requires-clause-cycle g c =
     let i = c.self.inside in
-    let t = c.args.cell.cycle in
-    let d = c.args.cell.component in
-    let there = seen_cycle (state_at i.states) i.due i.versions.items c.args.self.now c.self.view_is t c.requires.cycle in
-    let inside = seen_component (state_at i.states) i.due i.versions.items c.args.self.now c.self.view_is t d c.requires.cycle c.requires.component in
-    omega (arith, inside, c.begin_idle.ensures.lens t, c.self.invariant.1.numbers t there)
+    seen_cycle (state_at i.states) i.due (lists i.versions.items) c.args.self.now c.self.view_is c.args.cycle c.requires.cycle
 
-pub returns : goal.returns
-returns g c =
+pub mark_list-requires-clause-there : goal.mark_list-requires-clause-there
+mark_list-requires-clause-there g c = λ k d h.
     let i = c.self.inside in
-    let t = c.args.cell.cycle in
-    let d = c.args.cell.component in
-    let there = seen_cycle (state_at i.states) i.due i.versions.items c.args.self.now c.self.view_is t c.requires.cycle in
-    let inside = seen_component (state_at i.states) i.due i.versions.items c.args.self.now c.self.view_is t d c.requires.cycle c.requires.component in
-    let f = c.begin_idle.ensures in
-    let vs = c.begin_idle.new.versions.items in
-    let layout = layout_versions (state_at i.states) i.due i.versions.items vs (bounded_by i.states i.due c.self.invariant.0) c.self.invariant.1 f.len f.lens in
-    let view_is = same_versions (state_at i.states) i.due i.versions.items vs (bounded_by i.states i.due c.self.invariant.0) c.self.invariant.1 f.len f.lens c.args.self.now c.self.view_is f.due in
-    marked_cell (state_at i.states) i.due vs (bounded_by i.states i.due c.self.invariant.0) layout c.args.self.now view_is t d there inside c.set.new.self c.set_version.new.rows.items _ c.set.ensures c.set_version.ensures
+    let there = seen_cycle (state_at i.states) i.due (lists i.versions.items) c.args.self.now c.self.view_is c.args.cycle c.requires.cycle in
+    omega (arith, c.requires.there k d h, seen_length (state_at i.states) i.due (lists i.versions.items) c.args.self.now c.self.view_is c.args.cycle there)
+
+pub mark_list-requires-clause-ready : goal.mark_list-requires-clause-ready
+mark_list-requires-clause-ready g c = inl c.take_room_in.ensures.room
+
+pub invariant_of-self : goal.invariant_of-self
+invariant_of-self g c =
+    let i = c.self.inside in
+    let are = c.mark_list.ensures in (
+      stated_along i.states i.states i.due c.mark_list.new.due c.self.invariant.0 (record { width = refl; cycles = refl; lens = λ u. refl }) are.width are.cycles,
+      are.layout,
+    )
+
+pub returns-clause-lens : goal.returns-clause-lens
+returns-clause-lens g c = λ t.
+    let i = c.self.inside in
+    let row = c.take_room_in.ensures.row in
+    let vs = c.take_room_in.new.rows.items in
+    let bounded = bounded_by i.states i.due c.self.invariant.0 in
+    let layout = layout_versions (state_at i.states) i.due (lists i.versions.items) (lists vs) bounded c.self.invariant.1 row.len row.lens in
+    let view_is = same_versions (state_at i.states) i.due (lists i.versions.items) (lists vs) bounded c.self.invariant.1 row.len row.lens c.args.self.now c.self.view_is (λ u d m. same_over i.versions.items vs c.args.cycle row c.take_room_in.ensures.same u d) in
+    lens_are (state_at i.states) c.args.version i.due c.mark_list.new.due vs c.mark_list.new.versions.items _ c.args.self.now bounded layout view_is c.mark_list.ensures t
+
+pub returns-clause-at : goal.returns-clause-at
+returns-clause-at g c = λ t d.
+    let i = c.self.inside in
+    let row = c.take_room_in.ensures.row in
+    let vs = c.take_room_in.new.rows.items in
+    let bounded = bounded_by i.states i.due c.self.invariant.0 in
+    let layout = layout_versions (state_at i.states) i.due (lists i.versions.items) (lists vs) bounded c.self.invariant.1 row.len row.lens in
+    let view_is = same_versions (state_at i.states) i.due (lists i.versions.items) (lists vs) bounded c.self.invariant.1 row.len row.lens c.args.self.now c.self.view_is (λ u d m. same_over i.versions.items vs c.args.cycle row c.take_room_in.ensures.same u d) in
+    held_are (state_at i.states) c.args.version i.due c.mark_list.new.due vs c.mark_list.new.versions.items _ c.args.self.now bounded layout view_is c.mark_list.ensures t d

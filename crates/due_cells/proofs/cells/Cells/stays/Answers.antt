@@ -1,5 +1,6 @@
 use Rattle.std.proofs.Common.{◌-◌, ◌∙◌, sym}
 use Rattle.cell_states.specs.Stated.{state_at}
+use Rattle.cell_states.specs.Versions.{lists}
 use Rattle.due_cells.proofs.Keeping.{seen_state}
 use Rattle.due_cells.proofs.Stated.{bounded_by}
 use Rattle.due_cells.proofs.cells.Cells.stays.Goals as goal
@@ -9,7 +10,7 @@ returns g c = λ h.
     let i = c.self.inside in
     let s = c.stays.ensures h in (
       s.0,
-      seen_state (state_at i.states) i.due i.versions.items c.args.self.now c.self.view_is (bounded_by i.states i.due c.self.invariant.0) c.self.invariant.1 (c.args.cell.cycle - 1) c.args.cell.component
+      seen_state (state_at i.states) i.due (lists i.versions.items) c.args.self.now c.self.view_is (bounded_by i.states i.due c.self.invariant.0) c.self.invariant.1 (c.args.cell.cycle - 1) c.args.cell.component
           ∙ s.1
-          ∙ sym (seen_state (state_at i.states) i.due i.versions.items c.args.self.now c.self.view_is (bounded_by i.states i.due c.self.invariant.0) c.self.invariant.1 c.args.cell.cycle c.args.cell.component),
+          ∙ sym (seen_state (state_at i.states) i.due (lists i.versions.items) c.args.self.now c.self.view_is (bounded_by i.states i.due c.self.invariant.0) c.self.invariant.1 c.args.cell.cycle c.args.cell.component),
     )
