@@ -31,7 +31,9 @@ impl Model for Room {
 
 impl Room {
     /// For none.
-    pub fn new(alloc: Global) -> Room {
+    pub fn new(alloc: Global) -> Room
+        ensures { result ≡ 0 }
+    {
         Room {
             versions: Vec::new(alloc),
         }
@@ -367,6 +369,7 @@ impl Versions {
 pub fn begin_in(rows: &mut Vec<Versions>, t: u32, version: u64)
     ensures row { IsOtherRow rows.old.items rows.new.items t }
     ensures room { room_at rows.new.items t ≡ room_at rows.old.items t }
+    ensures begun { (c : ℕ) → c < length (slice_index_or (lists rows.old.items) t []) → version_at (lists rows.new.items) t c ≡ version }
 {
     if (t as usize) < rows.len() {
         let row = &mut rows[t as usize];

@@ -3,7 +3,7 @@ use Rattle.std.proofs.Common.{◌≡◌, ℕ, zero, suc, ◌+◌, ◌-◌, ◌<�
 use Rattle.std.specs.List.{list_any, Contains, AllByRecursion}
 use Rattle.std.proofs.lemmas.Bool.{cases_eq, cases_lt, ne_eqb, lt-ltb, le-ltb, eqb-true, true≢false, false≢true, and_parts}
 use Rattle.std.proofs.lemmas.Grind.{common_steps}
-use Rattle.due_cells.proofs.Joined.{or_false}
+use Rattle.std.proofs.Math.Bool.{or-false}
 use Rattle.std.proofs.lemmas.List.Elements.{All-contains, All-from_recursion, All-weaker, recursion_from_All}
 use Rattle.grid_law.specs.declared.reader.Reader.{Reader}
 use Rattle.grid_law.specs.Rules.{Rules, Laws, is_first, reader_at}
@@ -33,7 +33,7 @@ read_more m one rest = or_assoc m one rest
 
 pub reader_more : (m r rest x y : Bool) → (r ≡ true → y ≡ x) → ((m || (r && y)) || (rest && x)) ≡ (m || ((r || rest) && x))
 reader_more m true rest x y e = rw (e refl) (or_assoc m x (rest && x) ∙ ap (λ b. m || b) (and_or true rest x))
-reader_more m false rest x y e = ap (λ b. b || (rest && x)) (or_false m)
+reader_more m false rest x y e = ap (λ b. b || (rest && x)) (or-false m)
 
 implied : (a x : Bool) → (x ≡ true → a ≡ true) → (a && x) ≡ x
 implied true x h = refl
@@ -56,7 +56,7 @@ later_more false true t cycle to x b low up same = by_place (cases_lt t cycle) (
     early h = grind (arith, common_steps)
 
     by_place : (t < cycle) ⊎ (cycle ≤ t) → (t < to) ⊎ (to ≤ t) → (((leb 1 t && ltb t cycle) && x) || ((leb cycle t && ltb t to) && b)) ≡ ((leb 1 t && ltb t to) && x)
-    by_place (inl h) i = rw (lt-ltb t cycle h, lt-ltb t to (omega arith), early h) (or_false ((leb 1 t && true) && x))
+    by_place (inl h) i = rw (lt-ltb t cycle h, lt-ltb t to (omega arith), early h) (or-false ((leb 1 t && true) && x))
     by_place (inr h) (inl i) = rw (le-ltb t cycle h, lt-ltb t to i, some h, late h) (sym (same h i))
     by_place (inr h) (inr i) = rw (le-ltb t cycle h, le-ltb t to i, some h, late h) refl
 
@@ -75,14 +75,14 @@ later_all component c t last x h = by_cycle (cases_eq t 0) (cases_eq c component
 
 -- before the first stretch there is none
 pub later_none : (c component t : ℕ) (m x : Bool) → m ≡ (m || ((eqb c component) && ((leb 1 t && ltb t 1) && x)))
-later_none c component zero m x = sym (ap (λ b. m || b) (none (eqb c component)) ∙ or_false m)
+later_none c component zero m x = sym (ap (λ b. m || b) (none (eqb c component)) ∙ or-false m)
   where
     none : (k : Bool) → (k && ((leb 1 0 && ltb 0 1) && x)) ≡ false
     none true = refl
     none false = refl
 later_none c component (suc t) m x =
     let late : ltb (suc t) 1 ≡ false = le-ltb (suc t) 1 (omega arith) in
-    sym (ap (λ b. m || ((eqb c component) && ((leb 1 (suc t) && b) && x))) late ∙ ap (λ b. m || b) (none (eqb c component) (leb 1 (suc t))) ∙ or_false m)
+    sym (ap (λ b. m || ((eqb c component) && ((leb 1 (suc t) && b) && x))) late ∙ ap (λ b. m || b) (none (eqb c component) (leb 1 (suc t))) ∙ or-false m)
   where
     none : (k l : Bool) → (k && ((l && false) && x)) ≡ false
     none true true = refl

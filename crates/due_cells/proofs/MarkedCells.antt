@@ -1,6 +1,7 @@
 -- Cells that become due with one version, one set after another.
 use Rattle.std.proofs.Common.{◌≡◌, ℕ, ◌<◌, ◌≤◌, ◌∙◌, sym, ap, refl, arith, Bool, true, false, cond, eqb, eq-eqb, ◌&&◌, ◌||◌, ◌⊎◌, inl, inr, Option, List, [], ◌∷◌, length, get_or, All}
-use Rattle.std.proofs.lemmas.Bool.{cases_lt, cases_eq, ne_eqb, true≢false, eqb-true, and_parts, or_cases}
+use Rattle.std.proofs.Math.Bool.{or-false}
+use Rattle.std.proofs.lemmas.Bool.{cases_lt, cases_eq, ne_eqb, true≢false, eqb-true, and_parts, or_cases, or_right}
 use Rattle.std.proofs.lemmas.List.{get_or_past}
 use Rattle.std.specs.List.{AllByRecursion}
 use Rattle.std.proofs.lemmas.List.Elements.{recursion_from_All}
@@ -13,16 +14,8 @@ use Rattle.due_cells.specs.Seen.{Held, row_at, held_at, marked}
 use Rattle.due_cells.specs.Layout.{kept, rows_of, IsLayout, IsBounded}
 use Rattle.due_cells.specs.Marking.{IsReady, AreMarked}
 use Rattle.due_cells.proofs.Keeping.{seen, seen_cycles, seen_length, held_kept, length_rows, length_row, lens_past, bounded_along}
-use Rattle.due_cells.proofs.Marking.{or_false}
+use Rattle.due_cells.proofs.MarkedRow.{or_assoc}
 use Rattle.due_cells.proofs.Noted.{none_counted}
-
-or_true : (b : Bool) → (b || true) ≡ true
-or_true true = refl
-or_true false = refl
-
-or_assoc : (a b c : Bool) → ((a || b) || c) ≡ (a || (b || c))
-or_assoc true b c = refl
-or_assoc false b c = refl
 
 module _ (v : ℕ) where
   -- none
@@ -31,7 +24,7 @@ module _ (v : ℕ) where
     layout = layout;
     width = refl;
     cycles = refl;
-    due = λ t c. sym (or_false (has_mark due.rows t c));
+    due = λ t c. sym (or-false (has_mark due.rows t c));
     version = λ t c m. refl;
     rooms = λ t. refl;
   }
@@ -51,12 +44,12 @@ module _ (v : ℕ) where
       version t c k true p =
           b.version t c k
           ∙ ap (λ y. cond y v (version_at (lists versions1) t c)) p
-          ∙ ap (λ y. cond y v (version_at (lists versions) t c)) (sym (sym (e t c) ∙ ap (λ y. m t c || y) p ∙ or_true (m t c)))
+          ∙ ap (λ y. cond y v (version_at (lists versions) t c)) (sym (sym (e t c) ∙ ap (λ y. m t c || y) p ∙ or_right (m t c) true refl))
       version t c k false p =
           b.version t c k
           ∙ ap (λ y. cond y v (version_at (lists versions1) t c)) p
-          ∙ a.version t c (sym (b.due t c ∙ ap (λ y. has_mark due1.rows t c || y) p ∙ or_false (has_mark due1.rows t c)) ∙ k)
-          ∙ ap (λ y. cond y v (version_at (lists versions) t c)) (sym (or_false (m t c)) ∙ ap (λ y. m t c || y) (sym p) ∙ e t c)
+          ∙ a.version t c (sym (b.due t c ∙ ap (λ y. has_mark due1.rows t c || y) p ∙ or-false (has_mark due1.rows t c)) ∙ k)
+          ∙ ap (λ y. cond y v (version_at (lists versions) t c)) (sym (or-false (m t c)) ∙ ap (λ y. m t c || y) (sym p) ∙ e t c)
 
   -- what could be marked still can
   pub ready_kept : (due due1 : Marked) (versions versions1 : List VersionRow) (m : ℕ → ℕ → Bool) → IsLayout due (lists versions) → AreMarked v due versions due1 versions1 m → (t : ℕ) → t < length due.rows → IsReady v due versions t → IsReady v due1 versions1 t
@@ -69,7 +62,7 @@ module _ (v : ℕ) where
       version c k false p =
           a.version t c k
           ∙ ap (λ y. cond y v (version_at (lists versions) t c)) p
-          ∙ all c (sym (a.due t c ∙ ap (λ y. has_mark due.rows t c || y) p ∙ or_false (has_mark due.rows t c)) ∙ k)
+          ∙ all c (sym (a.due t c ∙ ap (λ y. has_mark due.rows t c || y) p ∙ or-false (has_mark due.rows t c)) ∙ k)
 
 -- a row whose versions are the same
 pub same_over : (versions news : List VersionRow) (t : ℕ) → IsOtherRow versions news t → ((c : ℕ) → version_at (lists news) t c ≡ version_at (lists versions) t c) → (u c : ℕ) → version_at (lists news) u c ≡ version_at (lists versions) u c
@@ -153,7 +146,7 @@ module _ (v t : ℕ) (due due1 : Marked) (versions mid news : List VersionRow) (
       here : (c : ℕ) → has_mark due1.rows t c ≡ true → (x : Bool) → list c ≡ x → version_at (lists news) t c ≡ cond x v (version_at (lists versions) t c)
       here c k true p = given c p
       here c k false p =
-          by_ready c p (sym (is_due t c ∙ ap (λ x. has_mark due.rows t c || x) (ap (λ x. x && list c) (eq-eqb t t refl) ∙ p) ∙ or_false (has_mark due.rows t c)) ∙ k) ready
+          by_ready c p (sym (is_due t c ∙ ap (λ x. has_mark due.rows t c || x) (ap (λ x. x && list c) (eq-eqb t t refl) ∙ p) ∙ or-false (has_mark due.rows t c)) ∙ k) ready
 
       version : (u c : ℕ) → has_mark due1.rows u c ≡ true → (u ≡ t) ⊎ (u ≡ t → ⊥) → version_at (lists news) u c ≡ cond ((eqb u t) && list c) v (version_at (lists versions) u c)
       version u c k (inl e) =

@@ -1,15 +1,12 @@
 -- Cells that are marked, one after another.
 use Rattle.std.proofs.Common.{◌≡◌, ℕ, ◌+◌, ◌<◌, ◌≤◌, ◌∙◌, sym, ap, refl, arith, Bool, true, false, cond, eqb, leb, ltb, not, eq-eqb, ◌&&◌, ◌||◌, ◌⊎◌, inl, inr, List, [], ◌∷◌, length, take, get_or}
+use Rattle.std.proofs.Math.Bool.{or-false}
 use Rattle.std.proofs.lemmas.Bool.{cases_eq, cases_lt, ne_eqb, lt-ltb, le-ltb}
 use Rattle.std.proofs.lemmas.Grind.{common_steps}
 use Rattle.std.proofs.lemmas.List.Folds.{list_any_more}
 use Rattle.cell_states.specs.Near.{has}
 use Rattle.cell_states.specs.declared.cell.CellRange.{CellRange}
 use Rattle.due_cells.specs.Ranges.{covers, is_later, is_marked_else}
-
-pub or_false : (b : Bool) → (b || false) ≡ b
-or_false true = refl
-or_false false = refl
 
 eqb_swap : (a b : ℕ) → eqb a b ≡ eqb b a
 eqb_swap a b = by_test (cases_eq a b)
@@ -24,7 +21,7 @@ and_or false b c = refl
 
 -- a list of one
 pub one_listed : (k c : ℕ) → has (k ∷ []) c ≡ eqb c k
-one_listed k c = or_false (eqb k c) ∙ eqb_swap k c
+one_listed k c = or-false (eqb k c) ∙ eqb_swap k c
 
 -- one list element more
 pub listed_more : (xs : List ℕ) (i t cycle c : ℕ) → i < length xs → (((eqb t cycle) && has (take i xs) c) || ((eqb t cycle) && eqb c (get_or xs i 0))) ≡ ((eqb t cycle) && has (take (i + 1) xs) c)
@@ -38,11 +35,11 @@ within_more : (from to t : ℕ) → from ≤ to → ((leb from t && ltb t to) ||
 within_more from to t h = by_place (cases_lt t to) (cases_eq t to)
   where
     by_place : (t < to) ⊎ (to ≤ t) → (t ≡ to) ⊎ (t ≡ to → ⊥) → ((leb from t && ltb t to) || eqb t to) ≡ (leb from t && ltb t (to + 1))
-    by_place (inl k) e = rw (lt-ltb t to k, lt-ltb t (to + 1) (omega arith), ne_eqb t to (λ q. absurd (omega arith))) (or_false (leb from t && true))
+    by_place (inl k) e = rw (lt-ltb t to k, lt-ltb t (to + 1) (omega arith), ne_eqb t to (λ q. absurd (omega arith))) (or-false (leb from t && true))
     by_place (inr k) (inl e) =
         let low : leb from t ≡ true = grind (arith, common_steps) in
         rw (low, le-ltb t to k, lt-ltb t (to + 1) (omega arith), eq-eqb t to e) refl
-    by_place (inr k) (inr n) = rw (le-ltb t to k, le-ltb t (to + 1) (omega (arith, k, n)), ne_eqb t to n) (or_false (leb from t && false))
+    by_place (inr k) (inr n) = rw (le-ltb t to k, le-ltb t (to + 1) (omega (arith, k, n)), ne_eqb t to n) (or-false (leb from t && false))
 
 -- the same, beside a test
 pub cycle_more : (b : Bool) (from to t : ℕ) → from ≤ to → ((b && (leb from t && ltb t to)) || ((eqb t to) && b)) ≡ (b && (leb from t && ltb t (to + 1)))

@@ -1,5 +1,6 @@
 -- What is held after stores that are noted, and what the marks of readers tell.
 use Rattle.std.proofs.Common.{◌≡◌, ℕ, zero, suc, ◌+◌, ◌<◌, ◌≤◌, ◌∙◌, sym, ap, subst, refl, arith, Bool, true, false, cond, ◌&&◌, ◌||◌, ◌⊎◌, inl, inr, List, [], ◌∷◌, ◌++◌, length, take, replicate}
+use Rattle.std.proofs.Math.Bool.{or-false}
 use Rattle.std.proofs.lemmas.Bool.{cases_lt}
 use Rattle.std.proofs.lemmas.List.{get_or-replicate, get_or_append_left}
 use Rattle.std.proofs.Math.Seq.{get_or-append_seam}
@@ -13,10 +14,6 @@ use Rattle.cell_states.specs.Filling.{is_awake}
 use Rattle.due_cells.specs.Woken.{differing, woken}
 use Rattle.cell_states.proofs.Since.{count_next}
 use Rattle.due_cells.specs.Noted.{noted}
-
-or_false : (a : Bool) → (a || false) ≡ a
-or_false true = refl
-or_false false = refl
 
 or_true : (a b : Bool) → (a || (true || b)) ≡ true
 or_true true b = refl
@@ -35,7 +32,7 @@ module _ {State Slots Slot : Type 0} (R : Rules State Slots Slot) (s : Slots) (r
       by_test false e before = omega (arith, e, before)
 
   pub woken_noted : (clock c : ℕ) (near : List ℕ) (n : ℕ) → n ≤ length changes → ((k : ℕ) → k < n → has near k ≡ has (R.near s c) k) → woken R s rows differs clock t n c ≡ noted (held_at rows (t + 1) c) changes near clock n
-  woken_noted clock c near zero h same = ap (λ b. record { state = (held_at rows (t + 1) c).state; is_due = b; version = (held_at rows (t + 1) c).version }) (sym (or_false (held_at rows (t + 1) c).is_due))
+  woken_noted clock c near zero h same = ap (λ b. record { state = (held_at rows (t + 1) c).state; is_due = b; version = (held_at rows (t + 1) c).version }) (sym (or-false (held_at rows (t + 1) c).is_due))
   woken_noted clock c near (suc n) h same =
       ap (λ b. cond (is_awake changes n && b) (marked (woken R s rows differs clock t n c) (clock + (differing differs t n + 1))) (woken R s rows differs clock t n c)) (sym (same n (omega arith)))
       ∙ by_test (is_awake changes n && has near n) (woken_noted clock c near n (omega (arith, h)) (λ k l. same k (omega (arith, l)))) (counted n (omega (arith, h)))

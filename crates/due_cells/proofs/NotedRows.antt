@@ -1,5 +1,6 @@
 -- Versions of a table's cells that follow from what is noted, or are let go.
 use Rattle.std.proofs.Common.{◌≡◌, ℕ, ◌<◌, ◌≤◌, ◌∙◌, sym, ap, refl, arith, Bool, true, false, eq-eqb, ◌&&◌, ◌||◌, ◌⊎◌, inl, inr, Option, List, [], length, get_or}
+use Rattle.std.proofs.Math.Bool.{or-false}
 use Rattle.std.proofs.Math.ListN.{set}
 use Rattle.std.proofs.lemmas.Bool.{cases_eq, ne_eqb, true≢false}
 use Rattle.cell_marks.specs.Marked.{Marked, is_set, union, count_in, row_at as marks_at, has as has_mark}
@@ -54,15 +55,11 @@ module _ {State : Type 0} where
         same_cells states due versions rows e states due versions1 bounded layout refl refl (λ u d. kept_same (states u d) (has_mark due.rows u d) (version_at versions u d) (version_at versions1 u d) (same u d))
 
   module _ (states : ℕ → ℕ → Option State) (due due1 : Marked) (versions versions1 versions2 : List (List ℕ)) (bounded : IsBounded states due.width (length due.rows)) (layout : IsLayout due versions) (rows : List (List (Held State))) (e : rows_of states due versions ≡ rows) (t : ℕ) (row : List Bool) (there : t < length due.rows) (wide : length row ≡ length (marks_at due.rows t)) (joins : due1 ≡ record { width = due.width; rows = set due.rows t (union (marks_at due.rows t) row) }) (len : length versions2 ≡ length versions) (lens : (u : ℕ) → length (get_or versions2 u []) ≡ length (get_or versions u [])) (same : (u c : ℕ) → has_mark due.rows u c ≡ true → version_at versions1 u c ≡ version_at versions u c) where
-    or_false : (b : Bool) → (b || false) ≡ b
-    or_false true = refl
-    or_false false = refl
-
     pub noted_others : ((u c : ℕ) → (u ≡ t → ⊥) → version_at versions2 u c ≡ version_at versions1 u c) → (u c : ℕ) → (u ≡ t → ⊥) → held_at (rows_of states due1 versions2) u c ≡ held_at rows u c
     noted_others others u c ne =
         joined_row states due due1 versions versions2 bounded layout rows e t row 0 there wide joins len lens u c
         ∙ ap (λ b. kept (states u c) (has_mark due.rows u c || (b && is_set row c)) (version_at versions2 u c)) (ne_eqb u t ne)
-        ∙ ap (λ b. kept (states u c) b (version_at versions2 u c)) (or_false (has_mark due.rows u c))
+        ∙ ap (λ b. kept (states u c) b (version_at versions2 u c)) (or-false (has_mark due.rows u c))
         ∙ kept_same (states u c) (has_mark due.rows u c) (version_at versions u c) (version_at versions2 u c) (λ m. others u c ne ∙ same u c m)
         ∙ sym (seen states due versions rows e bounded layout u c)
 

@@ -1,5 +1,6 @@
 -- The lists of readers.
 use Rattle.std.proofs.Common.{◌≡◌, ℕ, ◌+◌, ◌<◌, ◌∙◌, sym, ap, subst, refl, arith, Bool, true, false, ◌||◌, eqb, ◌⊎◌, inl, inr, List, [], ◌∷◌, ◌++◌, length, get_or, take, All}
+use Rattle.std.proofs.Math.Bool.{or-false}
 use Rattle.std.proofs.Math.ListN.{set}
 use Rattle.std.proofs.lemmas.Bool.{cases_eq, eq-eqb, ne_eqb}
 use Rattle.std.proofs.lemmas.List.{length-set, get_or-set_same, get_or-set_other}
@@ -13,10 +14,6 @@ or_true : (b : Bool) → (b || true) ≡ true
 or_true true = refl
 or_true false = refl
 
-or_false : (b : Bool) → (b || false) ≡ b
-or_false true = refl
-or_false false = refl
-
 -- one more number in a list
 has_more : (ms : List ℕ) (k c : ℕ) → has (ms ++ k ∷ []) c ≡ (has ms c || (eqb k c || false))
 has_more ms k c = list_any-append (λ m. eqb m c) ms (k ∷ [])
@@ -25,7 +22,7 @@ has_last : (ms : List ℕ) (k : ℕ) → has (ms ++ k ∷ []) k ≡ true
 has_last ms k = has_more ms k k ∙ ap (λ b. has ms k || (b || false)) (eq-eqb k k refl) ∙ or_true (has ms k)
 
 has_other : (ms : List ℕ) (k c : ℕ) → (c ≡ k → ⊥) → has (ms ++ k ∷ []) c ≡ has ms c
-has_other ms k c f = has_more ms k c ∙ ap (λ b. has ms c || (b || false)) (ne_eqb k c (λ e. f (sym e))) ∙ or_false (has ms c)
+has_other ms k c f = has_more ms k c ∙ ap (λ b. has ms c || (b || false)) (ne_eqb k c (λ e. f (sym e))) ∙ or-false (has ms c)
 
 all_last : (P : ℕ → Type 0) (k : ℕ) → P k → All P (k ∷ [])
 all_last P k p = grind (arith, p)
@@ -66,7 +63,7 @@ module _ (olds lists : List (List ℕ)) (near : List ℕ) (i k : ℕ) (h : i < l
       own c e (inl f) =
           ap (λ m. has (readers_at news m) k) f ∙ ap (λ ms. has ms k) at_same ∙ has_last (readers_at lists (get_or near i 0)) k ∙ sym (passes c ∙ ap (λ b. has (take i near) c || b) (eq-eqb (get_or near i 0) c (sym f)) ∙ or_true (has (take i near) c))
       own c e (inr g) =
-          ap (λ ms. has ms k) (at_other c g) ∙ added.own c e ∙ sym (passes c ∙ ap (λ b. has (take i near) c || b) (ne_eqb (get_or near i 0) c (λ f. g (sym f))) ∙ or_false (has (take i near) c))
+          ap (λ ms. has ms k) (at_other c g) ∙ added.own c e ∙ sym (passes c ∙ ap (λ b. has (take i near) c || b) (ne_eqb (get_or near i 0) c (λ f. g (sym f))) ∙ or-false (has (take i near) c))
 
       within : (n : ℕ) → k < n → (c : ℕ) → All (λ j. j < n) (readers_at olds c) → (c ≡ get_or near i 0) ⊎ (c ≡ get_or near i 0 → ⊥) → All (λ j. j < n) (readers_at news c)
       within n l c all (inl e) =

@@ -5,7 +5,7 @@ use Rattle.grid_law.specs.declared.reader.Reader.{Reader}
 use Rattle.cell_table.specs.Reads.{is_reader}
 use Rattle.due_cells.specs.Ranges.{is_marked}
 use Rattle.cell_table.specs.Touches.{cell_reads_one}
-use Rattle.due_cells.proofs.Joined.{or_false}
+use Rattle.std.proofs.Math.Bool.{or-false}
 use Rattle.cell_table.proofs.Asking.{reader_more, of_reader, readers_all}
 use Rattle.cell_table.proofs.table.Table.add_slot.Goals as goal
 
@@ -43,7 +43,7 @@ returns-clause-at g c = λ t d h k.
     let one = cell_reads_one R s rows slot t d in
     let left : drop c.loop-reader.reader-index items ≡ [] = drop_all c.loop-reader.reader-index items c.loop-reader-test.false in
     let listed : items ≡ R.readers s slot = c.as_slice-reader-items.ensures.value ∙ (rw (← c.self.view_is) c.in_ok-readers.ensures) in
-    sym (ap (λ (rs : List Reader). m || (list_any (λ r. is_reader r t d) rs && one)) left ∙ or_false m)
+    sym (ap (λ (rs : List Reader). m || (list_any (λ r. is_reader r t d) rs && one)) left ∙ or-false m)
     ∙ c.loop-reader.invariant.at t d h
     ∙ ap (λ (rs : List Reader). old || (list_any (λ r. is_reader r t d) rs && one)) listed
     ∙ ap (λ b. old || b) (readers_all R g.G.Grid.laws s rows slot t d k)
