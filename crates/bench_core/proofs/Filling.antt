@@ -14,7 +14,7 @@ use Rattle.machine_cells.specs.GridRules.{rp3_rules}
 use Rattle.monitor_sums.specs.Kept.{Kept, StandsFor}
 use Rattle.monitor_sums.specs.Sums.{States, filled}
 use Rattle.project_book.specs.Project.{Project}
-use Rattle.bench_core.specs.Shown.{IsCounted, held, present}
+use Rattle.bench_core.specs.Shown.{last_counted, IsCounted, held, present}
 use Rattle.bench_core.specs.Filling.{filled_in, filled_to, filled_over}
 use Rattle.bench_core.proofs.Counting.{stands_along, counts_held, present_at, present_past}
 
@@ -47,10 +47,10 @@ pub stands_start : (sums : Kept) (at states : States) (from to : ℕ) → Stands
 stands_start sums at states from to stands = stands_along sums at (filled_to at states 0 from to) stands (λ u d le lt. grind (arith, nat_tests))
 
 -- counters that counted nothing count a table, once all components were counted up to its horizon
-pub counted_whole : (sums : Kept) (v : Seen MachineState Project) (n end : ℕ) → sums.k ≡ v.slots.k → n ≡ components v.slots.k → end ≡ v.horizon + 1
+pub counted_whole : (sums : Kept) (v : Seen MachineState Project) (n end : ℕ) → sums.k ≡ v.slots.k → sums.last ≡ last_counted v.slots → n ≡ components v.slots.k → end ≡ v.horizon + 1
     → StandsFor sums (filled_to (λ t c. None) (held v) n 0 end) → IsCounted sums v
-counted_whole sums v n end shape all last stands =
-    counts_held sums (filled_to (λ t c. None) (held v) n 0 end) v shape stands
+counted_whole sums v n end shape last_is all last stands =
+    counts_held sums (filled_to (λ t c. None) (held v) n 0 end) v shape last_is stands
     (λ u d there. let cycle = there.cycle in let lt : d < n = rw all there.component in grind (arith, nat_tests))
     (λ u d past. grind (arith, nat_tests))
 
@@ -76,10 +76,10 @@ unmarked n count u d ranges past within = list_any_none (λ r. covers r u d) ran
     uncovered r le = grind (arith, nat_tests)
 
 -- counters of the table before count the one after, once all cells of the ranges were counted
-pub counted_refilled : (sums next : Kept) (old new : Seen MachineState Project) (ranges : List CellRange) → IsCounted sums old → HoldsBut rp3_rules old new ranges → next.k ≡ sums.k
+pub counted_refilled : (sums next : Kept) (old new : Seen MachineState Project) (ranges : List CellRange) → IsCounted sums old → HoldsBut rp3_rules old new ranges → next.k ≡ sums.k → next.last ≡ sums.last
     → StandsFor next (filled_over (present old) (held new) ranges) → IsCounted next new
-counted_refilled sums next old new ranges counts is shape stands =
-    counts_held next (filled_over (present old) (held new) ranges) new (shape ∙ counts.shape ∙ ap (λ (P : Project). P.k) (sym is.slots)) stands
+counted_refilled sums next old new ranges counts is shape last stands =
+    counts_held next (filled_over (present old) (held new) ranges) new (shape ∙ counts.shape ∙ ap (λ (P : Project). P.k) (sym is.slots)) (last ∙ counts.last ∙ ap last_counted (sym is.slots)) stands
     (λ u d there. by_mark u d (record { cycle = omega (arith, there.cycle, is.horizon); component = rw is.slots at there.component }) (is_marked ranges u d) refl)
     (λ u d past. behind u d (omega (arith, past, is.horizon)))
   where

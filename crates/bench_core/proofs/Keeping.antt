@@ -26,6 +26,7 @@ use Rattle.bench_core.specs.Stands.{HasHistory}
 use Rattle.bench_core.specs.Shown.{Shown, IsBench, AreCounted, project_of, version_of}
 use Rattle.bench_core.specs.Asks.{told, TellsRun}
 use Rattle.bench_core.specs.Recent.{Entry, AreTold}
+use Rattle.bench_core.proofs.Counting.{short_still}
 
 -- what `==` takes for the same was asked as that
 pub same_asking : (a b : Asking) → askings.eq-value.it a b ≡ true → a ≡ b
@@ -88,7 +89,7 @@ true_of_equal old new hold same before = rw same before
 pub inside_still : (old new : Seen MachineState Project) (sums next : Option Kept) (journal : List Noted) (recent : List Entry) (hold hold1 : Project → Type 0) → IsInside old sums journal recent hold → new.slots ≡ old.slots → new.horizon ≡ old.horizon
     → AreCounted next new → HasHistory (record { table = new; journal = journal }) → hold1 new.slots → IsInside new next journal recent hold1
 inside_still old new sums next journal recent hold hold1 inside slots horizon counts history after = (
-  record { horizon = horizon ∙ inside.0.horizon ∙ ap (λ (p : Project). p.horizon) (sym slots); short = rw horizon inside.0.short; few = inside.0.few },
+  record { horizon = horizon ∙ inside.0.horizon ∙ ap (λ (p : Project). p.horizon) (sym slots); short = short_still old new slots horizon inside.0.short; few = inside.0.few },
   counts,
   history,
   rw slots inside.3,

@@ -11,11 +11,11 @@ use Rattle.machine_cells.specs.GridRules.{rp3_rules}
 use Rattle.project_book.specs.Project.{Project}
 use Rattle.project_book.specs.Slots.{Touches}
 use Rattle.project_book.specs.Edits.{edited, new_horizon}
-use Rattle.project_book.specs.Limits.{max_edits, max_horizon}
+use Rattle.project_book.specs.Limits.{max_edits}
 use Rattle.project_book.specs.declared.edit.Edit.{Edit}
 use Rattle.project_book.specs.declared.slot.Slot.{Slot}
 use Rattle.bench_core.specs.declared.noted.Noted.{Noted}
-use Rattle.bench_core.specs.Shown.{IsBench}
+use Rattle.bench_core.specs.Shown.{last_counted, IsBench}
 use Rattle.bench_core.specs.Edits.{IsAfterEdit}
 
 -- the slots touched are those that the grid wants to know
@@ -38,9 +38,9 @@ module _ (old new : Seen MachineState Project) (journal : List Noted) (author : 
     table = subst (λ Q. IsAfterTouch rp3_rules old new Q listed Q.horizon) is (subst (λ n. IsAfterTouch rp3_rules old new next listed n) to touched);
   }
 
-  pub bench_edited : next.horizon ≤ max_horizon → length journal < max_edits → IsBench new (journal ++ record { author = author; edit = e } ∷ [])
+  pub bench_edited : next.horizon ≤ last_counted next → length journal < max_edits → IsBench new (journal ++ record { author = author; edit = e } ∷ [])
   bench_edited short room = record {
     horizon = touched.horizon ∙ to ∙ sym (ap (λ (Q : Project). Q.horizon) touched.slots);
-    short = omega (arith, short, touched.horizon, to);
+    short = subst (λ (P : Project). new.horizon ≤ last_counted P) (sym touched.slots) (omega (arith, short, touched.horizon, to));
     few = omega (arith, length_push journal (record { author = author; edit = e }));
   }

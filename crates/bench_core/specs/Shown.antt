@@ -4,7 +4,8 @@ use Rattle.due_cells.specs.Seen.{Seen, held_at}
 use Rattle.machine_cells.specs.declared.state.MachineState.{MachineState}
 use Rattle.monitor_sums.specs.Kept.{Kept, StandsFor}
 use Rattle.project_book.specs.Project.{Project}
-use Rattle.project_book.specs.Limits.{max_edits, max_horizon}
+use Rattle.project_book.specs.Limits.{max_edits}
+use Rattle.project_book.specs.Scales.{most_horizon}
 use Rattle.bench_core.specs.declared.noted.Noted.{Noted}
 
 -- its table of cells, and the edits that it accepted, the oldest first
@@ -27,16 +28,21 @@ held v t c = (held_at v.rows t c).state
 abbrev pub present : Seen MachineState Project → ℕ → ℕ → Option MachineState
 present v t c = if nat_le t v.horizon then held v t c else None
 
--- what is true of every bench: its table ends at the project's horizon, which is within its limit, and its journal isn't
--- overfull
+-- the last cycle that the counters of a project's bench count
+abbrev pub last_counted : Project → ℕ
+last_counted P = most_horizon P.scale
+
+-- what is true of every bench: its table ends at the project's horizon, no later than its counters count, and its journal
+-- isn't overfull
 pub record IsBench (table : Seen MachineState Project) (journal : List Noted) : Type 0 where
   pub horizon : table.horizon ≡ table.slots.horizon
-  pub short : table.horizon ≤ max_horizon
+  pub short : table.horizon ≤ last_counted table.slots
   pub few : length journal ≤ max_edits
 
 -- counters count the states that are held now
 pub record IsCounted (sums : Kept) (table : Seen MachineState Project) : Type 0 where
   pub shape : sums.k ≡ table.slots.k
+  pub last : sums.last ≡ last_counted table.slots
   pub counts : StandsFor sums (present table)
 
 -- and so do those of every bench, where there are any yet

@@ -3,7 +3,7 @@ ghost use Rattle.std.specs.Prelude.{◌≡◌, ◌+◌, ◌<◌, ◌≤◌, All,
 ghost use Rattle.std.specs.Option.{IsSome, IfSome};
 ghost use Rattle.omega_net.specs.Numbers.{components};
 ghost use Rattle.due_cells.specs.Ranges.{IsWithin};
-ghost use Rattle.bench_core.specs.Shown.{held, IsCounted, AreCounted};
+ghost use Rattle.bench_core.specs.Shown.{held, last_counted, IsCounted, AreCounted};
 ghost use Rattle.bench_core.specs.Filling.{filled_in, filled_to, filled_over};
 ghost use Rattle.monitor_sums.specs.Kept.{StandsFor};
 ghost use Rattle.monitor_sums.specs.Sums.{States, changed, cleared};
@@ -15,6 +15,7 @@ use grid_law::NoMemory;
 use machine_cells::Rp3;
 use monitor_sums::Sums;
 use omega_net::Shape;
+use project_book::Project;
 use std::alloc::Global;
 use std::marker::Model;
 
@@ -47,7 +48,7 @@ impl Counters {
     ///
     /// Where a growth was refused. Nothing is changed.
     pub(crate) fn count(&mut self, alloc: Global, table: &Table<Rp3>) -> Result<(), NoMemory>
-        requires short { table.now.horizon ≤ max_horizon }
+        requires short { table.now.horizon ≤ last_counted table.now.slots }
         requires counted { AreCounted self.old table.now }
         ensures counted { AreCounted self.new table.now }
         ensures there { OnOk result (IsSome self.new) }
@@ -70,9 +71,10 @@ impl Counters {
     /// Counts no more what the cells past a horizon held, where those up to another were counted.
     #[tactic(auto, using(crate::proofs::Counting::none_cleared))]
     pub(crate) fn forget(&mut self, to: u32, before: u32)
-        requires { before ≤ max_horizon }
+        requires { IfSome self.old (λ old. before ≤ old.last) }
         ensures there { is_some self.new ≡ is_some self.old }
         ensures shape { IfSome self.old (λ old. IfSome self.new (λ new. new.k ≡ old.k)) }
+        ensures last { IfSome self.old (λ old. IfSome self.new (λ new. new.last ≡ old.last)) }
         ensures stands { IfSome self.old (λ old. IfSome self.new (λ new. (at : States) → StandsFor old at → StandsFor new (cleared at (to + 1) before))) }
     {
         if let Some(sums) = &mut self.sums {
@@ -83,13 +85,21 @@ impl Counters {
     }
 }
 
+/// The last cycle that the counters of a project's bench count.
+fn last_counted(project: &Project) -> u32
+    ensures value { result ≡ last_counted project.now }
+    ensures within { result ≤ max_horizon }
+{
+    project.scale().most_horizon()
+}
+
 /// The sums over what a table holds.
 fn count_table(alloc: Global, table: &Table<Rp3>) -> Result<Sums, NoMemory>
-    requires { table.now.horizon ≤ max_horizon }
+    requires { table.now.horizon ≤ last_counted table.now.slots }
     ensures { IfOk result (λ sums. IsCounted sums table.now) }
 {
     let shape = Shape::new(table.slots().k()).unwrap();
-    let mut sums = Sums::new(alloc, shape)?;
+    let mut sums = Sums::new(alloc, shape, last_counted(table.slots()))?;
     count_all_filled(&mut sums, table, 0, table.horizon() + 1)?;
     Ok(sums)
 }
@@ -101,8 +111,9 @@ fn count_table(alloc: Global, table: &Table<Rp3>) -> Result<Sums, NoMemory>
 /// Where the state couldn't be shared. Nothing is counted.
 fn count_cell(sums: &mut Sums, table: &Table<Rp3>, cell: Cell) -> Result<(), NoMemory>
     requires component { cell.component < components sums.old.k }
-    requires cycle { cell.cycle ≤ max_horizon }
+    requires cycle { cell.cycle ≤ sums.old.last }
     ensures shape { sums.new.k ≡ sums.old.k }
+    ensures last { sums.new.last ≡ sums.old.last }
     ensures stands { OnOk result ((at : States) → StandsFor sums.old at → StandsFor sums.new (changed at cell.cycle cell.component (held table.now cell.cycle cell.component))) }
 {
     let state = table.shared(cell)?;
@@ -126,9 +137,10 @@ fn count_filled(
     requires component { component < components sums.old.k }
     requires same { sums.old.k ≡ table.now.slots.k }
     requires later { from ≤ to }
-    requires within { to ≤ max_horizon + 1 }
+    requires within { to ≤ sums.old.last + 1 }
     requires there { to ≤ table.now.horizon + 1 }
     ensures shape { sums.new.k ≡ sums.old.k }
+    ensures last { sums.new.last ≡ sums.old.last }
     ensures stands { OnOk result ((at : States) → StandsFor sums.old at → StandsFor sums.new (filled_in at (held table.now) component from to)) }
 {
     let mut cycle = from;
@@ -151,9 +163,10 @@ fn count_filled(
 fn count_all_filled(sums: &mut Sums, table: &Table<Rp3>, from: u32, to: u32) -> Result<(), NoMemory>
     requires same { sums.old.k ≡ table.now.slots.k }
     requires later { from ≤ to }
-    requires within { to ≤ max_horizon + 1 }
+    requires within { to ≤ sums.old.last + 1 }
     requires there { to ≤ table.now.horizon + 1 }
     ensures shape { sums.new.k ≡ sums.old.k }
+    ensures last { sums.new.last ≡ sums.old.last }
     ensures stands { OnOk result ((at : States) → StandsFor sums.old at → StandsFor sums.new (filled_to at (held table.now) (components sums.old.k) from to)) }
 {
     for component in 0..sums.shape().components() {
@@ -169,9 +182,10 @@ fn count_all_filled(sums: &mut Sums, table: &Table<Rp3>, from: u32, to: u32) -> 
 /// As `count_filled`.
 fn count_ranges(sums: &mut Sums, table: &Table<Rp3>, ranges: &[CellRange]) -> Result<(), NoMemory>
     requires same { sums.old.k ≡ table.now.slots.k }
-    requires short { table.now.horizon ≤ max_horizon }
+    requires short { table.now.horizon ≤ sums.old.last }
     requires within { All (IsWithin (table.now.horizon + 1) (components sums.old.k)) ranges.now }
     ensures shape { sums.new.k ≡ sums.old.k }
+    ensures last { sums.new.last ≡ sums.old.last }
     ensures stands { OnOk result ((at : States) → StandsFor sums.old at → StandsFor sums.new (filled_over at (held table.now) ranges.now)) }
 {
     for range in ranges {
@@ -181,9 +195,9 @@ fn count_ranges(sums: &mut Sums, table: &Table<Rp3>, ranges: &[CellRange]) -> Re
 }
 
 impl Watcher<Rp3> for Counters {
-    ghost use Rattle.bench_core.specs.Shown.{AreCounted};
+    ghost use Rattle.bench_core.specs.Shown.{last_counted, AreCounted};
 
-    ghost keeps = { λ counters table. (table.horizon ≤ max_horizon) × AreCounted counters table };
+    ghost keeps = { λ counters table. (table.horizon ≤ last_counted table.slots) × AreCounted counters table };
 
     fn stored(&mut self, table: &Table<Rp3>, cell: Cell) {
         // Where a state couldn't be shared there are no sums then, and they are counted again when they are next asked for.

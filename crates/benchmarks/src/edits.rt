@@ -1,7 +1,7 @@
 //! The edits that are measured: each is made and then taken back, again and again.
 use crate::load::Load;
 use omega_net::ScriptEntry;
-use project_book::{Depths, Edit, SCRIPT_ENTRIES};
+use project_book::{Depths, Edit, USUAL_ENTRIES};
 use word_ops::{Kind, Op};
 
 /// What an edit changes.
@@ -79,10 +79,10 @@ impl Change {
 
 fn last_entry(load: Load, is_made: bool) -> Edit {
     let (proc, length) = (0, load.entries());
-    if length < SCRIPT_ENTRIES && !is_made {
+    if length < USUAL_ENTRIES && !is_made {
         return Edit::Cut { proc, length };
     }
-    let index = length.min(SCRIPT_ENTRIES.saturating_sub(1));
+    let index = length.min(USUAL_ENTRIES.saturating_sub(1));
     let entry = if is_made {
         ScriptEntry::Fence
     } else {

@@ -4,7 +4,7 @@ ghost use Rattle.std.specs.Prelude.{◌≡◌, IfOk};
 use anyhow::{Context, Result};
 use omega_net::ScriptEntry;
 use page_map::ADDRESSES;
-use project_book::{Edit, Project};
+use project_book::{Edit, Project, Scale, USUAL_HORIZON};
 use std::alloc::Global;
 use std::fmt;
 use word_ops::{Kind, Op};
@@ -15,7 +15,7 @@ pub fn hot_spot(alloc: Global, k: u32, horizon: u32) -> Result<Project>
     ensures k { IfOk result (λ project. project.k ≡ k) }
     ensures horizon { IfOk result (λ project. project.horizon ≡ horizon) }
 {
-    let mut project = Project::new(alloc, k, horizon)?.context(
+    let mut project = Project::of_scale(alloc, scale_for(horizon), k, horizon)?.context(
         "k or the horizon is past its limit",
     )?;
     for proc in 0..project.processors() {
@@ -30,6 +30,15 @@ pub fn hot_spot(alloc: Global, k: u32, horizon: u32) -> Result<Project>
         project = project.apply(Edit::Combine { stage, on: true })?.0;
     }
     Ok(project)
+}
+
+/// The smallest scale that has such a horizon.
+fn scale_for(horizon: u32) -> Scale {
+    if horizon > USUAL_HORIZON {
+        Scale::Large
+    } else {
+        Scale::Usual
+    }
 }
 
 /// What the processors do. Every stage combines.
@@ -134,7 +143,7 @@ pub fn loaded(alloc: Global, load: Load, k: u32, horizon: u32) -> Result<Project
     if load == Load::Hot {
         return hot_spot(alloc, k, horizon);
     }
-    let blank = Project::new(alloc, k, horizon)?;
+    let blank = Project::of_scale(alloc, scale_for(horizon), k, horizon)?;
     let mut project = blank.context("k or the horizon is past its limit")?;
     for proc in 0..project.processors() {
         project = scripted(project, load, proc)?;

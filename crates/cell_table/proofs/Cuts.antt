@@ -1,5 +1,5 @@
 -- A pass that ends before a cycle.
-use Rattle.std.proofs.Common.{◌≡◌, ℕ, ◌+◌, ◌<◌, ◌≤◌, ◌^◌, ◌-◌, arith, ◌⊎◌, inl, inr, false, List, Result, Ok, Err, IfOk, IfErr, OnOk}
+use Rattle.std.proofs.Common.{◌≡◌, ℕ, ◌+◌, ◌<◌, ◌≤◌, arith, ◌⊎◌, inl, inr, false, List, Result, Ok, Err, IfOk, IfErr, OnOk}
 use Rattle.std.proofs.lemmas.Bool.{cases_lt}
 use Rattle.grid_law.specs.Rules.{Rules, Laws}
 use Rattle.cell_table.specs.declared.given.SettleFault.{SettleFault}
@@ -9,6 +9,7 @@ use Rattle.cell_table.specs.Cells.{IsThere, AtOrAfter, Before}
 use Rattle.cell_table.specs.Events.{Event, Start}
 use Rattle.cell_table.specs.Stands.{Stands}
 use Rattle.cell_table.specs.Settling.{NoneDueBefore, HoldsRunBefore, IsSettled, IsSettledTo, IsSpent, IsSpentBefore, IsAt, StopsBefore, computed_of, IsClockSpent}
+use Rattle.cell_table.specs.Later.{IsLater}
 use Rattle.cell_table.specs.Cost.{Settles, SettlesTo, SettlesFirstTo}
 use Rattle.cell_table.proofs.Ordering.{before_or_after, before_along}
 use Rattle.cell_table.proofs.Costing.{settles_before, stored_before}
@@ -89,16 +90,10 @@ module _ {State Slots Slot : Type 0} (R : Rules State Slots Slot) (laws : Laws R
   answers_spent (Err f) spent = λ k. ((spent k).0, let before = (spent k).1 in omega (arith, before, up_to))
 
   -- what a pass keeps
-  pub record Keeps : Type 0 where
-    pub slots : now.slots ≡ old.slots
-    pub horizon : now.horizon ≡ old.horizon
-    pub rises : old.clock ≤ now.clock
-    pub clock : old.clock ≡ 2 ^ 64 - 1 → now.clock ≡ 2 ^ 64 - 1
-
-  keeps_at : (t c n : ℕ) → IsAt R old now t c n → Keeps
+  keeps_at : (t c n : ℕ) → IsAt R old now t c n → IsLater old now
   keeps_at t c n at = record { slots = at.slots; horizon = at.horizon; rises = at.rises; clock = at.clock }
 
-  pub keeps : (r : Result Settled SettleFault) → IfOk r (λ s. IsAt R old now end 0 s.computed) → IfErr r (λ f. StopsBefore R end old now (computed_of f)) → Keeps
+  pub keeps : (r : Result Settled SettleFault) → IfOk r (λ s. IsAt R old now end 0 s.computed) → IfErr r (λ f. StopsBefore R end old now (computed_of f)) → IsLater old now
   keeps (Ok s) at stop = keeps_at end 0 s.computed at
   keeps (Err f) at stop = keeps_at stop.cycle stop.component (computed_of f) stop.at
 

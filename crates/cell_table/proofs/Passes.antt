@@ -10,7 +10,8 @@ use Rattle.cell_table.specs.Stands.{Stands}
 use Rattle.grid_law.specs.Run.{run}
 use Rattle.cell_table.specs.Consistent.{IsTable}
 use Rattle.cell_table.proofs.Runs.{holds_run_at}
-use Rattle.cell_table.specs.Settling.{NoneDueBefore, IsNextDue, HoldsRunBefore, IsSettled, IsSpent, IsSpentBefore, Settling, SettlesNext, IsAt, IsFurther}
+use Rattle.cell_table.specs.Settling.{NoneDueBefore, IsNextDue, HoldsRunBefore, IsSettled, IsSpent, IsSpentBefore, Settling, SettlesNext, IsAt}
+use Rattle.cell_table.specs.Advances.{IsFurther}
 use Rattle.cell_table.specs.Cost.{Settles, SettlesFirst}
 use Rattle.cell_table.proofs.Ordering.{before_or_after, before_along, before_next}
 use Rattle.cell_table.proofs.Costing.{settles_first, settles_all}
@@ -25,6 +26,17 @@ few_next t0 c0 t c computed a few fits = by_cycle (cases_lt t0 t)
     by_cycle : (t0 < t) ⊎ (t ≤ t0) → computed ≤ 4294967296 * t + c
     by_cycle (inl l) = omega arith
     by_cycle (inr l) = let same : t0 ≡ t = omega (arith, a.0) in let k = a.1 same in omega arith
+
+-- a later cycle is further on, and so is the beginning of one that stands behind a cell of a cycle at or after
+pub further_cycle : (horizon t0 c0 t : ℕ) → t0 < t → t ≤ horizon + 1 → IsFurther horizon t0 c0 t 0
+further_cycle horizon t0 c0 t later within = ((omega (arith, later), λ e. absurd (omega (arith, e, later))), within)
+
+pub further_on : (horizon t0 c0 s t c : ℕ) → c ≡ 0 → t0 ≤ s → IsFurther horizon s 0 t c → IsFurther horizon t0 c0 t c
+further_on horizon t0 c0 s t c begins ahead f = by_cycle (cases_lt t0 t)
+  where
+    by_cycle : (t0 < t) ⊎ (t ≤ t0) → IsFurther horizon t0 c0 t c
+    by_cycle (inl l) = ((omega (arith, l), λ e. absurd (omega (arith, e, l))), f.1)
+    by_cycle (inr l) = let k = f.0.1 (omega (arith, ahead, l, f.0.0)) in absurd (omega (arith, k, begins))
 
 pub of_some : {X : Type 0} (P : X → Type 0) (r : Option X) (x : X) → r ≡ Some x → IfSome r P → P x
 of_some P None x e h = cc

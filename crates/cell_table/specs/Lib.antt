@@ -13,6 +13,8 @@ pub mod Overtaken
 pub mod Made
 pub mod Answers
 pub mod Settling
+pub mod Later
+pub mod Advances
 pub mod Cost
 pub mod Waves
 pub mod Passing

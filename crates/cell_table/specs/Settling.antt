@@ -104,10 +104,6 @@ module _ {State Slots Slot : Type 0} (R : Rules State Slots Slot) where
     pub at : IsAt old now cycle component computed
     pub before : AtOrAfter cycle component end 0
 
--- the second cell stands behind the first, at the latest one cycle past the horizon
-abbrev pub IsFurther : ℕ → ℕ → ℕ → ℕ → ℕ → Type 0
-IsFurther horizon t0 c0 t c = AtOrAfter t0 (c0 + 1) t c × (t ≤ horizon + 1)
-
 -- how many cells were computed before the fault
 abbrev pub computed_of : SettleFault → ℕ
 computed_of (ClockSpent computed) = computed

@@ -7,7 +7,7 @@ use std::rt::Files;
 use std::{fs, io};
 
 /// How many bytes are read at most: one more than a project file may have, so that their number tells one too long.
-pub const MOST_BYTES: u64 = 4_194_305;
+pub const MOST_BYTES: u64 = 67_108_865;
 
 /// All that a reader has left, but at most `MOST_BYTES` of it.
 ///

@@ -8,7 +8,7 @@ use Rattle.std.proofs.lemmas.List.FromFn.{length-map-range_with_len, get_or-map-
 use Rattle.std.proofs.lemmas.List.Sums.{sum_by-cons}
 use Rattle.cell_marks.specs.Marked.{Marked, count_in, count_of, IsFirstFrom, row_at as marks_at, has as has_mark}
 use Rattle.cell_states.proofs.Cases.{at_set, lens_set}
-use Rattle.due_cells.specs.Seen.{Held, nothing, fresh, marked, row_at, held_in, held_at, due_in_row, due_up_to}
+use Rattle.due_cells.specs.Seen.{Held, nothing, fresh, row_at, held_in, held_at, due_in_row, due_up_to}
 use Rattle.due_cells.specs.NextDue.{IsNextDueInRow}
 use Rattle.cell_states.specs.Versions.{version_at}
 use Rattle.due_cells.specs.Layout.{kept, kept_at, rows_of, cleared, IsLayout, IsBounded, IsOtherCell}

@@ -1,5 +1,5 @@
 -- How many components differ at a cycle.
-use Rattle.std.proofs.Common.{◌≡◌, ℕ, zero, suc, ◌+◌, ◌≤◌, arith, Bool, true, false, cond}
+use Rattle.std.proofs.Common.{ℕ, zero, suc, ◌+◌, ◌≤◌, arith, Bool, true, false, cond}
 use Rattle.due_cells.specs.Woken.{differing}
 
 cond_le : (b : Bool) (n m : ℕ) → n ≤ m → cond b (n + 1) n ≤ m + 1

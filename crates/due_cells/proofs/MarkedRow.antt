@@ -12,7 +12,7 @@ use Rattle.due_cells.specs.Layout.{kept, rows_of, IsLayout, IsBounded}
 use Rattle.cell_states.specs.declared.cell.CellRange.{CellRange}
 use Rattle.due_cells.specs.Ranges.{GoesOn, covers, is_later, has_later, is_marked, is_marked_else, held_marked}
 use Rattle.due_cells.proofs.Joined.{range_on}
-use Rattle.due_cells.proofs.Keeping.{seen, seen_cycles, seen_length, held_kept, length_rows, length_row, lens_past, bounded_along}
+use Rattle.due_cells.proofs.Keeping.{seen_length, held_kept, length_row, lens_past, bounded_along}
 
 -- a mark of a union
 is_set_union : (a b : List Bool) (c : ℕ) → length b ≡ length a → is_set (union a b) c ≡ (is_set a c || is_set b c)

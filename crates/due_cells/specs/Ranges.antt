@@ -1,7 +1,9 @@
 -- Ranges of cells, and what an edit leaves of a table's cells that marks them.
-use Rattle.std.specs.Prelude.{◌≡◌, ℕ, ◌==◌, ◌&&◌, if◌then◌else◌, ◌<◌, ◌≤◌, nat_le, nat_lt, Bool, not, List, length}
+use Rattle.std.specs.Prelude.{◌≡◌, ℕ, ◌==◌, ◌&&◌, if◌then◌else◌, ◌<◌, ◌≤◌, nat_le, nat_lt, Bool, not, List, length, All}
 use Rattle.std.specs.List.{list_any}
 use Rattle.cell_states.specs.declared.cell.CellRange.{CellRange}
+use Rattle.cell_states.specs.Filling.{is_awake}
+use Rattle.cell_states.specs.Near.{has}
 use Rattle.due_cells.specs.Seen.{Held, fresh, marked, held_at}
 
 -- whether the cell is one of the range
@@ -27,6 +29,12 @@ is_later to range = (range.from == 1) && (range.to == to)
 -- the component of such a range
 abbrev pub has_later : List CellRange → ℕ → ℕ → Bool
 has_later ranges to c = list_any (λ range. is_later to range && (c == range.component)) ranges
+
+-- marks of just the components of such ranges, and a list of them
+pub record AreLater (ranges : List CellRange) (to : ℕ) (row : List Bool) (members : List ℕ) : Type 0 where
+  pub marked : (c : ℕ) → is_awake row c ≡ has_later ranges to c
+  pub listed : (c : ℕ) → has members c ≡ has_later ranges to c
+  pub there : All (λ c. c < length row) members
 
 -- whether a cell is one of some other range
 abbrev pub is_marked_else : List CellRange → ℕ → ℕ → ℕ → Bool

@@ -1,5 +1,5 @@
 -- What settling takes beside a table.
-use Rattle.std.specs.Prelude.{◌≡◌, ℕ, ◌<◌, Bool, true, false, IfSome, Some, List, length}
+use Rattle.std.specs.Prelude.{◌≡◌, ℕ, ◌<◌, Bool, true, false, IfSome, Option, Some, List, length}
 use Rattle.grid_law.specs.Rules.{Rules}
 use Rattle.grid_law.specs.Codec.{Codec}
 use Rattle.grid_law.specs.Run.{run}
@@ -43,3 +43,10 @@ module _ {State Slots Slot : Type 0} (R : Rules State Slots Slot) where
   pub record IsSpare (v : Seen State Slots) (spare : Spare) : Type 0 where
     pub wide : IsWide (R.components v.slots) spare
     pub runs : (c : ℕ) → 0 < spare.known_at → is_awake spare.known c ≡ true → (held_at v.rows spare.known_at c).state ≡ Some (run R v.slots spare.known_at c)
+
+  -- the workspace of a settling: marks beside the table, and where one goes along, a row that holds the run; the rows that are kept stand for
+  -- the table's slots
+  pub record IsWorkspace {Memory Whole : Type 0} (C : Codec State Memory) (stands : Whole → Slots → Type 0) (state : Whole → ℕ → State) (v : Seen State Slots) (marks : Spare) (row : Option (Along Whole)) (rows : Beside Whole) : Type 0 where
+    pub spare : IsSpare v marks
+    pub along : IfSome row (GoesAlong stands state v.slots)
+    pub beside : AreBeside R C stands state v.slots rows

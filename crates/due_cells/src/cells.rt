@@ -8,7 +8,7 @@ ghost use Rattle.due_cells.specs.NextDue.{IsNextDueInRow};
 ghost use Rattle.due_cells.specs.Layout.{cleared, IsOtherCell};
 ghost use Rattle.cell_states.specs.Versions.{version_at, room_at, lists, IsOtherRow, any_changes};
 ghost use Rattle.due_cells.specs.Noted.{noted};
-ghost use Rattle.due_cells.specs.Ranges.{is_marked, has_later, IsWithin};
+ghost use Rattle.due_cells.specs.Ranges.{is_marked, AreLater, IsWithin};
 ghost use Rattle.cell_marks.specs.Marked.{has as has_mark};
 ghost use Rattle.cell_states.specs.Filling.{is_awake};
 
@@ -27,7 +27,8 @@ use marking::{make_rooms, mark_later, mark_list, mark_others};
 use std::alloc::Global;
 use std::marker::Model;
 use std::sync::Arc;
-pub(crate) use whole::{no_versions, put_due, put_each};
+pub use whole::no_versions;
+pub(crate) use whole::{put_due, put_each};
 
 /// The cells of the first cycles: the states, and by cycle which cells are due, and their versions.
 pub struct Cells<G: Grid> {
@@ -257,9 +258,7 @@ impl<G: Grid> Cells<G> {
         requires within { All (IsWithin to (length row.now)) ranges.now }
         requires after { All (λ range. from ≤ range.from) ranges.now }
         requires whole { (t : ℕ) → t < length self.old → length (row_at self.old t) ≡ length row.now }
-        requires listed { (c : ℕ) → is_awake row.now c ≡ has_later ranges.now to c }
-        requires list { (c : ℕ) → has list.now c ≡ has_later ranges.now to c }
-        requires there { All (λ c. c < length row.now) list.now }
+        requires later { AreLater ranges.now to row.now list.now }
         ensures marked { OnOk result ((t c : ℕ) → held_at self.new t c
             ≡ (if is_marked ranges.now t c then marked (held_at self.old t c) version else held_at self.old t c)) }
         ensures lens { OnOk result ((length self.new ≡ length self.old) × ((t : ℕ) → length (row_at self.new t) ≡ length (row_at self.old t))) }
@@ -485,7 +484,6 @@ pub fn repeat_cells<G: Grid>(
     ensures repeated { OnOk result ((t c : ℕ) → c < length changes.now → from ≤ t → t < to → held_at cells.new t c ≡ cleared (held_at cells.old (if is_awake changes.now c then from - 1 else t) c).state) }
     ensures earlier { OnOk result ((t c : ℕ) → t < from → held_at cells.new t c ≡ held_at cells.old t c) }
     ensures later { OnOk result ((t c : ℕ) → to ≤ t → held_at cells.new t c ≡ held_at cells.old t c) }
-    ensures versions { (t c : ℕ) → (held_at cells.old t c).is_due ≡ false → (held_at cells.old t c).version ≡ 0 }
     ensures err { OnErr result (cells.new ≡ cells.old) }
 {
     match cells.states.repeat_changed(changes, from, to) {

@@ -1,16 +1,15 @@
 //! The due cells of a cycle get what the run has there: many of them by a step of all components, few by a step of each.
-ghost use Rattle.std.specs.Prelude.{◌≡◌, ℕ, ◌-◌, ◌<◌, IfSome, Some, true, false, length};
-ghost use Rattle.grid_law.specs.Run.{run};
-ghost use Rattle.due_cells.specs.Seen.{held_at, row_at};
+ghost use Rattle.std.specs.Prelude.{◌≡◌, IfSome, true, false};
 ghost use Rattle.cell_states.specs.Near.{AreNear};
+ghost use Rattle.cell_states.specs.Put.{AreMarks};
 ghost use Rattle.due_cells.specs.Beside.{AreBeside};
+ghost use Rattle.due_cells.specs.DuePut.{IsDuePut};
 ghost use Rattle.due_cells.specs.Spares.{GoesAlong};
-ghost use Rattle.due_cells.specs.WholeRows.{HasWords, IsRowPut, IsToPut};
-ghost use Rattle.cell_states.specs.Filling.{is_awake};
+ghost use Rattle.due_cells.specs.WholeRows.{IsToPut};
 
 use crate::along::{Along, go_along};
 use crate::beside::{Beside, make_near};
-use crate::cells::{Cells, no_versions, put_due, put_each};
+use crate::cells::{Cells, put_due, put_each};
 use cell_marks::Row;
 use cell_states::{Neighbours, WholeRow};
 use grid_law::Grid;
@@ -47,23 +46,15 @@ fn put_stepped<G: Grid, M: WholeRow<G>>(
     worded: &mut Row,
 ) -> bool
     requires ready { IsToPut G.rules slots.now cells.old cycle set.now }
-    requires width { length changes.old ≡ G.rules.components slots.now }
-    requires worded { length worded.old ≡ G.rules.components slots.now }
+    requires marks { AreMarks (G.rules.components slots.now) changes.old worded.old }
     requires along { IfSome along.old (GoesAlong G.rules M.stands M.state slots.now) }
     requires beside { AreBeside G.rules G.codec M.stands M.state slots.now beside.old }
-    ensures len { length cells.new ≡ length cells.old }
-    ensures lens { (t : ℕ) → t < length cells.old → length (row_at cells.new t) ≡ G.rules.components slots.now }
-    ensures width { length changes.new ≡ length changes.old }
-    ensures worded { length worded.new ≡ length worded.old }
-    ensures words { result ≡ true → HasWords G.rules G.codec cells.old cells.new cycle worded.new }
-    ensures among { result ≡ true → (c : ℕ) → is_awake worded.new c ≡ true → is_awake changes.new c ≡ true }
-    ensures put { result ≡ true → IsRowPut G.rules slots.now cells.old cells.new cycle changes.new }
-    ensures versions { (t c : ℕ) → (held_at cells.old t c).is_due ≡ false → (held_at cells.old t c).version ≡ 0 }
+    ensures marks { AreMarks (G.rules.components slots.now) changes.new worded.new }
+    ensures put { result ≡ true → IsDuePut G.rules G.codec slots.now cells.old cells.new cycle changes.new worded.new }
     ensures err { result ≡ false → cells.new ≡ cells.old }
     ensures along { IfSome along.new (GoesAlong G.rules M.stands M.state slots.now) }
     ensures beside { AreBeside G.rules G.codec M.stands M.state slots.now beside.new }
 {
-    no_versions(cells);
     let step = match go_along::<G, M>(cells, slots, along, beside, cycle) {
         Some(step) => step,
         None => return false,
@@ -90,22 +81,14 @@ fn put_few<G: Grid, M: WholeRow<G>>(
     worded: &mut Row,
 ) -> bool
     requires ready { IsToPut G.rules slots.now cells.old cycle set.now }
-    requires width { length changes.old ≡ G.rules.components slots.now }
-    requires worded { length worded.old ≡ G.rules.components slots.now }
+    requires marks { AreMarks (G.rules.components slots.now) changes.old worded.old }
     requires near { AreNear G.rules slots.now near.now }
     requires beside { AreBeside G.rules G.codec M.stands M.state slots.now beside.old }
-    ensures len { length cells.new ≡ length cells.old }
-    ensures lens { (t : ℕ) → t < length cells.old → length (row_at cells.new t) ≡ G.rules.components slots.now }
-    ensures width { length changes.new ≡ length changes.old }
-    ensures worded { length worded.new ≡ length worded.old }
-    ensures among { result ≡ true → (c : ℕ) → is_awake worded.new c ≡ true → is_awake changes.new c ≡ true }
-    ensures words { result ≡ true → HasWords G.rules G.codec cells.old cells.new cycle worded.new }
-    ensures put { result ≡ true → IsRowPut G.rules slots.now cells.old cells.new cycle changes.new }
-    ensures versions { (t c : ℕ) → (held_at cells.old t c).is_due ≡ false → (held_at cells.old t c).version ≡ 0 }
+    ensures marks { AreMarks (G.rules.components slots.now) changes.new worded.new }
+    ensures put { result ≡ true → IsDuePut G.rules G.codec slots.now cells.old cells.new cycle changes.new worded.new }
     ensures err { result ≡ false → cells.new ≡ cells.old }
     ensures beside { AreBeside G.rules G.codec M.stands M.state slots.now beside.new }
 {
-    no_versions(cells);
     if !make_near::<G, M>(cells.allocator(), slots, beside) {
         return false;
     }
@@ -132,19 +115,12 @@ pub fn put_row<G: Grid, M: WholeRow<G>>(
     worded: &mut Row,
 ) -> bool
     requires ready { IsToPut G.rules slots.now cells.old cycle set.now }
-    requires width { length changes.old ≡ G.rules.components slots.now }
-    requires worded { length worded.old ≡ G.rules.components slots.now }
+    requires marks { AreMarks (G.rules.components slots.now) changes.old worded.old }
     requires near { AreNear G.rules slots.now near.now }
     requires along { IfSome along.old (GoesAlong G.rules M.stands M.state slots.now) }
     requires beside { AreBeside G.rules G.codec M.stands M.state slots.now beside.old }
-    ensures len { length cells.new ≡ length cells.old }
-    ensures lens { (t : ℕ) → t < length cells.old → length (row_at cells.new t) ≡ G.rules.components slots.now }
-    ensures width { length changes.new ≡ length changes.old }
-    ensures worded { length worded.new ≡ length worded.old }
-    ensures among { result ≡ true → (c : ℕ) → is_awake worded.new c ≡ true → is_awake changes.new c ≡ true }
-    ensures words { result ≡ true → HasWords G.rules G.codec cells.old cells.new cycle worded.new }
-    ensures put { result ≡ true → IsRowPut G.rules slots.now cells.old cells.new cycle changes.new }
-    ensures versions { (t c : ℕ) → (held_at cells.old t c).is_due ≡ false → (held_at cells.old t c).version ≡ 0 }
+    ensures marks { AreMarks (G.rules.components slots.now) changes.new worded.new }
+    ensures put { result ≡ true → IsDuePut G.rules G.codec slots.now cells.old cells.new cycle changes.new worded.new }
     ensures err { result ≡ false → cells.new ≡ cells.old }
     ensures along { IfSome along.new (GoesAlong G.rules M.stands M.state slots.now) }
     ensures beside { AreBeside G.rules G.codec M.stands M.state slots.now beside.new }

@@ -28,7 +28,7 @@ mod spare;
 
 pub use along::Along;
 pub use beside::{Beside, renew};
-pub use cells::{Cells, are_held, repeat_cells};
+pub use cells::{Cells, are_held, no_versions, repeat_cells};
 pub use cone::due_down;
 pub use few::put_row;
 pub use marks::{add_where, retouch};

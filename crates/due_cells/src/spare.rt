@@ -1,6 +1,7 @@
 //! What settling a cycle at once takes beside the cells.
 ghost use Rattle.std.specs.Prelude.{◌≡◌, ℕ, ◌+◌, ◌≤◌, ◌<◌, true, false, IfOk, length};
 ghost use Rattle.cell_states.specs.Filling.{is_awake};
+ghost use Rattle.cell_states.specs.Put.{AreMarks};
 ghost use Rattle.cell_states.specs.Versions.{any_changes};
 ghost use Rattle.due_cells.specs.Seen.{row_at};
 ghost use Rattle.due_cells.specs.Readers.{IsIndex};
@@ -81,15 +82,12 @@ fn reach_by_words<G: Grid>(
     known: &mut Row,
 )
     requires index { IsIndex G.rules slots.now readers.now }
-    requires changes { length changes.now ≡ G.rules.components slots.now }
-    requires worded { length worded.now ≡ G.rules.components slots.now }
+    requires marks { AreMarks (G.rules.components slots.now) changes.now worded.now }
     requires left { length left.old ≡ G.rules.components slots.now }
-    requires reached_width { length reached.old ≡ G.rules.components slots.now }
-    requires known_width { length known.old ≡ G.rules.components slots.now }
+    requires readers { AreMarks (G.rules.components slots.now) reached.old known.old }
     requires among { (c : ℕ) → is_awake worded.now c ≡ true → is_awake changes.now c ≡ true }
     ensures left { length left.new ≡ length left.old }
-    ensures reached_width { length reached.new ≡ length reached.old }
-    ensures known_width { length known.new ≡ length known.old }
+    ensures readers { AreMarks (G.rules.components slots.now) reached.new known.new }
     ensures reached { (c : ℕ) → c < G.rules.components slots.now
         → is_awake reached.new c ≡ any_changes changes.now (G.rules.near slots.now c) (G.rules.components slots.now) }
     ensures known { (c : ℕ) → c < G.rules.components slots.now → is_awake known.new c ≡ true

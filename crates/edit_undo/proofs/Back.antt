@@ -12,6 +12,7 @@ use Rattle.page_map.specs.Places.{Page as Spread}
 use Rattle.page_map.specs.Pages.{IsPageMap, is_spread}
 use Rattle.page_map.proofs.Spread.{page_of_is}
 use Rattle.project_book.specs.Limits.{max_edits, script_entries}
+use Rattle.project_book.specs.Scales.{most_entries}
 use Rattle.project_book.specs.declared.edit.Edit.{Edit}
 use Rattle.project_book.specs.declared.edit.Edit.TheVariants.{Entry, Cut, Word, Page, Combine}
 use Rattle.project_book.specs.declared.fault.EditFault.{EditFault}
@@ -49,7 +50,7 @@ takes_entry : (P : Project) (v p i : ℕ) (entry : ScriptEntry) → nat_le max_e
 takes_entry P v p i entry few at =
     let processor : nat_le (2 ^ P.k) p ≡ false = (let h = at.processor in grind (arith, nat_tests)) in
     let there : nat_lt (length_at P p) i ≡ false = (let h = at.there in grind (arith, nat_tests)) in
-    let full : overfills P (Entry p i entry) ≡ false = isnt_full (i == length_at P p) (i == script_entries) refl refl in
+    let full : overfills P (Entry p i entry) ≡ false = isnt_full (i == length_at P p) (nat_le (most_entries P.scale) i) refl refl in
     pass (nat_le max_edits v) JournalFull _ few
     (pass (nat_le (2 ^ P.k) p) BadProcessor _ processor
     (pass (nat_lt (length_at P p) i) BadEntry _ there
@@ -57,13 +58,13 @@ takes_entry P v p i entry few at =
     (pass (not (is_addressed entry)) BadAddress _ (isnt _ at.within.addressed)
     (pass (not (is_timed entry)) BadTimes _ (isnt _ at.within.timed) refl)))))
   where
-    isnt_full : (a b : Bool) → (i == length_at P p) ≡ a → (i == script_entries) ≡ b → a && b ≡ false
+    isnt_full : (a b : Bool) → (i == length_at P p) ≡ a → nat_le (most_entries P.scale) i ≡ b → a && b ≡ false
     isnt_full false b e f = refl
     isnt_full true false e f = refl
     isnt_full true true e f =
         let x : i ≡ length_at P p = grind (arith, nat_tests) in
-        let y : i ≡ script_entries = grind (arith, nat_tests) in
-        absurd (at.room x y)
+        let y : most_entries P.scale ≤ i = grind (arith, nat_tests) in
+        absurd (omega (arith, at.fits x, y))
 
 takes_cut : (P : Project) (v p n : ℕ) → nat_le max_edits v ≡ false → p < 2 ^ P.k → n ≤ length_at P p → accepts P v (Cut p n) ≡ Ok tt
 takes_cut P v p n few processor there =
@@ -108,6 +109,7 @@ replaced_back P v p i entry old h at lt is within room =
       processor = at.processor;
       there = omega (arith, long, lt);
       room = λ e f. absurd (omega (arith, long, lt, e));
+      fits = λ e. absurd (omega (arith, long, lt, e));
       within = within;
     } in
     let back : put_entry (script_of Q.scripts p) i old ≡ es = ap (λ l. put_entry l i old) given ∙ entry_twice es i entry old lt is in
@@ -164,6 +166,7 @@ put_back P p h lt few (x ∷ back) front i v is all within room =
       processor = lt;
       there = omega (arith, long, is);
       room = λ e f. absurd (omega (arith, low, few, f));
+      fits = λ e. let most = h.few p in omega (arith, low, most);
       within = subst (λ o. IfSome o IsEntry) shown (within i (omega arith));
     } in
     let made : edited Q (Entry p i x) ≡ record P { scripts = slice_set P.scripts p (front ++ x ∷ []) } =

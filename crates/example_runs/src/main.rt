@@ -27,11 +27,12 @@ use std::thread::Threads;
 use verdict::{Verdict, status_after};
 
 /// An example NAME is a project file NAME.toml, commands NAME.in, and the answers NAME.out.
-const EXAMPLES: [&str; 10] = [
+const EXAMPLES: [&str; 11] = [
     "fetch_barrier",
     "flag",
     "flag_fenced",
     "hot_word",
+    "long_run",
     "matrix_stride",
     "one_module",
     "saturation",

@@ -8,8 +8,9 @@ use Rattle.omega_net.specs.declared.script.ScriptEntry.TheVariants.{Reference}
 use Rattle.omega_net.specs.Wires.{below}
 use Rattle.page_map.specs.Limits.{max_k}
 use Rattle.page_map.specs.Pages.{whole_pages}
-use Rattle.project_book.specs.Limits.{max_horizon}
+use Rattle.project_book.specs.Limits.{usual_horizon}
 use Rattle.project_book.specs.Project.{Project}
+use Rattle.project_book.specs.declared.scale.Scale.TheVariants.{Usual}
 use Rattle.project_book.specs.Queues.{usual_depths, usual_wait}
 use Rattle.experiments.specs.declared.load.Load.{Load}
 
@@ -34,6 +35,7 @@ script_drawn load p = next_drawn load.sync load.hot 256 (started 64 multiplier_6
 -- THE PROJECT OF A LOAD: its scripts, 8 references unanswered at once, the usual depths, and each stage combines or none
 abbrev pub loaded : Load → Project
 loaded load = record {
+  scale = Usual;
   k = load.k;
   horizon = load.cycles;
   window = 8;
@@ -47,4 +49,4 @@ loaded load = record {
 
 -- there is such a machine, and it may be run as long
 abbrev pub IsLoad : Load → Type 0
-IsLoad load = (load.k ≤ max_k) × (load.cycles ≤ max_horizon)
+IsLoad load = (load.k ≤ max_k) × (load.cycles ≤ usual_horizon)

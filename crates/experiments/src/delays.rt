@@ -15,7 +15,7 @@ use crate::{Fault, Load, Window, project_of};
 use grid_law::NoMemory;
 use omega_net::{Reply, ScriptEntry};
 use page_map::MAX_K;
-use project_book::{MAX_HORIZON, Project};
+use project_book::{Project, USUAL_HORIZON};
 use rayon::prelude::*;
 use run_reports::{HOT_ADDRESS, Runner};
 use std::alloc::{AllocError, Global};
@@ -272,7 +272,7 @@ fn total(numbers: &[u32]) -> Option<u64>
 fn waited_by(alloc: Global, load: Load, from: u32) -> Result<ColdWaits, Fault>
     ensures { IsWaitedBy load from result }
 {
-    if load.k > MAX_K || load.cycles > MAX_HORIZON || from > load.cycles {
+    if load.k > MAX_K || load.cycles > USUAL_HORIZON || from > load.cycles {
         return Err(Fault::Load);
     }
     let project = match project_of(alloc, load) {

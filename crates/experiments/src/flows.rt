@@ -13,7 +13,7 @@ use crate::{Fault, Load, project_of};
 use grid_law::NoMemory;
 use omega_net::Reply;
 use page_map::MAX_K;
-use project_book::{MAX_HORIZON, Project};
+use project_book::{Project, USUAL_HORIZON};
 use run_reports::Runner;
 use std::alloc::{AllocError, Global};
 
@@ -105,7 +105,7 @@ pub fn flows_of(alloc: Global, project: &Project) -> Result<Flows, NoMemory>
 pub(crate) fn flows_by(alloc: Global, load: Load) -> Result<Flows, Fault>
     ensures { AreFlows load result }
 {
-    if load.k > MAX_K || load.cycles > MAX_HORIZON {
+    if load.k > MAX_K || load.cycles > USUAL_HORIZON {
         return Err(Fault::Load);
     }
     let project = match project_of(alloc, load) {

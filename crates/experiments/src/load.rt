@@ -2,15 +2,15 @@
 ghost use Rattle.std.specs.Prelude.{◌≡◌, ◌<◌, ◌≤◌, ◌^◌, IfOk, length, map};
 ghost use Rattle.omega_net.specs.Wires.{below};
 ghost use Rattle.page_map.specs.Limits.{max_k};
-ghost use Rattle.project_book.specs.Limits.{max_horizon};
-ghost use Rattle.project_book.specs.Scripts.{IsEntry, IsScript};
+ghost use Rattle.project_book.specs.Limits.{usual_entries, usual_horizon};
+ghost use Rattle.project_book.specs.Scripts.{AreFew, IsEntry, IsScript};
 ghost use Rattle.experiments.specs.Loads.{drawn, loaded, script_drawn};
 
 use grid_law::NoMemory;
 use omega_net::ScriptEntry;
 use page_map::PageMap;
 use project_book::{
-    FirstWords, MAX_WINDOW, Parts, Project, QueueDepths, STAGES, Scripts, USUAL_WAIT,
+    FirstWords, MAX_WINDOW, Parts, Project, QueueDepths, STAGES, Scale, Scripts, USUAL_WAIT,
 };
 use rand_pcg::Pcg32;
 use rand_pcg::rand_core::utils::NextWord;
@@ -74,6 +74,7 @@ pub fn drawn(sync: bool, hot: u32, first: u32, second: u32) -> ScriptEntry
 /// draws the same numbers whatever the share of the hot ones.
 pub(crate) fn script(alloc: Global, load: Load, proc: u32) -> Result<Vec<ScriptEntry>, AllocError>
     ensures script { IfOk result (λ es. IsScript es.items) }
+    ensures count { IfOk result (λ es. length es.items ≡ usual_entries) }
     ensures drawn { IfOk result (λ es. es.items ≡ script_drawn load proc) }
 {
     let mut generator = Pcg32::new(load.seed, u64::from(proc));
@@ -91,6 +92,7 @@ pub(crate) fn script(alloc: Global, load: Load, proc: u32) -> Result<Vec<ScriptE
 fn scripts(alloc: Global, load: Load) -> Result<Scripts, NoMemory>
     requires { load.k ≤ max_k }
     ensures count { IfOk result (λ all. length all ≡ 2 ^ load.k) }
+    ensures few { IfOk result (AreFew usual_entries) }
     ensures drawn { IfOk result (λ all. all ≡ map (script_drawn load) (below (2 ^ load.k))) }
 {
     let count = 1 << load.k;
@@ -110,7 +112,7 @@ fn scripts(alloc: Global, load: Load) -> Result<Scripts, NoMemory>
 /// Where a growth was refused. What was taken is given back.
 pub fn project_of(alloc: Global, load: Load) -> Result<Project, NoMemory>
     requires k { load.k ≤ max_k }
-    requires cycles { load.cycles ≤ max_horizon }
+    requires cycles { load.cycles ≤ usual_horizon }
     ensures { IfOk result (λ project. project ≡ loaded load) }
 {
     let scripts = scripts(alloc, load)?;
@@ -120,13 +122,15 @@ pub fn project_of(alloc: Global, load: Load) -> Result<Project, NoMemory>
 /// The project of a load, but for its scripts, which are these.
 pub(crate) fn project_with(alloc: Global, load: Load, scripts: Scripts) -> Result<Project, NoMemory>
     requires k { load.k ≤ max_k }
-    requires cycles { load.cycles ≤ max_horizon }
+    requires cycles { load.cycles ≤ usual_horizon }
     requires count { length scripts ≡ 2 ^ load.k }
+    requires few { AreFew usual_entries scripts }
     ensures { IfOk result (λ project. project ≡ record (loaded load) { scripts = scripts }) }
 {
     let pages = PageMap::new(load.k);
     pages.is_page_map();
     let parts = Parts {
+        scale: Scale::Usual,
         k: load.k,
         horizon: load.cycles,
         window: MAX_WINDOW,

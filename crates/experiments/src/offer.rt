@@ -2,8 +2,8 @@
 ghost use Rattle.std.specs.Prelude.{◌≡◌, ◌≤◌, ◌^◌, All, IfOk, length, map};
 ghost use Rattle.omega_net.specs.Wires.{below};
 ghost use Rattle.page_map.specs.Limits.{max_k};
-ghost use Rattle.project_book.specs.Limits.{max_horizon};
-ghost use Rattle.project_book.specs.Scripts.{IsEntry, IsScript};
+ghost use Rattle.project_book.specs.Limits.{usual_entries, usual_horizon};
+ghost use Rattle.project_book.specs.Scripts.{AreFew, IsEntry, IsScript};
 ghost use Rattle.experiments.specs.Offers.{next_offered, offered, project_offered, script_offered};
 
 use crate::Load;
@@ -66,6 +66,7 @@ fn offered_by(
 /// which each takes a cycle or more.
 fn offered_script(alloc: Global, offer: Offer, proc: u32) -> Result<Vec<ScriptEntry>, AllocError>
     ensures script { IfOk result (λ es. IsScript es.items) }
+    ensures count { IfOk result (λ es. length es.items ≡ usual_entries) }
     ensures offered { IfOk result (λ es. es.items ≡ script_offered offer proc) }
 {
     let generator = Pcg32::new(offer.load.seed, OFFERS + u64::from(proc));
@@ -77,6 +78,7 @@ fn offered_script(alloc: Global, offer: Offer, proc: u32) -> Result<Vec<ScriptEn
 fn offered_scripts(alloc: Global, offer: Offer) -> Result<Scripts, NoMemory>
     requires { offer.load.k ≤ max_k }
     ensures count { IfOk result (λ all. length all ≡ 2 ^ offer.load.k) }
+    ensures few { IfOk result (AreFew usual_entries) }
     ensures offered { IfOk result (λ all. all ≡ map (script_offered offer) (below (2 ^ offer.load.k))) }
 {
     let count = 1 << offer.load.k;
@@ -95,7 +97,7 @@ fn offered_scripts(alloc: Global, offer: Offer) -> Result<Scripts, NoMemory>
 /// Where a growth was refused. What was taken is given back.
 pub fn project_offered(alloc: Global, offer: Offer) -> Result<Project, NoMemory>
     requires k { offer.load.k ≤ max_k }
-    requires cycles { offer.load.cycles ≤ max_horizon }
+    requires cycles { offer.load.cycles ≤ usual_horizon }
     ensures { IfOk result (λ project. project ≡ project_offered offer) }
 {
     let scripts = offered_scripts(alloc, offer)?;

@@ -12,7 +12,7 @@ refused_reason n =
     if n == 1 then codes "the journal holds 65535 edits"
     else if n == 2 then codes "there is no such processor"
     else if n == 3 then codes "there is no such entry, and it isn't the next one"
-    else if n == 4 then codes "a script has at most 256 entries"
+    else if n == 4 then codes "a script has at most 256 entries, of a project of format 3 4096"
     else if n == 5 then codes "an address is below 16384"
     else if n == 6 then codes "a page is below 64"
     else if n == 7 then codes "a page goes to 2^AMOUNT modules, from a multiple of that on, all of which are there"
@@ -20,7 +20,7 @@ refused_reason n =
     else if n == 9 then codes "a depth is 2 to 16, of comb-reverse 4 to 16, of wait 1 to 16"
     else if n == 10 then codes "a window is 1 to 8"
     else if n == 11 then codes "times and turns are 1 to 1000"
-    else if n == 12 then codes "a horizon is at most 2000"
+    else if n == 12 then codes "a horizon is at most 2000, of a project of format 3 20000"
     else []
 
 abbrev pub bad_reason : ℕ → List ℕ

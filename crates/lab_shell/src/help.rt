@@ -129,7 +129,7 @@ fn shell_usage(word: &[u8]) -> Option<&'static str> {
     Some(match word {
         "show" => "show: what the project is, in words\n",
         "script" => "script P: the entries of the script of processor P\n",
-        "save" => "save F: writes the project as a file of format 2\n",
+        "save" => "save F: writes the project as a file of format 2, a large one of format 3\n",
         "undo" =>
             "undo: takes back the last edit of this session that was accepted and not yet taken back, by edits that make it what it was\n",
         "help" => "help, help COMMAND: all commands, or what one does\n",

@@ -14,7 +14,7 @@ pub(crate) fn refused_reason(number: u8) -> &'static str
         1 => "the journal holds 65535 edits",
         2 => "there is no such processor",
         3 => "there is no such entry, and it isn't the next one",
-        4 => "a script has at most 256 entries",
+        4 => "a script has at most 256 entries, of a project of format 3 4096",
         5 => "an address is below 16384",
         6 => "a page is below 64",
         7 => "a page goes to 2^AMOUNT modules, from a multiple of that on, all of which are there",
@@ -22,7 +22,7 @@ pub(crate) fn refused_reason(number: u8) -> &'static str
         9 => "a depth is 2 to 16, of comb-reverse 4 to 16, of wait 1 to 16",
         10 => "a window is 1 to 8",
         11 => "times and turns are 1 to 1000",
-        12 => "a horizon is at most 2000",
+        12 => "a horizon is at most 2000, of a project of format 3 20000",
         _ => "",
     }
 }

@@ -7,6 +7,7 @@ use Rattle.page_map.specs.Limits.{address_count, page_count}
 use Rattle.project_book.specs.EntryTexts.{entry_text}
 use Rattle.project_book.specs.Project.{Project, combines_at, depth_of, entry_at, length_at, page_of, word_of}
 use Rattle.project_book.specs.Queues.{usual_depths, usual_wait}
+use Rattle.project_file.specs.Formats.{format_of}
 use Rattle.project_book.specs.declared.edit.Depths.TheVariants.{LowForward, LowReverse, CombForward, CombReverse, ModuleQueue}
 
 -- a key with its number, and the same left out where the number is the usual one
@@ -18,7 +19,7 @@ unusual key usual n = if n == usual then [] else setting key n
 
 -- what each file has
 unfoldable pub size_text : Project → List ℕ
-size_text P = codes "format = 2\n" ++ (setting (codes "k") P.k ++ setting (codes "horizon") P.horizon)
+size_text P = setting (codes "format") (format_of P.scale) ++ (setting (codes "k") P.k ++ setting (codes "horizon") P.horizon)
 
 -- whether the switches of each stage combine, where those of any do
 abbrev pub flag_text : Bool → List ℕ

@@ -1,4 +1,4 @@
-//! A project as a file of format 2, written as people write it.
+//! A project as a file, written as people write it.
 ghost use Rattle.std.specs.Prelude.{◌≡◌, ◌<◌, ◌≤◌, ◌++◌, ◌==◌, ◌&&◌, false, IfErr, IfOk, IsOkUnless, OnOk, string_bytes};
 ghost use Rattle.std.specs.List.{flat_map, list_any};
 ghost use Rattle.omega_net.specs.Wires.{below};
@@ -11,7 +11,7 @@ use crate::end::{End, Reason};
 use omega_net::ScriptEntry;
 use page_map::{ADDRESSES, PAGES};
 use project_book::{Depths, EntryText, Project, QueueDepths, USUAL_WAIT};
-use project_file::read_project;
+use project_file::{format_of, read_project};
 use std::alloc::{AllocError, Global};
 use std::fmt::Write;
 
@@ -71,7 +71,7 @@ fn add_unusual(text: &mut String, key: &str, usual: u32, number: u32) -> Result<
 fn add_size(text: &mut String, project: &Project) -> Result<(), AllocError>
     ensures { OnOk result (string_bytes text.new ≡ string_bytes text.old ++ size_text project.now) }
 {
-    text.push_str("format = 2\n")?;
+    add_setting(text, "format", format_of(project.scale()))?;
     add_setting(text, "k", project.k())?;
     add_setting(text, "horizon", project.horizon())
 }

@@ -55,7 +55,7 @@ use crate::trace::{TraceWords, trace_made, traced};
 use crate::words::{Asked, CurveWords, DelayWords, MapWords, SweepWords};
 use experiments::{Load, project_of};
 use page_map::MAX_K;
-use project_book::{Edit, MAX_HORIZON, Project};
+use project_book::{Edit, Project, USUAL_HORIZON};
 use project_file::{ProjectFault, read_project, write_project};
 use run_reports::Window;
 use std::alloc::{AllocError, Global};
@@ -248,7 +248,7 @@ fn kept_project<'a>(alloc: Global, load: Load) -> Result<Project, End<'a>>
     ensures kept { IfOk result (λ project. project ≡ kept_of load) }
     ensures memory { IsOkUnless result End.Memory }
 {
-    if load.k > MAX_K || load.cycles > MAX_HORIZON {
+    if load.k > MAX_K || load.cycles > USUAL_HORIZON {
         return Err(End::Memory);
     }
     let plain = Load {

@@ -186,7 +186,7 @@ const SWEEP_ABOUT: &str =
 const CHECK_ABOUT: &str = "Says in words what a project file is, or where it is wrong";
 
 const CONVERT_ABOUT: &str =
-    "Writes a project as a file of format 2, without what is as usual: comments aren't kept";
+    "Writes a project as a file of format 2, a large one of format 3, without what is as usual: comments aren't kept";
 
 const PAGE_ABOUT: &str =
     "Makes a page for a browser: the machine as a drawing, stepped cycle by cycle";

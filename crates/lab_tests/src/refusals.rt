@@ -221,7 +221,7 @@ const OVER: &[Refused] = &[(
 fn curves_and_projects_are_refused(rt: HostRuntime) -> Result<(), Fail> {
     are_refused(&rt, CURVES, b"")?;
     are_refused(&rt, NO_PROJECT, b"format = 2\nhorizon = 8\n")?;
-    are_refused(&rt, OVER, b"format = 3")?;
+    are_refused(&rt, OVER, b"format = 4")?;
     are_refused(&rt, OVER, TWO)?;
     Ok(())
 }

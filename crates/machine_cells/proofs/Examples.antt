@@ -25,6 +25,7 @@ use Rattle.omega_net.specs.declared.script.ScriptEntry.TheVariants.{Reference, F
 use Rattle.mem_module.specs.Memory.{word_at}
 use Rattle.machine_cells.specs.declared.state.MachineState.{MachineState}
 use Rattle.machine_cells.specs.declared.state.MachineState.TheVariants.{Proc, Module, Low, Comb}
+use Rattle.project_book.specs.declared.scale.Scale.TheVariants.{Usual}
 use Rattle.project_book.specs.Project.{Project}
 use Rattle.project_book.specs.declared.depths.QueueDepths.{QueueDepths}
 use Rattle.machine_cells.specs.Run.{run}
@@ -35,6 +36,7 @@ depths = record { low_forward = 4; low_reverse = 4; comb_forward = 4; comb_rever
 -- B, with these scripts
 abbrev base : List (List ScriptEntry) → Project
 base scripts = record {
+  scale = Usual;
   k = 1;
   horizon = 10;
   window = 1;

@@ -27,7 +27,7 @@
 //! |---|---|
 //! | module at cycle 0 | all first words, all pages |
 //! | processor or switch at cycle 0 | nothing |
-//! | processor later | the entry at its index, where that is below 256; where that is a reference or an `until`, the window and the page of its address; where a request waits to leave, the depth of the queue that it would enter |
+//! | processor later | the entry at its index, where that is below 4,096; where that is a reference or an `until`, the window and the page of its address; where a request waits to leave, the depth of the queue that it would enter |
 //! | low switch later | the depths of its network; at the last stage, that of the modules' queues |
 //! | combining switch later | the depths of its network, that of the wait buffers, whether its stage combines; at the last stage, the depth of the modules' queues |
 //! | module later | the depth of the modules' queues; where there are switches, those of their reverse queues |

@@ -41,10 +41,10 @@ fn edited(alloc: Global, k: u32, horizon: u32, edits: &[Edit]) -> Result<Project
     Ok(project)
 }
 
-/// The counters of a project's run, each of whose cells is changed once.
+/// The counters of a project's run to its horizon, each of whose cells is changed once.
 fn counters(alloc: Global, project: &Project) -> Result<Sums, Fail> {
     let shape = Shape::new(project.k()).ok_or(NoSuchProject)?;
-    let mut sums = Sums::new(alloc, shape)?;
+    let mut sums = Sums::new(alloc, shape, project.horizon())?;
     let rows = from_scratch(alloc, project)?;
     for (cycle, row) in rows.iter().enumerate() {
         for (component, state) in row.iter().enumerate() {
@@ -62,7 +62,7 @@ fn change(
 ) -> Result<(), Fail> {
     let component = u32::try_from(component)?;
     let cycle = u32::try_from(cycle)?;
-    if component < sums.shape().components() && cycle <= project_book::MAX_HORIZON {
+    if component < sums.shape().components() && cycle <= sums.last() {
         sums.change(component, cycle, Some(state));
     }
     Ok(())
@@ -106,6 +106,7 @@ fn two_adds(alloc: Global, combine: bool) -> Result<Project, Fail> {
 #[test]
 fn two_requests_are_served(rt: HostRuntime) -> Result<(), Fail> {
     let sums = counters(rt.alloc(), &two_adds(rt.alloc(), false)?)?;
+    assert!(rt; sums.last() == 10);
     assert!(rt; equal(&rt, sums.total(Counter::Issued, None), 2));
     assert!(rt; equal(&rt, sums.total(Counter::Served, None), 2));
     assert!(rt; equal(&rt, sums.total(Counter::Combined, None), 0));
@@ -119,6 +120,7 @@ fn two_requests_are_served(rt: HostRuntime) -> Result<(), Fail> {
 #[test]
 fn a_combined_request_is_served_once(rt: HostRuntime) -> Result<(), Fail> {
     let sums = counters(rt.alloc(), &two_adds(rt.alloc(), true)?)?;
+    assert!(rt; sums.last() == 10);
     assert!(rt; equal(&rt, sums.total(Counter::Served, None), 1));
     assert!(rt; equal(&rt, sums.total(Counter::Combined, None), 1));
     // both replies come at cycle 6
@@ -141,6 +143,7 @@ fn windows_of_blocks(rt: HostRuntime) -> Result<(), Fail> {
         entry: add(true, 1, 1),
     };
     let sums = counters(alloc, &edited(alloc, 1, 100, &[idle, later])?)?;
+    assert!(rt; sums.last() == 100);
     for (from, to, issued) in [
         (0, 31, 0),
         (0, 40, 0),
@@ -198,6 +201,7 @@ fn a_cell_without_a_state_counts_nothing(rt: HostRuntime) -> Result<(), Fail> {
     let mut sums = counters(rt.alloc(), &two_adds(rt.alloc(), false)?)?;
     assert!(rt; equal(&rt, sums.total(Counter::Issued, Some(0)), 1));
     for cycle in 0..11 {
+        assert!(rt; cycle <= sums.last());
         sums.change(0, cycle, None);
     }
     assert!(rt; equal(&rt, sums.total(Counter::Issued, Some(0)), 0));

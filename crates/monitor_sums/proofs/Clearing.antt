@@ -3,7 +3,6 @@ use Rattle.std.proofs.Common.{◌≡◌, ℕ, ◌+◌, ◌<◌, ◌≤◌, Bool,
 use Rattle.std.specs.Prelude.{◌&&◌, nat_lt, nat_le}
 use Rattle.std.proofs.lemmas.Bool.Decides.{nat_tests}
 use Rattle.omega_net.specs.Numbers.{components}
-use Rattle.project_book.specs.Limits.{max_horizon}
 use Rattle.monitor_sums.specs.declared.counted.Counted.{Counted}
 use Rattle.monitor_sums.specs.Sums.{States, cleared}
 use Rattle.monitor_sums.specs.Kept.{Kept, StandsFor, counted, kept_at, nothing}
@@ -16,16 +15,19 @@ chosen true false x y f g = let e : false ≡ true = f refl in cc
 chosen false true x y f g = let e : false ≡ true = g refl in cc
 
 -- what is kept stands for the map without those states
-pub stands_cleared : (old new : Kept) (from to : ℕ) (at : States) → new.k ≡ old.k
-    → ((u d : ℕ) → u ≤ max_horizon → d < components old.k → kept_at new.cells u d ≡ cond (nat_le from u && nat_lt u (to + 1)) nothing (kept_at old.cells u d))
+pub stands_cleared : (old new : Kept) (from to : ℕ) (at : States) → new.k ≡ old.k → new.last ≡ old.last
+    → ((u d : ℕ) → u ≤ old.last → d < components old.k → kept_at new.cells u d ≡ cond (nat_le from u && nat_lt u (to + 1)) nothing (kept_at old.cells u d))
     → StandsFor old at → StandsFor new (cleared at from to)
-stands_cleared old new from to at same each stands u d b there =
-    each u d b old_there
+stands_cleared old new from to at same same_last each stands u d b there =
+    each u d in_time old_there
     ∙ chosen (nat_le from u && nat_lt u (to + 1)) (nat_le from u && nat_le u to) nothing (kept_at old.cells u d)
     (λ e. by_parts (nat_le from u) (nat_lt u (to + 1)) (nat_le u to) refl refl e)
     (λ e. by_other_parts (nat_le from u) (nat_lt u (to + 1)) (nat_le u to) refl refl e)
     ∙ by_test (nat_le from u && nat_le u to)
   where
+    in_time : u ≤ old.last
+    in_time = omega (arith, b, same_last)
+
     old_there : d < components old.k
     old_there = subst (λ k. d < components k) same there
 
@@ -43,4 +45,4 @@ stands_cleared old new from to at same each stands u d b there =
 
     by_test : (v : Bool) → cond v nothing (kept_at old.cells u d) ≡ counted (cond v None (at u d))
     by_test true = refl
-    by_test false = stands u d b old_there
+    by_test false = stands u d in_time old_there

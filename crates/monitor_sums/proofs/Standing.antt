@@ -9,13 +9,12 @@ use Rattle.machine_cells.proofs.Runs.{length-below, below-get}
 use Rattle.omega_net.specs.declared.component.Net.{Net}
 use Rattle.omega_net.specs.Numbers.{components}
 use Rattle.omega_net.specs.Wires.{below}
-use Rattle.project_book.specs.Limits.{max_horizon}
 use Rattle.monitor_sums.specs.declared.counter.Counter.{Counter}
 use Rattle.monitor_sums.specs.declared.counted.Counted.{Counted}
 use Rattle.monitor_sums.specs.Counts.{count, output_lengths}
 use Rattle.monitor_sums.specs.Sums.{States, sum_of, in_profile, pairs_of, profile_of, changed, NonePast}
 use Rattle.monitor_sums.specs.Parts.{part}
-use Rattle.monitor_sums.specs.Kept.{Kept, StandsFor, counted, kept_at}
+use Rattle.monitor_sums.specs.Kept.{Kept, Row, StandsFor, counted, kept_at}
 use Rattle.monitor_sums.specs.Whole.{counted_before, lengths_of, profile_place, AddsUp}
 use Rattle.monitor_sums.specs.declared.tally.Tally.{Tally}
 use Rattle.monitor_sums.proofs.Parts.{part_counted, in_profile_nothing}
@@ -23,13 +22,13 @@ use Rattle.monitor_sums.proofs.Over.{same_over, over_before, cut_over}
 use Rattle.monitor_sums.specs.Limits.{profile_lengths}
 
 -- two maps that are equal at each cell stand alike
-pub stands_as : (kept : Kept) (at other : States) → ((t c : ℕ) → t ≤ max_horizon → c < components kept.k → at t c ≡ other t c)
+pub stands_as : (kept : Kept) (at other : States) → ((t c : ℕ) → t ≤ kept.last → c < components kept.k → at t c ≡ other t c)
     → StandsFor kept at → StandsFor kept other
 stands_as kept at other same stands t c b there = stands t c b there ∙ ap counted (same t c b there)
 
 -- what was counted of the cells is what the map's states count
 pub stands_sum : (kept : Kept) (at : States) (counter : Counter) (who : Option ℕ) (from to : ℕ) → StandsFor kept at
-    → ForSome who (λ c. c < components kept.k) → to ≤ max_horizon → counted_before kept.k counter kept.cells who from (to + 1) ≡ sum_of kept.k counter at who from to
+    → ForSome who (λ c. c < components kept.k) → to ≤ kept.last → counted_before kept.k counter kept.cells who from (to + 1) ≡ sum_of kept.k counter at who from to
 stands_sum kept at counter who from to stands asked within =
     sym (over_before kept.k (λ t c. part counter (kept_at kept.cells t c)) who from to)
     ∙ same_over kept.k (λ t c. part counter (kept_at kept.cells t c)) (λ t c. count counter (at t c)) who from to asked
@@ -37,28 +36,28 @@ stands_sum kept at counter who from to stands asked within =
 
 -- where the cells past h hold no state, they can be left out
 pub stands_sum_to : (kept : Kept) (at : States) (counter : Counter) (who : Option ℕ) (h : ℕ) → StandsFor kept at
-    → ForSome who (λ c. c < components kept.k) → NonePast kept.k at h → h ≤ max_horizon
-    → counted_before kept.k counter kept.cells who 0 (max_horizon + 1) ≡ sum_of kept.k counter at who 0 h
+    → ForSome who (λ c. c < components kept.k) → NonePast kept.k at h kept.last → h ≤ kept.last
+    → counted_before kept.k counter kept.cells who 0 (kept.last + 1) ≡ sum_of kept.k counter at who 0 h
 stands_sum_to kept at counter who h stands asked none within =
-    stands_sum kept at counter who 0 max_horizon stands asked (omega arith)
-    ∙ cut_over kept.k (λ t c. count counter (at t c)) who h max_horizon asked within (λ t c a b there. ap (count counter) (none t c a b there))
+    stands_sum kept at counter who 0 kept.last stands asked (omega arith)
+    ∙ cut_over kept.k (λ t c. count counter (at t c)) who h kept.last asked within (λ t c a b there. ap (count counter) (none t c a b there))
 
 -- the profile that is kept of a stage
-pub profile_seen : (kept : Kept) (k : ℕ) (cells : List (List Counted)) (own all : List Tally) (profiles : List (List ℕ)) (net : Net) (stage place : ℕ) (ns : List ℕ)
-    → record { k = k; cells = cells } ≡ kept → AddsUp k cells own all profiles → stage < kept.k → place ≡ profile_place k net stage → ns ≡ slice_index_or profiles place []
-    → (n : ℕ) → n < profile_lengths → slice_index ns n ≡ lengths_of kept.k kept.cells net stage n
-profile_seen kept k cells own all profiles net stage place ns view adds in_net place_is read n short =
-    let F : Kept → Type 0 = λ v. stage < v.k → slice_index ns n ≡ lengths_of v.k v.cells net stage n in
+pub profile_seen : (kept : Kept) (k last : ℕ) (cells : List Row) (own all : List Tally) (profiles : List (List ℕ)) (net : Net) (stage place : ℕ) (ns : List ℕ)
+    → record { k = k; last = last; cells = cells } ≡ kept → AddsUp k last cells own all profiles → stage < kept.k → place ≡ profile_place k net stage → ns ≡ slice_index_or profiles place []
+    → (n : ℕ) → n < profile_lengths → slice_index ns n ≡ lengths_of kept.k kept.last kept.cells net stage n
+profile_seen kept k last cells own all profiles net stage place ns view adds in_net place_is read n short =
+    let F : Kept → Type 0 = λ v. stage < v.k → slice_index ns n ≡ lengths_of v.k v.last v.cells net stage n in
     subst F view (λ lt. ap (λ ms. slice_index ms n) (read ∙ ap (λ i. slice_index_or profiles i []) place_is) ∙ adds.lengths net stage n lt short) in_net
 
 -- how often a queue was of a length, too
-pub stands_pairs : (kept : Kept) (at : States) (net : Net) (stage h n : ℕ) → StandsFor kept at → NonePast kept.k at h → h ≤ max_horizon
-    → lengths_of kept.k kept.cells net stage n ≡ pairs_of kept.k at net stage h n
+pub stands_pairs : (kept : Kept) (at : States) (net : Net) (stage h n : ℕ) → StandsFor kept at → NonePast kept.k at h kept.last → h ≤ kept.last
+    → lengths_of kept.k kept.last kept.cells net stage n ≡ pairs_of kept.k at net stage h n
 stands_pairs kept at net stage h n stands none within =
     same_over kept.k (λ t c. in_profile kept.k net stage n c (kept_at kept.cells t c).lengths) (λ t c. in_profile kept.k net stage n c (output_lengths (at t c)))
-    None 0 max_horizon (λ c e. absurd (some_none e))
+    None 0 kept.last (λ c e. absurd (some_none e))
     (λ t c b there. ap (λ (x : Counted). in_profile kept.k net stage n c x.lengths) (stands t c b there))
-    ∙ cut_over kept.k (λ t c. in_profile kept.k net stage n c (output_lengths (at t c))) None h max_horizon (λ c e. absurd (some_none e)) within
+    ∙ cut_over kept.k (λ t c. in_profile kept.k net stage n c (output_lengths (at t c))) None h kept.last (λ c e. absurd (some_none e)) within
     (λ t c a b there. ap (λ s. in_profile kept.k net stage n c (output_lengths s)) (none t c a b there) ∙ in_profile_nothing kept.k net stage n c)
   where
     some_none : {c : ℕ} → None ≡ Some c → ⊥
@@ -82,26 +81,29 @@ listed ns f n long each =
     at_each i d b = get_or_default ns i d 0 b ∙ each i (omega arith) ∙ sym (found i d (omega arith))
 
 -- a profile from its numbers
-pub stands_profile : (kept : Kept) (at : States) (net : Net) (stage h : ℕ) (ns : List ℕ) → StandsFor kept at → NonePast kept.k at h → h ≤ max_horizon
-    → length ns ≡ profile_lengths → ((n : ℕ) → n < profile_lengths → slice_index ns n ≡ lengths_of kept.k kept.cells net stage n) → ns ≡ profile_of kept.k at net stage h
+pub stands_profile : (kept : Kept) (at : States) (net : Net) (stage h : ℕ) (ns : List ℕ) → StandsFor kept at → NonePast kept.k at h kept.last → h ≤ kept.last
+    → length ns ≡ profile_lengths → ((n : ℕ) → n < profile_lengths → slice_index ns n ≡ lengths_of kept.k kept.last kept.cells net stage n) → ns ≡ profile_of kept.k at net stage h
 unfolding profile_of
 stands_profile kept at net stage h ns stands none within long each =
     listed ns (pairs_of kept.k at net stage h) profile_lengths long (λ n b. each n b ∙ stands_pairs kept at net stage h n stands none within)
 
--- no cell is past the greatest horizon
-pub none_past : (k : ℕ) (at : States) → NonePast k at max_horizon
-none_past k at t c a b there = absurd (omega arith)
+-- no cell is past the last
+pub none_past : (k last : ℕ) (at : States) → NonePast k at last last
+none_past k last at t c a b there = absurd (omega arith)
 
 -- so what is kept stands for the map where that cell holds that state
-pub stands_changed : (old new : Kept) (t c : ℕ) (x : Counted) (s : Option MachineState) (at : States) → new.k ≡ old.k → x ≡ counted s
-    → ((u d : ℕ) → u ≤ max_horizon → d < components old.k → kept_at new.cells u d ≡ cond ((u == t) && (d == c)) x (kept_at old.cells u d))
+pub stands_changed : (old new : Kept) (t c : ℕ) (x : Counted) (s : Option MachineState) (at : States) → new.k ≡ old.k → new.last ≡ old.last → x ≡ counted s
+    → ((u d : ℕ) → u ≤ old.last → d < components old.k → kept_at new.cells u d ≡ cond ((u == t) && (d == c)) x (kept_at old.cells u d))
     → StandsFor old at → StandsFor new (changed at t c s)
-stands_changed old new t c x s at same is each stands u d b there =
-    each u d b old_there ∙ by_test ((u == t) && (d == c))
+stands_changed old new t c x s at same same_last is each stands u d b there =
+    each u d in_time old_there ∙ by_test ((u == t) && (d == c))
   where
+    in_time : u ≤ old.last
+    in_time = omega (arith, b, same_last)
+
     old_there : d < components old.k
     old_there = subst (λ k. d < components k) same there
 
     by_test : (v : Bool) → cond v x (kept_at old.cells u d) ≡ counted (cond v s (at u d))
     by_test true = is
-    by_test false = stands u d b old_there
+    by_test false = stands u d in_time old_there

@@ -13,7 +13,7 @@ use Rattle.monitor_sums.specs.declared.counted.Counted.{Counted}
 use Rattle.monitor_sums.specs.declared.tally.Tally.{Tally}
 use Rattle.monitor_sums.specs.Sums.{in_profile}
 use Rattle.monitor_sums.specs.Parts.{part, tallied, IsSmall}
-use Rattle.monitor_sums.specs.Kept.{Kept, StandsFor, nothing, kept_at}
+use Rattle.monitor_sums.specs.Kept.{Kept, Row, StandsFor, blank, row_at, nothing, kept_at}
 use Rattle.monitor_sums.specs.Whole.{counted_in, block_end, block_place, lengths_of, none, profile_place, profile_at, AddsUp}
 use Rattle.monitor_sums.proofs.Parts.{part_nothing, in_profile_nothing}
 use Rattle.monitor_sums.proofs.Over.{none_before}
@@ -44,18 +44,27 @@ tallied_none Served = refl
 tallied_none Combined = refl
 tallied_none Waiting = refl
 
-module _ (k n m : ℕ) where
-  nothing_kept : (t c : ℕ) → kept_at (replicate n []) t c ≡ nothing
-  nothing_kept t c = ap (λ ys. slice_index_or ys t nothing) (copy_of n c [])
+module _ (k last n m : ℕ) where
+  nothing_kept : (t c : ℕ) → kept_at (replicate n (blank (last + 1))) t c ≡ nothing
+  nothing_kept t c = by_cases (copy_or n c (blank (last + 1)) (blank 0))
+    where
+      by_cases : (row_at (replicate n (blank (last + 1))) c ≡ blank (last + 1)) ⊎ (row_at (replicate n (blank (last + 1))) c ≡ blank 0) → kept_at (replicate n (blank (last + 1))) t c ≡ nothing
+      by_cases (inl e) = ap (λ (r : Row). slice_index_or r.counts t nothing) e
+      by_cases (inr e) = ap (λ (r : Row). slice_index_or r.counts t nothing) e
 
-  nothing_counted : (counter : Counter) (who : Option ℕ) (b : ℕ) → counted_in k counter (replicate n []) who b ≡ 0
+  room_kept : (c : ℕ) → c < n → last < (row_at (replicate n (blank (last + 1))) c).room
+  room_kept c there =
+      let is : (row_at (replicate n (blank (last + 1))) c).room ≡ last + 1 = ap (λ (r : Row). r.room) (get_or-replicate n c (blank (last + 1)) (blank 0) there) in
+      omega (arith, is)
+
+  nothing_counted : (counter : Counter) (who : Option ℕ) (b : ℕ) → counted_in k last counter (replicate n (blank (last + 1))) who b ≡ 0
   nothing_counted counter who b =
-      none_before k (λ t c. part counter (kept_at (replicate n []) t c)) who (32 * b) (block_end b)
+      none_before k (λ t c. part counter (kept_at (replicate n (blank (last + 1))) t c)) who (32 * b) (block_end last b)
       (λ t c. ap (part counter) (nothing_kept t c) ∙ part_nothing counter)
 
-  nothing_long : (net : Net) (stage n' : ℕ) → lengths_of k (replicate n []) net stage n' ≡ 0
+  nothing_long : (net : Net) (stage n' : ℕ) → lengths_of k last (replicate n (blank (last + 1))) net stage n' ≡ 0
   nothing_long net stage n' =
-      none_before k (λ t c. in_profile k net stage n' c (kept_at (replicate n []) t c).lengths) None 0 (max_horizon + 1)
+      none_before k (λ t c. in_profile k net stage n' c (kept_at (replicate n (blank (last + 1))) t c).lengths) None 0 (last + 1)
       (λ t c. ap (λ (x : Counted). in_profile k net stage n' c x.lengths) (nothing_kept t c) ∙ in_profile_nothing k net stage n' c)
 
   zero_at : (zeros : List ℕ) (net : Net) (stage i : ℕ) → ((j : ℕ) → slice_index zeros j ≡ 0) → slice_index (profile_at k (replicate m zeros) net stage) i ≡ 0
@@ -70,34 +79,37 @@ zeros_are : (n j : ℕ) → slice_index (replicate n 0) j ≡ 0
 zeros_are n j = copy_of n j 0
 
 -- where every cell holds no state, what is kept adds up
-pub blank_adds : (k n count m : ℕ) (zeros : List ℕ) → k ≤ max_k → n ≡ components k → count ≡ blocks * components k → m ≡ k + k → zeros ≡ replicate profile_lengths 0
-    → AddsUp k (replicate n []) (replicate count none) (replicate blocks none) (replicate m zeros)
-blank_adds k n count m zeros few cells_are count_is stages_are zeros_is = record {
+pub blank_adds : (k last n count m : ℕ) (zeros : List ℕ) → k ≤ max_k → last ≤ max_horizon → n ≡ components k → count ≡ components k * blocks last → m ≡ k + k → zeros ≡ replicate profile_lengths 0
+    → AddsUp k last (replicate n (blank (last + 1))) (replicate count none) (replicate (blocks last) none) (replicate m zeros)
+blank_adds k last n count m zeros few within cells_are count_is stages_are zeros_is = record {
   few = few;
-  room = length-replicate n [] ∙ cells_are;
+  within = within;
+  size = length-replicate n (blank (last + 1)) ∙ cells_are;
+  room = λ c there. room_kept k last n m c (omega (arith, there, cells_are));
   each = length-replicate count none ∙ count_is;
-  among = length-replicate blocks none;
+  among = length-replicate (blocks last) none;
   stages = length-replicate m zeros ∙ stages_are;
-  small = λ t c. subst IsSmall (sym (nothing_kept k n m t c)) small_nothing;
-  parts = λ counter c b there low. ap (tallied counter) (copy_of count (block_place c b) none) ∙ tallied_none counter ∙ sym (nothing_counted k n m counter (Some c) b);
-  whole = λ counter b low. ap (tallied counter) (copy_of blocks b none) ∙ tallied_none counter ∙ sym (nothing_counted k n m counter None b);
-  lengths = λ net stage i in_net short. zero_at k n m zeros net stage i (λ j. ap (λ ns. slice_index ns j) zeros_is ∙ zeros_are profile_lengths j) ∙ sym (nothing_long k n m net stage i);
+  small = λ t c. subst IsSmall (sym (nothing_kept k last n m t c)) small_nothing;
+  parts = λ counter c b there low. ap (tallied counter) (copy_of count (block_place last c b) none) ∙ tallied_none counter ∙ sym (nothing_counted k last n m counter (Some c) b);
+  whole = λ counter b low. ap (tallied counter) (copy_of (blocks last) b none) ∙ tallied_none counter ∙ sym (nothing_counted k last n m counter None b);
+  lengths = λ net stage i in_net short. zero_at k last n m zeros net stage i (λ j. ap (λ ns. slice_index ns j) zeros_is ∙ zeros_are profile_lengths j) ∙ sym (nothing_long k last n m net stage i);
 }
 
 -- and stands for the map without states
-pub blank_stands : (kept : Kept) (k n : ℕ) → kept ≡ record { k = k; cells = replicate n [] } → StandsFor kept (λ t c. None)
-blank_stands kept k n is t c b there = ap (λ (v : Kept). kept_at v.cells t c) is ∙ nothing_kept k n 0 t c
+pub blank_stands : (kept : Kept) (k last n : ℕ) → kept ≡ record { k = k; last = last; cells = replicate n (blank (last + 1)) } → StandsFor kept (λ t c. None)
+blank_stands kept k last n is t c b there = ap (λ (v : Kept). kept_at v.cells t c) is ∙ nothing_kept k last n 0 t c
 
 -- what is kept at first, from what was made
-pub blank_is : (k count stages : ℕ) (cells : List (List Counted)) (own all : List Tally) (profiles : List (List ℕ)) (z y : Tally) → k ≤ max_k
-    → count ≡ components k → stages ≡ k → cells ≡ replicate count [] → own ≡ replicate (count * blocks) z → z ≡ none → all ≡ replicate blocks y → y ≡ none
-    → profiles ≡ replicate (2 * stages) (replicate profile_lengths 0) → AddsUp k cells own all profiles
-blank_is k count stages cells own all profiles z y few count_is stages_is cells_are own_are z_is all_are y_is profiles_are =
-    let own_none : own ≡ replicate (count * blocks) none = own_are ∙ ap (replicate (count * blocks)) z_is in
-    let all_none : all ≡ replicate blocks none = all_are ∙ ap (replicate blocks) y_is in
-    let made : AddsUp k (replicate count []) (replicate (count * blocks) none) (replicate blocks none) (replicate (2 * stages) (replicate profile_lengths 0)) =
-    blank_adds k count (count * blocks) (2 * stages) (replicate profile_lengths 0) few count_is (omega (arith, count_is)) (omega arith) refl in
-    subst (λ v. AddsUp k v own all profiles) (sym cells_are)
-    (subst (λ v. AddsUp k (replicate count []) v all profiles) (sym own_none)
-    (subst (λ v. AddsUp k (replicate count []) (replicate (count * blocks) none) v profiles) (sym all_none)
-    (subst (λ v. AddsUp k (replicate count []) (replicate (count * blocks) none) (replicate blocks none) v) (sym profiles_are) made)))
+pub blank_is : (k last count size stages : ℕ) (cells : List Row) (own all : List Tally) (profiles : List (List ℕ)) (z y : Tally) → k ≤ max_k → last ≤ max_horizon
+    → count ≡ components k → size ≡ blocks last → stages ≡ k → cells ≡ replicate count (blank (last + 1)) → own ≡ replicate (count * size) z → z ≡ none → all ≡ replicate size y → y ≡ none
+    → profiles ≡ replicate (2 * stages) (replicate profile_lengths 0) → AddsUp k last cells own all profiles
+blank_is k last count size stages cells own all profiles z y few within count_is size_is stages_is cells_are own_are z_is all_are y_is profiles_are =
+    let own_none : own ≡ replicate (count * size) none = own_are ∙ ap (replicate (count * size)) z_is in
+    let all_none : all ≡ replicate (blocks last) none = all_are ∙ ap (replicate size) y_is ∙ ap (λ n. replicate n none) size_is in
+    let places : count * size ≡ components k * blocks last = ap (λ n. n * size) count_is ∙ ap (λ n. components k * n) size_is in
+    let made : AddsUp k last (replicate count (blank (last + 1))) (replicate (count * size) none) (replicate (blocks last) none) (replicate (2 * stages) (replicate profile_lengths 0)) =
+    blank_adds k last count (count * size) (2 * stages) (replicate profile_lengths 0) few within count_is places (omega (arith, stages_is)) refl in
+    subst (λ v. AddsUp k last v own all profiles) (sym cells_are)
+    (subst (λ v. AddsUp k last (replicate count (blank (last + 1))) v all profiles) (sym own_none)
+    (subst (λ v. AddsUp k last (replicate count (blank (last + 1))) (replicate (count * size) none) v profiles) (sym all_none)
+    (subst (λ v. AddsUp k last (replicate count (blank (last + 1))) (replicate (count * size) none) (replicate (blocks last) none) v) (sym profiles_are) made)))

@@ -1,6 +1,5 @@
 -- The sizes of sums.
 use Rattle.std.specs.Prelude.{ℕ, ◌+◌, ◌/◌}
-use Rattle.project_book.specs.Limits.{max_horizon}
 
 -- how many components the largest machine has
 abbrev pub max_components : ℕ
@@ -10,6 +9,6 @@ max_components = 512
 abbrev pub profile_lengths : ℕ
 profile_lengths = 17
 
--- how many blocks of 32 cycles the cycles to the greatest horizon are; the last one may have fewer
-abbrev pub blocks : ℕ
-blocks = (max_horizon + 32) / 32
+-- how many blocks of 32 cycles the cycles from 0 to `last` are; the last one may have fewer
+abbrev pub blocks : ℕ → ℕ
+blocks last = (last + 32) / 32

@@ -6,7 +6,6 @@ use Rattle.omega_net.specs.declared.component.Component.TheVariants.{Switch}
 use Rattle.omega_net.specs.Numbers.{components, component_of}
 use Rattle.omega_net.specs.Wires.{below, net_number}
 use Rattle.machine_cells.specs.declared.state.MachineState.{MachineState}
-use Rattle.project_book.specs.Limits.{max_horizon}
 use Rattle.monitor_sums.specs.declared.counter.Counter.{Counter}
 use Rattle.monitor_sums.specs.Counts.{one, count, output_lengths}
 use Rattle.monitor_sums.specs.Adding.{sum_below}
@@ -25,9 +24,9 @@ sum_over k f None from to = sum_below (λ c. sum_below (λ i. f (i + from) c) (t
 abbrev pub sum_of : ℕ → Counter → States → Option ℕ → ℕ → ℕ → ℕ
 sum_of k counter at who from to = sum_over k (λ t c. count counter (at t c)) who from to
 
--- what the components asked count over all cycles
-abbrev pub total_of : ℕ → Counter → States → Option ℕ → ℕ
-total_of k counter at who = sum_of k counter at who 0 max_horizon
+-- what the components asked count over all cycles, of which `last` is the last
+abbrev pub total_of : ℕ → Counter → States → Option ℕ → ℕ → ℕ
+total_of k counter at who last = sum_of k counter at who 0 last
 
 -- whether a component is a switch of a stage
 abbrev pub is_in_stage : Net → ℕ → Option Component → Bool
@@ -63,6 +62,6 @@ filled at c from end state u d = if (nat_le from u && nat_lt u end) && (d == c) 
 abbrev pub cleared : States → ℕ → ℕ → States
 cleared at from to u d = if nat_le from u && nat_le u to then None else at u d
 
--- whether the cells of the cycles past h hold no state
-abbrev pub NonePast : ℕ → States → ℕ → Type 0
-NonePast k at h = (t c : ℕ) → h < t → t ≤ max_horizon → c < components k → at t c ≡ None
+-- whether the cells of the cycles past h, and up to `last`, hold no state
+abbrev pub NonePast : ℕ → States → ℕ → ℕ → Type 0
+NonePast k at h last = (t c : ℕ) → h < t → t ≤ last → c < components k → at t c ≡ None

@@ -1,15 +1,13 @@
 //! What one component counts, by cycle.
 ghost use Rattle.std.specs.Prelude.{◌≡◌, ℕ, ◌<◌, ◌≤◌, [], IfOk, length, vec_capacity, slice_index_or, ◌==◌, ◌&&◌, nat_le, nat_lt, ◌+◌, if◌then◌else◌};
-ghost use Rattle.project_book.specs.Limits.{max_horizon};
-ghost use Rattle.monitor_sums.specs.Kept.{nothing};
+ghost use Rattle.monitor_sums.specs.Kept.{blank, nothing};
 
 use crate::counted::Counted;
 use grid_law::NoMemory;
-use project_book::MAX_HORIZON;
 use std::alloc::Global;
 use std::marker::Model;
 
-/// What each cell of a component counts. It has room for every cycle up to the greatest horizon, and uses
+/// What each cell of a component counts. It has room for every cycle to the last that is counted, and uses
 /// as much of it as the last cycle to which something was put; later cells count nothing.
 #[derive(Drop)]
 pub struct Counts {
@@ -17,33 +15,30 @@ pub struct Counts {
 }
 
 impl Model for Counts {
-    ghost use Rattle.std.specs.Prelude.{List, ◌<◌, ◌≤◌, ◌+◌, length, vec_capacity};
-    ghost use Rattle.project_book.specs.Limits.{max_horizon};
-    ghost use Rattle.monitor_sums.specs.declared.counted.Counted.{Counted};
+    ghost use Rattle.std.specs.Prelude.{vec_capacity};
+    ghost use Rattle.monitor_sums.specs.Kept.{Row};
 
-    ghost Value = { List Counted };
+    ghost Value = { Row };
 
-    ghost view = { λ c. c.counts.items };
-
-    ghost invariant = { λ c. max_horizon < vec_capacity c.counts };
+    ghost view = { λ c. record { counts = c.counts.items; room = vec_capacity c.counts } };
 }
 
 impl Counts {
-    /// A component that counts nothing.
+    /// A component that counts nothing, with room for the cycles 0 to `last`.
     ///
     /// # Errors
     ///
     /// Where a growth was refused. What was taken is given back.
-    pub fn new(alloc: Global) -> Result<Counts, NoMemory>
-        ensures { IfOk result (λ counts. counts ≡ []) }
+    pub fn new(alloc: Global, last: u32) -> Result<Counts, NoMemory>
+        ensures { IfOk result (λ row. row ≡ blank (last + 1)) }
     {
-        let counts = Vec::with_capacity(alloc, MAX_HORIZON as usize + 1)?;
+        let counts = Vec::with_capacity(alloc, last as usize + 1)?;
         Ok(Counts { counts })
     }
 
     /// What the cell of a cycle counts.
     pub fn at(&self, cycle: u32) -> Counted
-        ensures { result ≡ slice_index_or self.now cycle nothing }
+        ensures { result ≡ slice_index_or self.now.counts cycle nothing }
     {
         at(&self.counts, cycle)
     }
@@ -53,7 +48,7 @@ impl Counts {
         requires { cycle < end }
         ensures on { cycle < result }
         ensures within { result ≤ end }
-        ensures same { (t : ℕ) → cycle ≤ t → t < result → slice_index_or self.now t nothing ≡ slice_index_or self.now cycle nothing }
+        ensures same { (t : ℕ) → cycle ≤ t → t < result → slice_index_or self.now.counts t nothing ≡ slice_index_or self.now.counts cycle nothing }
     {
         same_to(&self.counts, cycle, end)
     }
@@ -61,8 +56,9 @@ impl Counts {
     /// The cells of the cycles from one on and before another count this now. It takes no memory.
     pub fn put(&mut self, from: u32, end: u32, new: Counted)
         requires order { from ≤ end }
-        requires within { end ≤ max_horizon + 1 }
-        ensures { (t : ℕ) → slice_index_or self.new t nothing ≡ (if nat_le from t && nat_lt t end then new else slice_index_or self.old t nothing) }
+        requires within { end ≤ self.old.room }
+        ensures room { self.new.room ≡ self.old.room }
+        ensures each { (t : ℕ) → slice_index_or self.new.counts t nothing ≡ (if nat_le from t && nat_lt t end then new else slice_index_or self.old.counts t nothing) }
     {
         put(&mut self.counts, from, end, new);
     }
@@ -96,8 +92,7 @@ fn at(counts: &Vec<Counted>, cycle: u32) -> Counted
 
 fn put(counts: &mut Vec<Counted>, from: u32, end: u32, new: Counted)
     requires order { from ≤ end }
-    requires within { end ≤ max_horizon + 1 }
-    requires room { max_horizon < vec_capacity counts.old }
+    requires within { end ≤ vec_capacity counts.old }
     ensures capacity { vec_capacity counts.new ≡ vec_capacity counts.old }
     ensures each { (t : ℕ) → slice_index_or counts.new.items t nothing ≡ (if nat_le from t && nat_lt t end then new else slice_index_or counts.old.items t nothing) }
 {

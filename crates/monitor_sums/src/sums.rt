@@ -3,7 +3,7 @@ ghost use Rattle.std.specs.Prelude.{◌≡◌, ℕ, ◌+◌, ◌-◌, ◌*◌, �
 ghost use Rattle.std.specs.Option.{ForSome, option_copied};
 ghost use Rattle.omega_net.specs.Numbers.{components};
 ghost use Rattle.monitor_sums.specs.Sums.{States, sum_of, total_of, profile_of, changed, filled, cleared, NonePast};
-ghost use Rattle.monitor_sums.specs.Kept.{StandsFor, kept_at, nothing};
+ghost use Rattle.monitor_sums.specs.Kept.{StandsFor, blank, kept_at, nothing};
 ghost use Rattle.monitor_sums.specs.Adding.{sum_below};
 ghost use Rattle.monitor_sums.specs.declared.counter.Counter.{Counter as CounterIs};
 ghost use Rattle.monitor_sums.specs.Parts.{part, tallied, IsSmall};
@@ -23,21 +23,16 @@ use project_book::MAX_HORIZON;
 use std::alloc::Global;
 use std::marker::Model;
 
-/// The cycles from 0 to the greatest horizon.
-const CYCLES: usize = MAX_HORIZON as usize + 1;
-
 /// How many cycles a block has; the last block may have fewer.
 const BLOCK_CYCLES: u32 = 32;
 
-/// How many blocks those cycles are.
-const BLOCKS: usize = (CYCLES + 31) / 32;
-
-/// The counters over the cells of a run. It stands for a map from cells to states, where a cell may
-/// hold none, and keeps what each cell counts, the totals of each component and of all of them over
-/// each block of 32 cycles, and the profile of each stage.
+/// The counters over the cells of a run, at the cycles from 0 to a last one. It stands for a map from cells
+/// to states, where a cell may hold none, and keeps what each cell counts, the totals of each component
+/// and of all of them over each block of 32 cycles, and the profile of each stage.
 #[derive(Drop)]
 pub struct Sums {
     shape: Shape,
+    last: u32,
     cells: Vec<Counts>,
     own: Vec<Tally>,
     all: Vec<Tally>,
@@ -50,35 +45,40 @@ impl Model for Sums {
 
     ghost Value = { Kept };
 
-    ghost view = { λ s. record { k = s.shape; cells = s.cells.items } };
+    ghost view = { λ s. record { k = s.shape; last = s.last; cells = s.cells.items } };
 
-    ghost invariant = { λ s. AddsUp s.shape s.cells.items s.own.items s.all.items s.profiles.items };
+    ghost invariant = { λ s. AddsUp s.shape s.last s.cells.items s.own.items s.all.items s.profiles.items };
 }
 
 impl Sums {
-    /// The counters of a machine where no cell holds a state yet. It takes the memory for every cell
-    /// up to the greatest horizon, a few bytes each.
+    /// The counters of a machine where no cell holds a state yet, over the cycles 0 to `last`. It takes the
+    /// memory for each of those cells, a few bytes.
     ///
     /// # Errors
     ///
     /// Where a growth was refused. What was taken is given back.
     #[tactic(auto, using(crate::proofs::Starting::blank_stands))]
-    pub fn new(alloc: Global, shape: Shape) -> Result<Sums, NoMemory>
+    pub fn new(alloc: Global, shape: Shape, last: u32) -> Result<Sums, NoMemory>
+        requires { last ≤ max_horizon }
         ensures shape { IfOk result (λ sums. sums.k ≡ shape) }
+        ensures last { IfOk result (λ sums. sums.last ≡ last) }
         ensures stands { IfOk result (λ sums. StandsFor sums (λ t c. None)) }
     {
-        Sums::blank(alloc, shape)
+        Sums::blank(alloc, shape, last)
     }
 
-    fn blank(alloc: Global, shape: Shape) -> Result<Sums, NoMemory>
-        ensures { IfOk result (λ sums. sums ≡ record { k = shape; cells = replicate (components shape) [] }) }
+    fn blank(alloc: Global, shape: Shape, last: u32) -> Result<Sums, NoMemory>
+        requires { last ≤ max_horizon }
+        ensures { IfOk result (λ sums. sums ≡ record { k = shape; last = last; cells = replicate (components shape) (blank (last + 1)) }) }
     {
         let components = shape.components() as usize;
+        let blocks = blocks(last);
         Ok(Sums {
             shape,
-            cells: no_counts(alloc, components)?,
-            own: filled(alloc, Tally::zero(), components * BLOCKS)?,
-            all: filled(alloc, Tally::zero(), BLOCKS)?,
+            last,
+            cells: no_counts(alloc, components, last)?,
+            own: filled(alloc, Tally::zero(), components * blocks)?,
+            all: filled(alloc, Tally::zero(), blocks)?,
             profiles: filled(alloc, [0; LENGTHS], 2 * shape.k() as usize)?,
         })
     }
@@ -90,12 +90,21 @@ impl Sums {
         self.shape
     }
 
+    /// The last cycle that is counted.
+    pub fn last(&self) -> u32
+        ensures value { result ≡ self.now.last }
+        ensures within { result ≤ max_horizon }
+    {
+        self.last
+    }
+
     /// A cell holds this state now, or none. It takes no memory, and a fixed time, but where the cell is
     /// its component's last one so far: then the cells before it are filled up.
     pub fn change(&mut self, component: u32, cycle: u32, new: Option<&MachineState>)
         requires component { component < components self.old.k }
-        requires cycle { cycle ≤ max_horizon }
+        requires cycle { cycle ≤ self.old.last }
         ensures shape { self.new.k ≡ self.old.k }
+        ensures last { self.new.last ≡ self.old.last }
         ensures stands { (at : States) → StandsFor self.old at → StandsFor self.new (changed at cycle component (option_copied new.entry)) }
     {
         self.put(component, cycle, Counted::of(new));
@@ -107,8 +116,9 @@ impl Sums {
     pub fn fill(&mut self, component: u32, from: u32, end: u32, new: Option<&MachineState>)
         requires component { component < components self.old.k }
         requires order { from ≤ end }
-        requires within { end ≤ max_horizon + 1 }
+        requires within { end ≤ self.old.last + 1 }
         ensures shape { self.new.k ≡ self.old.k }
+        ensures last { self.new.last ≡ self.old.last }
         ensures stands { (at : States) → StandsFor self.old at → StandsFor self.new (filled at component from end (option_copied new.entry)) }
     {
         self.put_cells(component, from, end, Counted::of(new));
@@ -118,19 +128,22 @@ impl Sums {
     /// time for each of those cells.
     pub fn clear(&mut self, from: u32, to: u32)
         requires window { from ≤ to }
-        requires within { to ≤ max_horizon }
+        requires within { to ≤ self.old.last }
         ensures shape { self.new.k ≡ self.old.k }
+        ensures last { self.new.last ≡ self.old.last }
         ensures stands { (at : States) → StandsFor self.old at → StandsFor self.new (cleared at from to) }
     {
+        prove!(self.last <= MAX_HORIZON);
         for cycle in from..to + 1 {
             self.clear_cycle(cycle);
         }
     }
 
     fn clear_cycle(&mut self, cycle: u32)
-        requires { cycle ≤ max_horizon }
+        requires { cycle ≤ self.old.last }
         ensures shape { self.new.k ≡ self.old.k }
-        ensures each { (t c : ℕ) → t ≤ max_horizon → c < components self.old.k
+        ensures last { self.new.last ≡ self.old.last }
+        ensures each { (t c : ℕ) → t ≤ self.old.last → c < components self.old.k
             → kept_at self.new.cells t c ≡ (if t == cycle then nothing else kept_at self.old.cells t c) }
     {
         for component in 0..self.shape().components() {
@@ -142,11 +155,11 @@ impl Sums {
     /// each block.
     pub fn total(&self, counter: Counter, who: Option<u32>) -> u64
         requires { ForSome who (λ c. c < components self.now.k) }
-        ensures whole { (at : States) → StandsFor self.now at → result ≡ total_of self.now.k counter at who }
-        ensures up_to { (at : States) (h : ℕ) → StandsFor self.now at → NonePast self.now.k at h → h ≤ max_horizon → result ≡ sum_of self.now.k counter at who 0 h }
+        ensures whole { (at : States) → StandsFor self.now at → result ≡ total_of self.now.k counter at who self.now.last }
+        ensures up_to { (at : States) (h : ℕ) → StandsFor self.now at → NonePast self.now.k at h self.now.last → h ≤ self.now.last → result ≡ sum_of self.now.k counter at who 0 h }
     {
         let mut total = 0;
-        for block in 0..BLOCKS {
+        for block in 0..blocks(self.last) {
             total += self.block(counter, who, block);
         }
         total
@@ -157,13 +170,13 @@ impl Sums {
     pub fn sum(&self, counter: Counter, who: Option<u32>, from: u32, to: u32) -> u64
         requires who { ForSome who (λ c. c < components self.now.k) }
         requires window { from ≤ to }
-        requires within { to ≤ max_horizon }
+        requires within { to ≤ self.now.last }
         ensures { (at : States) → StandsFor self.now at → result ≡ sum_of self.now.k counter at who from to }
     {
         let mut total = 0;
         let mut cycle = from;
         while cycle <= to {
-            let end = part_end(cycle, to);
+            let end = part_end(self.last, cycle, to);
             total += self.part(counter, who, cycle, end);
             cycle = end;
         }
@@ -175,13 +188,13 @@ impl Sums {
     fn part(&self, counter: Counter, who: Option<u32>, from: u32, end: u32) -> u64
         requires who { ForSome who (λ c. c < components self.now.k) }
         requires window { from < end }
-        requires within { end ≤ block_end (from / 32) }
-        requires there { from ≤ max_horizon }
+        requires within { end ≤ block_end self.now.last (from / 32) }
+        requires there { from ≤ self.now.last }
         ensures value { result ≡ counted_before self.now.k counter self.now.cells who from end }
         ensures small { result < 2 ^ 32 }
     {
         let block = block_of(from);
-        if from % BLOCK_CYCLES == 0 && end == block_end(block) {
+        if from % BLOCK_CYCLES == 0 && end == block_end(self.last, block) {
             self.block(counter, who, block)
         } else {
             self.cells(counter, who, from, end)
@@ -191,12 +204,15 @@ impl Sums {
     /// What they counted over a block.
     fn block(&self, counter: Counter, who: Option<u32>, block: usize) -> u64
         requires who { ForSome who (λ c. c < components self.now.k) }
-        requires there { block < blocks }
-        ensures value { result ≡ counted_in self.now.k counter self.now.cells who block }
+        requires there { block < blocks self.now.last }
+        ensures value { result ≡ counted_in self.now.k self.now.last counter self.now.cells who block }
         ensures small { result < 2 ^ 32 }
     {
         match who {
-            Some(component) => tally_at(&self.own, block_place(component, block)).of(counter),
+            Some(component) => {
+                let place = block_place(self.last, component, block);
+                tally_at(&self.own, place).of(counter)
+            }
             None => tally_at(&self.all, block).of(counter),
         }
     }
@@ -205,7 +221,7 @@ impl Sums {
     fn cells(&self, counter: Counter, who: Option<u32>, from: u32, end: u32) -> u64
         requires who { ForSome who (λ c. c < components self.now.k) }
         requires window { from ≤ end }
-        requires within { end ≤ max_horizon + 1 }
+        requires within { end ≤ self.now.last + 1 }
         ensures value { result ≡ counted_before self.now.k counter self.now.cells who from end }
         ensures small { result < 2 ^ 32 }
     {
@@ -219,8 +235,8 @@ impl Sums {
     /// cycle at which that queue's length is n. Each switch has two of them.
     pub fn profile(&self, net: Net, stage: u32) -> Profile
         requires { stage < self.now.k }
-        ensures whole { (at : States) → StandsFor self.now at → result ≡ profile_of self.now.k at net stage max_horizon }
-        ensures up_to { (at : States) (h : ℕ) → StandsFor self.now at → NonePast self.now.k at h → h ≤ max_horizon → result ≡ profile_of self.now.k at net stage h }
+        ensures whole { (at : States) → StandsFor self.now at → result ≡ profile_of self.now.k at net stage self.now.last }
+        ensures up_to { (at : States) (h : ℕ) → StandsFor self.now at → NonePast self.now.k at h self.now.last → h ≤ self.now.last → result ≡ profile_of self.now.k at net stage h }
     {
         profile_at(&self.profiles, profile_place(self.shape, net, stage))
     }
@@ -228,12 +244,14 @@ impl Sums {
     /// What was counted for a cell is replaced, and with it the totals and the profiles that it is in.
     fn put(&mut self, component: u32, cycle: u32, new: Counted)
         requires component { component < components self.old.k }
-        requires cycle { cycle ≤ max_horizon }
+        requires cycle { cycle ≤ self.old.last }
         requires small { IsSmall new }
         ensures shape { self.new.k ≡ self.old.k }
-        ensures each { (t c : ℕ) → t ≤ max_horizon → c < components self.old.k
+        ensures last { self.new.last ≡ self.old.last }
+        ensures each { (t c : ℕ) → t ≤ self.old.last → c < components self.old.k
             → kept_at self.new.cells t c ≡ (if (t == cycle) && (c == component) then new else kept_at self.old.cells t c) }
     {
+        prove!(self.last <= MAX_HORIZON);
         self.put_run(component, cycle, cycle + 1, new);
     }
 
@@ -241,10 +259,11 @@ impl Sums {
     fn put_cells(&mut self, component: u32, from: u32, end: u32, new: Counted)
         requires component { component < components self.old.k }
         requires order { from ≤ end }
-        requires within { end ≤ max_horizon + 1 }
+        requires within { end ≤ self.old.last + 1 }
         requires small { IsSmall new }
         ensures shape { self.new.k ≡ self.old.k }
-        ensures each { (t c : ℕ) → t ≤ max_horizon → c < components self.old.k
+        ensures last { self.new.last ≡ self.old.last }
+        ensures each { (t c : ℕ) → t ≤ self.old.last → c < components self.old.k
             → kept_at self.new.cells t c ≡ (if (nat_le from t && nat_lt t end) && (c == component) then new else kept_at self.old.cells t c) }
     {
         let mut cycle = from;
@@ -260,13 +279,18 @@ impl Sums {
     fn run_end(&self, component: u32, cycle: u32, end: u32) -> u32
         requires component { component < components self.now.k }
         requires order { cycle < end }
-        requires within { end ≤ max_horizon + 1 }
+        requires within { end ≤ self.now.last + 1 }
         ensures on { cycle < result }
         ensures within { result ≤ end }
-        ensures block { result ≤ block_end (cycle / 32) }
+        ensures block { result ≤ block_end self.now.last (cycle / 32) }
         ensures same { (t : ℕ) → cycle ≤ t → t < result → kept_at self.now.cells t component ≡ kept_at self.now.cells cycle component }
     {
-        same_to(&self.cells, component, cycle, part_end(cycle, end - 1))
+        same_to(
+            &self.cells,
+            component,
+            cycle,
+            part_end(self.last, cycle, end - 1),
+        )
     }
 
     /// What was counted for the cells of a component from a cycle on and before another one of its block,
@@ -274,12 +298,13 @@ impl Sums {
     fn put_run(&mut self, component: u32, from: u32, end: u32, new: Counted)
         requires component { component < components self.old.k }
         requires order { from < end }
-        requires block { end ≤ block_end (from / 32) }
-        requires there { from ≤ max_horizon }
+        requires block { end ≤ block_end self.old.last (from / 32) }
+        requires there { from ≤ self.old.last }
         requires same { (t : ℕ) → from ≤ t → t < end → kept_at self.old.cells t component ≡ kept_at self.old.cells from component }
         requires small { IsSmall new }
         ensures shape { self.new.k ≡ self.old.k }
-        ensures each { (t c : ℕ) → t ≤ max_horizon → c < components self.old.k
+        ensures last { self.new.last ≡ self.old.last }
+        ensures each { (t c : ℕ) → t ≤ self.old.last → c < components self.old.k
             → kept_at self.new.cells t c ≡ (if (nat_le from t && nat_lt t end) && (c == component) then new else kept_at self.old.cells t c) }
     {
         let old = cell_at(&self.cells, component, from);
@@ -288,7 +313,7 @@ impl Sums {
         }
         let count = end - from;
         let block = block_of(from);
-        let own = block_place(component, block);
+        let own = block_place(self.last, component, block);
         move_tally(&mut self.own, own, &old, &new, count);
         move_tally(&mut self.all, block, &old, &new, count);
         move_lengths(
@@ -310,31 +335,41 @@ fn block_of(cycle: u32) -> usize
     (cycle / BLOCK_CYCLES) as usize
 }
 
-/// The cycle before which a block ends.
-fn block_end(block: usize) -> u32
-    requires { block < blocks }
-    ensures { result ≡ block_end block }
+/// How many blocks the cycles from 0 to `last` are.
+fn blocks(last: u32) -> usize
+    ensures { result ≡ blocks last }
 {
-    (block as u32 * BLOCK_CYCLES + BLOCK_CYCLES).min(MAX_HORIZON + 1)
+    (last as usize + BLOCK_CYCLES as usize) / BLOCK_CYCLES as usize
+}
+
+/// The cycle before which a block of the cycles to `last` ends.
+fn block_end(last: u32, block: usize) -> u32
+    requires last { last ≤ max_horizon }
+    requires there { block < blocks last }
+    ensures { result ≡ block_end last block }
+{
+    (block as u32 * BLOCK_CYCLES + BLOCK_CYCLES).min(last + 1)
 }
 
 /// Where the block of a cycle ends, or a window that ends with the cycle `to` within it.
-fn part_end(cycle: u32, to: u32) -> u32
+fn part_end(last: u32, cycle: u32, to: u32) -> u32
+    requires last { last ≤ max_horizon }
     requires window { cycle ≤ to }
-    requires within { to ≤ max_horizon }
+    requires within { to ≤ last }
     ensures on { cycle < result }
     ensures within { result ≤ to + 1 }
-    ensures block { result ≤ block_end (cycle / 32) }
+    ensures block { result ≤ block_end last (cycle / 32) }
 {
-    block_end(block_of(cycle)).min(to + 1)
+    block_end(last, block_of(cycle)).min(to + 1)
 }
 
 /// Where the tally of a component's block stands.
-fn block_place(component: u32, block: usize) -> usize
-    requires { block < blocks }
-    ensures { result ≡ block_place component block }
+fn block_place(last: u32, component: u32, block: usize) -> usize
+    requires last { last ≤ max_horizon }
+    requires there { block < blocks last }
+    ensures { result ≡ block_place last component block }
 {
-    component as usize * BLOCKS + block
+    component as usize * blocks(last) + block
 }
 
 /// So many of the cells that a tally is over, which each counted `old`, count something else.
@@ -413,13 +448,13 @@ fn tally_at(tallies: &Vec<Tally>, place: usize) -> Tally
     tallies[place]
 }
 
-/// So many components that count nothing.
-fn no_counts(alloc: Global, count: usize) -> Result<Vec<Counts>, NoMemory>
-    ensures { IfOk result (λ counts. counts.items ≡ replicate count []) }
+/// So many components that count nothing, each with room for the cycles 0 to `last`.
+fn no_counts(alloc: Global, count: usize, last: u32) -> Result<Vec<Counts>, NoMemory>
+    ensures { IfOk result (λ counts. counts.items ≡ replicate count (blank (last + 1))) }
 {
     let mut counts = Vec::with_capacity(alloc, count)?;
     for _component in 0..count {
-        counts.push(Counts::new(alloc)?)?;
+        counts.push(Counts::new(alloc, last)?)?;
     }
     Ok(counts)
 }

@@ -1,5 +1,6 @@
 pub mod Listings
 pub mod Halves
+pub mod Lengths
 pub mod Accepting
 pub mod Leaving
 pub mod Touching

@@ -2,7 +2,8 @@
 use Rattle.std.specs.Prelude.{ℕ, ◌^◌, ◌==◌, ◌&&◌, nat_le, nat_lt, Bool, false, not, if◌then◌else◌, List, [], ◌∷◌, Option, None, Some, Result, Ok, Err, find, slice_set}
 use Rattle.page_map.specs.Limits.{address_count, page_count}
 use Rattle.page_map.specs.Pages.{with_page, is_spread}
-use Rattle.project_book.specs.Limits.{max_edits, max_horizon, script_entries}
+use Rattle.project_book.specs.Limits.{max_edits}
+use Rattle.project_book.specs.Scales.{most_horizon, most_entries}
 use Rattle.project_book.specs.declared.edit.Edit.{Edit}
 use Rattle.project_book.specs.declared.edit.Edit.TheVariants.{Entry, Cut, Word, Page, Depth, WaitDepth, Combine, Window, Horizon}
 use Rattle.project_book.specs.declared.slot.Slot.{Slot}
@@ -52,7 +53,7 @@ lacks_stage P _ = false
 
 -- whether an edit appends to a full script
 abbrev pub overfills : Project → Edit → Bool
-overfills P (Entry proc index entry) = (index == length_at P proc) && (index == script_entries)
+overfills P (Entry proc index entry) = (index == length_at P proc) && nat_le (most_entries P.scale) index
 overfills P _ = false
 
 -- whether an edit's number is out of its limits
@@ -73,9 +74,9 @@ abbrev pub has_bad_times : Edit → Bool
 has_bad_times (Entry proc index entry) = not (is_timed entry)
 has_bad_times _ = false
 
-abbrev pub has_bad_horizon : Edit → Bool
-has_bad_horizon (Horizon horizon) = nat_lt max_horizon horizon
-has_bad_horizon _ = false
+abbrev pub has_bad_horizon : Project → Edit → Bool
+has_bad_horizon P (Horizon horizon) = nat_lt (most_horizon P.scale) horizon
+has_bad_horizon P _ = false
 
 -- whether a fault applies to an edit of this project after v accepted edits
 abbrev pub applies : Project → ℕ → Edit → EditFault → Bool
@@ -90,7 +91,7 @@ applies P v e BadStage = lacks_stage P e
 applies P v e BadDepth = has_bad_depth e
 applies P v e BadWindow = has_bad_window e
 applies P v e BadTimes = has_bad_times e
-applies P v e BadHorizon = has_bad_horizon e
+applies P v e BadHorizon = has_bad_horizon P e
 applies P v e ClockSpent = false
 applies P v e Memory = false
 

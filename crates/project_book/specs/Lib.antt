@@ -2,6 +2,7 @@ pub mod Limits
 pub mod Faults
 pub mod Queues
 pub mod FirstWords
+pub mod Scales
 pub mod Scripts
 pub mod Project
 pub mod Slots

@@ -1,13 +1,19 @@
 -- The limits of a project, beside those of its page map.
 use Rattle.std.specs.Prelude.{ℕ}
 
--- the last cycle that a horizon may name
+-- the last cycle that a horizon may name, and that of a project of the usual scale
 abbrev pub max_horizon : ℕ
-max_horizon = 2000
+max_horizon = 20000
 
--- how many entries a script may have
+abbrev pub usual_horizon : ℕ
+usual_horizon = 2000
+
+-- how many entries a script may have, and those of a project of the usual scale
 abbrev pub script_entries : ℕ
-script_entries = 256
+script_entries = 4096
+
+abbrev pub usual_entries : ℕ
+usual_entries = 256
 
 -- how often a reference may be issued, and how long an idle may last, each from 1 on
 abbrev pub max_times : ℕ

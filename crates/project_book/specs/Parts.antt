@@ -5,6 +5,7 @@ use Rattle.project_book.specs.Project.{Project}
 -- the project of these parts
 abbrev pub project_of : Parts → Project
 project_of p = record {
+  scale = p.scale;
   k = p.k;
   horizon = p.horizon;
   window = p.window;

@@ -10,12 +10,17 @@ use Rattle.omega_net.specs.declared.script.ScriptEntry.TheVariants.{Reference, U
 use Rattle.project_book.specs.declared.edit.Depths.{Depths}
 use Rattle.project_book.specs.declared.depths.QueueDepths.{QueueDepths}
 use Rattle.project_book.specs.declared.words.FirstWord.{FirstWord}
-use Rattle.project_book.specs.Limits.{max_horizon, script_entries, max_window}
+use Rattle.project_book.specs.Limits.{script_entries, max_window}
+use Rattle.project_book.specs.declared.scale.Scale.{Scale}
+use Rattle.project_book.specs.declared.scale.Scale.TheVariants.{Usual}
+use Rattle.project_book.specs.Scales.{most_horizon, most_entries}
 use Rattle.project_book.specs.Queues.{depth_in, forward_queue, reverse_queue, usual_depths, usual_wait, is_depth, is_wait}
 use Rattle.project_book.specs.FirstWords.{word_at}
-use Rattle.project_book.specs.Scripts.{script_of}
+use Rattle.project_book.specs.Scripts.{script_of, AreFew}
 
 pub record Project : Type 0 where
+  -- how large it may be
+  pub scale : Scale
   pub k : ℕ
   pub horizon : ℕ
   pub window : ℕ
@@ -75,9 +80,10 @@ place_for P (Some (Idle turns)) = record { «module» = 0; row = 0 }
 abbrev pub is_window : ℕ → Bool
 is_window w = nat_le 1 w && nat_le w max_window
 
--- the project that says nothing but its size
-abbrev pub blank : ℕ → ℕ → Project
-blank k horizon = record {
+-- the project that says nothing but its scale and its size
+abbrev pub blank_of : Scale → ℕ → ℕ → Project
+blank_of scale k horizon = record {
+  scale = scale;
   k = k;
   horizon = horizon;
   window = 1;
@@ -89,14 +95,19 @@ blank k horizon = record {
   scripts = replicate (2 ^ k) [];
 }
 
+-- that of the usual scale
+abbrev pub blank : ℕ → ℕ → Project
+blank k horizon = blank_of Usual k horizon
+
 -- the numbers are within the limits, and there is a script for each processor
 pub record IsProject (P : Project) : Type 0 where
   pub small : P.k ≤ max_k
   pub mapped : P.pages.k ≡ P.k
   pub paged : length P.pages.pages ≡ page_count
-  pub short : P.horizon ≤ max_horizon
+  pub short : P.horizon ≤ most_horizon P.scale
   pub window : is_window P.window ≡ true
   pub depths : (q : Depths) → is_depth q (depth_of P q) ≡ true
   pub wait : is_wait P.wait ≡ true
   pub flags : length P.combine ≡ max_k
   pub scripts : length P.scripts ≡ 2 ^ P.k
+  pub few : AreFew (most_entries P.scale) P.scripts

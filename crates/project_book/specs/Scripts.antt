@@ -13,6 +13,10 @@ script_of scripts p = slice_index_or scripts p []
 abbrev pub put_entry : List ScriptEntry → ℕ → ScriptEntry → List ScriptEntry
 put_entry es i entry = take i es ++ entry ∷ drop (i + 1) es
 
+-- no script has more entries than that
+abbrev pub AreFew : ℕ → List (List ScriptEntry) → Type 0
+AreFew most scripts = (p : ℕ) → length (script_of scripts p) ≤ most
+
 -- the scripts where a processor's has this entry, or its first entries alone
 abbrev pub with_entry : List (List ScriptEntry) → ℕ → ℕ → ScriptEntry → List (List ScriptEntry)
 with_entry scripts p i entry = slice_set scripts p (put_entry (script_of scripts p) i entry)

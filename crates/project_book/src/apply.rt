@@ -6,7 +6,6 @@ ghost use Rattle.project_book.specs.Edits.{accepts, verdict, edited, new_horizon
 
 use crate::edit::{Edit, is_addressed, is_timed, is_wait, is_window};
 use crate::fault::EditFault;
-use crate::limits::{MAX_HORIZON, SCRIPT_ENTRIES};
 use crate::project::Project;
 use crate::scripts::Scripts;
 use crate::slot::Slot;
@@ -22,7 +21,7 @@ impl Project {
     /// another one. The copy shares with this project what the edit leaves alone.
     ///
     /// Takes another owner of the words and of the scripts. Besides, an entry or a cut copies one
-    /// script, at most 256 entries, and takes another owner of each other one; a word copies the page
+    /// script, and takes another owner of each other one; a word copies the page
     /// of its address, 256 words, and takes another owner of each other one; a cut lists each entry
     /// that it removes.
     ///
@@ -74,7 +73,10 @@ impl Project {
             Edit::WaitDepth(depth) => refuse(!is_wait(depth), EditFault::BadDepth),
             Edit::Combine { stage, .. } => refuse(stage >= self.k(), EditFault::BadStage),
             Edit::Window(window) => refuse(!is_window(window), EditFault::BadWindow),
-            Edit::Horizon(horizon) => refuse(horizon > MAX_HORIZON, EditFault::BadHorizon),
+            Edit::Horizon(horizon) => refuse(
+                horizon > self.scale.most_horizon(),
+                EditFault::BadHorizon,
+            ),
         }
     }
 
@@ -85,7 +87,7 @@ impl Project {
         let length = self.length(proc);
         refuse(index > length, EditFault::BadEntry)?;
         refuse(
-            index == length && index == SCRIPT_ENTRIES,
+            index == length && index >= self.scale.most_entries(),
             EditFault::ScriptFull,
         )?;
         refuse(!is_addressed(entry), EditFault::BadAddress)?;

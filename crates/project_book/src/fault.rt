@@ -17,7 +17,7 @@ pub enum EditFault {
     BadProcessor,
     /// The index, or the length of a cut, is above the script's length.
     BadEntry,
-    /// An entry would be appended to a script of 256 entries.
+    /// An entry would be appended to a script that has as many as its project's scale allows.
     ScriptFull,
     /// The address isn't below 16,384.
     BadAddress,
@@ -34,7 +34,7 @@ pub enum EditFault {
     BadWindow,
     /// The times of a reference, or the turns of an idle, aren't within 1 to 1,000.
     BadTimes,
-    /// The horizon is above 2,000.
+    /// The horizon is above the last that its project's scale allows.
     BadHorizon,
     /// The clock is at its last value. Only a bench answers this.
     ClockSpent,

@@ -4,7 +4,7 @@
 //! [`Project::built_in`], and every edit that [`Project::apply`] accepts keeps it so. An edit gives
 //! an edited copy, which shares with its origin what the edit leaves alone, and the list of the
 //! [`Slot`]s that got another value: a table of simulated states computes again only what reads one
-//! of these. The size of the machine is never edited, and the horizon is no slot.
+//! of these. The size of the machine and the [`Scale`] of the project are never edited, and the horizon is no slot.
 //!
 //! It promises model-projects: `apply` answers by the checks of `specs/Edits.antt` in their order,
 //! gives the edited project of that file, and lists exactly the slots whose values differ
@@ -24,6 +24,7 @@ mod limits;
 mod pages;
 mod parts;
 mod project;
+mod scale;
 mod scripts;
 mod slot;
 mod words;
@@ -34,12 +35,13 @@ pub use entry_text::{EntryText, read_entry};
 pub use fault::EditFault;
 pub use limits::{
     MAX_DEPTH, MAX_EDITS, MAX_HORIZON, MAX_TIMES, MAX_WINDOW, MIN_COMB_REVERSE, MIN_DEPTH,
-    MIN_WAIT, SCRIPT_ENTRIES, STAGES, constants_are_limits,
+    MIN_WAIT, SCRIPT_ENTRIES, STAGES, USUAL_ENTRIES, USUAL_HORIZON, constants_are_limits,
 };
 pub use omega_net::ScriptEntry;
 pub use pages::PageWords;
 pub use parts::Parts;
 pub use project::Project;
+pub use scale::Scale;
 pub use scripts::Scripts;
 pub use slot::Slot;
 pub use words::{FirstWord, FirstWords};

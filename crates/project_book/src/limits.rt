@@ -1,18 +1,24 @@
 //! The limits of a project, beside those of its page map.
 ghost use Rattle.std.specs.Prelude.{◌≡◌};
 ghost use Rattle.page_map.specs.Limits.{max_k};
-ghost use Rattle.project_book.specs.Limits.{max_horizon, script_entries, max_times, usual_tries, max_window, min_depth, min_comb_reverse, min_wait, max_depth, max_edits};
+ghost use Rattle.project_book.specs.Limits.{max_horizon, usual_horizon, script_entries, usual_entries, max_times, usual_tries, max_window, min_depth, min_comb_reverse, min_wait, max_depth, max_edits};
 
 use page_map::MAX_K;
 
 /// How many stages a network has at most.
 pub const STAGES: usize = MAX_K as usize;
 
-/// The last cycle that a horizon may name.
-pub const MAX_HORIZON: u32 = 2_000;
+/// The last cycle that a horizon may name in a large project, and so in any.
+pub const MAX_HORIZON: u32 = 20_000;
 
-/// How many entries a script may have.
-pub const SCRIPT_ENTRIES: u32 = 256;
+/// The last cycle that a horizon may name in a project of the usual scale.
+pub const USUAL_HORIZON: u32 = 2_000;
+
+/// How many entries a script may have in a large project, and so in any.
+pub const SCRIPT_ENTRIES: u32 = 4_096;
+
+/// How many entries a script may have in a project of the usual scale.
+pub const USUAL_ENTRIES: u32 = 256;
 
 /// How often a reference may be issued, and how long an idle may last, each from 1 on.
 pub const MAX_TIMES: u32 = 1_000;
@@ -43,7 +49,9 @@ pub const MAX_EDITS: u32 = 65_535;
 pub fn constants_are_limits()
     ensures stages { STAGES ≡ max_k }
     ensures horizon { MAX_HORIZON ≡ max_horizon }
+    ensures usual_horizon { USUAL_HORIZON ≡ usual_horizon }
     ensures entries { SCRIPT_ENTRIES ≡ script_entries }
+    ensures usual_entries { USUAL_ENTRIES ≡ usual_entries }
     ensures times { MAX_TIMES ≡ max_times }
     ensures tries { USUAL_TRIES ≡ usual_tries }
     ensures window { MAX_WINDOW ≡ max_window }

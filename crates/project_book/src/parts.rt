@@ -6,6 +6,7 @@ ghost use Rattle.project_book.specs.Parts.{project_of};
 use crate::depths::QueueDepths;
 use crate::limits::STAGES;
 use crate::project::Project;
+use crate::scale::Scale;
 use crate::scripts::Scripts;
 use crate::words::FirstWords;
 use grid_law::NoMemory;
@@ -16,6 +17,7 @@ use std::sync::Arc;
 /// What a project says, part by part.
 #[derive(Drop)]
 pub struct Parts {
+    pub scale: Scale,
     pub k: u32,
     pub horizon: u32,
     pub window: u32,
@@ -43,6 +45,7 @@ impl Project {
         let words = Arc::new(alloc, parts.words)?;
         let scripts = Arc::new(alloc, parts.scripts)?;
         Ok(Project {
+            scale: parts.scale,
             k: parts.k,
             horizon: parts.horizon,
             window: parts.window,

@@ -5,10 +5,13 @@ ghost use Rattle.project_book.specs.Queues.{is_depth, is_wait};
 ghost use Rattle.project_book.specs.Scripts.{IsEntry};
 ghost use Rattle.project_book.specs.FirstWords.{IsListing};
 ghost use Rattle.project_book.specs.Limits.{max_horizon, script_entries};
+ghost use Rattle.project_book.specs.Scales.{most_horizon, most_entries};
+ghost use Rattle.project_book.specs.declared.scale.Scale.TheVariants.{Usual};
 
 use crate::depths::{QueueDepths, USUAL_WAIT};
 use crate::edit::Depths;
-use crate::limits::{MAX_HORIZON, SCRIPT_ENTRIES, STAGES};
+use crate::limits::{SCRIPT_ENTRIES, STAGES};
+use crate::scale::Scale;
 use crate::scripts::Scripts;
 use crate::words::FirstWords;
 use grid_law::NoMemory;
@@ -21,6 +24,7 @@ use std::sync::Arc;
 /// A machine's settings, its scripts and its first words, each within its limits. An edited copy
 /// shares with its origin what the edit leaves alone.
 pub struct Project {
+    pub(crate) scale: Scale,
     pub(crate) k: u32,
     pub(crate) horizon: u32,
     pub(crate) window: u32,
@@ -37,6 +41,7 @@ pub struct Project {
 impl Drop for Project {
     fn drop(self) {
         let Project {
+            scale: _,
             k: _,
             horizon: _,
             window: _,
@@ -59,30 +64,47 @@ impl Model for Project {
 
     ghost Value = { Settings };
 
-    ghost view = { λ p. record { k = p.k; horizon = p.horizon; window = p.window; depths = p.depths; wait = p.wait; combine = p.combine; pages = p.pages; words = arc_value p.words; scripts = arc_value p.scripts } };
+    ghost view = { λ p. record { scale = p.scale; k = p.k; horizon = p.horizon; window = p.window; depths = p.depths; wait = p.wait; combine = p.combine; pages = p.pages; words = arc_value p.words; scripts = arc_value p.scripts } };
 
-    ghost invariant = { λ p. IsProject (record { k = p.k; horizon = p.horizon; window = p.window; depths = p.depths; wait = p.wait; combine = p.combine; pages = p.pages; words = arc_value p.words; scripts = arc_value p.scripts }) };
+    ghost invariant = { λ p. IsProject (record { scale = p.scale; k = p.k; horizon = p.horizon; window = p.window; depths = p.depths; wait = p.wait; combine = p.combine; pages = p.pages; words = arc_value p.words; scripts = arc_value p.scripts }) };
 }
 
 impl Project {
     ghost use Rattle.page_map.specs.Pages.{IsPageMap};
-    ghost use Rattle.project_book.specs.Project.{IsProject, blank, entry_at, length_at, word_of, place_in, depth_of, combines_at, is_window};
+    ghost use Rattle.project_book.specs.Project.{IsProject, blank, blank_of, entry_at, length_at, word_of, place_in, depth_of, combines_at, is_window};
 
     /// The project of this size that says nothing else: window 1, no combining, every depth 4 but 8
     /// in the reverse queues of combining switches, every page spread over all modules, first words
-    /// of 0, and no script entries. None exactly where k is above 6 or the horizon above 2,000.
+    /// of 0, and no script entries. It is of the usual scale. None exactly where k is above 6 or the horizon above 2,000.
     ///
     /// # Errors
     ///
     /// Where a growth was refused. What was taken is given back.
     pub fn new(alloc: Global, k: u32, horizon: u32) -> Result<Option<Project>, NoMemory>
-        ensures refused { (nat_le k max_k && nat_le horizon max_horizon) ≡ false → result ≡ Ok None }
-        ensures made { IfOk result (λ o. o ≡ (if nat_le k max_k && nat_le horizon max_horizon then Some (blank k horizon) else None)) }
+        ensures refused { (nat_le k max_k && nat_le horizon (most_horizon Usual)) ≡ false → result ≡ Ok None }
+        ensures made { IfOk result (λ o. o ≡ (if nat_le k max_k && nat_le horizon (most_horizon Usual) then Some (blank k horizon) else None)) }
     {
-        if k > MAX_K || horizon > MAX_HORIZON {
+        Project::of_scale(alloc, Scale::Usual, k, horizon)
+    }
+
+    /// That of a scale: None exactly where k is above 6 or the horizon above the most that the scale allows.
+    ///
+    /// # Errors
+    ///
+    /// Where a growth was refused. What was taken is given back.
+    pub fn of_scale(
+        alloc: Global,
+        scale: Scale,
+        k: u32,
+        horizon: u32,
+    ) -> Result<Option<Project>, NoMemory>
+        ensures refused { (nat_le k max_k && nat_le horizon (most_horizon scale)) ≡ false → result ≡ Ok None }
+        ensures made { IfOk result (λ o. o ≡ (if nat_le k max_k && nat_le horizon (most_horizon scale) then Some (blank_of scale k horizon) else None)) }
+    {
+        if k > MAX_K || horizon > scale.most_horizon() {
             return Ok(None);
         }
-        Ok(Some(Project::blank(alloc, k, horizon)?))
+        Ok(Some(Project::blank(alloc, scale, k, horizon)?))
     }
 
     /// The project with one processor, one module and the horizon 8 that says nothing else.
@@ -93,17 +115,18 @@ impl Project {
     pub fn built_in(alloc: Global) -> Result<Project, NoMemory>
         ensures { IfOk result (λ p. p ≡ blank 0 8) }
     {
-        Project::blank(alloc, 0, 8)
+        Project::blank(alloc, Scale::Usual, 0, 8)
     }
 
-    fn blank(alloc: Global, k: u32, horizon: u32) -> Result<Project, NoMemory>
+    fn blank(alloc: Global, scale: Scale, k: u32, horizon: u32) -> Result<Project, NoMemory>
         requires small { k ≤ max_k }
-        requires short { horizon ≤ max_horizon }
-        ensures { IfOk result (λ p. p ≡ blank k horizon) }
+        requires short { horizon ≤ most_horizon scale }
+        ensures { IfOk result (λ p. p ≡ blank_of scale k horizon) }
     {
         let words = Arc::new(alloc, FirstWords::new(alloc))?;
         let scripts = Arc::new(alloc, Scripts::new(alloc, 1 << k)?)?;
         Ok(Project {
+            scale,
             k,
             horizon,
             window: 1,
@@ -128,6 +151,7 @@ impl Project {
         let words = Arc::try_clone(&self.words)?;
         let scripts = Arc::try_clone(&self.scripts)?;
         Ok(Project {
+            scale: self.scale,
             k: self.k,
             horizon: self.horizon,
             window: self.window,
@@ -145,7 +169,8 @@ impl Project {
     pub fn same(&self, other: &Project) -> bool
         ensures { IsTrue result ↔ (self.now ≡ other.now) }
     {
-        self.k == other.k
+        self.scale == other.scale
+            && self.k == other.k
             && self.horizon == other.horizon
             && self.window == other.window
             && same_depths(&self.depths, &other.depths)
@@ -154,6 +179,13 @@ impl Project {
             && same_pages(&self.pages, &other.pages)
             && self.words.same(&other.words)
             && self.scripts.same(&other.scripts)
+    }
+
+    /// How large it may be.
+    pub fn scale(&self) -> Scale
+        ensures { result ≡ self.now.scale }
+    {
+        self.scale
     }
 
     /// There are 2^k processors and as many modules; k is at most 6.
@@ -178,10 +210,11 @@ impl Project {
         1 << self.k
     }
 
-    /// The last cycle, at most 2,000.
+    /// The last cycle, at most the last that its scale allows.
     pub fn horizon(&self) -> u32
         ensures horizon { result ≡ self.now.horizon }
         ensures short { result ≤ max_horizon }
+        ensures within { result ≤ most_horizon self.now.scale }
     {
         self.horizon
     }
@@ -262,10 +295,11 @@ impl Project {
         }
     }
 
-    /// How many entries a processor's script has, at most 256; 0 where there is no such processor.
+    /// How many entries a processor's script has, at most as many as its scale allows; 0 where there is no such processor.
     pub fn length(&self, proc: u32) -> u32
         ensures length { result ≡ length_at self.now proc }
         ensures few { result ≤ script_entries }
+        ensures within { result ≤ most_entries self.now.scale }
     {
         if proc < self.processors() {
             self.scripts.script(proc).length()

@@ -11,7 +11,7 @@ use std::alloc::Global;
 use std::marker::Model;
 use std::sync::Arc;
 
-/// A processor's script: at most 256 entries, each within the limits.
+/// A processor's script: at most 4,096 entries, each within the limits.
 #[derive(Drop)]
 pub struct Script {
     entries: Vec<ScriptEntry>,

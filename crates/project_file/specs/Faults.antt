@@ -20,7 +20,7 @@ number_of Memory = 10
 abbrev pub fault_text : ProjectFault → List ℕ
 fault_text TooLong = codes "the file is longer than 4,194,304 bytes"
 fault_text Text = codes "the file is not a TOML document"
-fault_text Format = codes "the key format is neither 1 nor 2"
+fault_text Format = codes "the key format is none of 1, 2 and 3"
 fault_text UnknownKey = codes "a key is not known"
 fault_text Missing = codes "a key is missing"
 fault_text WrongType = codes "a value is of the wrong type"

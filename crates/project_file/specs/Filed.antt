@@ -9,10 +9,10 @@ use Rattle.project_book.specs.Limits.{max_window}
 use Rattle.project_book.specs.Project.{Project}
 use Rattle.project_file.specs.declared.fault.ProjectFault.{ProjectFault}
 use Rattle.project_file.specs.declared.fault.ProjectFault.TheVariants.{TooLong, Text}
-use Rattle.project_file.specs.Limits.{max_bytes}
+use Rattle.project_file.specs.Limits.{max_bytes, usual_bytes}
 use Rattle.project_file.specs.Fields.{◌>>=◌, known, optional, number_in, number_at}
 use Rattle.project_file.specs.declared.format.FileFormat.{FileFormat}
-use Rattle.project_file.specs.Formats.{format_in, most_k, most_horizon}
+use Rattle.project_file.specs.Formats.{format_in, most_k, most_horizon, scale_of, is_third}
 use Rattle.project_book.specs.Queues.{usual_depths, usual_wait}
 use Rattle.project_file.specs.Depths.{depths_in}
 use Rattle.project_file.specs.Stages.{combine_in}
@@ -32,7 +32,7 @@ sized_project f k horizon ms = do
   pages ← optional (codes "page") (pages_in k) (whole_pages k) ms
   words ← optional (codes "word") words_in [] ms
   scripts ← optional (codes "script") (scripts_in f k) (replicate (2 ^ k) []) ms
-  Ok (record { k = k; horizon = horizon; window = window; depths = depths.0; wait = depths.1; combine = combine; pages = pages; words = words; scripts = scripts })
+  Ok (record { scale = scale_of f; k = k; horizon = horizon; window = window; depths = depths.0; wait = depths.1; combine = combine; pages = pages; words = words; scripts = scripts })
 
 -- the project of a document
 abbrev pub document_project : Members → Result Project ProjectFault
@@ -47,6 +47,14 @@ document_project ms = do
 abbrev pub document_of : List ℕ → Result Members ProjectFault
 document_of bytes = if is_utf8 bytes then ok_or (parse_document bytes) Text else Err Text
 
+-- the project of a long file: only a document of the third format may be one
+abbrev pub long_project : Result Members ProjectFault → Result Project ProjectFault
+long_project (Ok ms) = if is_third (format_in ms) then document_project ms else Err TooLong
+long_project (Err _) = Err TooLong
+
 -- `filed`: the project that a file's bytes are, or the first fault
 abbrev pub filed : List ℕ → Result Project ProjectFault
-filed bytes = if nat_lt max_bytes (length bytes) then Err TooLong else document_of bytes >>= document_project
+filed bytes =
+    if nat_lt max_bytes (length bytes) then Err TooLong
+    else if nat_lt usual_bytes (length bytes) then long_project (document_of bytes)
+    else document_of bytes >>= document_project

@@ -7,5 +7,7 @@ pub mod Depths
 pub mod Stages
 pub mod Pages
 pub mod Words
+pub mod Processors
+pub mod Expanding
 pub mod Scripts
 pub mod Filed

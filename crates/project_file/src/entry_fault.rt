@@ -1,4 +1,5 @@
 //! What is wrong with the text of a script entry, in words for its author.
+use crate::expanding::Stepped;
 use crate::nearest::Hint;
 use crate::place::Shown;
 use line_words::number;
@@ -24,9 +25,18 @@ enum Part {
 struct Form {
     /// How the whole entry is written.
     written: &'static str,
+    /// The same where a step may follow.
+    stepped: &'static str,
     parts: &'static [Part],
     /// Whether a number more may say how often.
     may_repeat: bool,
+}
+
+impl Form {
+    /// How the whole entry is written, where references may have a step or not.
+    fn written(self, may_step: bool) -> &'static str {
+        if may_step { self.stepped } else { self.written }
+    }
 }
 
 const REFERENCE: [Part; 3] = [
@@ -47,31 +57,50 @@ const IDLE: [Part; 1] = [Part::Number("number of turns")];
 
 /// How an entry with this first word goes on.
 fn form_of(first: &str) -> Option<Form> {
-    let (written, parts, may_repeat): (&'static str, &'static [Part], bool) = match first {
-        "sync" => ("sync OPERATION ADDRESS OPERAND [TIMES]", &REFERENCE, true),
-        "plain" => ("plain OPERATION ADDRESS OPERAND [TIMES]", &REFERENCE, true),
-        "until" => (
+    Some(match first {
+        "sync" => reference_form(
+            "sync OPERATION ADDRESS OPERAND [TIMES]",
+            "sync OPERATION ADDRESS OPERAND [TIMES [step STEP]]",
+        ),
+        "plain" => reference_form(
+            "plain OPERATION ADDRESS OPERAND [TIMES]",
+            "plain OPERATION ADDRESS OPERAND [TIMES [step STEP]]",
+        ),
+        "until" => other_form(
             "until sync|plain OPERATION ADDRESS OPERAND WORD [TIMES]",
             &UNTIL,
             true,
         ),
-        "fence" => ("fence", &[], false),
-        "idle" => ("idle TURNS", &IDLE, false),
+        "fence" => other_form("fence", &[], false),
+        "idle" => other_form("idle TURNS", &IDLE, false),
         _ => return None,
-    };
-    Some(Form {
-        written,
-        parts,
-        may_repeat,
     })
 }
 
-/// Which word of a text that is no entry is wrong, and why.
+fn reference_form(written: &'static str, stepped: &'static str) -> Form {
+    Form {
+        written,
+        stepped,
+        parts: &REFERENCE,
+        may_repeat: true,
+    }
+}
+
+fn other_form(written: &'static str, parts: &'static [Part], may_repeat: bool) -> Form {
+    Form {
+        written,
+        stepped: written,
+        parts,
+        may_repeat,
+    }
+}
+
+/// Which word of a text that is no entry is wrong, and why, where references may have a step or not.
 ///
 /// # Errors
 ///
 /// Where a growth was refused.
-pub(crate) fn form_fault(alloc: Global, text: &str) -> Result<String, AllocError> {
+pub(crate) fn form_fault(alloc: Global, text: &str, may_step: bool) -> Result<String, AllocError> {
     let mut words = text.split_ascii_whitespace();
     let Some(first) = words.next() else {
         return format!(in alloc; "no words");
@@ -81,7 +110,7 @@ pub(crate) fn form_fault(alloc: Global, text: &str) -> Result<String, AllocError
         let first = Shown(first);
         return format!(in alloc; "no entry begins with \"{first}\"{hint}");
     };
-    let written = form.written;
+    let written = form.written(may_step);
     for part in form.parts {
         let Some(word) = words.next() else {
             return format!(in alloc; "a word is missing; it is {written}");
@@ -96,6 +125,15 @@ pub(crate) fn form_fault(alloc: Global, text: &str) -> Result<String, AllocError
             if let Some(fault) = part_fault(alloc, Part::Number("number of times"), word)? {
                 return Ok(fault);
             }
+        }
+        further = words.next();
+    }
+    if may_step && (first == "sync" || first == "plain") && further == Some("step") {
+        let Some(word) = words.next() else {
+            return format!(in alloc; "a word is missing; it is {written}");
+        };
+        if let Some(fault) = part_fault(alloc, Part::Number("step"), word)? {
+            return Ok(fault);
         }
         further = words.next();
     }
@@ -170,6 +208,28 @@ pub(crate) fn limit_fault(alloc: Global, entry: ScriptEntry) -> Result<Option<St
         ScriptEntry::Idle(turns) => times_fault(alloc, "number of turns", turns),
         ScriptEntry::Fence => Ok(None),
     }
+}
+
+/// Which number of a reference with a step is outside its limits; None where none is.
+///
+/// # Errors
+///
+/// Where a growth was refused.
+pub(crate) fn step_fault(alloc: Global, stepped: Stepped) -> Result<Option<String>, AllocError> {
+    let last = ADDRESSES - 1;
+    let Stepped {
+        address,
+        times,
+        step,
+        ..
+    } = stepped;
+    if address > last {
+        return Ok(Some(format!(in alloc; "the address {address} is not 0 to {last}")?));
+    }
+    if step > last && (1..=MAX_TIMES).contains(&times) {
+        return Ok(Some(format!(in alloc; "the step {step} is not 0 to {last}")?));
+    }
+    times_fault(alloc, "number of times", times)
 }
 
 fn times_fault(alloc: Global, what: &str, times: u32) -> Result<Option<String>, AllocError> {

@@ -16,11 +16,11 @@ use std::fmt;
 /// Twice.
 #[derive(Clone, Copy, PartialEq, Eq, Debug)]
 pub enum ProjectFault {
-    /// The file has more than 4,194,304 bytes.
+    /// The file has more than 4,194,304 bytes, or more than 67,108,864 where it is of format 3.
     TooLong,
     /// The bytes aren't UTF-8, or aren't a TOML document.
     Text,
-    /// The key `format` is absent, or isn't the integer 1 or 2.
+    /// The key `format` is absent, or isn't the integer 1, 2 or 3.
     Format,
     /// A table has a key that means nothing there.
     UnknownKey,
@@ -29,7 +29,7 @@ pub enum ProjectFault {
     /// A value is of another type than its key takes.
     WrongType,
     /// A number is outside its limits, which in format 1 are narrower for k and the horizon, a page has
-    /// no such interleaving, `combine` has another count than k, or a script has more than 256 entries.
+    /// no such interleaving, `combine` has another count than k, or a script has more entries than the format allows.
     Range,
     /// A text in a script isn't an entry.
     Entry,
@@ -82,7 +82,7 @@ impl fmt::Display for ProjectFault {
         f.write_str(match self {
             ProjectFault::TooLong => "the file is longer than 4,194,304 bytes",
             ProjectFault::Text => "the file is not a TOML document",
-            ProjectFault::Format => "the key format is neither 1 nor 2",
+            ProjectFault::Format => "the key format is none of 1, 2 and 3",
             ProjectFault::UnknownKey => "a key is not known",
             ProjectFault::Missing => "a key is missing",
             ProjectFault::WrongType => "a value is of the wrong type",

@@ -3,12 +3,12 @@ ghost use Rattle.std.specs.Prelude.{◌≡◌, ◌≤◌};
 ghost use Rattle.toml.specs.View.{table_view};
 ghost use Rattle.page_map.specs.Limits.{max_k};
 ghost use Rattle.project_book.specs.Limits.{max_horizon};
-ghost use Rattle.project_file.specs.Formats.{format_in, most_k, most_horizon, has_entry};
+ghost use Rattle.project_file.specs.Formats.{format_in, most_k, most_horizon, scale_of, format_of, has_entry, has_short_forms};
 
 use crate::fault::ProjectFault;
 use crate::fields::number_at;
 use page_map::MAX_K;
-use project_book::{MAX_HORIZON, ScriptEntry};
+use project_book::{MAX_HORIZON, Scale, ScriptEntry, USUAL_HORIZON};
 use toml::Table;
 
 /// The greatest k of a file of format 1.
@@ -22,8 +22,10 @@ pub(crate) const FIRST_MAX_HORIZON: u32 = 1_000;
 pub enum FileFormat {
     /// 1: k up to 5, horizons up to 1,000, and no entry that waits for a word.
     First,
-    /// 2: whatever a project may be.
+    /// 2: whatever a project of the usual scale may be.
     Second,
+    /// 3: a large project, whose scripts may be written in short forms.
+    Third,
 }
 
 impl FileFormat {
@@ -34,7 +36,7 @@ impl FileFormat {
     {
         match self {
             FileFormat::First => FIRST_MAX_K,
-            FileFormat::Second => MAX_K,
+            FileFormat::Second | FileFormat::Third => MAX_K,
         }
     }
 
@@ -45,7 +47,18 @@ impl FileFormat {
     {
         match self {
             FileFormat::First => FIRST_MAX_HORIZON,
-            FileFormat::Second => MAX_HORIZON,
+            FileFormat::Second => USUAL_HORIZON,
+            FileFormat::Third => MAX_HORIZON,
+        }
+    }
+
+    /// The scale of its projects.
+    pub(crate) fn scale(self) -> Scale
+        ensures { result ≡ scale_of self }
+    {
+        match self {
+            FileFormat::First | FileFormat::Second => Scale::Usual,
+            FileFormat::Third => Scale::Large,
         }
     }
 
@@ -58,15 +71,36 @@ impl FileFormat {
             _ => true,
         }
     }
+
+    /// Whether scripts may be written in short forms.
+    pub(crate) fn has_short_forms(self) -> bool
+        ensures { result ≡ has_short_forms self }
+    {
+        match self {
+            FileFormat::First | FileFormat::Second => false,
+            FileFormat::Third => true,
+        }
+    }
+}
+
+/// The number of the format in which a project of a scale is written: 2, or 3 for large ones.
+pub fn format_of(scale: Scale) -> u32
+    ensures { result ≡ format_of scale }
+{
+    match scale {
+        Scale::Usual => 2,
+        Scale::Large => 3,
+    }
 }
 
 /// The format of a project's root.
 pub(crate) fn read_format(root: &Table) -> Result<FileFormat, ProjectFault>
     ensures { result ≡ format_in (table_view root.now) }
 {
-    match number_at(root, "format", 1, 2) {
+    match number_at(root, "format", 1, 3) {
         Ok(1) => Ok(FileFormat::First),
-        Ok(_) => Ok(FileFormat::Second),
+        Ok(2) => Ok(FileFormat::Second),
+        Ok(_) => Ok(FileFormat::Third),
         Err(_) => Err(ProjectFault::Format),
     }
 }

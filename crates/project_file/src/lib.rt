@@ -13,6 +13,7 @@
 
 mod depths;
 mod entry_fault;
+mod expanding;
 mod fault;
 mod fields;
 mod format;
@@ -21,6 +22,7 @@ mod lines;
 mod nearest;
 mod pages;
 mod place;
+mod processors;
 mod reading;
 mod scripts;
 mod stages;
@@ -29,6 +31,7 @@ mod write_fault;
 mod writing;
 
 pub use fault::ProjectFault;
+pub use format::format_of;
 pub use place::fault_place;
 pub use reading::{MAX_BYTES, read_project};
 pub use write_fault::WriteFault;

@@ -3,20 +3,23 @@ ghost use Rattle.std.specs.Prelude.{◌≡◌, ◌≤◌, IfOk, length};
 ghost use Rattle.page_map.specs.Limits.{max_k, address_count};
 
 use crate::depths::KEYS as DEPTH_KEYS;
-use crate::entry_fault::{form_fault, limit_fault};
+use crate::entry_fault::{form_fault, limit_fault, step_fault};
+use crate::expanding::{REPEAT_KEYS, read_stepped};
+use crate::fault::ProjectFault;
 use crate::fields::{find, is_among};
 use crate::format::{FileFormat, read_format};
-use crate::items::Array;
+use crate::items::{Array, is_item};
 use crate::lines::{Section, line_of_key, line_of_text};
 use crate::nearest::Hint;
 use crate::pages::{GivenPages, KEYS as PAGE_KEYS};
-use crate::reading::{KEYS as ROOT_KEYS, MAX_BYTES};
-use crate::scripts::{GivenScripts, KEYS as SCRIPT_KEYS};
+use crate::processors::{ONE_KEYS, SEVERAL_KEYS, ends_of, is_for_several, processors_of};
+use crate::reading::{KEYS as ROOT_KEYS, MAX_BYTES, USUAL_BYTES, is_third, read_document};
+use crate::scripts::{GivenScripts, read_items};
 use crate::words::{KEYS as WORD_KEYS, add_item as add_word, no_words};
 use grid_law::NoMemory;
 use page_map::{ADDRESSES, MAX_K, PAGES};
 use project_book::{
-    Depths, MAX_DEPTH, MAX_HORIZON, MAX_WINDOW, MIN_WAIT, SCRIPT_ENTRIES, read_entry,
+    Depths, MAX_DEPTH, MAX_HORIZON, MAX_WINDOW, MIN_WAIT, SCRIPT_ENTRIES, USUAL_HORIZON, read_entry,
 };
 use std::alloc::{AllocError, Global};
 use std::fmt;
@@ -143,6 +146,24 @@ const FEW: [&str; 10] = [
     "first", "second", "third", "fourth", "fifth", "sixth", "seventh", "eighth", "ninth", "tenth",
 ];
 
+/// An entry of a script by its number from 0, behind that of the table that repeats it, where one does. It prints as
+/// `entry 2` or `entry 2, entry 0`.
+#[derive(Clone, Copy)]
+struct EntryAt {
+    table: Option<usize>,
+    number: usize,
+}
+
+impl fmt::Display for EntryAt {
+    fn fmt<W: fmt::Write>(&self, f: &mut fmt::Formatter<W>) -> fmt::Result {
+        let number = self.number;
+        match self.table {
+            Some(table) => write!(f, "entry {table}, entry {number}"),
+            None => write!(f, "entry {number}"),
+        }
+    }
+}
+
 /// A table of a file: where its memory comes from, the file's text, and which table it is.
 #[derive(Clone, Copy)]
 struct At<'a> {
@@ -184,14 +205,23 @@ impl<'a> At<'a> {
         })
     }
 
-    /// What is wrong with an item of an array of texts.
-    fn entry_fault(&self, number: usize, text: &str, what: Result<String, AllocError>) -> Found {
+    /// What is wrong with the text of an entry.
+    fn entry_fault(&self, entry: EntryAt, text: &str, what: Result<String, AllocError>) -> Found {
         let section = self.place.section();
         let line = line_of_text(self.text, section, "entries", text).or(line_of_key(
             self.text, section, "entries",
         ));
         let shown = Shown(text);
-        match format!(in self.alloc; "entry {number}, \"{shown}\"") {
+        match format!(in self.alloc; "{entry}, \"{shown}\"") {
+            Ok(path) => self.fault_in(line, path.as_str(), what),
+            Err(_) => Found::NoMemory,
+        }
+    }
+
+    /// What is wrong at a key of a table that repeats entries.
+    fn repeat_fault(&self, number: usize, key: &str, what: Result<String, AllocError>) -> Found {
+        let line = line_of_key(self.text, self.place.section(), "entries");
+        match format!(in self.alloc; "entry {number}, {key}") {
             Ok(path) => self.fault_in(line, path.as_str(), what),
             Err(_) => Found::NoMemory,
         }
@@ -218,13 +248,22 @@ impl<'a> At<'a> {
 ///
 /// Where a growth was refused.
 pub fn fault_place(alloc: Global, bytes: &[u8]) -> Result<Option<String>, NoMemory> {
-    if bytes.len() > MAX_BYTES {
+    if bytes.len() > MAX_BYTES || bytes.len() > USUAL_BYTES && !is_large(alloc, bytes)? {
         return Ok(None);
     }
     match file_checked(alloc, bytes) {
         Ok(()) => Ok(None),
         Err(Found::Line(line)) => Ok(Some(line)),
         Err(Found::NoMemory) => Err(NoMemory),
+    }
+}
+
+/// Whether a file is a document of format 3, and so may be a long one.
+fn is_large(alloc: Global, bytes: &[u8]) -> Result<bool, NoMemory> {
+    match read_document(alloc, bytes) {
+        Ok(root) => Ok(is_third(&root)),
+        Err(ProjectFault::Memory) => Err(NoMemory),
+        Err(_) => Ok(false),
     }
 }
 
@@ -257,11 +296,12 @@ fn joined(alloc: Global, lines: Result<String, AllocError>) -> Found {
 }
 
 fn root_checked(at: At, root: &Table) -> Result<(), Found> {
-    number_checked(at, root, "format", 1, 2)?;
+    number_checked(at, root, "format", 1, 3)?;
     keys_checked(at, root, &ROOT_KEYS)?;
-    let format = read_format(root).unwrap_or(FileFormat::Second);
-    let k = size_checked(at, root, "k", format.most_k(), MAX_K)?;
-    size_checked(at, root, "horizon", format.most_horizon(), MAX_HORIZON)?;
+    let format = read_format(root).unwrap_or(FileFormat::Third);
+    let k = size_checked(at, root, "k", format.most_k(), [MAX_K, MAX_K])?;
+    let horizons = [USUAL_HORIZON, MAX_HORIZON];
+    size_checked(at, root, "horizon", format.most_horizon(), horizons)?;
     optional_checked(at, root, "window", 1, MAX_WINDOW)?;
     combine_checked(at, root, k)?;
     depths_checked(at, root)?;
@@ -289,20 +329,24 @@ fn number_checked(at: At, table: &Table, key: &str, least: u32, most: u32) -> Re
     }
 }
 
-/// A number from 0 to one that the file's format allows, where another format may allow more.
-fn size_checked(at: At, root: &Table, key: &str, most: u32, widest: u32) -> Result<u32, Found>
+/// A number from 0 to one that the file's format allows, where format 2 or 3 may allow more.
+fn size_checked(at: At, root: &Table, key: &str, most: u32, widest: [u32; 2]) -> Result<u32, Found>
     ensures within { IfOk result (λ n. n ≤ most) }
 {
-    if let Some(value) = find(root, key) {
-        if let Some(number) = value.as_integer() {
-            if number > i64::from(most) && number <= i64::from(widest) {
-                return Err(at.fault(
-                    key,
-                    format!(in at.alloc;
-                        "{number} is not 0 to {most}; format 2 allows 0 to {widest}"
-                    ),
-                ));
-            }
+    let given = match find(root, key) {
+        Some(value) => value.as_integer().unwrap_or(0),
+        None => 0,
+    };
+    for format in 0..2 {
+        let wider = widest[format];
+        if given > i64::from(most) && given <= i64::from(wider) {
+            let number = format + 2;
+            return Err(at.fault(
+                key,
+                format!(in at.alloc;
+                    "{given} is not 0 to {most}; format {number} allows 0 to {wider}"
+                ),
+            ));
         }
     }
     number_checked(at, root, key, 0, most)
@@ -498,10 +542,23 @@ fn script_found(
     let Some(table) = item.as_table() else {
         return Ok(());
     };
-    keys_checked(at, table, &SCRIPT_KEYS)?;
-    let proc = number_checked(at, table, "processor", 0, (1 << k) - 1)?;
-    if so_far.given[proc as usize] {
-        return Err(at.fault("processor", format!(in at.alloc; "{proc} is given twice")));
+    let several = is_for_several(table, format);
+    script_keys_checked(at, table, several, format)?;
+    if several {
+        processors_checked(at, table, k)?;
+    } else {
+        number_checked(at, table, "processor", 0, (1 << k) - 1)?;
+    }
+    let Ok(procs) = processors_of(at.alloc, table, several, k) else {
+        return Err(Found::NoMemory);
+    };
+    let key = if several { "processors" } else { "processor" };
+    for index in 0..procs.len() {
+        let proc = procs[index];
+        let is_given = so_far.given.get(proc as usize).copied().unwrap_or(false);
+        if is_given || procs[..index].contains(&proc) {
+            return Err(at.fault(key, format!(in at.alloc; "{proc} is given twice")));
+        }
     }
     match find(table, "entries") {
         Some(value) => entries_found(at, value, format),
@@ -509,57 +566,256 @@ fn script_found(
     }
 }
 
+fn script_keys_checked(
+    at: At,
+    table: &Table,
+    several: bool,
+    format: FileFormat,
+) -> Result<(), Found> {
+    if several {
+        return keys_checked(at, table, &SEVERAL_KEYS);
+    }
+    if find(table, "processors").is_some() {
+        let told = if format.has_short_forms() {
+            format!(in at.alloc; "no such key beside processor")
+        } else {
+            format!(in at.alloc; "no such key; format 3 has it, in place of processor")
+        };
+        return Err(at.fault("processors", told));
+    }
+    keys_checked(at, table, &ONE_KEYS)
+}
+
+/// The key `processors` of an item that has no key `processor`.
+fn processors_checked(at: At, table: &Table, k: u32) -> Result<(), Found>
+    requires { k ≤ max_k }
+{
+    let Some(value) = find(table, "processors") else {
+        let told = format!(in at.alloc; "missing, and so is processor");
+        return Err(at.fault("processors", told));
+    };
+    if let Some(text) = value.as_str() {
+        return range_checked(at, text, k);
+    }
+    let Some(array) = value.as_array() else {
+        return Err(at.other_type("processors", value, "an array or a text"));
+    };
+    for (number, item) in array.iter().enumerate() {
+        if !item.is_integer() {
+            let (which, given) = (Nth(number), item.type_str());
+            let told = format!(in at.alloc;
+                "the {which} is of type {given} where a whole number belongs"
+            );
+            return Err(at.fault("processors", told));
+        }
+    }
+    for item in array {
+        number_within(at, "processors", item, 0, (1 << k) - 1)?;
+    }
+    Ok(())
+}
+
+/// A text of the key `processors`.
+fn range_checked(at: At, text: &str, k: u32) -> Result<(), Found>
+    requires { k ≤ max_k }
+{
+    if text == "all" {
+        return Ok(());
+    }
+    let last = (1u32 << k) - 1;
+    let told = match ends_of(text.as_bytes()) {
+        Some((a, b)) if a > b => format!(in at.alloc; "{a}..{b} goes downwards"),
+        Some((a, b)) if b > last => format!(in at.alloc; "{a}..{b} is not within 0..{last}"),
+        Some(_) => return Ok(()),
+        None => {
+            let text = Shown(text);
+            format!(in at.alloc; "\"{text}\" is neither all nor, as 0..{last}, from one to another")
+        }
+    };
+    Err(at.fault("processors", told))
+}
+
 /// What is wrong with entries that are no script, or want of memory where nothing is.
 fn entries_found(at: At, value: &Value, format: FileFormat) -> Result<(), Found> {
     let array = array_checked(at, "entries", value)?;
-    texts_checked(at, array)?;
-    forms_checked(at, array, format)?;
-    let count = array.len();
-    if count > SCRIPT_ENTRIES as usize {
-        return Err(at.fault(
-            "entries",
-            format!(in at.alloc; "{count} of them where {SCRIPT_ENTRIES} are the most"),
-        ));
+    items_checked(at, array, format)?;
+    for (number, item) in array.iter().enumerate() {
+        match item.as_table() {
+            Some(table) => repeat_checked(at, number, table, format)?,
+            None => text_checked(
+                at,
+                EntryAt {
+                    table: None,
+                    number,
+                },
+                item,
+                format,
+            )?,
+        }
     }
+    count_checked(at, array, format)?;
     limits_checked(at, array)?;
     Err(Found::NoMemory)
 }
 
-fn texts_checked(at: At, array: &Array) -> Result<(), Found> {
+fn items_checked(at: At, array: &Array, format: FileFormat) -> Result<(), Found> {
+    let wanted = if format.has_short_forms() {
+        "a text or a table"
+    } else {
+        "a text"
+    };
     for (number, item) in array.iter().enumerate() {
-        if !item.is_str() {
+        if !is_item(item, format) {
             let given = item.type_str();
             return Err(at.fault(
                 "entries",
-                format!(in at.alloc; "entry {number} is of type {given} where a text belongs"),
+                format!(in at.alloc; "entry {number} is of type {given} where {wanted} belongs"),
             ));
         }
     }
     Ok(())
 }
 
-fn forms_checked(at: At, array: &Array, format: FileFormat) -> Result<(), Found> {
+/// A table that repeats entries.
+fn repeat_checked(at: At, number: usize, table: &Table, format: FileFormat) -> Result<(), Found> {
+    for (key, _value) in table.iter() {
+        let key = key.as_str();
+        if !is_among(&REPEAT_KEYS, key) {
+            let hint = Hint::of(at.alloc, key, &REPEAT_KEYS)?;
+            return Err(at.repeat_fault(number, key, format!(in at.alloc; "no such key{hint}")));
+        }
+    }
+    if let Some(told) = times_told(at.alloc, table)? {
+        return Err(at.repeat_fault(number, "repeat", Ok(told)));
+    }
+    repeated_checked(at, number, table, format)
+}
+
+/// What is wrong with how often entries are repeated; None where nothing is.
+fn times_told(alloc: Global, table: &Table) -> Result<Option<String>, AllocError> {
+    let Some(value) = find(table, "repeat") else {
+        return Ok(Some(format!(in alloc; "missing")?));
+    };
+    let told = match value.as_integer() {
+        Some(times) if (1..=i64::from(SCRIPT_ENTRIES)).contains(&times) => return Ok(None),
+        Some(times) => format!(in alloc; "{times} is not 1 to {SCRIPT_ENTRIES}")?,
+        None => {
+            let given = value.type_str();
+            format!(in alloc; "of type {given} where a whole number belongs")?
+        }
+    };
+    Ok(Some(told))
+}
+
+/// The entries of a table that repeats them.
+fn repeated_checked(at: At, number: usize, table: &Table, format: FileFormat) -> Result<(), Found> {
+    let Some(value) = find(table, "entries") else {
+        return Err(at.repeat_fault(number, "entries", format!(in at.alloc; "missing")));
+    };
+    let Some(array) = value.as_array() else {
+        let given = value.type_str();
+        let told = format!(in at.alloc; "of type {given} where an array belongs");
+        return Err(at.repeat_fault(number, "entries", told));
+    };
+    for (inner, item) in array.iter().enumerate() {
+        if !item.is_str() {
+            let given = item.type_str();
+            let told = format!(in at.alloc;
+                "entry {inner} is of type {given} where a text belongs"
+            );
+            return Err(at.repeat_fault(number, "entries", told));
+        }
+    }
+    for (inner, item) in array.iter().enumerate() {
+        let entry = EntryAt {
+            table: Some(number),
+            number: inner,
+        };
+        text_checked(at, entry, item, format)?;
+    }
+    Ok(())
+}
+
+/// An item that is a text.
+fn text_checked(at: At, entry: EntryAt, item: &Value, format: FileFormat) -> Result<(), Found> {
+    let text = item.as_str().unwrap_or("");
+    let bytes = text.as_bytes();
+    if let Some(read) = read_entry(bytes) {
+        if format.has_entry(read) {
+            return Ok(());
+        }
+        let told = format!(in at.alloc; "format 1 has no such entry; format 2 has");
+        return Err(at.entry_fault(entry, text, told));
+    }
+    let told = match read_stepped(bytes) {
+        Some(stepped) if format.has_short_forms() => match step_fault(at.alloc, stepped)? {
+            Some(told) => Ok(told),
+            None => return Ok(()),
+        },
+        Some(_) => format!(in at.alloc; "only format 3 has a step"),
+        None => form_fault(at.alloc, text, format.has_short_forms()),
+    };
+    Err(at.entry_fault(entry, text, told))
+}
+
+/// How many entries there are.
+fn count_checked(at: At, array: &Array, format: FileFormat) -> Result<(), Found> {
+    let most = format.scale().most_entries();
+    let count = match read_items(at.alloc, array, format) {
+        Ok(entries) => entries.len(),
+        Err(_) => return Err(Found::NoMemory),
+    };
+    if count <= most as usize {
+        return Ok(());
+    }
+    let told = if most == SCRIPT_ENTRIES {
+        format!(in at.alloc; "more than {most} of them")
+    } else if count <= SCRIPT_ENTRIES as usize {
+        format!(in at.alloc;
+            "{count} of them where {most} are the most; format 3 allows {SCRIPT_ENTRIES}"
+        )
+    } else {
+        let count = array.len();
+        format!(in at.alloc; "{count} of them where {most} are the most")
+    };
+    Err(at.fault("entries", told))
+}
+
+fn limits_checked(at: At, array: &Array) -> Result<(), Found> {
     for (number, item) in array.iter().enumerate() {
-        let text = item.as_str().unwrap_or("");
-        match read_entry(text.as_bytes()) {
-            Some(entry) if format.has_entry(entry) => {}
-            Some(_) => {
-                let told = format!(in at.alloc; "format 1 has no such entry; format 2 has");
-                return Err(at.entry_fault(number, text, told));
+        match repeated_texts(item) {
+            Some(texts) => {
+                for (inner, text) in texts.iter().enumerate() {
+                    let entry = EntryAt {
+                        table: Some(number),
+                        number: inner,
+                    };
+                    limit_checked(at, entry, text)?;
+                }
             }
-            None => return Err(at.entry_fault(number, text, form_fault(at.alloc, text))),
+            None => limit_checked(
+                at,
+                EntryAt {
+                    table: None,
+                    number,
+                },
+                item,
+            )?,
         }
     }
     Ok(())
 }
 
-fn limits_checked(at: At, array: &Array) -> Result<(), Found> {
-    for (number, item) in array.iter().enumerate() {
-        let text = item.as_str().unwrap_or("");
-        if let Some(entry) = read_entry(text.as_bytes()) {
-            if let Some(told) = limit_fault(at.alloc, entry)? {
-                return Err(at.entry_fault(number, text, Ok(told)));
-            }
+/// What a table repeats; None where an item is none.
+fn repeated_texts(item: &Value) -> Option<&Array> {
+    find(item.as_table()?, "entries")?.as_array()
+}
+
+fn limit_checked(at: At, entry: EntryAt, item: &Value) -> Result<(), Found> {
+    let text = item.as_str().unwrap_or("");
+    if let Some(read) = read_entry(text.as_bytes()) {
+        if let Some(told) = limit_fault(at.alloc, read)? {
+            return Err(at.entry_fault(entry, text, Ok(told)));
         }
     }
     Ok(())

@@ -2,13 +2,13 @@
 ghost use Rattle.std.specs.Prelude.{◌≡◌, codes, ◌≤◌};
 ghost use Rattle.toml.specs.View.{table_view};
 ghost use Rattle.page_map.specs.Limits.{max_k};
-ghost use Rattle.project_book.specs.Limits.{max_horizon};
 ghost use Rattle.project_file.specs.Fields.{Gives};
-ghost use Rattle.project_file.specs.Filed.{filed, document_of, document_project, sized_project};
+ghost use Rattle.project_file.specs.Filed.{filed, document_of, document_project, long_project, sized_project};
+ghost use Rattle.project_file.specs.Formats.{format_in, is_third, most_horizon};
 
 use crate::depths::read_depths;
 use crate::fault::ProjectFault;
-use crate::fields::{number_at, number_or, refuse_others};
+use crate::fields::{check, number_at, number_or, refuse_others};
 use crate::format::{FileFormat, read_format};
 use crate::pages::read_pages;
 use crate::scripts::read_scripts;
@@ -19,7 +19,10 @@ use std::alloc::Global;
 use toml::{Table, table_from_str};
 
 /// How many bytes a project file may have.
-pub const MAX_BYTES: usize = 4_194_304;
+pub const MAX_BYTES: usize = 67_108_864;
+
+/// How many bytes a project file may have that isn't of format 3.
+pub(crate) const USUAL_BYTES: usize = 4_194_304;
 
 pub(crate) const KEYS: [&str; 9] = [
     "format", "k", "horizon", "window", "combine", "depths", "page", "word", "script",
@@ -39,12 +42,36 @@ pub fn read_project(alloc: Global, bytes: &[u8]) -> Result<Project, ProjectFault
     if bytes.len() > MAX_BYTES {
         return Err(ProjectFault::TooLong);
     }
+    if bytes.len() > USUAL_BYTES {
+        return long_project(alloc, bytes);
+    }
     let root = read_document(alloc, bytes)?;
     document_project(alloc, &root)
 }
 
+/// That of a long file, which is of format 3.
+fn long_project(alloc: Global, bytes: &[u8]) -> Result<Project, ProjectFault>
+    ensures { Gives (λ p. p) result (long_project (document_of bytes.now)) }
+{
+    match read_document(alloc, bytes) {
+        Ok(root) => {
+            check(is_third(&root), ProjectFault::TooLong)?;
+            document_project(alloc, &root)
+        }
+        Err(ProjectFault::Memory) => Err(ProjectFault::Memory),
+        Err(_) => Err(ProjectFault::TooLong),
+    }
+}
+
+/// Whether a document is of format 3.
+pub(crate) fn is_third(root: &Table) -> bool
+    ensures { result ≡ is_third (format_in (table_view root.now)) }
+{
+    matches!(read_format(root), Ok(FileFormat::Third))
+}
+
 #[tactic(auto, using(crate::proofs::Documents::document_read, crate::proofs::Documents::document_refused, crate::proofs::Documents::text_refused))]
-fn read_document(alloc: Global, bytes: &[u8]) -> Result<Table, ProjectFault>
+pub(crate) fn read_document(alloc: Global, bytes: &[u8]) -> Result<Table, ProjectFault>
     ensures { Gives (λ t. table_view t) result (document_of bytes.now) }
 {
     match std::str::from_utf8(bytes) {
@@ -75,7 +102,7 @@ fn sized_project(
     horizon: u32,
 ) -> Result<Project, ProjectFault>
     requires small { k ≤ max_k }
-    requires short { horizon ≤ max_horizon }
+    requires short { horizon ≤ most_horizon format }
     ensures { Gives (λ p. p) result (sized_project format k horizon (table_view root.now)) }
 {
     let window = number_or(root, "window", 1, MAX_WINDOW, 1)?;
@@ -85,6 +112,7 @@ fn sized_project(
     let words = read_words(alloc, root)?;
     let scripts = read_scripts(alloc, root, format, k)?;
     let parts = Parts {
+        scale: format.scale(),
         k,
         horizon,
         window,

@@ -1,32 +1,39 @@
 //! The key `script`.
-ghost use Rattle.std.specs.Prelude.{◌≡◌, codes, ◌≤◌, ◌^◌, [], Ok, Err, length, replicate, MatchResult, IfOk, ◌≢◌};
+ghost use Rattle.std.specs.Prelude.{◌≡◌, ℕ, codes, ◌≤◌, ◌^◌, [], Ok, Err, length, replicate, MatchResult, IfOk, OnOk, All, slice_set, ◌<◌, ◌≢◌};
 ghost use Rattle.std.specs.List.{list_all};
 ghost use Rattle.toml.specs.View.{view, array_view, table_view};
 ghost use Rattle.page_map.specs.Limits.{max_k};
-ghost use Rattle.project_book.specs.Scripts.{IsScript, are_times};
+ghost use Rattle.project_book.specs.Scripts.{IsScript, AreFew};
 ghost use Rattle.project_file.specs.declared.fault.ProjectFault.TheVariants.{Memory};
+ghost use Rattle.project_book.specs.Scales.{most_entries};
+ghost use Rattle.project_file.specs.Formats.{scale_of};
 ghost use Rattle.project_file.specs.Fields.{Gives, optional, walk};
-ghost use Rattle.project_file.specs.Scripts.{no_scripts, is_entry, is_script, with_entry_item, entries_in, scripts_in, with_script_item, with_script_of};
+ghost use Rattle.project_file.specs.Expanding.{with_item};
+ghost use Rattle.project_file.specs.Processors.{is_for_several, each_given, each_set};
+ghost use Rattle.project_file.specs.Scripts.{no_scripts, is_entry, is_script, entries_in, scripts_in, with_script_item, with_script_of};
 
+use crate::expanding::{add_item, are_times};
 use crate::fault::ProjectFault;
-use crate::fields::{check, find, number_at, refuse_others, require};
+use crate::fields::{check, find, require};
 use crate::format::FileFormat;
-use crate::items::{Array, are_texts, array_in, table_in, tables_in};
+use crate::items::{Array, are_items, array_in, table_in, tables_in};
+use crate::processors::{is_for_several, processors_of, refuse_other_keys};
 use grid_law::NoMemory;
 use page_map::{ADDRESSES, MAX_K};
-use project_book::{MAX_TIMES, SCRIPT_ENTRIES, ScriptEntry, Scripts, read_entry};
+use project_book::{ScriptEntry, Scripts};
 use std::alloc::Global;
 use toml::{Table, Value};
-
-pub(crate) const KEYS: [&str; 2] = ["processor", "entries"];
 
 /// How many processors the largest machine has.
 const PROCESSORS: usize = 1 << MAX_K;
 
+/// Which processors were given.
+type GivenFlags = [bool; PROCESSORS];
+
 /// Which processors were given, and the scripts so far.
 #[derive(Drop)]
 pub(crate) struct GivenScripts {
-    pub(crate) given: [bool; PROCESSORS],
+    pub(crate) given: GivenFlags,
     scripts: Scripts,
 }
 
@@ -40,6 +47,7 @@ pub(crate) fn read_scripts(
     requires { k ≤ max_k }
     ensures scripts { Gives (λ s. s) result (optional (codes "script") (scripts_in format k) (replicate (2 ^ k) []) (table_view root.now)) }
     ensures count { IfOk result (λ s. length s ≡ 2 ^ k) }
+    ensures few { IfOk result (AreFew (most_entries (scale_of format))) }
 {
     match find(root, "script") {
         Some(value) => scripts_in(alloc, value, format, k),
@@ -56,6 +64,7 @@ fn scripts_in(
     requires { k ≤ max_k }
     ensures scripts { Gives (λ s. s) result (scripts_in format k (view value.now)) }
     ensures count { IfOk result (λ s. length s ≡ 2 ^ k) }
+    ensures few { IfOk result (AreFew (most_entries (scale_of format))) }
 {
     let array = tables_in(value)?;
     let all = GivenScripts::new(alloc, k)?.with_items(alloc, array, format, k)?;
@@ -68,6 +77,7 @@ impl GivenScripts {
         requires { k ≤ max_k }
         ensures none { IfOk result (λ s. s ≡ no_scripts k) }
         ensures count { IfOk result (λ s. length s.scripts ≡ 2 ^ k) }
+        ensures few { IfOk result (λ s. (most : ℕ) → AreFew most s.scripts) }
     {
         let scripts = Scripts::new(alloc, 1 << k)?;
         Ok(GivenScripts {
@@ -85,8 +95,10 @@ impl GivenScripts {
     ) -> Result<GivenScripts, ProjectFault>
         requires small { k ≤ max_k }
         requires count { length self.scripts ≡ 2 ^ k }
+        requires few { AreFew (most_entries (scale_of format)) self.scripts }
         ensures items { Gives (λ s. s) result (walk (with_script_item format k) self (array_view array.now)) }
         ensures count { IfOk result (λ s. length s.scripts ≡ 2 ^ k) }
+        ensures few { IfOk result (λ s. AreFew (most_entries (scale_of format)) s.scripts) }
     {
         let mut so_far = self;
         'items: for item in array {
@@ -106,35 +118,89 @@ impl GivenScripts {
         requires count { length self.old.scripts ≡ 2 ^ k }
         ensures item { MatchResult result (λ _. with_script_item format k self.old (view item.now) ≡ Ok self.new) (λ fault. fault ≢ Memory → with_script_item format k self.old (view item.now) ≡ Err fault) }
         ensures count { length self.new.scripts ≡ 2 ^ k }
+        ensures few { AreFew (most_entries (scale_of format)) self.old.scripts → AreFew (most_entries (scale_of format)) self.new.scripts }
     {
         let table = table_in(item)?;
-        refuse_others(table, &KEYS)?;
-        self.add(alloc, table, format, k)
+        let several = is_for_several(table, format);
+        refuse_other_keys(table, several)?;
+        self.add(alloc, table, several, format, k)
     }
 
     fn add(
         &mut self,
         alloc: Global,
         table: &Table,
+        several: bool,
         format: FileFormat,
         k: u32,
     ) -> Result<(), ProjectFault>
         requires small { k ≤ max_k }
+        requires several { several ≡ is_for_several format (table_view table.now) }
         requires count { length self.old.scripts ≡ 2 ^ k }
         ensures item { MatchResult result (λ _. with_script_of format k self.old (table_view table.now) ≡ Ok self.new) (λ fault. fault ≢ Memory → with_script_of format k self.old (table_view table.now) ≡ Err fault) }
         ensures count { length self.new.scripts ≡ 2 ^ k }
+        ensures few { AreFew (most_entries (scale_of format)) self.old.scripts → AreFew (most_entries (scale_of format)) self.new.scripts }
     {
-        let proc = number_at(table, "processor", 0, (1 << k) - 1)?;
-        let is_new = !self.given[proc as usize];
-        check(is_new, ProjectFault::Twice)?;
+        let procs = processors_of(alloc, table, several, k)?;
+        let given = each_given(self.given, &procs)?;
         let entries = entries_in(alloc, require(table, "entries")?, format)?;
-        self.scripts.set(alloc, proc, entries)?;
-        self.given[proc as usize] = true;
+        set_each(alloc, &mut self.scripts, &procs, &entries)?;
+        self.given = given;
         Ok(())
     }
 }
 
-/// The entries of an array of texts.
+/// Which processors were given, after these, each of which may be given once.
+fn each_given(given: GivenFlags, procs: &[u32]) -> Result<GivenFlags, ProjectFault>
+    requires { All (λ p. p < 2 ^ max_k) procs.now }
+    ensures { result ≡ each_given given procs.now }
+{
+    let mut so_far = given;
+    'procs: for proc in procs {
+        if so_far[*proc as usize] {
+            return Err(ProjectFault::Twice);
+        }
+        so_far[*proc as usize] = true;
+    }
+    Ok(so_far)
+}
+
+/// Gives each of these processors the same script.
+fn set_each(
+    alloc: Global,
+    scripts: &mut Scripts,
+    procs: &[u32],
+    entries: &[ScriptEntry],
+) -> Result<(), NoMemory>
+    requires there { All (λ p. p < length scripts.old) procs.now }
+    requires script { IsScript entries.now }
+    ensures ok { OnOk result (scripts.new ≡ each_set scripts.old procs.now entries.now) }
+    ensures count { length scripts.new ≡ length scripts.old }
+    ensures few { (most : ℕ) → length entries.now ≤ most → AreFew most scripts.old → AreFew most scripts.new }
+{
+    'procs: for proc in procs {
+        set_one(alloc, scripts, *proc, entries)?;
+    }
+    Ok(())
+}
+
+fn set_one(
+    alloc: Global,
+    scripts: &mut Scripts,
+    proc: u32,
+    entries: &[ScriptEntry],
+) -> Result<(), NoMemory>
+    requires there { proc < length scripts.old }
+    requires script { IsScript entries.now }
+    ensures ok { OnOk result (scripts.new ≡ slice_set scripts.old proc entries.now) }
+    ensures count { length scripts.new ≡ length scripts.old }
+    ensures few { (most : ℕ) → length entries.now ≤ most → AreFew most scripts.old → AreFew most scripts.new }
+{
+    let own = Vec::from_slice(alloc, entries)?;
+    scripts.set(alloc, proc, own)
+}
+
+/// The entries of a script.
 fn entries_in(
     alloc: Global,
     value: &Value,
@@ -142,53 +208,35 @@ fn entries_in(
 ) -> Result<Vec<ScriptEntry>, ProjectFault>
     ensures entries { Gives (λ v. v.items) result (entries_in format (view value.now)) }
     ensures script { IfOk result (λ v. IsScript v.items) }
+    ensures few { IfOk result (λ v. length v.items ≤ most_entries (scale_of format)) }
 {
     let array = array_in(value)?;
-    check(are_texts(array), ProjectFault::WrongType)?;
-    let entries = read_texts(alloc, array, format)?;
-    check(is_script(&entries), ProjectFault::Range)?;
+    check(are_items(array, format), ProjectFault::WrongType)?;
+    let entries = read_items(alloc, array, format)?;
+    check(is_script(&entries, format), ProjectFault::Range)?;
     Ok(entries)
 }
 
-fn read_texts(
+/// What the items stand for, of which a script that is too long has only the first.
+pub(crate) fn read_items(
     alloc: Global,
     array: &Array,
     format: FileFormat,
 ) -> Result<Vec<ScriptEntry>, ProjectFault>
-    ensures { Gives (λ v. v.items) result (walk (with_entry_item format) [] (array_view array.now)) }
+    ensures { Gives (λ v. v.items) result (walk (with_item format) [] (array_view array.now)) }
 {
     let mut entries = Vec::new(alloc);
     'items: for item in array {
-        add_entry(&mut entries, item, format)?;
+        add_item(alloc, &mut entries, item, format)?;
     }
     Ok(entries)
 }
 
-fn add_entry(
-    entries: &mut Vec<ScriptEntry>,
-    item: &Value,
-    format: FileFormat,
-) -> Result<(), ProjectFault>
-    ensures { MatchResult result (λ _. with_entry_item format entries.old.items (view item.now) ≡ Ok entries.new.items) (λ fault. fault ≢ Memory → with_entry_item format entries.old.items (view item.now) ≡ Err fault) }
+/// Whether a script of a file of that format is within the limits.
+fn is_script(entries: &[ScriptEntry], format: FileFormat) -> bool
+    ensures { result ≡ is_script format entries.now }
 {
-    match item.as_str() {
-        Some(text) => match read_entry(text.as_bytes()) {
-            Some(entry) => {
-                check(format.has_entry(entry), ProjectFault::Entry)?;
-                entries.push(entry)?;
-                Ok(())
-            }
-            None => Err(ProjectFault::Entry),
-        },
-        None => Err(ProjectFault::WrongType),
-    }
-}
-
-/// Whether a script is within the limits.
-fn is_script(entries: &[ScriptEntry]) -> bool
-    ensures { result ≡ is_script entries.now }
-{
-    entries.len() <= SCRIPT_ENTRIES as usize && are_entries(entries)
+    entries.len() <= format.scale().most_entries() as usize && are_entries(entries)
 }
 
 fn are_entries(entries: &[ScriptEntry]) -> bool
@@ -211,10 +259,4 @@ pub(crate) fn is_entry(entry: ScriptEntry) -> bool
         ScriptEntry::Idle(turns) => are_times(turns),
         ScriptEntry::Fence => true,
     }
-}
-
-fn are_times(times: u32) -> bool
-    ensures { result ≡ are_times times }
-{
-    (1..=MAX_TIMES).contains(&times)
 }

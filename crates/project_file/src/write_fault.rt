@@ -9,7 +9,7 @@ use std::fmt;
 /// Why a project wasn't written.
 #[derive(Clone, Copy, PartialEq, Eq, Debug)]
 pub enum WriteFault {
-    /// The text would have more than 4,194,304 bytes.
+    /// The text would have more than 4,194,304 bytes, or more than 67,108,864 where it is of format 3.
     TooLong,
     /// A growth was refused.
     Memory,

@@ -3,15 +3,16 @@ ghost use Rattle.std.specs.Prelude.{◌≡◌, IfOk, Ok};
 ghost use Rattle.project_file.specs.Filed.{filed};
 
 use crate::fault::ProjectFault;
-use crate::reading::{MAX_BYTES, read_project};
+use crate::format::format_of;
+use crate::reading::{MAX_BYTES, USUAL_BYTES, read_project};
 use crate::write_fault::WriteFault;
 use page_map::{ADDRESSES, PAGES};
-use project_book::{Depths, EntryText, FirstWord, Project};
+use project_book::{Depths, EntryText, FirstWord, Project, Scale};
 use std::alloc::Global;
 use toml::ser::Error;
 use toml::{Table, Value, table_to_string_pretty};
 
-/// The text of a file of format 2 that is this project. What every project has without being told is left out: pages that are
+/// The text of a file that is this project, of format 2, or of format 3 where it is a large one. What every project has without being told is left out: pages that are
 /// spread over all modules, words of 0, scripts without entries.
 ///
 /// The text is read back by [`read_project`], and answered only where that gives the project. It takes the memory of the
@@ -19,7 +20,7 @@ use toml::{Table, Value, table_to_string_pretty};
 ///
 /// # Errors
 ///
-/// TooLong where the text has more than 4,194,304 bytes, Memory at the growth that was refused, Unread where the text isn't
+/// TooLong where the text has more than 4,194,304 bytes, or 67,108,864 where it is of format 3; Memory at the growth that was refused, Unread where the text isn't
 /// read as the project.
 pub fn write_project(alloc: Global, project: &Project) -> Result<Vec<u8>, WriteFault>
     ensures { IfOk result (λ bytes. filed bytes.items ≡ Ok project.now) }
@@ -31,7 +32,7 @@ pub fn write_project(alloc: Global, project: &Project) -> Result<Vec<u8>, WriteF
         Err(Error::DateInvalid) => return Err(WriteFault::Unread),
     };
     let bytes = text.into_bytes();
-    if bytes.len() > MAX_BYTES {
+    if bytes.len() > most_bytes(project.scale()) {
         return Err(WriteFault::TooLong);
     }
     match read_project(alloc, &bytes) {
@@ -44,7 +45,12 @@ pub fn write_project(alloc: Global, project: &Project) -> Result<Vec<u8>, WriteF
 /// The document of a project.
 fn root_of(alloc: Global, project: &Project) -> Result<Table, WriteFault> {
     let mut root = Table::new(alloc);
-    put(alloc, &mut root, "format", number(2))?;
+    put(
+        alloc,
+        &mut root,
+        "format",
+        number(format_of(project.scale())),
+    )?;
     put(alloc, &mut root, "k", number(project.k()))?;
     put(alloc, &mut root, "horizon", number(project.horizon()))?;
     put(alloc, &mut root, "window", number(project.window()))?;
@@ -54,6 +60,14 @@ fn root_of(alloc: Global, project: &Project) -> Result<Table, WriteFault> {
     put_list(alloc, &mut root, "word", words_of(alloc, project)?)?;
     put_list(alloc, &mut root, "script", scripts_of(alloc, project)?)?;
     Ok(root)
+}
+
+/// How many bytes a file of that format may have.
+fn most_bytes(scale: Scale) -> usize {
+    match scale {
+        Scale::Usual => USUAL_BYTES,
+        Scale::Large => MAX_BYTES,
+    }
 }
 
 fn number(value: u32) -> Value {

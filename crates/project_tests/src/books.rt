@@ -5,7 +5,7 @@ use expect::{equal, equal_at};
 use omega_net::Net;
 use page_map::Place;
 use project_book::{
-    Depths, Edit, EditFault, EntryText, FirstWord, MAX_EDITS, Project, ScriptEntry, Slot,
+    Depths, Edit, EditFault, EntryText, FirstWord, MAX_EDITS, Project, Scale, ScriptEntry, Slot,
     read_entry,
 };
 use std::alloc::Global;
@@ -212,6 +212,24 @@ fn full_script(rt: HostRuntime) -> Result<(), Fail> {
     assert!(rt; equal(&rt, project.length(0), 254));
     let cut = [Slot::Entry(0, 254), Slot::Entry(0, 255)];
     assert!(rt; equal(&rt, changed.slots.as_slice(), cut.as_slice()));
+    Ok(())
+}
+
+/// A large project has later horizons and longer scripts. An edit changes its scale as little as its size.
+#[test]
+fn large_projects(rt: HostRuntime) -> Result<(), Fail> {
+    let alloc = rt.alloc();
+    assert!(rt; Project::new(alloc, 0, 2_001)?.is_none());
+    assert!(rt; Project::of_scale(alloc, Scale::Large, 0, 20_001)?.is_none());
+    let mut project = Project::of_scale(alloc, Scale::Large, 0, 8)?.ok_or("within the limits")?;
+    assert!(rt; equal(&rt, refused(&project, Edit::Horizon(20_001)), Some(12)));
+    project = after(&project, Edit::Horizon(20_000))?;
+    for index in 0..257 {
+        project = after(&project, entry(0, index, ScriptEntry::Fence))?;
+    }
+    assert!(rt; equal(&rt, (project.length(0), project.horizon()), (257, 20_000)));
+    assert!(rt; equal(&rt, project.scale(), Scale::Large));
+    assert!(rt; equal(&rt, project.entry(0, 256), Some(ScriptEntry::Fence)));
     Ok(())
 }
 

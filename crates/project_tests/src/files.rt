@@ -85,7 +85,7 @@ fn roots(rt: HostRuntime) -> Result<(), Fail> {
     let alloc = rt.alloc();
     for (text, number) in [
         ("", 3),
-        ("format = 3", 3),
+        ("format = 4", 3),
         ("format = 0", 3),
         ("format = true", 3),
         ("format = 1", 5),
@@ -93,6 +93,10 @@ fn roots(rt: HostRuntime) -> Result<(), Fail> {
         ("format = 2\nk = 7", 7),
         ("format = 2\nk = 6\nhorizon = 2001", 7),
         ("format = 2\nk = 6\nhorizon = 2000", 0),
+        ("format = 3", 5),
+        ("format = 3\nk = 7", 7),
+        ("format = 3\nk = 6\nhorizon = 20001", 7),
+        ("format = 3\nk = 6\nhorizon = 20000", 0),
         ("format = 1\nk = 6", 7),
         ("format = 1\nk = 5\nhorizon = 1001", 7),
         ("format = 1\nk = 5\nhorizon = 1000", 0),
@@ -483,16 +487,287 @@ fn entries(rt: HostRuntime) -> Result<(), Fail> {
     Ok(())
 }
 
-/// What the other format allows.
+/// What another format allows.
 #[test]
 fn sizes(rt: HostRuntime) -> Result<(), Fail> {
-    let text = "format = 1\nk = 6\nhorizon = 0\n";
-    assert!(rt;
-        equal(
-            &rt,
-            place_of(rt.alloc(), text.as_bytes())?.as_str(),
-            "line 2, k: 6 is not 0 to 5; format 2 allows 0 to 6"
-        )
-    );
+    for (text, line) in [
+        (
+            "format = 1\nk = 6\nhorizon = 0\n",
+            "line 2, k: 6 is not 0 to 5; format 2 allows 0 to 6",
+        ),
+        (
+            "format = 1\nk = 5\nhorizon = 1001\n",
+            "line 3, horizon: 1001 is not 0 to 1000; format 2 allows 0 to 2000",
+        ),
+        (
+            "format = 2\nk = 6\nhorizon = 2001\n",
+            "line 3, horizon: 2001 is not 0 to 2000; format 3 allows 0 to 20000",
+        ),
+        (
+            "format = 3\nk = 6\nhorizon = 20001\n",
+            "line 3, horizon: 20001 is not 0 to 20000",
+        ),
+    ] {
+        assert!(rt; equal(&rt, place_of(rt.alloc(), text.as_bytes())?.as_str(), line));
+    }
+    Ok(())
+}
+
+/// So many spaces, and this text behind them.
+fn behind_spaces(alloc: Global, spaces: usize, text: &str) -> Result<Vec<u8>, Fail> {
+    let mut bytes = vec![in alloc; b' '; spaces]?;
+    bytes.extend_from_slice(text.as_bytes())?;
+    Ok(bytes)
+}
+
+/// A file of format 3 with so many entries in its script.
+fn large_file(alloc: Global, entries: usize) -> Result<String, Fail> {
+    let mut text = String::new(alloc);
+    text.push_str("format = 3\nk = 0\nhorizon = 20000\n[[script]]\nprocessor = 0\nentries = [")?;
+    for _ in 0..entries {
+        text.push_str("\"fence\",")?;
+    }
+    text.push_str("]")?;
+    Ok(text)
+}
+
+/// A large project has scripts of 4,096 entries, and comes back from its file.
+#[test]
+fn large_files(rt: HostRuntime) -> Result<(), Fail> {
+    let alloc = rt.alloc();
+    let text = large_file(alloc, 4_097)?;
+    assert!(rt; equal(&rt, number_of(alloc, text.as_str().as_bytes()), 7));
+    let text = large_file(alloc, 4_096)?;
+    let project = read_project(alloc, text.as_str().as_bytes())?;
+    assert!(rt; equal(&rt, (project.length(0), project.horizon()), (4_096, 20_000)));
+    assert!(rt; comes_back(alloc, &project)?);
+    Ok(())
+}
+
+/// A file of more than 4,194,304 bytes is read where it is of format 3, and is else too long, whatever else is wrong with it.
+#[test]
+fn long_files(rt: HostRuntime) -> Result<(), Fail> {
+    let alloc = rt.alloc();
+    for (text, number) in [
+        ("\nformat = 3\nk = 0\nhorizon = 0", 0),
+        ("\nformat = 3", 5),
+        ("\nformat = 2\nk = 0\nhorizon = 0", 1),
+        ("\nformat = 4", 1),
+        ("\nk = [", 1),
+    ] {
+        let bytes = behind_spaces(alloc, 4_194_304, text)?;
+        assert!(rt; equal(&rt, number_of(alloc, &bytes), number));
+    }
+    Ok(())
+}
+
+/// A machine of four processors in a file of format 3.
+const FOUR: &str = "format = 3\nk = 2\nhorizon = 0\n";
+
+/// Scripts in short forms, and the fault that each is; 0 where it is none.
+const SHORT: &[(&str, u8)] = &[
+    ("[[script]]\nprocessors = [0, 3]\nentries = [\"fence\"]", 0),
+    ("[[script]]\nprocessors = []\nentries = []", 0),
+    ("[[script]]\nprocessors = \"all\"\nentries = []", 0),
+    ("[[script]]\nprocessors = \"0..3\"\nentries = []", 0),
+    ("[[script]]\nprocessors = \"0..4\"\nentries = []", 7),
+    ("[[script]]\nprocessors = \"2..1\"\nentries = []", 7),
+    ("[[script]]\nprocessors = \"0.3\"\nentries = []", 6),
+    ("[[script]]\nprocessors = \"every\"\nentries = []", 6),
+    ("[[script]]\nprocessors = 1\nentries = []", 6),
+    ("[[script]]\nprocessors = [4, \"0\"]\nentries = []", 6),
+    ("[[script]]\nprocessors = [4]\nentries = []", 7),
+    ("[[script]]\nprocessors = [1, 1]\nentries = []", 9),
+    (
+        "[[script]]\nprocessor = 2\nentries = []\n[[script]]\nprocessors = \"1..2\"",
+        9,
+    ),
+    (
+        "[[script]]\nprocessors = [1]\nprocessor = 0\nentries = []",
+        4,
+    ),
+    ("[[script]]\nentries = []", 5),
+    ("[[script]]\nprocessors = [1]", 5),
+    (
+        "[[script]]\nprocessor = 0\nentries = [\"sync add 16383 1 1000 step 16383\"]",
+        0,
+    ),
+    (
+        "[[script]]\nprocessor = 0\nentries = [\"sync add 0 1 2 step 16384\"]",
+        7,
+    ),
+    (
+        "[[script]]\nprocessor = 0\nentries = [\"sync add 0 1 0 step 1\"]",
+        7,
+    ),
+    (
+        "[[script]]\nprocessor = 0\nentries = [\"sync add 0 1 step 1\", \"sync add 16384 1 2 step 1\"]",
+        8,
+    ),
+    (
+        "[[script]]\nprocessor = 0\nentries = [\"sync add 16384 1 2 step 1\"]",
+        7,
+    ),
+    (
+        "[[script]]\nprocessor = 0\nentries = [\"sync add 0 1 1001 step 1\"]",
+        7,
+    ),
+    // Numbers of other texts are judged last, those of a table at once.
+    (
+        "[[script]]\nprocessor = 0\nentries = [\"idle 0\", { repeat = 0, entries = [] }, \"jump\"]",
+        7,
+    ),
+    (
+        "[[script]]\nprocessor = 0\nentries = [\"idle 0\", { repeat = 1, entries = [] }, \"jump\"]",
+        8,
+    ),
+    (
+        "[[script]]\nprocessor = 0\nentries = [\"until sync add 0 1 1 2 step 1\"]",
+        8,
+    ),
+    (
+        "[[script]]\nprocessor = 0\nentries = [{ repeat = 4096, entries = [\"fence\"] }]",
+        0,
+    ),
+    (
+        "[[script]]\nprocessor = 0\nentries = [{ repeat = 2048, entries = [\"fence\", \"idle 1\"] }, \"fence\"]",
+        7,
+    ),
+    // What is behind a script that is too long is still looked at.
+    (
+        "[[script]]\nprocessor = 0\nentries = [{ repeat = 4096, entries = [\"plain add 0 1 1000 step 1\"] }, \"jump\"]",
+        8,
+    ),
+    (
+        "[[script]]\nprocessor = 0\nentries = [{ repeat = 4096, entries = [\"plain add 0 1 1000 step 1\"] }]",
+        7,
+    ),
+    (
+        "[[script]]\nprocessor = 0\nentries = [{ repeat = 0, entries = [] }]",
+        7,
+    ),
+    (
+        "[[script]]\nprocessor = 0\nentries = [{ repeat = 4097, entries = [] }]",
+        7,
+    ),
+    ("[[script]]\nprocessor = 0\nentries = [{ entries = [] }]", 5),
+    ("[[script]]\nprocessor = 0\nentries = [{ repeat = 1 }]", 5),
+    (
+        "[[script]]\nprocessor = 0\nentries = [{ repeat = 1, entries = [], times = 1 }]",
+        4,
+    ),
+    (
+        "[[script]]\nprocessor = 0\nentries = [{ repeat = 1, entries = [{ repeat = 1, entries = [] }] }]",
+        6,
+    ),
+    ("[[script]]\nprocessor = 0\nentries = [1]", 6),
+];
+
+/// The first fault of scripts in short forms.
+#[test]
+fn short_forms(rt: HostRuntime) -> Result<(), Fail> {
+    let alloc = rt.alloc();
+    for (more, number) in SHORT {
+        let text = format!(in alloc; "{FOUR}{more}")?;
+        assert!(rt; equal(&rt, number_of(alloc, text.as_str().as_bytes()), *number));
+    }
+    Ok(())
+}
+
+/// Formats 1 and 2 know no short forms.
+#[test]
+fn no_short_forms(rt: HostRuntime) -> Result<(), Fail> {
+    let alloc = rt.alloc();
+    for (script, number) in [
+        ("processors = [0]\nentries = []", 4),
+        ("entries = []", 5),
+        ("processor = 0\nentries = [\"sync add 0 1 2 step 1\"]", 8),
+        ("processor = 0\nentries = [{ repeat = 1, entries = [] }]", 6),
+    ] {
+        for format in 1..3 {
+            let text = format!(in alloc;
+                "format = {format}\nk = 0\nhorizon = 0\n[[script]]\n{script}"
+            )?;
+            assert!(rt; equal(&rt, number_of(alloc, text.as_str().as_bytes()), number));
+        }
+    }
+    Ok(())
+}
+
+/// A script in short forms is that of the entries that it stands for.
+#[test]
+fn expanded(rt: HostRuntime) -> Result<(), Fail> {
+    let alloc = rt.alloc();
+    let short =
+        "[[script]]\nprocessors = \"1..2\"\nentries = [\"fence\", { repeat = 2, entries = [\"plain load 16380 7 3 step 3\", \"idle 5\"] }]
+[[script]]\nprocessors = [3, 0]\nentries = [\"sync add 4 1 2 step 0\"]";
+    let long = "script = [
+{ processor = 1, entries = [\"fence\", \"plain load 16380 7\", \"plain load 16383 7\", \"plain load 2 7\", \"idle 5\", \"plain load 16380 7\", \"plain load 16383 7\", \"plain load 2 7\", \"idle 5\"] },
+{ processor = 2, entries = [\"fence\", \"plain load 16380 7\", \"plain load 16383 7\", \"plain load 2 7\", \"idle 5\", \"plain load 16380 7\", \"plain load 16383 7\", \"plain load 2 7\", \"idle 5\"] },
+{ processor = 0, entries = [\"sync add 4 1\", \"sync add 4 1\"] },
+{ processor = 3, entries = [\"sync add 4 1\", \"sync add 4 1\"] },
+]";
+    let short = format!(in alloc; "{FOUR}{short}")?;
+    let long = format!(in alloc; "{FOUR}{long}")?;
+    let short = read_project(alloc, short.as_str().as_bytes())?;
+    let long = read_project(alloc, long.as_str().as_bytes())?;
+    assert!(rt; short.same(&long));
+    Ok(())
+}
+
+/// Where scripts in short forms are wrong, behind the three lines of a file of four processors.
+const SHORT_PLACES: &[(&str, &str)] = &[
+    (
+        "[[script]]\nprocessors = \"0..4\"\nentries = []",
+        "line 5, the first script, processors: 0..4 is not within 0..3",
+    ),
+    (
+        "[[script]]\nprocessors = \"some\"\nentries = []",
+        "line 5, the first script, processors: \"some\" is neither all nor, as 0..3, from one to another",
+    ),
+    (
+        "[[script]]\nprocessors = [1, 2, 1]\nentries = []",
+        "line 5, the first script, processors: 1 is given twice",
+    ),
+    (
+        "[[script]]\nprocessor = 1\nprocessors = [2]\nentries = []",
+        "line 6, script of processor 1 (the first), processors: no such key beside processor",
+    ),
+    (
+        "[[script]]\nprocessor = 1\nentries = [\"fence\", { repeat = 5000, entries = [] }]",
+        "line 6, script of processor 1 (the first), entry 1, repeat: 5000 is not 1 to 4096",
+    ),
+    (
+        "[[script]]\nprocessor = 1\nentries = [\"fence\", { repeat = 2, entries = [\"snyc add 0 1\"] }]",
+        "line 6, script of processor 1 (the first), entry 1, entry 0, \"snyc add 0 1\": no entry begins with \"snyc\"; is it sync?",
+    ),
+    (
+        "[[script]]\nprocessor = 1\nentries = [\"plain load 0 0 1 step 16384\"]",
+        "line 6, script of processor 1 (the first), entry 0, \"plain load 0 0 1 step 16384\": the step 16384 is not 0 to 16383",
+    ),
+    (
+        "[[script]]\nprocessor = 1\nentries = [\"plain load 0 0 1 step\"]",
+        "line 6, script of processor 1 (the first), entry 0, \"plain load 0 0 1 step\": a word is missing; it is plain OPERATION ADDRESS OPERAND [TIMES [step STEP]]",
+    ),
+    (
+        "[[script]]\nprocessor = 1\nentries = [{ repeat = 4096, entries = [\"fence\", \"fence\"] }]",
+        "line 6, script of processor 1 (the first), entries: more than 4096 of them",
+    ),
+];
+
+/// The line for people tells which key or entry of a script in short forms is wrong.
+#[test]
+fn short_places(rt: HostRuntime) -> Result<(), Fail> {
+    let alloc = rt.alloc();
+    for (more, place) in SHORT_PLACES {
+        let text = format!(in alloc; "{FOUR}{more}")?;
+        assert!(rt;
+            equal(
+                &rt,
+                place_of(alloc, text.as_str().as_bytes())?.as_str(),
+                place
+            )
+        );
+    }
     Ok(())
 }

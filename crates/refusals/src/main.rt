@@ -34,6 +34,11 @@ fn main(rt: HostRuntime) -> ExitCode {
     held &= tell(&rt, "read_project", projects::read(alloc));
     held &= tell(&rt, "read_bytes", runs::read(alloc));
     held &= tell(&rt, "write_project", projects::written(alloc));
+    held &= tell(
+        &rt,
+        "Project::of_scale, write_project",
+        projects::large(alloc),
+    );
     held &= tell(&rt, "fault_place", projects::placed(alloc));
     held &= tell(&rt, "from_scratch", projects::simulated(alloc));
     held &= tell(&rt, "order", projects::ordered(alloc));

@@ -2,7 +2,7 @@
 use crate::again::again;
 use machine_cells::from_scratch;
 use omega_net::ScriptEntry;
-use project_book::{Depths, Edit, Project};
+use project_book::{Depths, Edit, Project, Scale};
 use project_file::{fault_place, read_project, write_project};
 use serial_order::{Ordered, order};
 use std::alloc::Global;
@@ -155,6 +155,17 @@ pub(crate) fn written(alloc: Global) -> bool {
             Some(bytes) => is_file_of(alloc, &bytes, &project),
             None => false,
         },
+        None => false,
+    }
+}
+
+/// A large project is written, and read as itself.
+pub(crate) fn large(alloc: Global) -> bool {
+    let Some(Some(project)) = again!(Project::of_scale(alloc, Scale::Large, 0, 2_001)) else {
+        return false;
+    };
+    match again!(write_project(alloc, &project)) {
+        Some(bytes) => project.horizon() == 2_001 && is_file_of(alloc, &bytes, &project),
         None => false,
     }
 }

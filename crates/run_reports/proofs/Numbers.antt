@@ -8,6 +8,7 @@ use Rattle.std.proofs.lemmas.List.Elements.{All-append, All-cons, All-nil, All-s
 use Rattle.std.proofs.lemmas.Nat.{mul-le}
 use Rattle.omega_net.specs.Wires.{below}
 use Rattle.machine_cells.specs.declared.state.MachineState.{MachineState}
+use Rattle.project_book.specs.Limits.{max_horizon}
 use Rattle.project_book.specs.Project.{Project}
 use Rattle.run_queries.specs.Answers.{first_of, has_sent, word_got}
 use Rattle.run_reports.specs.declared.reference.Reference.{Reference}
@@ -40,7 +41,7 @@ replied_long at t n [] = refl
 replied_long at t n (x ∷ xs) = ap suc (replied_long at t (n + 1) xs)
 
 -- a processor issues one in a cycle at most
-pub few_references : (P : Project) (at : ℕ → ℕ → Option MachineState) → P.k ≤ 6 → P.horizon ≤ 2000 → length (references P at) ≤ 2001 * 64
+pub few_references : (P : Project) (at : ℕ → ℕ → Option MachineState) → P.k ≤ 6 → P.horizon ≤ max_horizon → length (references P at) ≤ (max_horizon + 1) * 64
 few_references P at small short =
     let own : (p : ℕ) → length (references_of P at (suc P.horizon) p) ≤ 1 * suc P.horizon = λ p.
     let long = replied_long (λ u. at u p) (suc P.horizon) 0 (issues P at p (suc P.horizon)) in
@@ -48,7 +49,7 @@ few_references P at small short =
     omega (arith, long, few) in
     let all = listed_few (references_of P at (suc P.horizon)) (1 * suc P.horizon) (2 ^ P.k) own in
     let lines : 2 ^ P.k ≤ 64 = pow-le-pow_right {n = 2} (omega arith) {i = P.k} {j = 6} small in
-    let most : 1 * suc P.horizon * 2 ^ P.k ≤ 2001 * 64 = mul-le (1 * suc P.horizon) (2 ^ P.k) 2001 64 (omega (arith, short)) lines in
+    let most : 1 * suc P.horizon * 2 ^ P.k ≤ (max_horizon + 1) * 64 = mul-le (1 * suc P.horizon) (2 ^ P.k) (max_horizon + 1) 64 (omega (arith, short)) lines in
     omega (arith, all, most)
 
 -- a reply is shown before the cycles end

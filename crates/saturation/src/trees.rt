@@ -22,7 +22,7 @@ use std::thread::Threads;
 /// from 1 to k. The rows are the states of the cycles from 0 to the horizon, each by component number.
 ///
 /// It takes memory for a byte a cycle, and looks at fewer than 2^k queues a cycle. The rows are mapped by `rayon`, which
-/// starts no thread for fewer than 2,048 of them, and a run has 2,001 at most. The conditions are that the module
+/// starts no thread for fewer than 2,048 of them: only large projects have runs of more. The conditions are that the module
 /// exists, and that there is a row for each cycle.
 ///
 /// # Errors

@@ -7,6 +7,7 @@ use Rattle.omega_net.specs.declared.message.Tag.{Tag}
 use Rattle.omega_net.specs.declared.message.Reply.{Reply}
 use Rattle.omega_net.specs.declared.script.ScriptEntry.TheVariants.{Reference as ReferenceEntry}
 use Rattle.ref_proc.specs.declared.state.ProcState.{ProcState}
+use Rattle.project_book.specs.declared.scale.Scale.TheVariants.{Usual}
 use Rattle.project_book.specs.Project.{Project}
 use Rattle.serial_order.specs.References.{Reference}
 use Rattle.serial_order.specs.Order.{order_of}
@@ -19,6 +20,7 @@ add_one = record { kind = Add; operand = 1 }
 -- one processor and one module, and two adds to word 0
 abbrev two_adds : Project
 two_adds = record {
+  scale = Usual;
   k = 0;
   horizon = 8;
   window = 1;

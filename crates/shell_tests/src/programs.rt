@@ -140,9 +140,10 @@ refused N                              bad N
 A project file that is refused ends the program with status 4, `hotspot: project refused: N`, and a line that says where:
    1  longer than 4,194,304 bytes          6  a value of another type
    2  not UTF-8, or not TOML               7  a number out of its range
-   3  `format` is missing, or not 1 or 2   8  a text that is no script entry
+   3  `format` is missing, or not 1 to 3   8  a text that is no script entry
    4  an unknown key                       9  a page, address or processor given twice
    5  a missing key                       10  no memory
+Of format 3 a file has up to 67,108,864 bytes, a script up to 4,096 entries, and a horizon is up to 20,000.
 
 Status: 0 the input ended; 2 the command line; 3 FILE can't be read; 4 the project; 5 a fault of reading, writing, memory
 or clock; 6 no memory at the start. docs/COMMANDS.md says more of commands, docs/PROJECT_FILE.md of project files.
@@ -220,14 +221,14 @@ fn refusals_end_the_program(rt: HostRuntime) -> Result<(), Fail> {
     Ok(())
 }
 
-// A file may have 4,194,304 bytes; one more is read, and no other.
+// A file may have 67,108,864 bytes; one more is read, and no other.
 #[test]
 fn a_file_is_read_or_not(rt: HostRuntime) -> Result<(), Fail> {
-    assert!(rt; equal(&rt, MOST_BYTES, 4_194_305));
+    assert!(rt; equal(&rt, MOST_BYTES, 67_108_865));
     for (length, read) in [
-        (4_194_304, 4_194_304),
-        (4_194_305, 4_194_305),
-        (4_194_306, 4_194_305),
+        (67_108_864, 67_108_864),
+        (67_108_865, 67_108_865),
+        (67_108_866, 67_108_865),
     ] {
         let bytes = vec![in rt.alloc(); b'#'; length]?;
         assert!(rt; equal(&rt, read_bytes(rt.alloc(), bytes.as_slice())?.len(), read));

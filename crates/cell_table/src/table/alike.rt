@@ -4,7 +4,8 @@ ghost use Rattle.due_cells.specs.Seen.{Seen, held_at};
 ghost use Rattle.cell_table.specs.Cells.{IsThere, AtOrAfter};
 ghost use Rattle.cell_states.specs.Near.{has};
 ghost use Rattle.cell_states.specs.Filling.{is_awake};
-ghost use Rattle.cell_table.specs.Settling.{NoneDueBefore, IsAt, IsFurther};
+ghost use Rattle.cell_table.specs.Settling.{NoneDueBefore, IsAt};
+ghost use Rattle.cell_table.specs.Advances.{Advances};
 ghost use Rattle.cell_table.specs.Passing.{HoldsBut};
 ghost use Rattle.cell_states.specs.Versions.{any_changes};
 ghost use Rattle.cell_table.specs.Repeating.{BeginsAlike, StaysBefore, StaysAlike, IsAlike, StaysAlikeTo};
@@ -14,7 +15,9 @@ use super::Table;
 use crate::watcher::Watcher;
 use cell_marks::Row;
 use cell_states::{Cell, CellRange};
-use due_cells::{Spare, clock_filled, has_room, mark_changed, ranges_of, reach_in, repeat_cells};
+use due_cells::{
+    Spare, clock_filled, has_room, mark_changed, no_versions, ranges_of, reach_in, repeat_cells,
+};
 use grid_law::{Grid, NoMemory};
 use std::alloc::Global;
 
@@ -25,13 +28,6 @@ const LONGEST_WAIT: u32 = 16;
 #[derive(Clone, Copy)]
 pub(super) struct Passed {
     pub to: Cell,
-    pub computed: u64,
-}
-
-/// How many cycles were settled at once, and how many of their cells were computed.
-#[derive(Clone, Copy)]
-pub(super) struct Alike {
-    pub cycles: u32,
     pub computed: u64,
 }
 
@@ -168,17 +164,6 @@ impl<G: Grid> Table<G> {
         to
     }
 
-    /// Marks just the components that read one that changes.
-    pub(super) fn reach(&self, changes: &Row, reached: &mut Row)
-        requires width { length changes.now ≡ G.rules.components self.now.slots }
-        requires len { length reached.old ≡ G.rules.components self.now.slots }
-        ensures len { length reached.new ≡ length reached.old }
-        ensures reached { (c : ℕ) → c < G.rules.components self.now.slots
-            → is_awake reached.new c ≡ any_changes changes.now (G.rules.near self.now.slots c) (G.rules.components self.now.slots) }
-    {
-        reach_in::<G>(&self.slots, &self.readers, changes, reached);
-    }
-
     /// To before which cycle, `end` at most, the components due, or among those, are those due at a cycle. Where no other cell is due,
     /// one of the cycles behind tells it of all.
     fn due_alike_to(&self, cycle: u32, end: u32, reached: &Row) -> u32
@@ -205,20 +190,19 @@ impl<G: Grid> Table<G> {
     }
 
     /// Settles at once the cycles from one on, before `end`, in which the same happens as in the one before, where there are
-    /// two of them at least: how many, and how many of their cells were computed. Only cells of the ranges may hold other
+    /// two of them at least: where to go on, and how many of their cells were computed. Only cells of the ranges may hold other
     /// states then.
-    pub(super) fn settle_alike(&mut self, cycle: u32, end: u32, spare: &mut Spare) -> Option<Alike>
+    fn settle_alike(&mut self, cycle: u32, end: u32, spare: &mut Spare) -> Option<Passed>
         requires there { cycle < end }
         requires within { end ≤ self.old.horizon + 1 }
         requires none { NoneDueBefore G.rules self.old cycle 0 }
         requires spare { IsSpare G.rules self.old spare.old }
         ensures spare { IsSpare G.rules self.new spare.new }
         ensures none { IfNone result (self.new ≡ self.old) }
-        ensures on { IfSome result (λ a. (first : Seen G.State G.Slots) (n : ℕ) → IsAt G.rules first self.old cycle 0 n → IsAt G.rules first self.new (cycle + a.cycles) 0 (n + a.computed)) }
+        ensures on { IfSome result (λ p. Advances G.rules end self.old self.new cycle 0 p.to.cycle p.to.component p.computed) }
+        ensures begins { IfSome result (λ p. p.to.component ≡ 0) }
         ensures slots { self.new.slots ≡ self.old.slots }
-        ensures some { IfSome result (λ a. 0 < a.cycles) }
-        ensures before { IfSome result (λ a. cycle + a.cycles ≤ end) }
-        ensures but { IfSome result (λ a. HoldsBut G.rules self.old self.new spare.new.ranges.items) }
+        ensures but { IfSome result (λ p. HoldsBut G.rules self.old self.new spare.new.ranges.items) }
     {
         let count = G::components(&self.slots);
         spare.changes.clear_all();
@@ -229,7 +213,12 @@ impl<G: Grid> Table<G> {
         if end.saturating_sub(cycle) < 2 {
             return None;
         }
-        self.reach(&spare.changes, &mut spare.reached);
+        reach_in::<G>(
+            &self.slots,
+            &self.readers,
+            &spare.changes,
+            &mut spare.reached,
+        );
         let end = self.due_alike_to(cycle, end, &spare.reached);
         let cycles = end - cycle;
         if cycles < 2 || !has_room(self.clock, cycles, count) {
@@ -245,6 +234,7 @@ impl<G: Grid> Table<G> {
         }
         let changed = spare.changes.count();
         let due = self.cells.due_count(cycle);
+        no_versions(&self.cells);
         match repeat_cells(&mut self.cells, &spare.changes, cycle, end) {
             Ok(()) => {}
             Err(_) => return None,
@@ -263,8 +253,11 @@ impl<G: Grid> Table<G> {
         let clock = clock_filled(self.clock, cycles, changed);
         self.clock = clock;
         spare.known_at = 0;
-        Some(Alike {
-            cycles,
+        Some(Passed {
+            to: Cell {
+                cycle: end,
+                component: 0,
+            },
             computed: u64::from(cycles) * u64::from(due),
         })
     }
@@ -307,9 +300,7 @@ impl<G: Grid> Table<G> {
         ensures slots { self.new.slots ≡ self.old.slots }
         ensures watched { W.keeps watcher.new self.new }
         ensures none { IfNone result (self.new ≡ self.old) }
-        ensures on { IfSome result (λ p. (first : Seen G.State G.Slots) (n : ℕ) → IsAt G.rules first self.old from.cycle from.component n → IsAt G.rules first self.new p.to.cycle p.to.component (n + p.computed)) }
-        ensures further { IfSome result (λ p. IsFurther self.old.horizon from.cycle from.component p.to.cycle p.to.component) }
-        ensures before { IfSome result (λ p. AtOrAfter p.to.cycle p.to.component end 0) }
+        ensures on { IfSome result (λ p. Advances G.rules end self.old self.new from.cycle from.component p.to.cycle p.to.component p.computed) }
     {
         let _ = &self.slots;
         if spare.wait > 0 {
@@ -320,8 +311,8 @@ impl<G: Grid> Table<G> {
             Some(cycle) => cycle,
             None => return None,
         };
-        let alike = match self.settle_alike(cycle, end, spare) {
-            Some(alike) => alike,
+        let passed = match self.settle_alike(cycle, end, spare) {
+            Some(passed) => passed,
             None => {
                 // Where something happens at each cycle, few of them are tried.
                 spare.failed = spare.failed.saturating_add(1);
@@ -331,12 +322,6 @@ impl<G: Grid> Table<G> {
         };
         spare.failed = 0;
         watcher.refilled(self, spare.ranges.as_slice());
-        Some(Passed {
-            to: Cell {
-                cycle: cycle + alike.cycles,
-                component: 0,
-            },
-            computed: alike.computed,
-        })
+        Some(passed)
     }
 }

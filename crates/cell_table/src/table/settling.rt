@@ -8,10 +8,11 @@ ghost use Rattle.cell_table.specs.Consistent.{current_of};
 ghost use Rattle.cell_table.specs.Gives.{IsAfterStore, IsStored, HoldsSame};
 ghost use Rattle.cell_table.specs.Events.{Event, Start};
 ghost use Rattle.cell_table.specs.Stands.{Stands};
-ghost use Rattle.cell_table.specs.Settling.{IsAsBefore, NoneDueBefore, NoneDueFrom, HoldsRunBefore, IsNextDue, IsSettled, IsSettledTo, SettlesNext, IsSpent, IsSpentBefore, IsAt, StopsBefore, IsFurther, computed_of, IsClockSpent};
+ghost use Rattle.cell_table.specs.Settling.{IsAsBefore, NoneDueBefore, NoneDueFrom, HoldsRunBefore, IsNextDue, IsSettled, IsSettledTo, SettlesNext, IsSpent, IsSpentBefore, IsAt, StopsBefore, computed_of, IsClockSpent};
+ghost use Rattle.cell_table.specs.Later.{IsLater};
+ghost use Rattle.cell_table.specs.Advances.{Advances};
 ghost use Rattle.due_cells.specs.NextDue.{IsNextDueInRow};
-ghost use Rattle.due_cells.specs.Spares.{AreKept, GoesAlong, IsSpare};
-ghost use Rattle.due_cells.specs.Beside.{AreBeside};
+ghost use Rattle.due_cells.specs.Spares.{AreKept, IsWorkspace};
 ghost use Rattle.cell_table.specs.Cost.{Settles, SettlesTo, SettlesFirst, SettlesFirstTo};
 
 use super::Table;
@@ -282,18 +283,12 @@ impl<G: Grid> Table<G> {
     ) -> Result<Option<Passed>, StoreFault>
         requires within { end ≤ self.old.horizon + 1 }
         requires none { NoneDueBefore G.rules self.old from.cycle from.component }
-        requires spare { IsSpare G.rules self.old spare.old }
-        requires along { IfSome along.old (GoesAlong G.rules M.stands M.state self.old.slots) }
+        requires workspace { IsWorkspace G.rules G.codec M.stands M.state self.old spare.old along.old beside.old }
         requires watched { W.keeps watcher.old self.old }
-        requires beside { AreBeside G.rules G.codec M.stands M.state self.old.slots beside.old }
-        ensures spare { IsSpare G.rules self.new spare.new }
-        ensures beside { AreBeside G.rules G.codec M.stands M.state self.new.slots beside.new }
-        ensures along { IfSome along.new (GoesAlong G.rules M.stands M.state self.new.slots) }
+        ensures workspace { IsWorkspace G.rules G.codec M.stands M.state self.new spare.new along.new beside.new }
         ensures watched { W.keeps watcher.new self.new }
         ensures none { IfOk result (λ o. IfNone o (NoneDueBefore G.rules self.old end 0 × HoldsRunBefore G.rules self.old end 0 × (self.new ≡ self.old))) }
-        ensures on { IfOk result (λ o. IfSome o (λ p. (first : Seen G.State G.Slots) (n : ℕ) → IsAt G.rules first self.old from.cycle from.component n → IsAt G.rules first self.new p.to.cycle p.to.component (n + p.computed))) }
-        ensures further { IfOk result (λ o. IfSome o (λ p. IsFurther self.old.horizon from.cycle from.component p.to.cycle p.to.component)) }
-        ensures before { IfOk result (λ o. IfSome o (λ p. AtOrAfter p.to.cycle p.to.component end 0)) }
+        ensures on { IfOk result (λ o. IfSome o (λ p. Advances G.rules end self.old self.new from.cycle from.component p.to.cycle p.to.component p.computed)) }
         ensures err { OnErr result (self.new ≡ self.old) }
         ensures spent { result ≡ Err StoreFault.ClockSpent → IsSpentBefore G.rules end self.old from.cycle from.component }
     {
@@ -329,12 +324,9 @@ impl<G: Grid> Table<G> {
         requires start { start ≤ end }
         requires at { IsAt G.rules self.old self.old start 0 0 }
         requires within { end ≤ self.old.horizon + 1 }
-        requires spare { IsSpare G.rules self.old spare.old }
-        requires along { IfSome along.old (GoesAlong G.rules M.stands M.state self.old.slots) }
-        requires beside { AreBeside G.rules G.codec M.stands M.state self.old.slots beside.old }
+        requires workspace { IsWorkspace G.rules G.codec M.stands M.state self.old spare.old along.old beside.old }
         requires watched { W.keeps watcher.old self.old }
-        ensures along { IfSome along.new (GoesAlong G.rules M.stands M.state self.new.slots) }
-        ensures beside { AreBeside G.rules G.codec M.stands M.state self.new.slots beside.new }
+        ensures workspace { IsWorkspace G.rules G.codec M.stands M.state self.new spare.new along.new beside.new }
         ensures watched { W.keeps watcher.new self.new }
         ensures all { IfOk result (λ s. IsAt G.rules self.old self.new end 0 s.computed) }
         ensures stops { IfErr result (λ f. StopsBefore G.rules end self.old self.new (computed_of f)) }
@@ -459,10 +451,7 @@ impl<G: Grid> Table<G> {
         ensures after_fault { IfErr result (λ f. (done : List (Event G.State G.Slots G.Slot)) × ((o : Start G.Slots) (h : List (Event G.State G.Slots G.Slot)) → Stands G.rules o self.old h
             → SettlesFirstTo G.rules o last h self.new done (computed_of f))) }
         ensures settled { OnOk result (IsSettledTo G.rules last self.new) }
-        ensures slots { self.new.slots ≡ self.old.slots }
-        ensures horizon { self.new.horizon ≡ self.old.horizon }
-        ensures rises { self.old.clock ≤ self.new.clock }
-        ensures clock { self.old.clock ≡ 2 ^ 64 - 1 → self.new.clock ≡ 2 ^ 64 - 1 }
+        ensures later { IsLater self.old self.new }
         ensures spent { IfErr result (λ f. IsClockSpent f → self.new.clock ≡ 2 ^ 64 - 1) }
         ensures differs { IfErr result (λ f. IsClockSpent f → (spent : IsSpent G.rules self.new 0 0) × (spent.cell.cycle ≤ last)) }
     {
@@ -490,10 +479,7 @@ impl<G: Grid> Table<G> {
         ensures after_fault { IfErr result (λ f. (done : List (Event G.State G.Slots G.Slot)) × ((o : Start G.Slots) (h : List (Event G.State G.Slots G.Slot)) → Stands G.rules o self.old h
             → SettlesFirst G.rules o h self.new done (computed_of f))) }
         ensures settled { OnOk result (IsSettled G.rules self.new) }
-        ensures slots { self.new.slots ≡ self.old.slots }
-        ensures horizon { self.new.horizon ≡ self.old.horizon }
-        ensures rises { self.old.clock ≤ self.new.clock }
-        ensures clock { self.old.clock ≡ 2 ^ 64 - 1 → self.new.clock ≡ 2 ^ 64 - 1 }
+        ensures later { IsLater self.old self.new }
         ensures spent { IfErr result (λ f. IsClockSpent f → self.new.clock ≡ 2 ^ 64 - 1) }
         ensures differs { IfErr result (λ f. IsClockSpent f → IsSpent G.rules self.new 0 0) }
     {

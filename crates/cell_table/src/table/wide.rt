@@ -5,10 +5,10 @@ ghost use Rattle.cell_states.specs.Versions.{any_changes};
 ghost use Rattle.due_cells.specs.Readers.{IsIndex};
 ghost use Rattle.due_cells.specs.Seen.{Seen, row_at};
 ghost use Rattle.cell_table.specs.Cells.{AtOrAfter};
-ghost use Rattle.cell_table.specs.Settling.{NoneDueBefore, IsAt, IsFurther};
+ghost use Rattle.cell_table.specs.Settling.{NoneDueBefore, IsAt};
+ghost use Rattle.cell_table.specs.Advances.{Advances};
 ghost use Rattle.cell_table.specs.Passing.{HoldsBut};
-ghost use Rattle.due_cells.specs.Spares.{GoesAlong, IsLeftOut, IsSpare, IsWide};
-ghost use Rattle.due_cells.specs.Beside.{AreBeside};
+ghost use Rattle.due_cells.specs.Spares.{IsLeftOut, IsSpare, IsWide, IsWorkspace};
 
 use super::Table;
 use super::alike::Passed;
@@ -16,8 +16,8 @@ use crate::watcher::Watcher;
 use cell_marks::Row;
 use cell_states::{Cell, WholeRow};
 use due_cells::{
-    Along, Beside, Spare, find_left, find_reached, has_room, make_room, mark_changed, put_row,
-    ranges_in,
+    Along, Beside, Spare, find_left, find_reached, has_room, make_room, mark_changed, no_versions,
+    put_row, ranges_in,
 };
 use grid_law::Grid;
 
@@ -33,12 +33,8 @@ impl<G: Grid> Table<G> {
     ) -> Option<u32>
         requires there { cycle ≤ self.old.horizon }
         requires none { NoneDueBefore G.rules self.old cycle 0 }
-        requires spare { IsSpare G.rules self.old spare.old }
-        requires along { IfSome along.old (GoesAlong G.rules M.stands M.state self.old.slots) }
-        requires beside { AreBeside G.rules G.codec M.stands M.state self.old.slots beside.old }
-        ensures spare { IsSpare G.rules self.new spare.new }
-        ensures beside { AreBeside G.rules G.codec M.stands M.state self.new.slots beside.new }
-        ensures along { IfSome along.new (GoesAlong G.rules M.stands M.state self.new.slots) }
+        requires workspace { IsWorkspace G.rules G.codec M.stands M.state self.old spare.old along.old beside.old }
+        ensures workspace { IsWorkspace G.rules G.codec M.stands M.state self.new spare.new along.new beside.new }
         ensures none { IfNone result (self.new ≡ self.old) }
         ensures on { IfSome result (λ n. (first : Seen G.State G.Slots) (k : ℕ) → IsAt G.rules first self.old cycle 0 k → IsAt G.rules first self.new (cycle + 1) 0 (k + n)) }
         ensures but { IfSome result (λ n. HoldsBut G.rules self.old self.new spare.new.ranges.items) }
@@ -61,6 +57,7 @@ impl<G: Grid> Table<G> {
         let (known, known_at) = (&spare.known, spare.known_at);
         let due_row = self.cells.due_row(cycle);
         find_left(&mut spare.left, due_row, known, known_at, cycle);
+        no_versions(&self.cells);
         if !put_row::<G, M>(
             &mut self.cells,
             &self.slots,
@@ -107,18 +104,12 @@ impl<G: Grid> Table<G> {
     ) -> Option<Passed>
         requires within { end ≤ self.old.horizon + 1 }
         requires none { NoneDueBefore G.rules self.old from.cycle from.component }
-        requires spare { IsSpare G.rules self.old spare.old }
-        requires along { IfSome along.old (GoesAlong G.rules M.stands M.state self.old.slots) }
+        requires workspace { IsWorkspace G.rules G.codec M.stands M.state self.old spare.old along.old beside.old }
         requires watched { W.keeps watcher.old self.old }
-        requires beside { AreBeside G.rules G.codec M.stands M.state self.old.slots beside.old }
-        ensures spare { IsSpare G.rules self.new spare.new }
-        ensures beside { AreBeside G.rules G.codec M.stands M.state self.new.slots beside.new }
-        ensures along { IfSome along.new (GoesAlong G.rules M.stands M.state self.new.slots) }
+        ensures workspace { IsWorkspace G.rules G.codec M.stands M.state self.new spare.new along.new beside.new }
         ensures watched { W.keeps watcher.new self.new }
         ensures none { IfNone result (self.new ≡ self.old) }
-        ensures on { IfSome result (λ p. (first : Seen G.State G.Slots) (n : ℕ) → IsAt G.rules first self.old from.cycle from.component n → IsAt G.rules first self.new p.to.cycle p.to.component (n + p.computed)) }
-        ensures further { IfSome result (λ p. IsFurther self.old.horizon from.cycle from.component p.to.cycle p.to.component) }
-        ensures before { IfSome result (λ p. AtOrAfter p.to.cycle p.to.component end 0) }
+        ensures on { IfSome result (λ p. Advances G.rules end self.old self.new from.cycle from.component p.to.cycle p.to.component p.computed) }
     {
         if from.cycle >= end || (from.component > 0 && self.is_row_due(from.cycle)) {
             return None;
@@ -142,22 +133,13 @@ impl<G: Grid> Table<G> {
     ) -> Option<Passed>
         requires within { end ≤ self.old.horizon + 1 }
         requires none { NoneDueBefore G.rules self.old from.cycle from.component }
-        requires spare { IsSpare G.rules self.old spare.old }
-        requires along { IfSome along.old (GoesAlong G.rules M.stands M.state self.old.slots) }
+        requires workspace { IsWorkspace G.rules G.codec M.stands M.state self.old spare.old along.old beside.old }
         requires watched { W.keeps watcher.old self.old }
-        requires beside { AreBeside G.rules G.codec M.stands M.state self.old.slots beside.old }
-        ensures spare { IsSpare G.rules self.new spare.new }
-        ensures beside { AreBeside G.rules G.codec M.stands M.state self.new.slots beside.new }
-        ensures along { IfSome along.new (GoesAlong G.rules M.stands M.state self.new.slots) }
+        ensures workspace { IsWorkspace G.rules G.codec M.stands M.state self.new spare.new along.new beside.new }
         ensures watched { W.keeps watcher.new self.new }
         ensures none { IfNone result (self.new ≡ self.old) }
-        ensures on { IfSome result (λ p. (first : Seen G.State G.Slots) (n : ℕ) → IsAt G.rules first self.old from.cycle from.component n → IsAt G.rules first self.new p.to.cycle p.to.component (n + p.computed)) }
-        ensures further { IfSome result (λ p. IsFurther self.old.horizon from.cycle from.component p.to.cycle p.to.component) }
-        ensures before { IfSome result (λ p. AtOrAfter p.to.cycle p.to.component end 0) }
+        ensures on { IfSome result (λ p. Advances G.rules end self.old self.new from.cycle from.component p.to.cycle p.to.component p.computed) }
     {
-        if from.cycle >= end {
-            return None;
-        }
         let cycle = match self.row_ahead(from, end) {
             Some(cycle) => cycle,
             None => return None,

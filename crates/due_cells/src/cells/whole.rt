@@ -56,7 +56,7 @@ impl<G: Grid> Cells<G> {
 }
 
 /// A cell that isn't due has no version. Nothing is done when it runs.
-pub(crate) fn no_versions<G: Grid>(cells: &Cells<G>)
+pub fn no_versions<G: Grid>(cells: &Cells<G>)
     ensures { (t c : ℕ) → (held_at cells.now t c).is_due ≡ false → (held_at cells.now t c).version ≡ 0 }
 {
     let _due = &cells.due;
@@ -81,7 +81,6 @@ pub(crate) fn put_due<G: Grid, M: WholeRow<G>>(
     requires known { IsKnown G.rules G.codec (M.is_still step.now slots.now) (M.has_written step.now slots.now) slots.now cycle }
     ensures marks { AreMarks (G.rules.components slots.now) changes.new worded.new }
     ensures put { OnOk result (IsDuePut G.rules G.codec slots.now cells.old cells.new cycle changes.new worded.new) }
-    ensures versions { (t c : ℕ) → (held_at cells.old t c).is_due ≡ false → (held_at cells.old t c).version ≡ 0 }
     ensures err { OnErr result (cells.new ≡ cells.old) }
 {
     match cells
@@ -113,7 +112,6 @@ pub(crate) fn put_each<G: Grid, M: WholeRow<G>>(
     ensures held { HoldsWords G.rules G.codec M.stands M.state slots.now held.new }
     ensures marks { AreMarks (G.rules.components slots.now) changes.new worded.new }
     ensures put { OnOk result (IsDuePut G.rules G.codec slots.now cells.old cells.new cycle changes.new worded.new) }
-    ensures versions { (t c : ℕ) → (held_at cells.old t c).is_due ≡ false → (held_at cells.old t c).version ≡ 0 }
     ensures err { OnErr result (cells.new ≡ cells.old) }
 {
     match cells

@@ -32,6 +32,7 @@ use Rattle.comb_switch.specs.declared.settings.CombSettings.{CombSettings}
 use Rattle.comb_switch.specs.CombSwitch.{comb_after}
 use Rattle.ref_proc.specs.declared.step.ProcTraffic.{ProcTraffic}
 use Rattle.machine_cells.specs.Cycle.{proc_settings, comb_settings}
+use Rattle.project_book.specs.Limits.{script_entries}
 use Rattle.project_book.specs.Project.{Project, forward, reverse, depth_of, place_for, entry_at}
 use Rattle.project_book.specs.Queues.{forward_queue}
 use Rattle.project_book.specs.Scripts.{script_of}
@@ -94,7 +95,7 @@ settings_of b c w = record { bit = b; combine = c; wait = w }
 settings_from : (b b' : ℕ) (c c' : Bool) (w w' : ℕ) → b ≡ b' → c ≡ c' → w ≡ w' → settings_of b c w ≡ settings_of b' c' w'
 settings_from b b' c c' w w' p q r = ap (λ x. settings_of x c w) p ∙ ap (λ x. settings_of b' x w) q ∙ ap (λ x. settings_of b' c' x) r
 
-no_entry : (R : Project) (p i : ℕ) → nat_lt i 256 ≡ false → entry_at R p i ≡ None
+no_entry : (R : Project) (p i : ℕ) → nat_lt i script_entries ≡ false → entry_at R p i ≡ None
 no_entry R p i e = rw e (by_test (nat_lt p (2 ^ R.k)))
   where
     by_test : (t : Bool) → (if t && false then slice_get (script_of R.scripts p) i else None) ≡ None
@@ -262,9 +263,9 @@ module _ (P Q : Project) (k : P.k ≡ Q.k) where
 
   -- what is read of the entry at an index
   pub entry_same : (p i : ℕ) (slots : List Slot) → SameAtAll P Q (index_reads p i ++ slots) → (entry_at P p i ≡ entry_at Q p i) × SameAtAll P Q slots
-  entry_same p i slots h = by_test (nat_lt i 256) refl h
+  entry_same p i slots h = by_test (nat_lt i script_entries) refl h
     where
-      by_test : (t : Bool) → nat_lt i 256 ≡ t → SameAtAll P Q ((if t then Entry p i ∷ [] else []) ++ slots) → (entry_at P p i ≡ entry_at Q p i) × SameAtAll P Q slots
+      by_test : (t : Bool) → nat_lt i script_entries ≡ t → SameAtAll P Q ((if t then Entry p i ∷ [] else []) ++ slots) → (entry_at P p i ≡ entry_at Q p i) × SameAtAll P Q slots
       by_test true e h = (h.0, h.1)
       by_test false e h = (no_entry P p i e ∙ sym (no_entry Q p i e), h)
 

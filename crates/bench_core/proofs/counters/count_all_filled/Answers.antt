@@ -9,6 +9,7 @@ use Rattle.bench_core.proofs.counters.count_all_filled.Goals as goal
 pub loop-component-init : goal.loop-component-init
 loop-component-init c = record {
   shape = refl;
+  last = refl;
   stands = λ at s. stands_start c.args.sums.now at (held c.args.table.now) c.args.from c.args.to s;
 }
 
@@ -17,6 +18,7 @@ loop-component-preserved c =
     let inv = c.loop-component.invariant in
     record {
       shape = c.count_filled.ensures.shape ∙ inv.shape;
+      last = c.count_filled.ensures.last ∙ inv.last;
       stands = λ at s. stands_component c.loop-component.sums c.count_filled.new.sums at (held c.args.table.now) c.loop-component.component c.args.from c.args.to (inv.stands at s) c.in_ok-count_filled.ensures.stands;
     }
 

@@ -8,5 +8,6 @@ use Rattle.bench_core.proofs.counters.count_all_filled.Given as goal
 abbrev pub invariant-loop-component : goal.invariant-loop-component
 invariant-loop-component l = record {
   shape : l.sums.k ≡ l.initial.sums.k;
+  last : l.sums.last ≡ l.initial.sums.last;
   stands : (at : States) → StandsFor l.initial.sums at → StandsFor l.sums (filled_to at (held l.table) l.component l.from l.to);
 }

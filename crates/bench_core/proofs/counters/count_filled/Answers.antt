@@ -12,6 +12,7 @@ loop-cycle-init c = record {
   began = omega arith;
   ended = c.requires.later;
   shape = refl;
+  last = refl;
   stands = λ at s. stands_none c.args.sums.now at (held c.args.table.now) c.args.component c.args.from s;
 }
 
@@ -35,6 +36,7 @@ loop-cycle-preserved-in_ok-state c =
       began = omega (arith, inv.began, on);
       ended = within;
       shape = c.fill.ensures.shape ∙ inv.shape;
+      last = c.fill.ensures.last ∙ inv.last;
       stands = λ at s. stands_more c.loop-cycle.sums c.fill.new.self at (held c.args.table.now) d c.args.from t c.min-end.result (option_copied c.lent.result) inv.began (omega (arith, on)) (inv.stands at s) same c.fill.ensures.stands;
     }
 
@@ -52,6 +54,7 @@ loop-cycle-preserved c =
       began = omega (arith, inv.began, on);
       ended = within;
       shape = c.fill.ensures.shape ∙ inv.shape;
+      last = c.fill.ensures.last ∙ inv.last;
       stands = λ at s. stands_more c.loop-cycle.sums c.fill.new.self at (held c.args.table.now) d c.args.from t c.min-end.result (option_copied c.lent.result) inv.began (omega (arith, on)) (inv.stands at s) same c.fill.ensures.stands;
     }
 

@@ -13,5 +13,6 @@ invariant-loop-cycle l = record {
   began : l.from ≤ l.cycle;
   ended : l.cycle ≤ l.to;
   shape : l.sums.k ≡ l.initial.sums.k;
+  last : l.sums.last ≡ l.initial.sums.last;
   stands : (at : States) → StandsFor l.initial.sums at → StandsFor l.sums (filled_in at (held l.table) l.component l.from l.cycle);
 }

@@ -8,5 +8,6 @@ loop-range-preserved c =
     let inv = c.loop-range.invariant in
     record {
       shape = c.count_filled.ensures.shape ∙ inv.shape;
+      last = c.count_filled.ensures.last ∙ inv.last;
       stands = λ at s. stands_range c.loop-range.sums c.count_filled.new.sums at (held c.args.table.now) c.args.ranges.now c.loop-range.range-index _ c.loop-range-test.true (inv.stands at s) c.in_ok-count_filled.ensures.stands;
     }

@@ -8,5 +8,6 @@ use Rattle.bench_core.proofs.counters.count_ranges.Given as goal
 abbrev pub invariant-loop-range : goal.invariant-loop-range
 invariant-loop-range l = record {
   shape : l.sums.k ≡ l.initial.sums.k;
+  last : l.sums.last ≡ l.initial.sums.last;
   stands : (at : States) → StandsFor l.initial.sums at → StandsFor l.sums (filled_over at (held l.table) (take l.range-index l.ranges));
 }

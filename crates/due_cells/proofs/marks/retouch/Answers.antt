@@ -1,4 +1,4 @@
-use Rattle.std.proofs.Common.{◌≡◌, ◌<◌, ◌+◌, ◌∙◌, ap, arith, length, []}
+use Rattle.std.proofs.Common.{◌≡◌, ◌+◌, ◌∙◌, ap, arith, length, []}
 use Rattle.std.proofs.lemmas.List.{get_or-take, length-replicate}
 use Rattle.due_cells.specs.Seen.{held_in, held_at}
 use Rattle.due_cells.proofs.MarkedRow.{grown_marked, grown_whole}

@@ -1,6 +1,10 @@
-use Rattle.std.proofs.Common.{◌^◌, ◌∙◌, ap, arith, length, List, length-set}
-use Rattle.std.specs.Prelude.{slice_set}
+use Rattle.std.proofs.Common.{◌≡◌, ◌^◌, ◌-◌, ◌∙◌, rules, ap, sym, subst, arith, length, List, [], length-set}
+use Rattle.std.specs.Prelude.{replicate, slice_set}
+use Rattle.std.proofs.lemmas.List.{length-replicate}
 use Rattle.omega_net.specs.declared.script.ScriptEntry.{ScriptEntry}
+use Rattle.project_book.specs.Limits.{usual_entries}
+use Rattle.project_book.specs.Scripts.{AreFew}
+use Rattle.project_book.proofs.Lengths.{few_set, few_none}
 use Rattle.experiments.specs.Loads.{script_drawn}
 use Rattle.experiments.proofs.Draws.{set_next}
 use Rattle.experiments.proofs.load.scripts.Goals as goal
@@ -11,8 +15,15 @@ loop-proc-preserved c =
     let p = c.loop-proc.proc in
     let set = c.in_ok-set.ensures.ok in (
       ap length set ∙ length-set _ _ _ ∙ c.loop-proc.invariant.0,
+      subst (AreFew usual_entries) (sym set) (few_set usual_entries p c.loop-proc.all _ (omega (arith, c.loop-proc.invariant.0)) c.loop-proc.invariant.1 (omega (arith, c.in_ok-script.ensures.count))),
       set
           ∙ ap (λ (es : List ScriptEntry). slice_set c.loop-proc.all p es) c.in_ok-script.ensures.drawn
-          ∙ ap (λ (all : List (List ScriptEntry)). slice_set all p (each p)) c.loop-proc.invariant.1
+          ∙ ap (λ (all : List (List ScriptEntry)). slice_set all p (each p)) c.loop-proc.invariant.2
           ∙ set_next each p (2 ^ c.args.load.k) (omega arith),
     )
+
+pub loop-proc-init : goal.loop-proc-init
+loop-proc-init c =
+    let none : c.in_ok-all.all ≡ replicate (2 ^ c.args.load.k) [] = search rules in
+    let all : 2 ^ c.args.load.k ≡ 2 ^ c.args.load.k - 0 = omega arith in
+    (ap length none ∙ length-replicate (2 ^ c.args.load.k) [], subst (AreFew usual_entries) (sym none) (few_none usual_entries (2 ^ c.args.load.k)), none ∙ ap (λ n. replicate n []) all)

@@ -1,7 +1,7 @@
 use Rattle.std.proofs.Common.{◌≡◌, drop}
 use Rattle.toml.specs.View.{items_view}
 use Rattle.project_file.specs.Fields.{all_items}
-use Rattle.project_file.specs.Scripts.{is_text}
+use Rattle.project_file.specs.Expanding.{is_text}
 use Rattle.project_file.proofs.items.are_texts.Given as goal
 
 abbrev pub invariant-items : goal.invariant-items

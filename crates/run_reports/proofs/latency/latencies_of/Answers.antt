@@ -7,16 +7,17 @@ use Rattle.run_reports.specs.Latencies.{IsWithin}
 use Rattle.run_reports.specs.References.{references}
 use Rattle.machine_cells.specs.Run.{run}
 use Rattle.machine_cells.specs.Runs.{state_in}
+use Rattle.project_book.proofs.Accepting.{short_run}
 use Rattle.run_reports.proofs.Numbers.{few_references, within_horizon}
 use Rattle.run_reports.proofs.latency.latencies_of.Goals as goal
 
 pub returns-clause-few : goal.returns-clause-few
 returns-clause-few c =
     let P = c.args.project.now in
-    let known = few_references P (state_in (run P)) c.is_project.ensures.project.small c.is_project.ensures.project.short in
+    let known = few_references P (state_in (run P)) c.is_project.ensures.project.small (short_run P c.is_project.ensures.project) in
     let long = ap length (c.as_slice.ensures.value ∙ c.in_ok-references.ensures) in
     record {
-      short = omega (arith, c.in_ok-latencies.ensures.many, c.horizon.ensures.horizon, c.is_project.ensures.project.short);
+      short = omega (arith, c.in_ok-latencies.ensures.many, c.horizon.ensures.horizon, short_run P c.is_project.ensures.project);
       few = omega (arith, c.in_ok-latencies.ensures.all, count_by-le-length (meets c.args.condition.now) c.as_slice.result.now, known, long);
     }
 

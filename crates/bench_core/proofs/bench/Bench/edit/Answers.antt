@@ -1,4 +1,4 @@
-use Rattle.std.proofs.Common.{rules, Ok, ◌≡◌, ◌+◌, ◌∙◌, sym, arith, refl, [], ◌∷◌, ◌++◌, length}
+use Rattle.std.proofs.Common.{rules, Ok, ◌≡◌, ◌+◌, ◌∙◌, sym, ap, refl, [], ◌∷◌, ◌++◌, length}
 use Rattle.std.proofs.lemmas.List.{length_push}
 use Rattle.std.specs.Option.{unwrap_or, IfSome}
 use Rattle.cell_table.specs.Touches.{IsAfterTouch}
@@ -7,7 +7,7 @@ use Rattle.monitor_sums.specs.Kept.{StandsFor}
 use Rattle.monitor_sums.specs.Sums.{States, cleared}
 use Rattle.project_book.specs.Slots.{Touches}
 use Rattle.project_book.specs.Edits.{edited, new_horizon}
-use Rattle.bench_core.specs.Shown.{IsBench}
+use Rattle.bench_core.specs.Shown.{last_counted, IsBench}
 use Rattle.bench_core.proofs.Admitting.{admitted_room, admitted_clock}
 use Rattle.bench_core.specs.Stands.{HasHistory}
 use Rattle.bench_core.specs.Events.{Edited}
@@ -15,12 +15,12 @@ use Rattle.bench_core.proofs.Standing.{stands_edited, edit_stands, edit_costed}
 use Rattle.bench_core.specs.Recent.{AreTold}
 use Rattle.bench_core.proofs.Keeping.{told_later, holds_still}
 use Rattle.bench_core.proofs.Touching.{bench_edited, after_edit, differ, to}
-use Rattle.bench_core.proofs.Counting.{are_touched}
+use Rattle.bench_core.proofs.Counting.{last_edited, counted_to, are_touched}
 use Rattle.whole_rows.specs.Rows.{AreRowsOf}
 use Rattle.bench_core.proofs.bench.Bench.edit.Goals as goal
 
 pub forget-requires : goal.forget-requires
-forget-requires c = omega (arith, c.horizon-before.ensures, c.self.invariant.0.short)
+forget-requires c = counted_to c.self.inside.counters c.self.inside.table c.horizon-before.result c.self.invariant.1 c.self.invariant.0.short c.horizon-before.ensures
 
 pub invariant_of-self : goal.invariant_of-self
 invariant_of-self c =
@@ -54,7 +54,7 @@ invariant_of-self-2 c =
     rw (noted, length_push c.self.inside.journal.items (record { author = c.args.author; edit = c.args.edit })) (told_later old.slots (length c.self.inside.journal.items) c.self.inside.recent c.self.invariant.3 new.slots) in
     let at_end : c.horizon-to.result ≡ new.horizon = c.horizon-to.ensures.horizon ∙ sym (touched.horizon ∙ end) in
     let clears : IfSome c.self.inside.counters (λ s. IfSome c.forget.new.self (λ n. (at : States) → StandsFor s at → StandsFor n (cleared at (new.horizon + 1) old.horizon))) = rw (at_end, c.horizon-before.ensures) at c.forget.ensures.stands in
-    (bench, are_touched c.self.inside.counters c.forget.new.self old new c.self.invariant.1 c.forget.ensures.there c.forget.ensures.shape (unwrap_or horizon old.horizon) next listed (sym touches.shape) touched clears, history, recent, search rules)
+    (bench, are_touched c.self.inside.counters c.forget.new.self old new c.self.invariant.1 c.forget.ensures.there c.forget.ensures.shape c.forget.ensures.last (unwrap_or horizon old.horizon) next listed (sym touches.shape) (ap last_counted is ∙ last_edited old.slots c.args.edit) touched clears, history, recent, search rules)
 
 pub returns-clause-ok : goal.returns-clause-ok
 returns-clause-ok c = search (rules, differ, admitted_room, admitted_clock)

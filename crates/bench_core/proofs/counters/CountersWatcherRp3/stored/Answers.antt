@@ -1,9 +1,9 @@
-use Rattle.std.proofs.Common.{◌≡◌, ◌∙◌, sym, subst, arith, Result, Ok, Err, OnOk, true}
+use Rattle.std.proofs.Common.{◌≡◌, ◌∙◌, sym, subst, Result, Ok, Err, OnOk, true}
 use Rattle.std.specs.Result.{is_ok}
 use Rattle.monitor_sums.specs.Kept.{StandsFor}
 use Rattle.monitor_sums.specs.Sums.{States, changed}
 use Rattle.bench_core.specs.Shown.{held, IsCounted, AreCounted}
-use Rattle.bench_core.proofs.Counting.{counted_stored}
+use Rattle.bench_core.proofs.Counting.{short_still, counted_stored}
 use Rattle.bench_core.proofs.counters.CountersWatcherRp3.stored.Goals.{in-Some-1, in-None-1}
 use Rattle.bench_core.proofs.counters.CountersWatcherRp3.stored.Goals as goal
 
@@ -23,5 +23,5 @@ returns-then-is_ok c =
     let counted : (at : States) → StandsFor sums at → StandsFor new (changed at cell.cycle cell.component (held c.args.table.now cell.cycle cell.component))
     = where_ok c.count_cell.result _ (sym c.is_ok.ensures.value ∙ c.if-is_ok.true) c.count_cell.ensures.stands in
     let all : IsCounted new c.args.table.now =
-    counted_stored sums new c.requires.0 c.args.table.now counts c.count_cell.ensures.shape cell.cycle cell.component stored.state stored.changed stored.there stored.after counted in
-    (omega (arith, stored.after.horizon, c.requires.1.0), elim c.match-self.branch [ in-Some-1 w ↦ rw w.self-is all | in-None-1 w ↦ rw w.self-is all ])
+    counted_stored sums new c.requires.0 c.args.table.now counts c.count_cell.ensures.shape c.count_cell.ensures.last cell.cycle cell.component stored.state stored.changed stored.there stored.after counted in
+    (short_still c.requires.0 c.args.table.now stored.after.slots stored.after.horizon c.requires.1.0, elim c.match-self.branch [ in-Some-1 w ↦ rw w.self-is all | in-None-1 w ↦ rw w.self-is all ])

@@ -7,11 +7,12 @@ use Rattle.cell_table.specs.Consistent.{IsWhole}
 use Rattle.cell_states.specs.Filling.{is_awake}
 use Rattle.due_cells.specs.Woken.{woken}
 use Rattle.cell_table.specs.Settling.{NoneDueBefore, IsAt}
+use Rattle.cell_table.specs.Advances.{Advances}
 use Rattle.cell_states.specs.Versions.{any_changes}
 use Rattle.cell_table.specs.Repeating.{BeginsAlike, StaysAlike, AreDueAlike}
 use Rattle.cell_table.proofs.Held.{kept_alike, kept_behind}
 use Rattle.cell_table.proofs.Passing.{woken_state}
-use Rattle.cell_table.proofs.Passes.{begins_at}
+use Rattle.cell_table.proofs.Passes.{begins_at, further_cycle}
 use Rattle.cell_table.proofs.Repeated.{room_changed, stays_less, goes_on_to, stays_table, holds_but, ranges_within}
 use Rattle.cell_table.proofs.table.Table.settle_alike.Goals as goal
 
@@ -40,12 +41,12 @@ mark_changed-requires-clause-width g c =
     let reached : length c.args.spare.now.reached ≡ R.components i.slots = spare.wide.reached in
     let width : length c.begins_alike.new.changes ≡ R.components i.slots = c.begins_alike.ensures.len ∙ ap length c.clear_all.ensures ∙ length-replicate (length c.args.spare.now.changes) false ∙ wide in (
       width,
-      c.reach.ensures.len ∙ reached,
+      c.reach_in.ensures.len ∙ reached,
       omega (arith, width, c.components-count.ensures, c.in-Ok-make.ensures),
     )
 
 pub mark_changed-requires-clause-reached : goal.mark_changed-requires-clause-reached
-mark_changed-requires-clause-reached g c = rw (← c.self.view_is) at c.reach.ensures.reached
+mark_changed-requires-clause-reached g c = c.reach_in.ensures.reached
 
 pub invariant_of-self-2 : goal.invariant_of-self-2
 invariant_of-self-2 g c =
@@ -70,8 +71,8 @@ invariant_of-self-2 g c =
     let last : c.alike_end-end.result ≤ i.horizon + 1 = omega (arith, c.alike_end-end.ensures.before, within) in
     let so_far : StaysAlike R v s changes c.alike_end-end.result = rw (← c.self.view_is) at c.alike_end-end.ensures.stays in
     let stays = stays_less R v s changes c.alike_end-end.result e c.due_alike_to-end.ensures.before so_far in
-    let reached : (d : ℕ) → d < n → is_awake c.reach.new.reached d ≡ any_changes changes (R.near i.slots d) n = rw (← c.self.view_is) at c.reach.ensures.reached in
-    let due : (d u : ℕ) → d < n → s < u → u < e → ((held_at i.cells u d).is_due || is_awake c.reach.new.reached d) ≡ (held_at i.cells s d).is_due = rw (← c.self.view_is) at c.due_alike_to-end.ensures.alike in
+    let reached : (d : ℕ) → d < n → is_awake c.reach_in.new.reached d ≡ any_changes changes (R.near i.slots d) n = c.reach_in.ensures.reached in
+    let due : (d u : ℕ) → d < n → s < u → u < e → ((held_at i.cells u d).is_due || is_awake c.reach_in.new.reached d) ≡ (held_at i.cells s d).is_due = rw (← c.self.view_is) at c.due_alike_to-end.ensures.alike in
     let alike : AreDueAlike R v s changes e = λ d u k h l. ap (λ b. (held_at i.cells u d).is_due || b) (sym (reached d k)) ∙ due d u k h l in
     let end : e ≤ i.horizon + 1 = omega (arith, last, c.due_alike_to-end.ensures.before) in
     let after = c.due_alike_to-end.ensures.after in
@@ -86,7 +87,7 @@ invariant_of-self-2 g c =
     let last_one : e - 1 + 1 ≡ e = omega (arith, after) in
     let behind : e ≤ i.horizon → (d : ℕ) → d < n → held_at rows2 e d ≡ woken R i.slots rows1 (λ t k. is_awake changes k) before (e - 1) n d = λ h d k. subst (λ u. held_at rows2 u d ≡ woken R i.slots rows1 (λ t k. is_awake changes k) before (e - 1) n d) last_one (c.mark_changed.ensures.marked (omega (arith, h, last_one, c.repeat_cells.ensures.len, table.whole.cycles)) d k) in
     record {
-      table = stays_table R g.G.Grid.laws v table s e there end none changes begins stays alike after width rows1 rows2 clock before few c.repeat_cells.ensures.versions is_clock is_before room whole
+      table = stays_table R g.G.Grid.laws v table s e there end none changes begins stays alike after width rows1 rows2 clock before few c.no_versions.ensures is_clock is_before room whole
           (λ t d k h l. c.in-Ok-repeat_cells.ensures.repeated t d (omega (arith, k, width)) h l)
           c.in-Ok-repeat_cells.ensures.earlier
           c.in-Ok-repeat_cells.ensures.later
@@ -127,8 +128,8 @@ returns-clause-on g c =
     let last : c.alike_end-end.result ≤ i.horizon + 1 = omega (arith, c.alike_end-end.ensures.before, within) in
     let so_far : StaysAlike R v s changes c.alike_end-end.result = rw (← c.self.view_is) at c.alike_end-end.ensures.stays in
     let stays = stays_less R v s changes c.alike_end-end.result e c.due_alike_to-end.ensures.before so_far in
-    let reached : (d : ℕ) → d < n → is_awake c.reach.new.reached d ≡ any_changes changes (R.near i.slots d) n = rw (← c.self.view_is) at c.reach.ensures.reached in
-    let due : (d u : ℕ) → d < n → s < u → u < e → ((held_at i.cells u d).is_due || is_awake c.reach.new.reached d) ≡ (held_at i.cells s d).is_due = rw (← c.self.view_is) at c.due_alike_to-end.ensures.alike in
+    let reached : (d : ℕ) → d < n → is_awake c.reach_in.new.reached d ≡ any_changes changes (R.near i.slots d) n = c.reach_in.ensures.reached in
+    let due : (d u : ℕ) → d < n → s < u → u < e → ((held_at i.cells u d).is_due || is_awake c.reach_in.new.reached d) ≡ (held_at i.cells s d).is_due = rw (← c.self.view_is) at c.due_alike_to-end.ensures.alike in
     let alike : AreDueAlike R v s changes e = λ d u k h l. ap (λ b. (held_at i.cells u d).is_due || b) (sym (reached d k)) ∙ due d u k h l in
     let end : e ≤ i.horizon + 1 = omega (arith, last, c.due_alike_to-end.ensures.before) in
     let after = c.due_alike_to-end.ensures.after in
@@ -143,12 +144,19 @@ returns-clause-on g c =
     let last_one : e - 1 + 1 ≡ e = omega (arith, after) in
     let behind : e ≤ i.horizon → (d : ℕ) → d < n → held_at rows2 e d ≡ woken R i.slots rows1 (λ t k. is_awake changes k) before (e - 1) n d = λ h d k. subst (λ u. held_at rows2 u d ≡ woken R i.slots rows1 (λ t k. is_awake changes k) before (e - 1) n d) last_one (c.mark_changed.ensures.marked (omega (arith, h, last_one, c.repeat_cells.ensures.len, table.whole.cycles)) d k) in
     let number : (e - s) * due_in_row (row_at i.cells s) ≡ c.from.result * c.from-2.result = ap (λ k. (e - s) * k) (sym (c.from-2.ensures ∙ c.due_count-due.ensures)) ∙ ap (λ k. k * c.from-2.result) (sym c.from.ensures) in
-    rw (← c.self.view_is) (λ first k at. subst (λ m. IsAt R first (record { slots = i.slots; horizon = i.horizon; clock = clock; rows = rows2 }) (s + (e - s)) 0 (k + m)) number (goes_on_to R g.G.Grid.laws v table s e there end none changes begins stays alike after width rows1 rows2 clock before few c.repeat_cells.ensures.versions is_clock is_before room whole
-    (λ t d k h l. c.in-Ok-repeat_cells.ensures.repeated t d (omega (arith, k, width)) h l)
-    c.in-Ok-repeat_cells.ensures.earlier
-    c.in-Ok-repeat_cells.ensures.later
-    (λ t d h p. c.mark_changed.ensures.others t d (omega (arith, h, c.repeat_cells.ensures.len, table.whole.cycles)) (λ q. p (omega (arith, q, last_one))))
-    behind first k at))
+    let now : Seen g.row.G-State.Denot g.row.G-Slots.Denot = record { slots = i.slots; horizon = i.horizon; clock = clock; rows = rows2 } in
+    let comes : s + (e - s) ≡ e = omega (arith, after) in
+    let advances : Advances R c.args.end v now s 0 e 0 (c.from.result * c.from-2.result) = record {
+      on = λ first k at. subst (λ m. IsAt R first now e 0 (k + m)) number (subst (λ u. IsAt R first now u 0 (k + (e - s) * due_in_row (row_at i.cells s))) comes (goes_on_to R g.G.Grid.laws v table s e there end none changes begins stays alike after width rows1 rows2 clock before few c.no_versions.ensures is_clock is_before room whole
+          (λ t d k h l. c.in-Ok-repeat_cells.ensures.repeated t d (omega (arith, k, width)) h l)
+          c.in-Ok-repeat_cells.ensures.earlier
+          c.in-Ok-repeat_cells.ensures.later
+          (λ t d h p. c.mark_changed.ensures.others t d (omega (arith, h, c.repeat_cells.ensures.len, table.whole.cycles)) (λ q. p (omega (arith, q, last_one))))
+          behind first k at));
+      further = further_cycle i.horizon s 0 e after end;
+      before = (omega (arith, c.alike_end-end.ensures.before, c.due_alike_to-end.ensures.before), λ q. omega arith);
+    } in
+    rw (← c.self.view_is) advances
 
 pub returns-clause-but : goal.returns-clause-but
 returns-clause-but g c =
@@ -173,8 +181,8 @@ returns-clause-but g c =
     let last : c.alike_end-end.result ≤ i.horizon + 1 = omega (arith, c.alike_end-end.ensures.before, within) in
     let so_far : StaysAlike R v s changes c.alike_end-end.result = rw (← c.self.view_is) at c.alike_end-end.ensures.stays in
     let stays = stays_less R v s changes c.alike_end-end.result e c.due_alike_to-end.ensures.before so_far in
-    let reached : (d : ℕ) → d < n → is_awake c.reach.new.reached d ≡ any_changes changes (R.near i.slots d) n = rw (← c.self.view_is) at c.reach.ensures.reached in
-    let due : (d u : ℕ) → d < n → s < u → u < e → ((held_at i.cells u d).is_due || is_awake c.reach.new.reached d) ≡ (held_at i.cells s d).is_due = rw (← c.self.view_is) at c.due_alike_to-end.ensures.alike in
+    let reached : (d : ℕ) → d < n → is_awake c.reach_in.new.reached d ≡ any_changes changes (R.near i.slots d) n = c.reach_in.ensures.reached in
+    let due : (d u : ℕ) → d < n → s < u → u < e → ((held_at i.cells u d).is_due || is_awake c.reach_in.new.reached d) ≡ (held_at i.cells s d).is_due = rw (← c.self.view_is) at c.due_alike_to-end.ensures.alike in
     let alike : AreDueAlike R v s changes e = λ d u k h l. ap (λ b. (held_at i.cells u d).is_due || b) (sym (reached d k)) ∙ due d u k h l in
     let end : e ≤ i.horizon + 1 = omega (arith, last, c.due_alike_to-end.ensures.before) in
     let after = c.due_alike_to-end.ensures.after in
@@ -188,7 +196,7 @@ returns-clause-but g c =
     } in
     let last_one : e - 1 + 1 ≡ e = omega (arith, after) in
     let behind : e ≤ i.horizon → (d : ℕ) → d < n → held_at rows2 e d ≡ woken R i.slots rows1 (λ t k. is_awake changes k) before (e - 1) n d = λ h d k. subst (λ u. held_at rows2 u d ≡ woken R i.slots rows1 (λ t k. is_awake changes k) before (e - 1) n d) last_one (c.mark_changed.ensures.marked (omega (arith, h, last_one, c.repeat_cells.ensures.len, table.whole.cycles)) d k) in
-    rw (← c.self.view_is) (holds_but R g.G.Grid.laws v table s e there end none changes begins stays alike after width rows1 rows2 clock before few c.repeat_cells.ensures.versions is_clock is_before room whole
+    rw (← c.self.view_is) (holds_but R g.G.Grid.laws v table s e there end none changes begins stays alike after width rows1 rows2 clock before few c.no_versions.ensures is_clock is_before room whole
     (λ t d k h l. c.in-Ok-repeat_cells.ensures.repeated t d (omega (arith, k, width)) h l)
     c.in-Ok-repeat_cells.ensures.earlier
     c.in-Ok-repeat_cells.ensures.later

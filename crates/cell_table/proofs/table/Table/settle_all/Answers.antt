@@ -1,7 +1,6 @@
-use Rattle.std.proofs.Common.{◌≡◌, ℕ, ◌+◌, ◌<◌, ◌-◌, ◌*◌, ◌∙◌, Err, ap, sym, subst, arith}
-use Rattle.due_cells.specs.Seen.{Seen}
-use Rattle.cell_table.specs.Cells.{AtOrAfter}
-use Rattle.cell_table.specs.Settling.{NoneDueBefore, HoldsRunBefore, IsSpentBefore, IsAt, IsFurther}
+use Rattle.std.proofs.Common.{◌≡◌, ◌+◌, ◌<◌, ◌-◌, ◌*◌, ◌∙◌, Err, ap, sym, subst, arith}
+use Rattle.cell_table.specs.Settling.{NoneDueBefore, HoldsRunBefore, IsSpentBefore, IsAt}
+use Rattle.cell_table.specs.Advances.{Advances}
 use Rattle.cell_table.proofs.Passes.{spent_before, nearer, of_some, of_none}
 use Rattle.cell_table.proofs.Cuts.{comes_to}
 use Rattle.cell_table.proofs.table.Table.settle_all.Goals as goal
@@ -11,9 +10,7 @@ loop-passed-init g c = record {
   at = c.requires.at;
   before = (c.requires.start, λ e. omega arith);
   within = c.requires.within;
-  spare = c.requires.spare;
-  along = c.requires.along;
-  beside = c.requires.beside;
+  workspace = c.requires.workspace;
   watched = c.requires.watched;
 }
 
@@ -22,25 +19,22 @@ overflow_add-computed g c =
     let R = g.G.Grid.rules in
     let inv = c.loop-passed.invariant in
     let passed = c.in-Ok-Some.passed in
-    let on = of_some (λ p. (first : Seen g.row.G-State.Denot g.row.G-Slots.Denot) (n : ℕ) → IsAt R first c.loop-passed.self c.loop-passed.from.cycle c.loop-passed.from.component n → IsAt R first c.settle_more.new.self p.to.cycle p.to.component (n + p.computed)) c.in-Ok-Some.field-0 passed c.in-Ok-Some.field-0-is c.in-Ok-Some.ensures.on in
-    let at = on c.args.self.now c.loop-passed.computed inv.at in
-    let before = of_some (λ p. AtOrAfter p.to.cycle p.to.component c.args.end 0) c.in-Ok-Some.field-0 passed c.in-Ok-Some.field-0-is c.in-Ok-Some.ensures.before in
-    omega (arith, at.few, at.fits, before.0)
+    let advances = of_some (λ p. Advances R c.args.end c.loop-passed.self c.settle_more.new.self c.loop-passed.from.cycle c.loop-passed.from.component p.to.cycle p.to.component p.computed) c.in-Ok-Some.field-0 passed c.in-Ok-Some.field-0-is c.in-Ok-Some.ensures.on in
+    let at = advances.on c.args.self.now c.loop-passed.computed inv.at in
+    omega (arith, at.few, at.fits, advances.before.0)
 
 pub loop-passed-preserved : goal.loop-passed-preserved
 loop-passed-preserved g c =
     let R = g.G.Grid.rules in
     let inv = c.loop-passed.invariant in
     let passed = c.in-Ok-Some.passed in
-    let on = of_some (λ p. (first : Seen g.row.G-State.Denot g.row.G-Slots.Denot) (n : ℕ) → IsAt R first c.loop-passed.self c.loop-passed.from.cycle c.loop-passed.from.component n → IsAt R first c.settle_more.new.self p.to.cycle p.to.component (n + p.computed)) c.in-Ok-Some.field-0 passed c.in-Ok-Some.field-0-is c.in-Ok-Some.ensures.on in
-    let at = on c.args.self.now c.loop-passed.computed inv.at in
+    let advances = of_some (λ p. Advances R c.args.end c.loop-passed.self c.settle_more.new.self c.loop-passed.from.cycle c.loop-passed.from.component p.to.cycle p.to.component p.computed) c.in-Ok-Some.field-0 passed c.in-Ok-Some.field-0-is c.in-Ok-Some.ensures.on in
+    let at = advances.on c.args.self.now c.loop-passed.computed inv.at in
     record {
       at = at;
-      before = of_some (λ p. AtOrAfter p.to.cycle p.to.component c.args.end 0) c.in-Ok-Some.field-0 passed c.in-Ok-Some.field-0-is c.in-Ok-Some.ensures.before;
+      before = advances.before;
       within = omega (arith, c.requires.within, at.horizon);
-      spare = c.settle_more.ensures.spare;
-      along = c.settle_more.ensures.along;
-      beside = c.settle_more.ensures.beside;
+      workspace = c.settle_more.ensures.workspace;
       watched = c.settle_more.ensures.watched;
     }
 
@@ -49,11 +43,10 @@ loop-passed-smaller g c =
     let R = g.G.Grid.rules in
     let inv = c.loop-passed.invariant in
     let passed = c.in-Ok-Some.passed in
-    let on = of_some (λ p. (first : Seen g.row.G-State.Denot g.row.G-Slots.Denot) (n : ℕ) → IsAt R first c.loop-passed.self c.loop-passed.from.cycle c.loop-passed.from.component n → IsAt R first c.settle_more.new.self p.to.cycle p.to.component (n + p.computed)) c.in-Ok-Some.field-0 passed c.in-Ok-Some.field-0-is c.in-Ok-Some.ensures.on in
-    let at = on c.args.self.now c.loop-passed.computed inv.at in
-    let further = of_some (λ p. IsFurther c.loop-passed.self.horizon c.loop-passed.from.cycle c.loop-passed.from.component p.to.cycle p.to.component) c.in-Ok-Some.field-0 passed c.in-Ok-Some.field-0-is c.in-Ok-Some.ensures.further in
+    let advances = of_some (λ p. Advances R c.args.end c.loop-passed.self c.settle_more.new.self c.loop-passed.from.cycle c.loop-passed.from.component p.to.cycle p.to.component p.computed) c.in-Ok-Some.field-0 passed c.in-Ok-Some.field-0-is c.in-Ok-Some.ensures.on in
+    let at = advances.on c.args.self.now c.loop-passed.computed inv.at in
     let same : c.loop-passed.self.horizon ≡ c.settle_more.new.self.horizon = inv.at.horizon ∙ sym at.horizon in
-    subst (λ h. 4294967296 * (h + 1 - passed.to.cycle) + (4294967296 - passed.to.component) < 4294967296 * (c.loop-passed.self.horizon + 1 - c.loop-passed.from.cycle) + (4294967296 - c.loop-passed.from.component)) same (nearer c.loop-passed.self.horizon c.loop-passed.from.cycle c.loop-passed.from.component passed.to.cycle passed.to.component further inv.at.fits)
+    subst (λ h. 4294967296 * (h + 1 - passed.to.cycle) + (4294967296 - passed.to.component) < 4294967296 * (c.loop-passed.self.horizon + 1 - c.loop-passed.from.cycle) + (4294967296 - c.loop-passed.from.component)) same (nearer c.loop-passed.self.horizon c.loop-passed.from.cycle c.loop-passed.from.component passed.to.cycle passed.to.component advances.further inv.at.fits)
 
 pub returns-in-Ok-None-clause-all : goal.returns-in-Ok-None-clause-all
 returns-in-Ok-None-clause-all g c =

@@ -1,5 +1,7 @@
-use Rattle.std.proofs.Common.{◌≡◌, ℕ, zero, suc, ◌<◌, ◌≤◌, refl, arith, ◌⊎◌, inl, inr}
+use Rattle.std.proofs.Common.{◌≡◌, ℕ, zero, suc, ◌<◌, ◌≤◌, refl, sym, subst, arith, ◌⊎◌, inl, inr, IfSome}
+use Rattle.due_cells.specs.Beside.{AreBeside}
 use Rattle.due_cells.specs.Seen.{Seen}
+use Rattle.due_cells.specs.Spares.{GoesAlong}
 use Rattle.cell_table.specs.Settling.{IsNextDue}
 use Rattle.cell_table.proofs.Passes.{begins, comes_ahead, runs_here}
 use Rattle.cell_table.proofs.LeftOut.{new_spare}
@@ -27,10 +29,19 @@ returns-in-Err-clause-stops g c = record {
   before = (omega arith, λ e. omega arith);
 }
 
-pub settle_all-settled-requires-clause-spare : goal.settle_all-settled-requires-clause-spare
-settle_all-settled-requires-clause-spare g c =
+pub settle_all-settled-requires-clause-workspace : goal.settle_all-settled-requires-clause-workspace
+settle_all-settled-requires-clause-workspace g c =
     let count : c.components-count.result ≡ g.G.Grid.rules.components c.args.self.now.slots = rw (← c.self.view_is) c.components-count.ensures in
-    new_spare g.G.Grid.rules c.args.self.now c.components-count.result c.in-Ok.spare c.in-Ok.ensures.wide count c.in-Ok.ensures.none
+    let R = g.G.Grid.rules in
+    let W = g.M.WholeRow in
+    let s = c.args.self.now.slots in
+    let along : IfSome c.renew.new.beside.along (GoesAlong R W.stands W.state s) = rw (← c.self.view_is) c.renew.ensures.along in
+    let rows : AreBeside R g.G.Grid.codec W.stands W.state s c.renew.new.beside = rw (← c.self.view_is) c.renew.ensures.rows in
+    record {
+      spare = new_spare g.G.Grid.rules c.args.self.now c.components-count.result c.in-Ok.spare c.in-Ok.ensures.wide count c.in-Ok.ensures.none;
+      along = subst (λ row. IfSome row (GoesAlong R W.stands W.state s)) (sym c.take-along.ensures.value) along;
+      beside = record { near = rows.near; idle = rows.idle };
+    }
 
 pub settle_all-settled-requires-clause-at : goal.settle_all-settled-requires-clause-at
 settle_all-settled-requires-clause-at g c =

@@ -1,4 +1,4 @@
-use Rattle.std.proofs.Common.{◌≡◌, ◌+◌, ◌<◌, ◌^◌, false, Err, ap, sym, subst}
+use Rattle.std.proofs.Common.{◌≡◌, ◌+◌, ◌<◌, ◌≤◌, ◌^◌, false, Err, ap, sym, subst, arith}
 use Rattle.cell_table.specs.declared.given.StoreFault.TheVariants.{ClockSpent}
 use Rattle.cell_table.specs.Gives.{HoldsSame}
 use Rattle.cell_table.specs.Settling.{SettlesNext, IsSpentBefore, IsAt}
@@ -14,13 +14,18 @@ tell-requires g c =
     (c.settle_at_once.new.self, c.settle_at_once.ensures.watched, record { there = next.settled.there; state = _; changed = next.changed; after = next.settled.after }, same)
 
 pub returns-in-Ok-Some-clause-on : goal.returns-in-Ok-Some-clause-on
-returns-in-Ok-Some-clause-on g c = λ first n at.
+returns-in-Ok-Some-clause-on g c =
     let R = g.G.Grid.rules in
     let settled = c.in-Ok-Some.settled in
     let next = of_some (λ s. SettlesNext R c.settle_at_once.new.self c.settle_next.new.self c.args.from.cycle c.args.from.component s.cell) c.in-Ok-Some.field-0 settled c.in-Ok-Some.field-0-is c.in-Ok-Some.ensures.some in
     let fits = of_some (λ s. (s.cell.cycle < c.args.end) × (s.cell.component + 1 < 2 ^ 32)) c.in-Ok-Some.field-0 settled c.in-Ok-Some.field-0-is c.in-Ok-Some.ensures.fits in
-    let here = subst (λ v. IsAt R first v c.args.from.cycle c.args.from.component n) (sym c.in-None.ensures.none) at in
-    goes_on R first c.settle_at_once.new.self c.settle_next.new.self c.args.from.cycle c.args.from.component n settled.cell here next fits.1
+    let same = sym c.in-None.ensures.none in
+    let there : settled.cell.cycle ≤ c.args.self.now.horizon = rw (← same) at next.settled.there.cycle in
+    record {
+      on = λ first n at. goes_on R first c.settle_at_once.new.self c.settle_next.new.self c.args.from.cycle c.args.from.component n settled.cell (subst (λ v. IsAt R first v c.args.from.cycle c.args.from.component n) same at) next fits.1;
+      further = ((next.after.0, λ e. (let k = next.after.1 e in omega (arith, k))), omega (arith, there));
+      before = (omega (arith, fits.0), λ e. absurd (omega (arith, e, fits.0)));
+    }
 
 pub returns-in-Err-clause-spent : goal.returns-in-Err-clause-spent
 returns-in-Err-clause-spent g c =

@@ -28,7 +28,7 @@ find_left-requires-clause-width g c =
     let i = c.self.inside in
     let v : Seen g.row.G-State.Denot g.row.G-Slots.Denot = record { slots = i.slots; horizon = i.horizon; clock = i.clock; rows = i.cells } in
     let there : c.args.cycle ≤ i.horizon = rw (← c.self.view_is) at c.requires.there in
-    let spare : IsSpare R v c.args.spare.now = rw (← c.self.view_is) at c.requires.spare in
+    let spare : IsSpare R v c.args.spare.now = rw (← c.self.view_is) at c.requires.workspace.spare in
     spare.wide.left ∙ sym (c.due_row-due_row.ensures.len ∙ c.self.invariant.table.whole.components c.args.cycle there)
 
 pub find_left-requires-clause-known : goal.find_left-requires-clause-known
@@ -37,7 +37,7 @@ find_left-requires-clause-known g c =
     let i = c.self.inside in
     let v : Seen g.row.G-State.Denot g.row.G-Slots.Denot = record { slots = i.slots; horizon = i.horizon; clock = i.clock; rows = i.cells } in
     let there : c.args.cycle ≤ i.horizon = rw (← c.self.view_is) at c.requires.there in
-    let spare : IsSpare R v c.args.spare.now = rw (← c.self.view_is) at c.requires.spare in
+    let spare : IsSpare R v c.args.spare.now = rw (← c.self.view_is) at c.requires.workspace.spare in
     spare.wide.known ∙ sym (c.due_row-due_row.ensures.len ∙ c.self.invariant.table.whole.components c.args.cycle there)
 
 pub put_row-requires-clause-ready : goal.put_row-requires-clause-ready
@@ -49,7 +49,7 @@ put_row-requires-clause-ready g c =
     let s = c.args.cycle in
     let there : s ≤ i.horizon = rw (← c.self.view_is) at c.requires.there in
     let none : NoneDueBefore R v s 0 = rw (← c.self.view_is) at c.requires.none in
-    let spare : IsSpare R v c.args.spare.now = rw (← c.self.view_is) at c.requires.spare in
+    let spare : IsSpare R v c.args.spare.now = rw (← c.self.view_is) at c.requires.workspace.spare in
     let later : 0 < s = omega (arith, c.if-cycle-eq0.false) in
     record {
       later = later;
@@ -77,17 +77,16 @@ invariant_of-self-2 g c =
     let clock = i.clock + c.from.result in
     let there : s ≤ i.horizon = rw (← c.self.view_is) at c.requires.there in
     let none : NoneDueBefore R v s 0 = rw (← c.self.view_is) at c.requires.none in
-    let spare : IsSpare R v c.args.spare.now = rw (← c.self.view_is) at c.requires.spare in
-    let wide : length c.args.spare.now.changes ≡ n = spare.wide.changes in
+    let spare : IsSpare R v c.args.spare.now = rw (← c.self.view_is) at c.requires.workspace.spare in
     let same : c.find_reached.new.spare.changes ≡ changes = c.find_reached.ensures.kept.0 in
-    let width : length changes ≡ n = c.put_row.ensures.width ∙ wide in
+    let width : length changes ≡ n = c.put_row.ensures.marks.marks in
     let few : n < 4294967296 = omega (arith, c.components-count.ensures) in
     let is_clock : clock ≡ i.clock + count_in changes = ap (λ k. i.clock + k) (c.from.ensures ∙ c.count-changed.ensures ∙ ap count_in same) in
     let room : i.clock + 1 * n < 2 ^ 64 = subst (λ k. i.clock + 1 * k < 2 ^ 64) c.components-count.ensures (c.has_room.ensures c.if-not-has_room.false) in
     let cycles = table.whole.cycles in
-    let p = c.put_row.ensures in
+    let p = c.put_row.ensures.put c.if-not-put_row.false in
     let m = c.mark_changed.ensures in
-    let row_put : IsRowPut R i.slots i.cells rows1 s changes = c.put_row.ensures.put c.if-not-put_row.false in
+    let row_put : IsRowPut R i.slots i.cells rows1 s changes = p.row in
     let whole : IsWhole R i.slots i.horizon rows2 = record {
       cycles = m.len ∙ p.len ∙ cycles;
       components = λ t h. m.lens t ∙ p.lens t (omega (arith, h, cycles));
@@ -95,10 +94,10 @@ invariant_of-self-2 g c =
     let others : (t d : ℕ) → t ≤ i.horizon → (t ≡ s + 1 → ⊥) → held_at rows2 t d ≡ held_at rows1 t d = λ t d h f. m.others t d (omega (arith, h, p.len, cycles)) f in
     let behind : s + 1 ≤ i.horizon → (d : ℕ) → d < n → held_at rows2 (s + 1) d ≡ woken R i.slots rows1 (λ t k. is_awake changes k) i.clock s n d = λ h d k. subst (λ marks. held_at rows2 (s + 1) d ≡ woken R i.slots rows1 (λ t k. is_awake marks k) i.clock s n d) same (m.marked (omega (arith, h, p.len, cycles)) d k) in
     record {
-      table = still_table R g.G.Grid.laws v table s there none changes width rows1 row_put rows2 clock few p.versions is_clock room whole others behind (begins_at R g.G.Grid.laws v table s none (omega arith));
+      table = still_table R g.G.Grid.laws v table s there none changes width rows1 row_put rows2 clock few c.no_versions.ensures is_clock room whole others behind (begins_at R g.G.Grid.laws v table s none (omega arith));
       index = c.self.invariant.index;
       near = c.self.invariant.near;
-      states = held_still R g.G.Grid.laws v table s there none changes width rows1 row_put rows2 clock few p.versions is_clock room whole others behind i.held c.self.invariant.within c.self.invariant.states;
+      states = held_still R g.G.Grid.laws v table s there none changes width rows1 row_put rows2 clock few c.no_versions.ensures is_clock room whole others behind i.held c.self.invariant.within c.self.invariant.states;
       within = c.self.invariant.within;
     }
 
@@ -116,17 +115,16 @@ returns-clause-on g c =
     let clock = i.clock + c.from.result in
     let there : s ≤ i.horizon = rw (← c.self.view_is) at c.requires.there in
     let none : NoneDueBefore R v s 0 = rw (← c.self.view_is) at c.requires.none in
-    let spare : IsSpare R v c.args.spare.now = rw (← c.self.view_is) at c.requires.spare in
-    let wide : length c.args.spare.now.changes ≡ n = spare.wide.changes in
+    let spare : IsSpare R v c.args.spare.now = rw (← c.self.view_is) at c.requires.workspace.spare in
     let same : c.find_reached.new.spare.changes ≡ changes = c.find_reached.ensures.kept.0 in
-    let width : length changes ≡ n = c.put_row.ensures.width ∙ wide in
+    let width : length changes ≡ n = c.put_row.ensures.marks.marks in
     let few : n < 4294967296 = omega (arith, c.components-count.ensures) in
     let is_clock : clock ≡ i.clock + count_in changes = ap (λ k. i.clock + k) (c.from.ensures ∙ c.count-changed.ensures ∙ ap count_in same) in
     let room : i.clock + 1 * n < 2 ^ 64 = subst (λ k. i.clock + 1 * k < 2 ^ 64) c.components-count.ensures (c.has_room.ensures c.if-not-has_room.false) in
     let cycles = table.whole.cycles in
-    let p = c.put_row.ensures in
+    let p = c.put_row.ensures.put c.if-not-put_row.false in
     let m = c.mark_changed.ensures in
-    let row_put : IsRowPut R i.slots i.cells rows1 s changes = c.put_row.ensures.put c.if-not-put_row.false in
+    let row_put : IsRowPut R i.slots i.cells rows1 s changes = p.row in
     let whole : IsWhole R i.slots i.horizon rows2 = record {
       cycles = m.len ∙ p.len ∙ cycles;
       components = λ t h. m.lens t ∙ p.lens t (omega (arith, h, cycles));
@@ -134,7 +132,7 @@ returns-clause-on g c =
     let others : (t d : ℕ) → t ≤ i.horizon → (t ≡ s + 1 → ⊥) → held_at rows2 t d ≡ held_at rows1 t d = λ t d h f. m.others t d (omega (arith, h, p.len, cycles)) f in
     let behind : s + 1 ≤ i.horizon → (d : ℕ) → d < n → held_at rows2 (s + 1) d ≡ woken R i.slots rows1 (λ t k. is_awake changes k) i.clock s n d = λ h d k. subst (λ marks. held_at rows2 (s + 1) d ≡ woken R i.slots rows1 (λ t k. is_awake marks k) i.clock s n d) same (m.marked (omega (arith, h, p.len, cycles)) d k) in
     let number : due_in_row (row_at i.cells s) ≡ c.due_count-due.result = sym c.due_count-due.ensures in
-    rw (← c.self.view_is) (λ first k at. subst (λ l. IsAt R first (record { slots = i.slots; horizon = i.horizon; clock = clock; rows = rows2 }) (s + 1) 0 (k + l)) number (goes_behind R g.G.Grid.laws v table s there none changes width rows1 row_put rows2 clock few p.versions is_clock room whole others behind first k at))
+    rw (← c.self.view_is) (λ first k at. subst (λ l. IsAt R first (record { slots = i.slots; horizon = i.horizon; clock = clock; rows = rows2 }) (s + 1) 0 (k + l)) number (goes_behind R g.G.Grid.laws v table s there none changes width rows1 row_put rows2 clock few c.no_versions.ensures is_clock room whole others behind first k at))
 
 pub returns-clause-but : goal.returns-clause-but
 returns-clause-but g c =
@@ -150,17 +148,16 @@ returns-clause-but g c =
     let clock = i.clock + c.from.result in
     let there : s ≤ i.horizon = rw (← c.self.view_is) at c.requires.there in
     let none : NoneDueBefore R v s 0 = rw (← c.self.view_is) at c.requires.none in
-    let spare : IsSpare R v c.args.spare.now = rw (← c.self.view_is) at c.requires.spare in
-    let wide : length c.args.spare.now.changes ≡ n = spare.wide.changes in
+    let spare : IsSpare R v c.args.spare.now = rw (← c.self.view_is) at c.requires.workspace.spare in
     let same : c.find_reached.new.spare.changes ≡ changes = c.find_reached.ensures.kept.0 in
-    let width : length changes ≡ n = c.put_row.ensures.width ∙ wide in
+    let width : length changes ≡ n = c.put_row.ensures.marks.marks in
     let few : n < 4294967296 = omega (arith, c.components-count.ensures) in
     let is_clock : clock ≡ i.clock + count_in changes = ap (λ k. i.clock + k) (c.from.ensures ∙ c.count-changed.ensures ∙ ap count_in same) in
     let room : i.clock + 1 * n < 2 ^ 64 = subst (λ k. i.clock + 1 * k < 2 ^ 64) c.components-count.ensures (c.has_room.ensures c.if-not-has_room.false) in
     let cycles = table.whole.cycles in
-    let p = c.put_row.ensures in
+    let p = c.put_row.ensures.put c.if-not-put_row.false in
     let m = c.mark_changed.ensures in
-    let row_put : IsRowPut R i.slots i.cells rows1 s changes = c.put_row.ensures.put c.if-not-put_row.false in
+    let row_put : IsRowPut R i.slots i.cells rows1 s changes = p.row in
     let whole : IsWhole R i.slots i.horizon rows2 = record {
       cycles = m.len ∙ p.len ∙ cycles;
       components = λ t h. m.lens t ∙ p.lens t (omega (arith, h, cycles));
@@ -170,10 +167,10 @@ returns-clause-but g c =
     let ranges = c.ranges_in.new.ranges.items in
     let same_ranges : ranges ≡ c.find_reached.new.spare.ranges.items = ap (λ r. r.items) (sym c.find_reached.ensures.kept.1) in
     let r = c.ranges_in.ensures in
-    rw (← c.self.view_is) (subst (HoldsBut R v (record { slots = i.slots; horizon = i.horizon; clock = clock; rows = rows2 })) same_ranges (row_but R g.G.Grid.laws v table s there none changes width rows1 row_put rows2 clock few p.versions is_clock room whole others behind ranges r.within r.marked (ranges_within ranges (s + 1) (i.horizon + 1) (length changes) n (omega (arith, there)) width r.within)))
+    rw (← c.self.view_is) (subst (HoldsBut R v (record { slots = i.slots; horizon = i.horizon; clock = clock; rows = rows2 })) same_ranges (row_but R g.G.Grid.laws v table s there none changes width rows1 row_put rows2 clock few c.no_versions.ensures is_clock room whole others behind ranges r.within r.marked (ranges_within ranges (s + 1) (i.horizon + 1) (length changes) n (omega (arith, there)) width r.within)))
 
-pub returns-clause-spare : goal.returns-clause-spare
-returns-clause-spare g c =
+pub returns-clause-workspace : goal.returns-clause-workspace
+returns-clause-workspace g c =
     let R = g.G.Grid.rules in
     let i = c.self.inside in
     let v : Seen g.row.G-State.Denot g.row.G-Slots.Denot = record { slots = i.slots; horizon = i.horizon; clock = i.clock; rows = i.cells } in
@@ -186,17 +183,16 @@ returns-clause-spare g c =
     let clock = i.clock + c.from.result in
     let there : s ≤ i.horizon = rw (← c.self.view_is) at c.requires.there in
     let none : NoneDueBefore R v s 0 = rw (← c.self.view_is) at c.requires.none in
-    let spare : IsSpare R v c.args.spare.now = rw (← c.self.view_is) at c.requires.spare in
-    let wide : length c.args.spare.now.changes ≡ n = spare.wide.changes in
+    let spare : IsSpare R v c.args.spare.now = rw (← c.self.view_is) at c.requires.workspace.spare in
     let same : c.find_reached.new.spare.changes ≡ changes = c.find_reached.ensures.kept.0 in
-    let width : length changes ≡ n = c.put_row.ensures.width ∙ wide in
+    let width : length changes ≡ n = c.put_row.ensures.marks.marks in
     let few : n < 4294967296 = omega (arith, c.components-count.ensures) in
     let is_clock : clock ≡ i.clock + count_in changes = ap (λ k. i.clock + k) (c.from.ensures ∙ c.count-changed.ensures ∙ ap count_in same) in
     let room : i.clock + 1 * n < 2 ^ 64 = subst (λ k. i.clock + 1 * k < 2 ^ 64) c.components-count.ensures (c.has_room.ensures c.if-not-has_room.false) in
     let cycles = table.whole.cycles in
-    let p = c.put_row.ensures in
+    let p = c.put_row.ensures.put c.if-not-put_row.false in
     let m = c.mark_changed.ensures in
-    let row_put : IsRowPut R i.slots i.cells rows1 s changes = c.put_row.ensures.put c.if-not-put_row.false in
+    let row_put : IsRowPut R i.slots i.cells rows1 s changes = p.row in
     let whole : IsWhole R i.slots i.horizon rows2 = record {
       cycles = m.len ∙ p.len ∙ cycles;
       components = λ t h. m.lens t ∙ p.lens t (omega (arith, h, cycles));
@@ -205,19 +201,23 @@ returns-clause-spare g c =
     let behind : s + 1 ≤ i.horizon → (d : ℕ) → d < n → held_at rows2 (s + 1) d ≡ woken R i.slots rows1 (λ t k. is_awake changes k) i.clock s n d = λ h d k. subst (λ marks. held_at rows2 (s + 1) d ≡ woken R i.slots rows1 (λ t k. is_awake marks k) i.clock s n d) same (m.marked (omega (arith, h, p.len, cycles)) d k) in
     let f = c.find_reached.ensures in
     record {
-      wide = record {
-        changes = f.wide.changes;
-        reached = f.wide.reached;
-        worded = f.wide.worded;
-        left = f.wide.left;
-        known = f.wide.known;
+      spare = record {
+        wide = record {
+          changes = f.wide.changes;
+          reached = f.wide.reached;
+          worded = f.wide.worded;
+          left = f.wide.left;
+          known = f.wide.known;
+        };
+        runs = λ d later here.
+            let at = f.at later in
+            let within : s + 1 ≤ i.horizon = omega (arith, at.1, p.len, cycles) in
+            let left = f.known later d here in
+            let there_now : IsThere R v (s + 1) d = record { cycle = within; component = left.there } in
+            let holds = holds_already R g.G.Grid.laws v table s there none changes width rows1 row_put g.G.Grid.codec c.by_words.ensures c.put_row.new.worded p.words d within left in
+            let other = other_states R g.G.Grid.laws v table s there none changes width rows1 row_put rows2 clock few c.no_versions.ensures is_clock room whole others behind (s + 1) d there_now (λ e. absurd (omega (arith, e))) in
+            subst (λ t. (held_at rows2 t d).state ≡ Some (run R i.slots t d)) (sym at.0) (other ∙ holds);
       };
-      runs = λ d later here.
-          let at = f.at later in
-          let within : s + 1 ≤ i.horizon = omega (arith, at.1, p.len, cycles) in
-          let left = f.known later d here in
-          let there_now : IsThere R v (s + 1) d = record { cycle = within; component = left.there } in
-          let holds = holds_already R g.G.Grid.laws v table s there none changes width rows1 row_put g.G.Grid.codec c.by_words.ensures c.put_row.new.worded (p.words c.if-not-put_row.false) d within left in
-          let other = other_states R g.G.Grid.laws v table s there none changes width rows1 row_put rows2 clock few p.versions is_clock room whole others behind (s + 1) d there_now (λ e. absurd (omega (arith, e))) in
-          subst (λ t. (held_at rows2 t d).state ≡ Some (run R i.slots t d)) (sym at.0) (other ∙ holds);
+      along = c.put_row.ensures.along;
+      beside = c.put_row.ensures.beside;
     }

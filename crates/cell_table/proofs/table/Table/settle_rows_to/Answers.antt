@@ -10,17 +10,8 @@ returns-clause-after_fault g c = answers_first g.G.Grid.rules g.G.Grid.laws c.ar
 pub returns-clause-settled : goal.returns-clause-settled
 returns-clause-settled g c = answers_settled g.G.Grid.rules g.G.Grid.laws c.args.self.now c.settle_before.new.self c.args.last c.end_of-end.result c.end_of-end.ensures.up_to c.end_of-end.ensures.covers c.settle_before.result c.settle_before.ensures.all
 
-pub returns-clause-slots : goal.returns-clause-slots
-returns-clause-slots g c = (keeps g.G.Grid.rules g.G.Grid.laws c.args.self.now c.settle_before.new.self c.args.last c.end_of-end.result c.end_of-end.ensures.up_to c.settle_before.result c.settle_before.ensures.all c.settle_before.ensures.stops).slots
-
-pub returns-clause-horizon : goal.returns-clause-horizon
-returns-clause-horizon g c = (keeps g.G.Grid.rules g.G.Grid.laws c.args.self.now c.settle_before.new.self c.args.last c.end_of-end.result c.end_of-end.ensures.up_to c.settle_before.result c.settle_before.ensures.all c.settle_before.ensures.stops).horizon
-
-pub returns-clause-rises : goal.returns-clause-rises
-returns-clause-rises g c = (keeps g.G.Grid.rules g.G.Grid.laws c.args.self.now c.settle_before.new.self c.args.last c.end_of-end.result c.end_of-end.ensures.up_to c.settle_before.result c.settle_before.ensures.all c.settle_before.ensures.stops).rises
-
-pub returns-clause-clock : goal.returns-clause-clock
-returns-clause-clock g c = (keeps g.G.Grid.rules g.G.Grid.laws c.args.self.now c.settle_before.new.self c.args.last c.end_of-end.result c.end_of-end.ensures.up_to c.settle_before.result c.settle_before.ensures.all c.settle_before.ensures.stops).clock
+pub returns-clause-later : goal.returns-clause-later
+returns-clause-later g c = keeps g.G.Grid.rules g.G.Grid.laws c.args.self.now c.settle_before.new.self c.args.last c.end_of-end.result c.end_of-end.ensures.up_to c.settle_before.result c.settle_before.ensures.all c.settle_before.ensures.stops
 
 pub returns-clause-differs : goal.returns-clause-differs
 returns-clause-differs g c = answers_spent g.G.Grid.rules g.G.Grid.laws c.args.self.now c.settle_before.new.self c.args.last c.end_of-end.result c.end_of-end.ensures.up_to c.settle_before.result c.settle_before.ensures.spent

@@ -1,7 +1,6 @@
-use Rattle.std.proofs.Common.{◌≡◌, ℕ, ◌<◌, ◌∙◌, ap, refl, sym, arith, inl, length, get_or, true}
-use Rattle.cell_marks.specs.Marked.{has as has_mark}
+use Rattle.std.proofs.Common.{refl, arith, inl}
 use Rattle.cell_states.specs.Stated.{state_at}
-use Rattle.cell_states.specs.Versions.{lists, version_at}
+use Rattle.cell_states.specs.Versions.{lists}
 use Rattle.cell_states.proofs.Rooms.{length_lists}
 use Rattle.due_cells.proofs.Keeping.{seen_cycle, seen_length}
 use Rattle.due_cells.proofs.MarkedCells.{same_over, held_are, lens_are}

@@ -1,4 +1,4 @@
-use Rattle.std.proofs.Common.{◌≡◌, ℕ, ◌<◌, ◌≤◌, ◌∙◌, ◌&&◌, ◌||◌, ap, sym, arith, length, get_or, leb, ltb}
+use Rattle.std.proofs.Common.{◌<◌, ◌∙◌, ◌&&◌, ◌||◌, ap, sym, arith, get_or, leb, ltb}
 use Rattle.cell_states.specs.Near.{has}
 use Rattle.cell_states.specs.Stated.{state_at}
 use Rattle.cell_states.specs.Versions.{lists}
@@ -31,13 +31,13 @@ mark_later-requires-clause-there g c = λ k d h.
     let i = c.self.inside in
     let cycles = seen_cycles (state_at i.states) i.due (lists i.versions.items) c.args.self.now c.self.view_is in
     let width = sym (c.requires.whole 0 (omega (arith, c.requires.some, c.requires.to))) ∙ seen_length (state_at i.states) i.due (lists i.versions.items) c.args.self.now c.self.view_is 0 (omega (arith, c.requires.some, c.requires.to, cycles)) in
-    omega (arith, c.requires.there k d h, width)
+    omega (arith, c.requires.later.there k d h, width)
 
 pub mark_later-requires-clause-ready : goal.mark_later-requires-clause-ready
 mark_later-requires-clause-ready g c = λ t some low high.
     let list = c.args.list.now in
     let first = get_or list 0 0 in
-    let early = later_from c.args.ranges.now c.args.from c.args.to first c.requires.after (sym (c.requires.list first) ∙ first_listed list some) in
+    let early = later_from c.args.ranges.now c.args.from c.args.to first c.requires.after (sym (c.requires.later.listed first) ∙ first_listed list some) in
     c.in_ok-make_rooms.ensures.ready c.args.version t (omega (arith, early, low)) high
 
 pub mark_others-requires-clause-within : goal.mark_others-requires-clause-within
@@ -69,7 +69,7 @@ returns-clause-marked g c = λ t d.
     let bounded = bounded_by i.states i.due c.self.invariant.0 in
     let layout = layout_versions (state_at i.states) i.due (lists i.versions.items) (lists vs) bounded c.self.invariant.1 rooms.len rooms.lens in
     let view_is = same_versions (state_at i.states) i.due (lists i.versions.items) (lists vs) bounded c.self.invariant.1 rooms.len rooms.lens c.args.self.now c.self.view_is (λ u e m. rooms.same u e) in
-    let both = marked_then c.args.version i.due c.mark_later.new.due c.mark_others.new.due vs c.mark_later.new.versions.items c.mark_others.new.versions.items (λ t e. has c.args.list.now e && (leb 1 t && ltb t c.args.to)) (λ t e. is_marked_else c.args.ranges.now c.args.to t e) (λ t e. is_marked c.args.ranges.now t e) c.mark_later.ensures c.mark_others.ensures (λ t e. ap (λ b. (b && (leb 1 t && ltb t c.args.to)) || is_marked_else c.args.ranges.now c.args.to t e) (c.requires.list e) ∙ sym (marked_apart c.args.to t e c.args.ranges.now)) in
+    let both = marked_then c.args.version i.due c.mark_later.new.due c.mark_others.new.due vs c.mark_later.new.versions.items c.mark_others.new.versions.items (λ t e. has c.args.list.now e && (leb 1 t && ltb t c.args.to)) (λ t e. is_marked_else c.args.ranges.now c.args.to t e) (λ t e. is_marked c.args.ranges.now t e) c.mark_later.ensures c.mark_others.ensures (λ t e. ap (λ b. (b && (leb 1 t && ltb t c.args.to)) || is_marked_else c.args.ranges.now c.args.to t e) (c.requires.later.listed e) ∙ sym (marked_apart c.args.to t e c.args.ranges.now)) in
     held_are (state_at i.states) c.args.version i.due c.mark_others.new.due vs c.mark_others.new.versions.items _ c.args.self.now bounded layout view_is both t d
 
 pub returns-clause-lens : goal.returns-clause-lens
@@ -80,7 +80,7 @@ returns-clause-lens g c =
     let bounded = bounded_by i.states i.due c.self.invariant.0 in
     let layout = layout_versions (state_at i.states) i.due (lists i.versions.items) (lists vs) bounded c.self.invariant.1 rooms.len rooms.lens in
     let view_is = same_versions (state_at i.states) i.due (lists i.versions.items) (lists vs) bounded c.self.invariant.1 rooms.len rooms.lens c.args.self.now c.self.view_is (λ u e m. rooms.same u e) in
-    let both = marked_then c.args.version i.due c.mark_later.new.due c.mark_others.new.due vs c.mark_later.new.versions.items c.mark_others.new.versions.items (λ t e. has c.args.list.now e && (leb 1 t && ltb t c.args.to)) (λ t e. is_marked_else c.args.ranges.now c.args.to t e) (λ t e. is_marked c.args.ranges.now t e) c.mark_later.ensures c.mark_others.ensures (λ t e. ap (λ b. (b && (leb 1 t && ltb t c.args.to)) || is_marked_else c.args.ranges.now c.args.to t e) (c.requires.list e) ∙ sym (marked_apart c.args.to t e c.args.ranges.now)) in (
+    let both = marked_then c.args.version i.due c.mark_later.new.due c.mark_others.new.due vs c.mark_later.new.versions.items c.mark_others.new.versions.items (λ t e. has c.args.list.now e && (leb 1 t && ltb t c.args.to)) (λ t e. is_marked_else c.args.ranges.now c.args.to t e) (λ t e. is_marked c.args.ranges.now t e) c.mark_later.ensures c.mark_others.ensures (λ t e. ap (λ b. (b && (leb 1 t && ltb t c.args.to)) || is_marked_else c.args.ranges.now c.args.to t e) (c.requires.later.listed e) ∙ sym (marked_apart c.args.to t e c.args.ranges.now)) in (
       len_are (state_at i.states) c.args.version i.due c.mark_others.new.due vs c.mark_others.new.versions.items _ c.args.self.now bounded layout view_is both,
       λ t. lens_are (state_at i.states) c.args.version i.due c.mark_others.new.due vs c.mark_others.new.versions.items _ c.args.self.now bounded layout view_is both t,
     )

@@ -1,4 +1,4 @@
-use Rattle.std.proofs.Common.{◌∙◌, ap, subst, sym, take}
+use Rattle.std.proofs.Common.{◌∙◌, ap, subst, sym}
 use Rattle.std.proofs.lemmas.List.{take-map}
 use Rattle.cell_states.specs.Stated.{state_at}
 use Rattle.cell_states.specs.Versions.{VersionRow, lists}

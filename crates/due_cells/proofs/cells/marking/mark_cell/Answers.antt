@@ -1,7 +1,6 @@
-use Rattle.std.proofs.Common.{◌≡◌, ◌∙◌, ◌||◌, ◌&&◌, sym, ap, refl, arith, Bool, true, false, cond, eqb, length, [], ◌∷◌}
+use Rattle.std.proofs.Common.{◌≡◌, ◌∙◌, ◌||◌, ◌&&◌, ap, refl, arith, Bool, true, false, cond, eqb, length}
 use Rattle.std.proofs.Math.ListN.{length-set}
 use Rattle.cell_marks.specs.Marked.{Marked, row_at as marks_at, has as has_mark}
-use Rattle.cell_states.specs.Near.{has}
 use Rattle.cell_states.proofs.Cases.{at_set, lens_set}
 use Rattle.due_cells.proofs.Marking.{one_listed}
 use Rattle.due_cells.proofs.MarkedCells.{cycle_marked}

@@ -1,4 +1,4 @@
-use Rattle.std.proofs.Common.{◌<◌, ◌+◌, ◌∙◌, ◌&&◌, sym, ap, arith, eqb, leb, ltb, eq-eqb, length}
+use Rattle.std.proofs.Common.{◌+◌, ◌∙◌, ◌&&◌, sym, ap, arith, eqb, leb, ltb, eq-eqb, length}
 use Rattle.std.proofs.lemmas.Bool.{false≢true}
 use Rattle.cell_states.specs.Near.{has}
 use Rattle.due_cells.proofs.Marking.{cycle_more}

@@ -1,8 +1,8 @@
-use Rattle.std.proofs.Common.{ℕ, ◌<◌, ◌≤◌, ◌+◌, ◌&&◌, not, get_or, take}
+use Rattle.std.proofs.Common.{◌+◌, ◌&&◌, not, get_or, take}
 use Rattle.due_cells.specs.Ranges.{covers, is_later, is_marked_else}
 use Rattle.due_cells.proofs.Marking.{ranges_more}
 use Rattle.due_cells.proofs.MarkedRow.{none_range}
-use Rattle.due_cells.proofs.MarkedCells.{marked_then, ready_kept}
+use Rattle.due_cells.proofs.MarkedCells.{marked_then}
 use Rattle.due_cells.proofs.cells.marking.mark_others.Goals as goal
 
 pub loop-range-preserved : goal.loop-range-preserved

@@ -1,4 +1,4 @@
-use Rattle.std.proofs.Common.{◌<◌, ◌+◌, ◌&&◌, arith, eqb, leb, ltb}
+use Rattle.std.proofs.Common.{◌+◌, ◌&&◌, arith, eqb, leb, ltb}
 use Rattle.due_cells.proofs.Marking.{cycle_more}
 use Rattle.due_cells.proofs.MarkedCells.{marked_then, ready_kept}
 use Rattle.due_cells.proofs.cells.marking.mark_range.Goals as goal

@@ -7,7 +7,7 @@ use Rattle.due_cells.specs.Seen.{held_at}
 use Rattle.cell_states.specs.Stated.{state_at}
 use Rattle.due_cells.specs.Layout.{cleared}
 use Rattle.cell_states.specs.Filling.{is_awake}
-use Rattle.due_cells.proofs.Keeping.{seen_cycles, seen_state, seen_due, seen_no_version, length_row}
+use Rattle.due_cells.proofs.Keeping.{seen_cycles, seen_state, length_row}
 use Rattle.due_cells.proofs.FilledRows.{marks_filled, layout_filled, same_cell, cleared_cell}
 use Rattle.due_cells.proofs.Stated.{bounded_by, stated_along, width_each}
 use Rattle.cell_states.proofs.Whole.{awake_within, same_value}
@@ -66,16 +66,6 @@ pub overflow_add-cycle : goal.overflow_add-cycle
 overflow_add-cycle g c =
     let i = c.cells.inside in
     omega (arith, c.requires.ready.within, seen_cycles (state_at i.states) i.due (lists i.versions.items) c.args.cells.now c.cells.view_is, c.cells.invariant.1.short)
-
-pub returns-in-Err-clause-versions : goal.returns-in-Err-clause-versions
-returns-in-Err-clause-versions g c = λ t d e.
-    let i = c.cells.inside in
-    seen_no_version (state_at i.states) i.due (lists i.versions.items) c.args.cells.now c.cells.view_is (bounded_by i.states i.due c.cells.invariant.0) c.cells.invariant.1 t d (sym (seen_due (state_at i.states) i.due (lists i.versions.items) c.args.cells.now c.cells.view_is (bounded_by i.states i.due c.cells.invariant.0) c.cells.invariant.1 t d) ∙ e)
-
-pub returns-clause-versions : goal.returns-clause-versions
-returns-clause-versions g c = λ t d e.
-    let i = c.cells.inside in
-    seen_no_version (state_at i.states) i.due (lists i.versions.items) c.args.cells.now c.cells.view_is (bounded_by i.states i.due c.cells.invariant.0) c.cells.invariant.1 t d (sym (seen_due (state_at i.states) i.due (lists i.versions.items) c.args.cells.now c.cells.view_is (bounded_by i.states i.due c.cells.invariant.0) c.cells.invariant.1 t d) ∙ e)
 
 pub invariant_of-cells-2 : goal.invariant_of-cells-2
 invariant_of-cells-2 g c =

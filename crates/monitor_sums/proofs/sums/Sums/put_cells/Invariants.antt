@@ -1,7 +1,6 @@
 use Rattle.std.proofs.Common.{◌≡◌, ℕ, ◌-◌, ◌<◌, ◌≤◌, cond}
 use Rattle.std.specs.Prelude.{◌==◌, ◌&&◌, nat_le, nat_lt}
 use Rattle.omega_net.specs.Numbers.{components}
-use Rattle.project_book.specs.Limits.{max_horizon}
 use Rattle.monitor_sums.specs.Kept.{kept_at}
 use Rattle.monitor_sums.proofs.sums.Sums.put_cells.Given as goal
 
@@ -13,6 +12,7 @@ invariant-loop-cycle l = record {
   began : l.from ≤ l.cycle;
   ended : l.cycle ≤ l.end;
   shape : l.self.k ≡ l.fn.self.k;
-  each : (t c : ℕ) → t ≤ max_horizon → c < components l.fn.self.k
+  last : l.self.last ≡ l.fn.self.last;
+  each : (t c : ℕ) → t ≤ l.fn.self.last → c < components l.fn.self.k
       → kept_at l.self.cells t c ≡ cond ((nat_le l.from t && nat_lt t l.cycle) && (c == l.component)) l.new (kept_at l.fn.self.cells t c);
 }
