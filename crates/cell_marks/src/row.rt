@@ -16,11 +16,22 @@ use std::marker::Model;
 
 /// A mark for each component, and how many are set. The words come by fours, one four for each 256 components: the first four
 /// lie in the row itself, more in a piece of memory of their own.
-#[derive(Drop)]
 pub struct Row {
     words: SmallVec<u64, 4>,
     len: u32,
     count: u32,
+}
+
+// Not derived: whoever drops a row calls this, and proves nothing of where its words lie anew.
+impl Drop for Row {
+    fn drop(self) {
+        let Row {
+            words,
+            len: _,
+            count: _,
+        } = self;
+        drop(words);
+    }
 }
 
 impl Model for Row {

@@ -27,10 +27,11 @@ use std::thread::Threads;
 use verdict::{Verdict, status_after};
 
 /// An example NAME is a project file NAME.toml, commands NAME.in, and the answers NAME.out.
-const EXAMPLES: [&str; 11] = [
+const EXAMPLES: [&str; 12] = [
     "fetch_barrier",
     "flag",
     "flag_fenced",
+    "hot_traffic",
     "hot_word",
     "long_run",
     "matrix_stride",

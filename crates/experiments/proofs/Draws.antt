@@ -1,25 +1,17 @@
--- Scripts, entry by entry and processor by processor.
-use Rattle.std.proofs.Common.{◌≡◌, ℕ, zero, suc, ◌+◌, ◌-◌, ◌<◌, List, [], ◌∷◌, ◌++◌, Bool, length, map, set, sym, ap, ◌∙◌, add-one, arith, append_assoc, append-nil, subst}
+-- Scripts, processor by processor.
+use Rattle.std.proofs.Common.{◌≡◌, ℕ, zero, suc, ◌+◌, ◌-◌, ◌<◌, ◌≤◌, max, nat_le, if◌then◌else◌, true, false, refl, List, [], ◌∷◌, ◌++◌, Bool, length, map, set, sym, ap, ◌∙◌, add-one, arith, append_assoc, append-nil, subst}
 use Rattle.std.specs.Prelude.{replicate}
+use Rattle.std.proofs.lemmas.Bool.{leb-true}
+use Rattle.project_book.specs.Limits.{script_entries, usual_entries}
+use Rattle.project_book.specs.Scales.{most_entries}
+use Rattle.project_book.specs.declared.scale.Scale.TheVariants.{Usual, Large}
+use Rattle.experiments.specs.declared.load.Load.{Load}
+use Rattle.experiments.specs.Loads.{entries_of, scale_of}
 use Rattle.std.proofs.lemmas.List.{map-append, length-map}
 use Rattle.std.proofs.Math.Seq.{set-append_seam}
-use Rattle.rand_pcg.specs.Lcg.{Lcg}
-use Rattle.rand_pcg.specs.Pcg.{pcg32}
 use Rattle.omega_net.specs.declared.script.ScriptEntry.{ScriptEntry}
 use Rattle.omega_net.specs.Wires.{below}
 use Rattle.machine_cells.proofs.Runs.{length-below}
-use Rattle.experiments.specs.Loads.{drawn, next_drawn}
-
--- one reference more
-pub drawn_next : (sync : Bool) (hot n : ℕ) (es : List ScriptEntry) (g h j : Lcg) (a b : ℕ) → (a, h) ≡ pcg32 g → (b, j) ≡ pcg32 h
-    → (es ++ drawn sync hot a b ∷ []) ++ next_drawn sync hot n j ≡ es ++ next_drawn sync hot (suc n) g
-unfolding next_drawn
-drawn_next sync hot n es g h j a b first second =
-    rw (ap (λ p. p.0) second, ap (λ p. p.1) second, ap (λ p. p.0) first, ap (λ p. p.1) first) (append_assoc es _ _)
-
-pub none_drawn : (sync : Bool) (hot : ℕ) (es : List ScriptEntry) (g : Lcg) → es ++ next_drawn sync hot zero g ≡ es
-unfolding next_drawn
-none_drawn sync hot es g = append-nil es
 
 -- the scripts of the processors before one, and empty ones behind
 abbrev pub set_before : (ℕ → List ScriptEntry) → ℕ → ℕ → List (List ScriptEntry)
@@ -42,3 +34,11 @@ set_next f n m lt =
 
 pub all_set : (f : ℕ → List ScriptEntry) (m : ℕ) → set_before f m m ≡ map f (below m)
 all_set f m = let none : m - m ≡ 0 = omega arith in rw none (append-nil (map f (below m)))
+
+-- a project of a load's scale may have so many references
+pub entries_fit : (load : Load) → load.cycles ≤ script_entries → entries_of load ≤ most_entries (scale_of load)
+entries_fit load few = by (nat_le load.cycles usual_entries) refl
+  where
+    by : (b : Bool) → nat_le load.cycles usual_entries ≡ b → entries_of load ≤ most_entries (if b then Usual else Large)
+    by true small = omega (arith, leb-true load.cycles usual_entries small)
+    by false large = omega (arith, few)

@@ -1,7 +1,8 @@
 -- Offered loads: scripts in which a share of the cycles offers a reference.
 use Rattle.std.specs.Prelude.{ℕ, ◌+◌, ◌%◌, ◌^◌, nat_lt, if◌then◌else◌, List, [], ◌∷◌, map}
-use Rattle.rand_pcg.specs.Lcg.{Lcg, started, increment_of}
-use Rattle.rand_pcg.specs.Pcg.{multiplier_64, pcg32}
+use Rattle.rand_pcg.specs.Lcg.{Lcg}
+use Rattle.rand_pcg.specs.Pcg.{pcg32}
+use Rattle.drawn_scripts.specs.Draws.{stream}
 use Rattle.omega_net.specs.declared.script.ScriptEntry.{ScriptEntry}
 use Rattle.omega_net.specs.declared.script.ScriptEntry.TheVariants.{Idle}
 use Rattle.omega_net.specs.Wires.{below}
@@ -21,7 +22,7 @@ next_offered rate g (reference ∷ others) = offered rate (pcg32 g).0 reference 
 -- a processor's script: that of the load, of which each reference is offered or not by a stream of its own, 64 behind that of the references
 abbrev pub script_offered : Offer → ℕ → List ScriptEntry
 script_offered o p =
-    next_offered o.rate (started 64 multiplier_64 o.load.seed (increment_of 64 (64 + p))) (script_drawn o.load p)
+    next_offered o.rate (stream o.load.seed (64 + p)) (script_drawn o.load p)
 
 -- THE PROJECT OF AN OFFERED LOAD: that of the load, but for the scripts
 abbrev pub project_offered : Offer → Project

@@ -11,11 +11,11 @@ ghost use Rattle.experiments.specs.Delays.{is_cold, since, waits, IsWaitedBy};
 ghost use Rattle.experiments.specs.Logs.{came_at, came_in, issued_now, wait_of, AreLogs};
 ghost use Rattle.run_reports.specs.Runners.{IsAt};
 
-use crate::{Fault, Load, Window, project_of};
+use crate::{Fault, Load, MOST_CYCLES, Window, project_of};
 use grid_law::NoMemory;
 use omega_net::{Reply, ScriptEntry};
 use page_map::MAX_K;
-use project_book::{Project, USUAL_HORIZON};
+use project_book::Project;
 use rayon::prelude::*;
 use run_reports::{HOT_ADDRESS, Runner};
 use std::alloc::{AllocError, Global};
@@ -272,7 +272,7 @@ fn total(numbers: &[u32]) -> Option<u64>
 fn waited_by(alloc: Global, load: Load, from: u32) -> Result<ColdWaits, Fault>
     ensures { IsWaitedBy load from result }
 {
-    if load.k > MAX_K || load.cycles > USUAL_HORIZON || from > load.cycles {
+    if load.k > MAX_K || load.cycles > MOST_CYCLES || from > load.cycles {
         return Err(Fault::Load);
     }
     let project = match project_of(alloc, load) {

@@ -9,11 +9,11 @@ ghost use Rattle.monitor_sums.specs.declared.counter.Counter.TheVariants.{Answer
 ghost use Rattle.experiments.specs.Flows.{counted_at, AreFlows, IsFlow};
 ghost use Rattle.run_reports.specs.Runners.{IsAt};
 
-use crate::{Fault, Load, project_of};
+use crate::{Fault, Load, MOST_CYCLES, project_of};
 use grid_law::NoMemory;
 use omega_net::Reply;
 use page_map::MAX_K;
-use project_book::{Project, USUAL_HORIZON};
+use project_book::Project;
 use run_reports::Runner;
 use std::alloc::{AllocError, Global};
 
@@ -105,7 +105,7 @@ pub fn flows_of(alloc: Global, project: &Project) -> Result<Flows, NoMemory>
 pub(crate) fn flows_by(alloc: Global, load: Load) -> Result<Flows, Fault>
     ensures { AreFlows load result }
 {
-    if load.k > MAX_K || load.cycles > USUAL_HORIZON {
+    if load.k > MAX_K || load.cycles > MOST_CYCLES {
         return Err(Fault::Load);
     }
     let project = match project_of(alloc, load) {

@@ -15,8 +15,8 @@
 //!
 //! The crate stands on `machine_cells` for runs, on `run_reports` for one that is counted cycle by cycle and not kept, on
 //! `serial_order` and `memory_order` for the one order, on `bench_core` and
-//! `run_queries` for questions and their answers, on `saturation` for levels, on `project_book` for projects, on `rand_pcg`
-//! for drawing, and on `rayon` for threads. It promises that each figure is that of the run of the project from cycle 0
+//! `run_queries` for questions and their answers, on `saturation` for levels, on `project_book` for projects, on `drawn_scripts` and
+//! `rand_pcg` for drawing, and on `rayon` for threads. It promises that each figure is that of the run of the project from cycle 0
 //! (`specs/Maps.antt`, `specs/Delays.antt`, `specs/Flows.antt`, `specs/Steady.antt`, `specs/Traffic.antt`, `specs/Orders.antt`, and `answer` of
 //! `run_queries`), so that anyone who asks the workbench the same is told the same; and that each fault comes only for its
 //! cause (`specs/Told.antt`).
@@ -40,7 +40,7 @@ pub use delays::{ColdWaits, cold_waits, waited_each};
 pub use fault::Fault;
 pub use flows::{Flows, flows_of};
 pub use lanes::{lane_counts, lane_of};
-pub use load::{Load, MOST_CYCLES, SPREAD_ADDRESS, drawn, project_of};
+pub use load::{Load, MOST_CYCLES, USUAL_CYCLES, project_of};
 pub use map::{SaturationMap, StageLengths, Window, saturation_map};
 pub use offer::{Offer, offered, project_offered};
 pub use order::{Issue, OrderRow, order_rows, rows_shown};

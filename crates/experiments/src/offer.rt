@@ -2,7 +2,9 @@
 ghost use Rattle.std.specs.Prelude.{◌≡◌, ◌≤◌, ◌^◌, All, IfOk, length, map};
 ghost use Rattle.omega_net.specs.Wires.{below};
 ghost use Rattle.page_map.specs.Limits.{max_k};
-ghost use Rattle.project_book.specs.Limits.{usual_entries, usual_horizon};
+ghost use Rattle.project_book.specs.Limits.{script_entries};
+ghost use Rattle.project_book.specs.Scales.{most_entries};
+ghost use Rattle.experiments.specs.Loads.{scale_of};
 ghost use Rattle.project_book.specs.Scripts.{AreFew, IsEntry, IsScript};
 ghost use Rattle.experiments.specs.Offers.{next_offered, offered, project_offered, script_offered};
 
@@ -62,11 +64,12 @@ fn offered_by(
     Ok(entries)
 }
 
-/// A processor's script: that of the load, but nothing in the place of each reference that isn't offered. It has 256 entries, of
-/// which each takes a cycle or more.
+/// A processor's script: that of the load, but nothing in the place of each reference that isn't offered. It has as many entries,
+/// of which each takes a cycle or more.
 fn offered_script(alloc: Global, offer: Offer, proc: u32) -> Result<Vec<ScriptEntry>, AllocError>
+    requires { offer.load.cycles ≤ script_entries }
     ensures script { IfOk result (λ es. IsScript es.items) }
-    ensures count { IfOk result (λ es. length es.items ≡ usual_entries) }
+    ensures few { IfOk result (λ es. length es.items ≤ most_entries (scale_of offer.load)) }
     ensures offered { IfOk result (λ es. es.items ≡ script_offered offer proc) }
 {
     let generator = Pcg32::new(offer.load.seed, OFFERS + u64::from(proc));
@@ -76,9 +79,10 @@ fn offered_script(alloc: Global, offer: Offer, proc: u32) -> Result<Vec<ScriptEn
 
 /// The scripts of all processors.
 fn offered_scripts(alloc: Global, offer: Offer) -> Result<Scripts, NoMemory>
-    requires { offer.load.k ≤ max_k }
+    requires k { offer.load.k ≤ max_k }
+    requires cycles { offer.load.cycles ≤ script_entries }
     ensures count { IfOk result (λ all. length all ≡ 2 ^ offer.load.k) }
-    ensures few { IfOk result (AreFew usual_entries) }
+    ensures few { IfOk result (AreFew (most_entries (scale_of offer.load))) }
     ensures offered { IfOk result (λ all. all ≡ map (script_offered offer) (below (2 ^ offer.load.k))) }
 {
     let count = 1 << offer.load.k;
@@ -90,14 +94,14 @@ fn offered_scripts(alloc: Global, offer: Offer) -> Result<Scripts, NoMemory>
 }
 
 /// The project of an offered load: that of the load, but with these scripts.
-/// The conditions are that there is such a machine, and that the cycles are within the limit of a horizon.
+/// The conditions are that there is such a machine, and that the cycles are at most [`MOST_CYCLES`](crate::MOST_CYCLES).
 ///
 /// # Errors
 ///
 /// Where a growth was refused. What was taken is given back.
 pub fn project_offered(alloc: Global, offer: Offer) -> Result<Project, NoMemory>
     requires k { offer.load.k ≤ max_k }
-    requires cycles { offer.load.cycles ≤ usual_horizon }
+    requires cycles { offer.load.cycles ≤ script_entries }
     ensures { IfOk result (λ project. project ≡ project_offered offer) }
 {
     let scripts = offered_scripts(alloc, offer)?;

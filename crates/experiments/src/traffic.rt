@@ -10,10 +10,10 @@ ghost use Rattle.experiments.specs.Traffic.{issued_by_middle, IsTraffic, IsTraff
 
 use crate::flows::{Flows, flows_of};
 use crate::steady::{left_out, sum_between};
-use crate::{Fault, Offer, project_offered};
+use crate::{Fault, MOST_CYCLES, Offer, project_offered};
 use grid_law::NoMemory;
 use page_map::MAX_K;
-use project_book::{Project, USUAL_HORIZON};
+use project_book::Project;
 use rayon::prelude::*;
 use run_reports::{Condition, Latencies, Window, latencies_of};
 use std::alloc::{AllocError, Global};
@@ -93,7 +93,7 @@ fn traffic_of(alloc: Global, offer: Offer, project: &Project) -> Result<Traffic,
 fn traffic_by(alloc: Global, offer: Offer) -> Result<Traffic, Fault>
     ensures { IsTrafficBy offer result }
 {
-    if offer.load.k > MAX_K || offer.load.cycles > USUAL_HORIZON {
+    if offer.load.k > MAX_K || offer.load.cycles > MOST_CYCLES {
         return Err(Fault::Load);
     }
     let project = match project_offered(alloc, offer) {

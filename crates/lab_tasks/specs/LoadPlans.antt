@@ -39,7 +39,7 @@ pub record IsLoadPlan (words : LoadWords) (plan : LoadPlan) : Type 0 where
   pub hot : AreShares (shares_text words) plan.hot.items
   pub span : IsSpan (text_of words.rate) (plan.from, plan.to)
   pub step : IsTold (text_of words.step) 5 1 100 plan.step
-  pub cycles : IsTold (text_of words.curves.cycles) 256 2 256 plan.cycles
+  pub cycles : IsTold (text_of words.curves.cycles) 256 2 4096 plan.cycles
   pub seed : IsTold (text_of words.curves.seed) 1 0 4294967295 plan.seed
   pub seeds : IsTold (text_of words.curves.seeds) 5 1 20 plan.seeds
 
@@ -50,7 +50,7 @@ IsNoLoadPlan words end =
     InTurn (AreNoShares (shares_text words) end) (AreShares (shares_text words)) (λ hot.
     InTurn (IsNoSpan (text_of words.rate) end) (IsSpan (text_of words.rate)) (λ span.
     InTurn (IsUntold (codes "--step") (text_of words.step) 1 100 end) (IsTold (text_of words.step) 5 1 100) (λ step.
-    InTurn (IsUntold (codes "--cycles") (text_of words.curves.cycles) 2 256 end) (IsTold (text_of words.curves.cycles) 256 2 256) (λ cycles.
+    InTurn (IsUntold (codes "--cycles") (text_of words.curves.cycles) 2 4096 end) (IsTold (text_of words.curves.cycles) 256 2 4096) (λ cycles.
     InTurn (IsUntold (codes "--seed") (text_of words.curves.seed) 0 4294967295 end) (IsTold (text_of words.curves.seed) 1 0 4294967295) (λ seed.
     IsUntold (codes "--seeds") (text_of words.curves.seeds) 1 20 end))))))
 

@@ -68,7 +68,7 @@ pub record IsMap (k horizon : ℕ) (words : MapWords) (plan : MapPlan) : Type 0 
 pub record IsCurves (words : CurveWords) (plan : CurvePlan) : Type 0 where
   pub k : IsTold (text_of words.k) max_k 1 max_k plan.k
   pub hot : AreShares (text_of words.hot) plan.hot.items
-  pub cycles : IsTold (text_of words.cycles) 256 2 256 plan.cycles
+  pub cycles : IsTold (text_of words.cycles) 256 2 4096 plan.cycles
   pub seed : IsTold (text_of words.seed) 1 0 4294967295 plan.seed
   pub seeds : IsTold (text_of words.seeds) 5 1 20 plan.seeds
   pub of : measure_of (text_of words.of) ≡ Some plan.of
@@ -97,7 +97,7 @@ abbrev pub IsNoCurve : CurveWords → End → Type 0
 IsNoCurve words end =
     InTurn (IsUntold (codes "--k") (text_of words.k) 1 max_k end) (IsTold (text_of words.k) max_k 1 max_k) (λ k.
     InTurn (AreNoShares (text_of words.hot) end) (AreShares (text_of words.hot)) (λ hot.
-    InTurn (IsUntold (codes "--cycles") (text_of words.cycles) 2 256 end) (IsTold (text_of words.cycles) 256 2 256) (λ cycles.
+    InTurn (IsUntold (codes "--cycles") (text_of words.cycles) 2 4096 end) (IsTold (text_of words.cycles) 256 2 4096) (λ cycles.
     InTurn (IsUntold (codes "--seed") (text_of words.seed) 0 4294967295 end) (IsTold (text_of words.seed) 1 0 4294967295) (λ seed.
     InTurn (IsUntold (codes "--seeds") (text_of words.seeds) 1 20 end) (IsTold (text_of words.seeds) 5 1 20) (λ seeds.
     IsNoMeasure (text_of words.of) end)))))

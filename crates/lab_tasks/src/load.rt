@@ -19,9 +19,9 @@ use crate::outcome::{OutFile, Outcome};
 use crate::progress::Progress;
 use crate::task::{curves, net_name};
 use crate::words::LoadWords;
-use experiments::{Load, Offer, project_offered};
+use experiments::{Load, MOST_CYCLES, Offer, project_offered};
 use page_map::MAX_K;
-use project_book::{Edit, Project, USUAL_HORIZON};
+use project_book::{Edit, Project};
 use project_file::write_project;
 use std::alloc::{AllocError, Global};
 use std::fmt;
@@ -68,7 +68,7 @@ fn kept_offer<'a>(alloc: Global, offer: Offer) -> Result<Project, End<'a>>
     ensures kept { IfOk result (λ project. project ≡ kept_offer offer) }
     ensures memory { IsOkUnless result End.Memory }
 {
-    if offer.load.k > MAX_K || offer.load.cycles > USUAL_HORIZON {
+    if offer.load.k > MAX_K || offer.load.cycles > MOST_CYCLES {
         return Err(End::Memory);
     }
     let plain = Offer {

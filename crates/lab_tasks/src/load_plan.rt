@@ -9,7 +9,7 @@ use crate::end::{End, Reason};
 use crate::numbers::range_in;
 use crate::plan::{MOST_SEEDS, number_at, shares_at};
 use crate::words::LoadWords;
-use experiments::{Load, MOST_CYCLES, Offer};
+use experiments::{Load, MOST_CYCLES, Offer, USUAL_CYCLES};
 use page_map::MAX_K;
 use std::alloc::{AllocError, Global};
 
@@ -79,7 +79,13 @@ pub(crate) fn load_plan<'a>(alloc: Global, words: &LoadWords<'a>) -> Result<Load
     let hot = load_shares(alloc, words)?;
     let span = span_at(words.rate)?;
     let step = number_at("--step", words.step, 5, 1, 100)?;
-    let cycles = number_at("--cycles", words.curves.cycles, MOST_CYCLES, 2, MOST_CYCLES)?;
+    let cycles = number_at(
+        "--cycles",
+        words.curves.cycles,
+        USUAL_CYCLES,
+        2,
+        MOST_CYCLES,
+    )?;
     let seed = number_at("--seed", words.curves.seed, 1, 0, u32::MAX)?;
     let seeds = number_at("--seeds", words.curves.seeds, 5, 1, MOST_SEEDS)?;
     Ok(LoadPlan {

@@ -11,7 +11,7 @@ use crate::end::{End, Reason};
 use crate::map_rows::{Over, Way, over_at, refuse_module, way_at};
 use crate::numbers::list_in;
 use crate::words::{CurveWords, MapWords};
-use experiments::{MOST_CYCLES, Window};
+use experiments::{MOST_CYCLES, USUAL_CYCLES, Window};
 use line_words::number;
 use omega_net::{Net, Shape};
 use page_map::MAX_K;
@@ -212,7 +212,7 @@ pub(crate) fn curve_plan<'a>(alloc: Global, words: &CurveWords<'a>) -> Result<Cu
 {
     let k = number_at("--k", words.k, MAX_K, 1, MAX_K)?;
     let hot = shares_at(alloc, words.hot)?;
-    let cycles = number_at("--cycles", words.cycles, MOST_CYCLES, 2, MOST_CYCLES)?;
+    let cycles = number_at("--cycles", words.cycles, USUAL_CYCLES, 2, MOST_CYCLES)?;
     let seed = number_at("--seed", words.seed, 1, 0, u32::MAX)?;
     let seeds = number_at("--seeds", words.seeds, 5, 1, MOST_SEEDS)?;
     let of = measure_at(words.of)?;

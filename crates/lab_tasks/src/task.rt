@@ -53,9 +53,9 @@ use crate::sweep::sweep_table;
 use crate::tables::{DelayPoint, RatePoint};
 use crate::trace::{TraceWords, trace_made, traced};
 use crate::words::{Asked, CurveWords, DelayWords, MapWords, SweepWords};
-use experiments::{Load, project_of};
+use experiments::{Load, MOST_CYCLES, project_of};
 use page_map::MAX_K;
-use project_book::{Edit, Project, USUAL_HORIZON};
+use project_book::{Edit, Project};
 use project_file::{ProjectFault, read_project, write_project};
 use run_reports::Window;
 use std::alloc::{AllocError, Global};
@@ -248,7 +248,7 @@ fn kept_project<'a>(alloc: Global, load: Load) -> Result<Project, End<'a>>
     ensures kept { IfOk result (λ project. project ≡ kept_of load) }
     ensures memory { IsOkUnless result End.Memory }
 {
-    if load.k > MAX_K || load.cycles > USUAL_HORIZON {
+    if load.k > MAX_K || load.cycles > MOST_CYCLES {
         return Err(End::Memory);
     }
     let plain = Load {

@@ -215,13 +215,13 @@ Status: 0 the input ended, or somebody typed quit; 1 a line was refused, with --
 can't be read; 4 the project is refused; 5 no memory, or standard output can't be written.";
 
 const RATES_MEASURED: &str = "\
-Each processor issues 256 references, at most 8 of them unanswered: of a hundred as many as --hot says add 1 to word 0, the
-others load a word of page 1, which is spread over all modules. They are drawn anew for each seed. The start is left out, until
+Each processor issues a reference a cycle while it may, with at most 8 unanswered: of a hundred as many as --hot says add 1 to word 0,
+the others load a word of page 1, which is spread over all modules. They are drawn anew for each seed. The start is left out, until
 the rate is steady. Without --csv and --out the table goes to standard output.";
 
 const DELAYS_MEASURED: &str = "\
-Each processor issues 256 references, at most 8 of them unanswered: of a hundred as many as --hot says add 1 to word 0, the
-others load a word of page 1, which is spread over all modules. They are drawn from --seed. The second half of the cycles is
+Each processor issues a reference a cycle while it may, with at most 8 unanswered: of a hundred as many as --hot says add 1 to word 0,
+the others load a word of page 1, which is spread over all modules. They are drawn from --seed. The second half of the cycles is
 measured. Without --csv and --out the table goes to standard output.
 
 With FILE nothing is measured: the latencies of its references, as 'lab latency FILE' tables them, are drawn as a histogram, to
@@ -659,7 +659,7 @@ fn measured_command<'a>(
         task,
         "cycles",
         "N",
-        "How many cycles are run, from 2 to 256; without it 256",
+        "How many cycles are run, from 2 to 4096; without it 256",
     )?;
     let task = with_option(
         alloc,

@@ -180,12 +180,12 @@ const CURVES: &[Refused] = &[
     (
         "rates|--cycles|1",
         7,
-        "lab: --cycles: 1 is not within 2 to 256",
+        "lab: --cycles: 1 is not within 2 to 4096",
     ),
     (
-        "rates|--cycles|257",
+        "rates|--cycles|4097",
         7,
-        "lab: --cycles: 257 is not within 2 to 256",
+        "lab: --cycles: 4097 is not within 2 to 4096",
     ),
     (
         "rates|--seed|4294967296",

@@ -147,7 +147,8 @@ pub fn is_timed(entry: ScriptEntry) -> bool
     }
 }
 
-fn are_times(times: u32) -> bool
+/// Whether a reference may be issued so often, or an idle last so long.
+pub fn are_times(times: u32) -> bool
     ensures { result ≡ are_times times }
 {
     (1..=MAX_TIMES).contains(&times)

@@ -151,8 +151,8 @@ fn read_until(text: &[u8]) -> Option<ScriptEntry>
     })
 }
 
-/// Whether a network's name is that of the combining one.
-fn read_network(word: &[u8]) -> Option<bool>
+/// Whether a network's name is that of the combining one: true for `sync`, false for `plain`, None for another word.
+pub fn read_network(word: &[u8]) -> Option<bool>
     ensures { result ≡ network_named word.now }
 {
     if word == b"sync".as_slice() {

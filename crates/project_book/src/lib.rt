@@ -30,8 +30,8 @@ mod slot;
 mod words;
 
 pub use depths::{QueueDepths, USUAL_WAIT};
-pub use edit::{Depths, Edit};
-pub use entry_text::{EntryText, read_entry};
+pub use edit::{Depths, Edit, are_times, is_addressed, is_timed};
+pub use entry_text::{EntryText, read_entry, read_network};
 pub use fault::EditFault;
 pub use limits::{
     MAX_DEPTH, MAX_EDITS, MAX_HORIZON, MAX_TIMES, MAX_WINDOW, MIN_COMB_REVERSE, MIN_DEPTH,

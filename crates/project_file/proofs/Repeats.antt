@@ -3,7 +3,7 @@ use Rattle.std.proofs.Common.{◌≡◌, ℕ, zero, suc, Bool, true, false, cond
 use Rattle.std.specs.Prelude.{nat_le}
 use Rattle.omega_net.specs.declared.script.ScriptEntry.{ScriptEntry}
 use Rattle.project_book.specs.Limits.{script_entries}
-use Rattle.project_file.specs.Expanding.{behind, repeated}
+use Rattle.project_file.specs.Expanding.{repeated}
 
 behind_nothing : (room : Bool) (es : List ScriptEntry) → cond room (es ++ []) es ≡ es
 behind_nothing true es = append-nil es

@@ -1,5 +1,5 @@
 -- The project that a file is, or its first fault.
-use Rattle.std.specs.Prelude.{ℕ, ◌^◌, nat_lt, false, if◌then◌else◌, List, [], ◌∷◌, length, replicate, Result, Ok, Err, codes, ok_or}
+use Rattle.std.specs.Prelude.{ℕ, nat_lt, false, if◌then◌else◌, List, [], ◌∷◌, length, replicate, Result, Ok, Err, codes, ok_or}
 use Rattle.std.specs.Str.{is_utf8}
 use Rattle.toml.specs.Data.{Members}
 use Rattle.toml.specs.Parse.{parse_document}
@@ -12,16 +12,20 @@ use Rattle.project_file.specs.declared.fault.ProjectFault.TheVariants.{TooLong, 
 use Rattle.project_file.specs.Limits.{max_bytes, usual_bytes}
 use Rattle.project_file.specs.Fields.{◌>>=◌, known, optional, number_in, number_at}
 use Rattle.project_file.specs.declared.format.FileFormat.{FileFormat}
-use Rattle.project_file.specs.Formats.{format_in, most_k, most_horizon, scale_of, is_third}
+use Rattle.project_file.specs.Formats.{format_in, most_k, most_horizon, scale_of, is_third, has_short_forms}
 use Rattle.project_book.specs.Queues.{usual_depths, usual_wait}
 use Rattle.project_file.specs.Depths.{depths_in}
 use Rattle.project_file.specs.Stages.{combine_in}
 use Rattle.project_file.specs.Pages.{pages_in}
 use Rattle.project_file.specs.Words.{words_in}
-use Rattle.project_file.specs.Scripts.{scripts_in}
+use Rattle.project_file.specs.Scripts.{no_scripts, scripts_in}
+use Rattle.project_file.specs.Traffic.{with_traffic}
 
-abbrev pub root_keys : List (List ℕ)
-root_keys = codes "format" ∷ codes "k" ∷ codes "horizon" ∷ codes "window" ∷ codes "combine" ∷ codes "depths" ∷ codes "page" ∷ codes "word" ∷ codes "script" ∷ []
+abbrev pub keys_before : List (List ℕ) → List (List ℕ)
+keys_before keys = codes "format" ∷ codes "k" ∷ codes "horizon" ∷ codes "window" ∷ codes "combine" ∷ codes "depths" ∷ codes "page" ∷ codes "word" ∷ codes "script" ∷ keys
+
+abbrev pub root_keys : FileFormat → List (List ℕ)
+root_keys f = keys_before (if has_short_forms f then codes "traffic" ∷ [] else [])
 
 -- the rest of a project of 2^k processors, in the order of the keys
 abbrev pub sized_project : FileFormat → ℕ → ℕ → Members → Result Project ProjectFault
@@ -31,14 +35,15 @@ sized_project f k horizon ms = do
   depths ← optional (codes "depths") depths_in (usual_depths, usual_wait) ms
   pages ← optional (codes "page") (pages_in k) (whole_pages k) ms
   words ← optional (codes "word") words_in [] ms
-  scripts ← optional (codes "script") (scripts_in f k) (replicate (2 ^ k) []) ms
-  Ok (record { scale = scale_of f; k = k; horizon = horizon; window = window; depths = depths.0; wait = depths.1; combine = combine; pages = pages; words = words; scripts = scripts })
+  S ← optional (codes "script") (scripts_in f k) (no_scripts k) ms
+  T ← with_traffic f k S ms
+  Ok (record { scale = scale_of f; k = k; horizon = horizon; window = window; depths = depths.0; wait = depths.1; combine = combine; pages = pages; words = words; scripts = T.scripts })
 
 -- the project of a document
 abbrev pub document_project : Members → Result Project ProjectFault
 document_project ms = do
   format ← format_in ms
-  _ ← known root_keys ms
+  _ ← known (root_keys format) ms
   k ← number_at (codes "k") 0 (most_k format) ms
   horizon ← number_at (codes "horizon") 0 (most_horizon format) ms
   sized_project format k horizon ms

@@ -5,6 +5,7 @@ pub mod Fields
 pub mod Formats
 pub mod Depths
 pub mod Stages
+pub mod Traffic
 pub mod Pages
 pub mod Words
 pub mod Processors

@@ -1,5 +1,5 @@
 -- The key `script`: the processors' scripts, each given at most once.
-use Rattle.std.specs.Prelude.{ℕ, ◌^◌, ◌&&◌, ◌||◌, nat_le, Bool, true, false, List, [], length, replicate, Result, Ok, codes}
+use Rattle.std.specs.Prelude.{ℕ, ◌^◌, ◌&&◌, ◌||◌, nat_le, Bool, false, List, [], length, replicate, Result, Ok, codes}
 use Rattle.std.specs.List.{list_all}
 use Rattle.toml.specs.Data.{Data, Members}
 use Rattle.omega_net.specs.declared.script.ScriptEntry.{ScriptEntry}
@@ -50,12 +50,9 @@ with_script_item f k S d = do
   _ ← known (script_keys (is_for_several f ms)) ms
   with_script_of f k S ms
 
--- no script has entries
+-- no script has entries, and none was given
 unfoldable pub no_scripts : ℕ → GivenScripts
 no_scripts k = record { given = replicate (2 ^ max_k) false; scripts = replicate (2 ^ k) [] }
 
-abbrev pub scripts_in : FileFormat → ℕ → Data → Result (List (List ScriptEntry)) ProjectFault
-scripts_in f k d = do
-  ds ← tables_in d
-  S ← walk (with_script_item f k) (no_scripts k) ds
-  Ok S.scripts
+abbrev pub scripts_in : FileFormat → ℕ → Data → Result GivenScripts ProjectFault
+scripts_in f k d = tables_in d >>= walk (with_script_item f k) (no_scripts k)

@@ -16,7 +16,7 @@ use crate::format::FileFormat;
 use crate::items::{Array, are_texts, array_in};
 use line_words::{number, split_word};
 use page_map::ADDRESSES;
-use project_book::{MAX_TIMES, SCRIPT_ENTRIES, ScriptEntry, read_entry};
+use project_book::{SCRIPT_ENTRIES, ScriptEntry, are_times, read_entry, read_network};
 use std::alloc::{AllocError, Global};
 use toml::{Table, Value};
 use word_ops::{Kind, Op};
@@ -54,13 +54,6 @@ impl Stepped {
             times: 1,
         }
     }
-}
-
-/// Whether a reference may be issued so often, or an idle last so long.
-pub(crate) fn are_times(times: u32) -> bool
-    ensures { result ≡ are_times times }
-{
-    (1..=MAX_TIMES).contains(&times)
 }
 
 /// Adds the entries of an item, a text or a table that repeats some.
@@ -180,19 +173,6 @@ pub(crate) fn read_stepped(text: &[u8]) -> Option<Stepped>
         times,
         step,
     })
-}
-
-/// Whether a network's name is that of the combining one.
-fn read_network(word: &[u8]) -> Option<bool>
-    ensures { result ≡ network_named word.now }
-{
-    if word == b"sync".as_slice() {
-        Some(true)
-    } else if word == b"plain".as_slice() {
-        Some(false)
-    } else {
-        None
-    }
 }
 
 fn read_step(text: &[u8]) -> Option<u32>

@@ -26,6 +26,7 @@ mod processors;
 mod reading;
 mod scripts;
 mod stages;
+mod traffic;
 mod words;
 mod write_fault;
 mod writing;

@@ -16,7 +16,7 @@ pub(crate) fn line_of_key(text: &str, section: Section, key: &str) -> Option<usi
     for (number, line) in text.lines().enumerate() {
         let line = line.trim();
         place.step(line, number);
-        if place.is_within && is_key(line, key) {
+        if place.is_within && is_key(line, key) || place.is_header(line, key) {
             return number.checked_add(1);
         }
     }
@@ -68,6 +68,12 @@ impl Search {
         if self.is_within {
             self.begin = number.checked_add(1);
         }
+    }
+
+    /// Whether a line begins the table, or an item of the array, that stands at a key of the root.
+    fn is_header(&self, line: &str, key: &str) -> bool {
+        matches!(self.section, Section::Root)
+            && (table_name(line) == Some(key) || item_name(line) == Some(key))
     }
 
     /// Whether a line that begins with a bracket begins the part.

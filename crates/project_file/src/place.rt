@@ -1,5 +1,5 @@
 //! Where a refused file is wrong, in words for its author.
-ghost use Rattle.std.specs.Prelude.{◌≡◌, ◌≤◌, IfOk, length};
+ghost use Rattle.std.specs.Prelude.{◌≡◌, ◌≤◌, ◌^◌, IfOk, length};
 ghost use Rattle.page_map.specs.Limits.{max_k, address_count};
 
 use crate::depths::KEYS as DEPTH_KEYS;
@@ -13,9 +13,11 @@ use crate::lines::{Section, line_of_key, line_of_text};
 use crate::nearest::Hint;
 use crate::pages::{GivenPages, KEYS as PAGE_KEYS};
 use crate::processors::{ONE_KEYS, SEVERAL_KEYS, ends_of, is_for_several, processors_of};
-use crate::reading::{KEYS as ROOT_KEYS, MAX_BYTES, USUAL_BYTES, is_third, read_document};
+use crate::reading::{MAX_BYTES, USUAL_BYTES, is_third, keys_of, read_document};
 use crate::scripts::{GivenScripts, read_items};
+use crate::traffic::{add_item as add_traffic, keys_of as traffic_keys_of, network_in, rate_in};
 use crate::words::{KEYS as WORD_KEYS, add_item as add_word, no_words};
+use drawn_scripts::MOST_REFERENCES;
 use grid_law::NoMemory;
 use page_map::{ADDRESSES, MAX_K, PAGES};
 use project_book::{
@@ -36,6 +38,9 @@ const QUEUES: [(&str, Depths); 5] = [
     ("comb_reverse", Depths::CombReverse),
     ("module", Depths::ModuleQueue),
 ];
+
+/// The networks by their names.
+const NETWORKS: [&str; 2] = ["plain", "sync"];
 
 /// Why a walk over a document ends: with the line about its first fault, or for want of memory.
 #[derive(Drop)]
@@ -297,8 +302,8 @@ fn joined(alloc: Global, lines: Result<String, AllocError>) -> Found {
 
 fn root_checked(at: At, root: &Table) -> Result<(), Found> {
     number_checked(at, root, "format", 1, 3)?;
-    keys_checked(at, root, &ROOT_KEYS)?;
     let format = read_format(root).unwrap_or(FileFormat::Third);
+    root_keys_checked(at, root, format)?;
     let k = size_checked(at, root, "k", format.most_k(), [MAX_K, MAX_K])?;
     let horizons = [USUAL_HORIZON, MAX_HORIZON];
     size_checked(at, root, "horizon", format.most_horizon(), horizons)?;
@@ -307,7 +312,17 @@ fn root_checked(at: At, root: &Table) -> Result<(), Found> {
     depths_checked(at, root)?;
     pages_checked(at, root, k)?;
     words_checked(at, root)?;
-    scripts_checked(at, root, format, k)
+    let mut so_far = GivenScripts::new(at.alloc, k)?;
+    scripts_checked(at, root, format, k, &mut so_far)?;
+    traffic_checked(at, root, format, k, &mut so_far)
+}
+
+fn root_keys_checked(at: At, root: &Table, format: FileFormat) -> Result<(), Found> {
+    if !format.has_short_forms() && find(root, "traffic").is_some() {
+        let told = format!(in at.alloc; "no such key; format 3 has it");
+        return Err(at.fault("traffic", told));
+    }
+    keys_checked(at, root, keys_of(format))
 }
 
 fn keys_checked(at: At, table: &Table, keys: &[&str]) -> Result<(), Found> {
@@ -512,21 +527,108 @@ fn word_found(at: At, item: &Value, so_far: &[Option<u32>]) -> Result<(), Found>
     }
 }
 
-fn scripts_checked(at: At, root: &Table, format: FileFormat, k: u32) -> Result<(), Found>
-    requires { k ≤ max_k }
+fn scripts_checked(
+    at: At,
+    root: &Table,
+    format: FileFormat,
+    k: u32,
+    so_far: &mut GivenScripts,
+) -> Result<(), Found>
+    requires small { k ≤ max_k }
+    requires count { length so_far.old.scripts ≡ 2 ^ k }
+    ensures count { length so_far.new.scripts ≡ 2 ^ k }
 {
     let Some(value) = find(root, "script") else {
         return Ok(());
     };
     let array = tables_checked(at, "script", value)?;
-    let mut so_far = GivenScripts::new(at.alloc, k)?;
     'items: for (number, item) in array.iter().enumerate() {
         if so_far.add_item(at.alloc, item, format, k).is_err() {
             let place = Place::item("script", number, item, "processor", "processor");
-            return script_found(at.of(place), item, format, k, &so_far);
+            return script_found(at.of(place), item, format, k, so_far);
         }
     }
     Ok(())
+}
+
+fn traffic_checked(
+    at: At,
+    root: &Table,
+    format: FileFormat,
+    k: u32,
+    so_far: &mut GivenScripts,
+) -> Result<(), Found>
+    requires small { k ≤ max_k }
+    requires count { length so_far.old.scripts ≡ 2 ^ k }
+{
+    let Some(value) = find(root, "traffic") else {
+        return Ok(());
+    };
+    let array = tables_checked(at, "traffic", value)?;
+    'items: for (number, item) in array.iter().enumerate() {
+        if add_traffic(at.alloc, so_far, item, format, k).is_err() {
+            let place = Place::item("traffic", number, item, "processor", "processor");
+            return traffic_found(at.of(place), item, format, k, so_far);
+        }
+    }
+    Ok(())
+}
+
+/// What is wrong with an item that can't be added, or want of memory where nothing is.
+fn traffic_found(
+    at: At,
+    item: &Value,
+    format: FileFormat,
+    k: u32,
+    so_far: &GivenScripts,
+) -> Result<(), Found>
+    requires { k ≤ max_k }
+{
+    let Some(table) = item.as_table() else {
+        return Ok(());
+    };
+    let several = is_for_several(table, format);
+    beside_checked(at, table, several, format)?;
+    keys_checked(at, table, traffic_keys_of(several))?;
+    given_checked(at, table, several, k, so_far)?;
+    network_checked(at, table)?;
+    rate_checked(at, table)?;
+    number_checked(at, table, "hot", 0, 100)?;
+    number_checked(at, table, "word", 0, ADDRESSES - 1)?;
+    number_checked(at, table, "page", 0, PAGES - 1)?;
+    number_checked(at, table, "references", 1, MOST_REFERENCES)?;
+    number_checked(at, table, "seed", 0, u32::MAX)?;
+    Err(Found::NoMemory)
+}
+
+fn network_checked(at: At, table: &Table) -> Result<(), Found> {
+    let Some(value) = find(table, "network") else {
+        return Ok(());
+    };
+    if network_in(value).is_ok() {
+        return Ok(());
+    }
+    let Some(text) = value.as_str() else {
+        return Err(at.other_type("network", value, "a text"));
+    };
+    let hint = Hint::of(at.alloc, text, &NETWORKS)?;
+    let text = Shown(text);
+    let told = format!(in at.alloc; "\"{text}\" is no network{hint}");
+    Err(at.fault("network", told))
+}
+
+fn rate_checked(at: At, table: &Table) -> Result<(), Found> {
+    let Some(value) = find(table, "rate") else {
+        return Ok(());
+    };
+    if rate_in(value).is_ok() {
+        return Ok(());
+    }
+    if !value.is_float() && !value.is_integer() {
+        return Err(at.other_type("rate", value, "a number"));
+    }
+    let told = format!(in at.alloc; "not 0.01 to 1 in steps of 0.01");
+    Err(at.fault("rate", told))
 }
 
 /// What is wrong with an item that can't be added.
@@ -543,7 +645,25 @@ fn script_found(
         return Ok(());
     };
     let several = is_for_several(table, format);
-    script_keys_checked(at, table, several, format)?;
+    beside_checked(at, table, several, format)?;
+    keys_checked(at, table, if several { &SEVERAL_KEYS } else { &ONE_KEYS })?;
+    given_checked(at, table, several, k, so_far)?;
+    match find(table, "entries") {
+        Some(value) => entries_found(at, value, format),
+        None => Err(at.fault("entries", format!(in at.alloc; "missing"))),
+    }
+}
+
+/// The processors that an item is for, none of which was given before.
+fn given_checked(
+    at: At,
+    table: &Table,
+    several: bool,
+    k: u32,
+    so_far: &GivenScripts,
+) -> Result<(), Found>
+    requires { k ≤ max_k }
+{
     if several {
         processors_checked(at, table, k)?;
     } else {
@@ -560,22 +680,12 @@ fn script_found(
             return Err(at.fault(key, format!(in at.alloc; "{proc} is given twice")));
         }
     }
-    match find(table, "entries") {
-        Some(value) => entries_found(at, value, format),
-        None => Err(at.fault("entries", format!(in at.alloc; "missing"))),
-    }
+    Ok(())
 }
 
-fn script_keys_checked(
-    at: At,
-    table: &Table,
-    several: bool,
-    format: FileFormat,
-) -> Result<(), Found> {
-    if several {
-        return keys_checked(at, table, &SEVERAL_KEYS);
-    }
-    if find(table, "processors").is_some() {
+/// An item that is for one processor has no key `processors` beside.
+fn beside_checked(at: At, table: &Table, several: bool, format: FileFormat) -> Result<(), Found> {
+    if !several && find(table, "processors").is_some() {
         let told = if format.has_short_forms() {
             format!(in at.alloc; "no such key beside processor")
         } else {
@@ -583,7 +693,7 @@ fn script_keys_checked(
         };
         return Err(at.fault("processors", told));
     }
-    keys_checked(at, table, &ONE_KEYS)
+    Ok(())
 }
 
 /// The key `processors` of an item that has no key `processor`.

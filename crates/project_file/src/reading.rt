@@ -1,9 +1,9 @@
 //! A whole project file.
-ghost use Rattle.std.specs.Prelude.{◌≡◌, codes, ◌≤◌};
+ghost use Rattle.std.specs.Prelude.{◌≡◌, codes, ◌≤◌, map};
 ghost use Rattle.toml.specs.View.{table_view};
 ghost use Rattle.page_map.specs.Limits.{max_k};
 ghost use Rattle.project_file.specs.Fields.{Gives};
-ghost use Rattle.project_file.specs.Filed.{filed, document_of, document_project, long_project, sized_project};
+ghost use Rattle.project_file.specs.Filed.{filed, document_of, document_project, long_project, root_keys, sized_project};
 ghost use Rattle.project_file.specs.Formats.{format_in, is_third, most_horizon};
 
 use crate::depths::read_depths;
@@ -13,6 +13,7 @@ use crate::format::{FileFormat, read_format};
 use crate::pages::read_pages;
 use crate::scripts::read_scripts;
 use crate::stages::read_combine;
+use crate::traffic::with_traffic;
 use crate::words::read_words;
 use project_book::{MAX_WINDOW, Parts, Project};
 use std::alloc::Global;
@@ -24,7 +25,13 @@ pub const MAX_BYTES: usize = 67_108_864;
 /// How many bytes a project file may have that isn't of format 3.
 pub(crate) const USUAL_BYTES: usize = 4_194_304;
 
-pub(crate) const KEYS: [&str; 9] = [
+/// The keys of a project's root.
+const KEYS: [&str; 10] = [
+    "format", "k", "horizon", "window", "combine", "depths", "page", "word", "script", "traffic",
+];
+
+/// Those of a format without short forms.
+const USUAL_KEYS: [&str; 9] = [
     "format", "k", "horizon", "window", "combine", "depths", "page", "word", "script",
 ];
 
@@ -84,11 +91,22 @@ pub(crate) fn read_document(alloc: Global, bytes: &[u8]) -> Result<Table, Projec
     }
 }
 
+/// The keys that a project's root may have in a format.
+pub(crate) fn keys_of(format: FileFormat) -> &'static [&'static str]
+    ensures { map (λ k. k.now) result.now ≡ root_keys format }
+{
+    if format.has_short_forms() {
+        &KEYS
+    } else {
+        &USUAL_KEYS
+    }
+}
+
 fn document_project(alloc: Global, root: &Table) -> Result<Project, ProjectFault>
     ensures { Gives (λ p. p) result (document_project (table_view root.now)) }
 {
     let format = read_format(root)?;
-    refuse_others(root, &KEYS)?;
+    refuse_others(root, keys_of(format))?;
     let k = number_at(root, "k", 0, format.most_k())?;
     let horizon = number_at(root, "horizon", 0, format.most_horizon())?;
     sized_project(alloc, root, format, k, horizon)
@@ -110,7 +128,8 @@ fn sized_project(
     let (depths, wait) = read_depths(root)?;
     let pages = read_pages(root, k)?;
     let words = read_words(alloc, root)?;
-    let scripts = read_scripts(alloc, root, format, k)?;
+    let given = read_scripts(alloc, root, format, k)?;
+    let given = with_traffic(alloc, root, given, format, k)?;
     let parts = Parts {
         scale: format.scale(),
         k,
@@ -121,7 +140,7 @@ fn sized_project(
         combine,
         pages,
         words,
-        scripts,
+        scripts: given.scripts,
     };
     Ok(Project::from_parts(alloc, parts)?)
 }

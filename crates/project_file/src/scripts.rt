@@ -1,5 +1,5 @@
 //! The key `script`.
-ghost use Rattle.std.specs.Prelude.{◌≡◌, ℕ, codes, ◌≤◌, ◌^◌, [], Ok, Err, length, replicate, MatchResult, IfOk, OnOk, All, slice_set, ◌<◌, ◌≢◌};
+ghost use Rattle.std.specs.Prelude.{◌≡◌, ℕ, codes, ◌≤◌, ◌^◌, [], Ok, Err, length, MatchResult, IfOk, OnOk, All, slice_set, ◌<◌, ◌≢◌};
 ghost use Rattle.std.specs.List.{list_all};
 ghost use Rattle.toml.specs.View.{view, array_view, table_view};
 ghost use Rattle.page_map.specs.Limits.{max_k};
@@ -12,15 +12,15 @@ ghost use Rattle.project_file.specs.Expanding.{with_item};
 ghost use Rattle.project_file.specs.Processors.{is_for_several, each_given, each_set};
 ghost use Rattle.project_file.specs.Scripts.{no_scripts, is_entry, is_script, entries_in, scripts_in, with_script_item, with_script_of};
 
-use crate::expanding::{add_item, are_times};
+use crate::expanding::add_item;
 use crate::fault::ProjectFault;
 use crate::fields::{check, find, require};
 use crate::format::FileFormat;
 use crate::items::{Array, are_items, array_in, table_in, tables_in};
 use crate::processors::{is_for_several, processors_of, refuse_other_keys};
 use grid_law::NoMemory;
-use page_map::{ADDRESSES, MAX_K};
-use project_book::{ScriptEntry, Scripts};
+use page_map::MAX_K;
+use project_book::{ScriptEntry, Scripts, is_addressed, is_timed};
 use std::alloc::Global;
 use toml::{Table, Value};
 
@@ -34,24 +34,24 @@ type GivenFlags = [bool; PROCESSORS];
 #[derive(Drop)]
 pub(crate) struct GivenScripts {
     pub(crate) given: GivenFlags,
-    scripts: Scripts,
+    pub(crate) scripts: Scripts,
 }
 
-/// The scripts of a project's root, by processor, in a file of that format for a machine of 2^k processors.
+/// The scripts of a project's root that are written entry by entry, in a file of that format for a machine of 2^k processors.
 pub(crate) fn read_scripts(
     alloc: Global,
     root: &Table,
     format: FileFormat,
     k: u32,
-) -> Result<Scripts, ProjectFault>
+) -> Result<GivenScripts, ProjectFault>
     requires { k ≤ max_k }
-    ensures scripts { Gives (λ s. s) result (optional (codes "script") (scripts_in format k) (replicate (2 ^ k) []) (table_view root.now)) }
-    ensures count { IfOk result (λ s. length s ≡ 2 ^ k) }
-    ensures few { IfOk result (AreFew (most_entries (scale_of format))) }
+    ensures scripts { Gives (λ s. s) result (optional (codes "script") (scripts_in format k) (no_scripts k) (table_view root.now)) }
+    ensures count { IfOk result (λ s. length s.scripts ≡ 2 ^ k) }
+    ensures few { IfOk result (λ s. AreFew (most_entries (scale_of format)) s.scripts) }
 {
     match find(root, "script") {
         Some(value) => scripts_in(alloc, value, format, k),
-        None => Ok(Scripts::new(alloc, 1 << k)?),
+        None => Ok(GivenScripts::new(alloc, k)?),
     }
 }
 
@@ -60,15 +60,14 @@ fn scripts_in(
     value: &Value,
     format: FileFormat,
     k: u32,
-) -> Result<Scripts, ProjectFault>
+) -> Result<GivenScripts, ProjectFault>
     requires { k ≤ max_k }
     ensures scripts { Gives (λ s. s) result (scripts_in format k (view value.now)) }
-    ensures count { IfOk result (λ s. length s ≡ 2 ^ k) }
-    ensures few { IfOk result (AreFew (most_entries (scale_of format))) }
+    ensures count { IfOk result (λ s. length s.scripts ≡ 2 ^ k) }
+    ensures few { IfOk result (λ s. AreFew (most_entries (scale_of format)) s.scripts) }
 {
     let array = tables_in(value)?;
-    let all = GivenScripts::new(alloc, k)?.with_items(alloc, array, format, k)?;
-    Ok(all.scripts)
+    GivenScripts::new(alloc, k)?.with_items(alloc, array, format, k)
 }
 
 impl GivenScripts {
@@ -151,7 +150,7 @@ impl GivenScripts {
 }
 
 /// Which processors were given, after these, each of which may be given once.
-fn each_given(given: GivenFlags, procs: &[u32]) -> Result<GivenFlags, ProjectFault>
+pub(crate) fn each_given(given: GivenFlags, procs: &[u32]) -> Result<GivenFlags, ProjectFault>
     requires { All (λ p. p < 2 ^ max_k) procs.now }
     ensures { result ≡ each_given given procs.now }
 {
@@ -253,10 +252,5 @@ fn are_entries(entries: &[ScriptEntry]) -> bool
 pub(crate) fn is_entry(entry: ScriptEntry) -> bool
     ensures { result ≡ is_entry entry }
 {
-    match entry {
-        ScriptEntry::Reference { address, times, .. } | ScriptEntry::Until { address, times, .. } =>
-            address < ADDRESSES && are_times(times),
-        ScriptEntry::Idle(turns) => are_times(turns),
-        ScriptEntry::Fence => true,
-    }
+    is_addressed(entry) && is_timed(entry)
 }

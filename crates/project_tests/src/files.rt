@@ -715,6 +715,103 @@ fn expanded(rt: HostRuntime) -> Result<(), Fail> {
     Ok(())
 }
 
+/// What `traffic` asks for, but for its processors.
+const DRAWN: &str = "hot = 1\nword = 0\npage = 1\nreferences = 2\nseed = 3";
+
+/// Items of `traffic` before what else they need, and the fault that each is; 0 where it is none.
+const TRAFFIC: &[(&str, u8)] = &[
+    ("[[traffic]]\nprocessors = \"all\"\n", 0),
+    (
+        "[[traffic]]\nprocessor = 3\nnetwork = \"plain\"\nrate = 1\n",
+        0,
+    ),
+    ("[[traffic]]\nprocessor = 3\nrate = 0.01\n", 0),
+    ("[[traffic]]\nprocessor = 3\nrate = 1.0\n", 0),
+    ("[[traffic]]\nprocessor = 3\nrate = 0.405\n", 7),
+    ("[[traffic]]\nprocessor = 3\nrate = 0.0\n", 7),
+    ("[[traffic]]\nprocessor = 3\nrate = 1.01\n", 7),
+    ("[[traffic]]\nprocessor = 3\nrate = nan\n", 7),
+    ("[[traffic]]\nprocessor = 3\nrate = 2\n", 7),
+    ("[[traffic]]\nprocessor = 3\nrate = \"1\"\n", 6),
+    ("[[traffic]]\nprocessor = 3\nnetwork = \"low\"\n", 6),
+    ("[[traffic]]\nprocessor = 3\nnetwork = 1\n", 6),
+    ("[[traffic]]\nprocessor = 4\n", 7),
+    ("[[traffic]]\nprocessors = \"0..4\"\n", 7),
+    ("[[traffic]]\nprocessor = 3\ncycles = 1\n", 4),
+    ("[[traffic]]\nprocessor = 3\nprocessors = \"all\"\n", 4),
+    ("[[traffic]]\n", 5),
+    (
+        "[[script]]\nprocessor = 1\nentries = []\n[[traffic]]\nprocessors = \"0..1\"\n",
+        9,
+    ),
+    (
+        "[[traffic]]\nprocessor = 3\n[[traffic]]\nprocessor = 1\n",
+        5,
+    ),
+    ("[traffic]\nprocessor = 3\n", 6),
+];
+
+/// The numbers of `traffic`: a number is within its limits, or refused with 7.
+const DRAWN_NUMBERS: &[(&str, u8)] = &[
+    (
+        "hot = 100\nword = 16383\npage = 63\nreferences = 2048\nseed = 4294967295",
+        0,
+    ),
+    ("hot = 101\nword = 0\npage = 0\nreferences = 1\nseed = 0", 7),
+    (
+        "hot = 0\nword = 16384\npage = 0\nreferences = 1\nseed = 0",
+        7,
+    ),
+    ("hot = 0\nword = 0\npage = 64\nreferences = 1\nseed = 0", 7),
+    ("hot = 0\nword = 0\npage = 0\nreferences = 0\nseed = 0", 7),
+    (
+        "hot = 0\nword = 0\npage = 0\nreferences = 2049\nseed = 0",
+        7,
+    ),
+    (
+        "hot = 0\nword = 0\npage = 0\nreferences = 1\nseed = 4294967296",
+        7,
+    ),
+    ("hot = 0\nword = 0\npage = 0\nreferences = 1", 5),
+];
+
+/// The first fault of `traffic`.
+#[test]
+fn traffic_faults(rt: HostRuntime) -> Result<(), Fail> {
+    let alloc = rt.alloc();
+    for (more, number) in TRAFFIC {
+        let text = format!(in alloc; "{FOUR}{more}{DRAWN}")?;
+        assert!(rt; equal(&rt, number_of(alloc, text.as_str().as_bytes()), *number));
+    }
+    for (numbers, number) in DRAWN_NUMBERS {
+        let text = format!(in alloc; "{FOUR}[[traffic]]\nprocessor = 0\n{numbers}")?;
+        assert!(rt; equal(&rt, number_of(alloc, text.as_str().as_bytes()), *number));
+    }
+    let usual = format!(in alloc; "{SMALL}[[traffic]]\nprocessor = 0\n{DRAWN}")?;
+    assert!(rt; equal(&rt, number_of(alloc, usual.as_str().as_bytes()), 4));
+    Ok(())
+}
+
+/// Traffic is the scripts that are drawn for it. The entries were drawn apart from this program.
+#[test]
+fn traffic_is_drawn(rt: HostRuntime) -> Result<(), Fail> {
+    let alloc = rt.alloc();
+    let short =
+        "[[traffic]]\nprocessors = [0, 2]\nrate = 0.4\nhot = 30\nword = 7\npage = 2\nreferences = 6\nseed = 9
+[[traffic]]\nprocessor = 1\nnetwork = \"plain\"\nhot = 0\nword = 0\npage = 63\nreferences = 3\nseed = 4294967295";
+    let long = "script = [
+{ processor = 0, entries = [\"sync load 753 0\", \"idle 1\", \"sync load 745 0\", \"sync load 658 0\", \"idle 5\", \"sync load 603 0\", \"idle 2\", \"sync load 612 0\", \"idle 2\", \"sync load 631 0\"] },
+{ processor = 2, entries = [\"idle 2\", \"sync load 518 0\", \"sync load 561 0\", \"idle 8\", \"sync add 7 1\", \"sync add 7 1\", \"idle 1\", \"sync load 592 0\", \"idle 1\", \"sync load 702 0\"] },
+{ processor = 1, entries = [\"plain load 16141 0\", \"plain load 16164 0\", \"plain load 16214 0\"] },
+]";
+    let short = format!(in alloc; "{FOUR}{short}")?;
+    let long = format!(in alloc; "{FOUR}{long}")?;
+    let short = read_project(alloc, short.as_str().as_bytes())?;
+    let long = read_project(alloc, long.as_str().as_bytes())?;
+    assert!(rt; short.same(&long));
+    Ok(())
+}
+
 /// Where scripts in short forms are wrong, behind the three lines of a file of four processors.
 const SHORT_PLACES: &[(&str, &str)] = &[
     (
@@ -752,6 +849,34 @@ const SHORT_PLACES: &[(&str, &str)] = &[
     (
         "[[script]]\nprocessor = 1\nentries = [{ repeat = 4096, entries = [\"fence\", \"fence\"] }]",
         "line 6, script of processor 1 (the first), entries: more than 4096 of them",
+    ),
+    (
+        "\n[[scripts]]\nprocessor = 1",
+        "line 5, scripts: no such key; is it script?",
+    ),
+    (
+        "[[page]]\nnumber = 1\namount = 0\nbase = 0\n[word]",
+        "line 8, word: of type table where an array belongs",
+    ),
+    (
+        "[[traffic]]\nprocessor = 1\nrate = 0.405",
+        "line 6, traffic of processor 1 (the first), rate: not 0.01 to 1 in steps of 0.01",
+    ),
+    (
+        "[[traffic]]\nprocessor = 1\nnetwork = \"snyc\"",
+        "line 6, traffic of processor 1 (the first), network: \"snyc\" is no network; is it sync?",
+    ),
+    (
+        "[[traffic]]\nprocessor = 1\nrates = 0.4",
+        "line 6, traffic of processor 1 (the first), rates: no such key; is it rate?",
+    ),
+    (
+        "[[script]]\nprocessor = 1\nentries = []\n[[traffic]]\nprocessors = \"all\"\nhot = 4",
+        "line 8, the first traffic, processors: 1 is given twice",
+    ),
+    (
+        "[[traffic]]\nprocessors = \"all\"\nhot = 4\nword = 0\npage = 64",
+        "line 8, the first traffic, page: 64 is not 0 to 63",
     ),
 ];
 

@@ -28,7 +28,21 @@ processor = 1
 entries = [\"sync add 0 2\"]
 ";
 
-/// The same with an entry that is none.
+/// A large project with a script that is drawn.
+const DRAWN: &str = "format = 3
+k = 0
+horizon = 2001
+[[traffic]]
+processors = \"all\"
+rate = 0.5
+hot = 50
+word = 0
+page = 1
+references = 4
+seed = 1
+";
+
+/// A file with an entry that is none.
 const WRONG: &str = "format = 1
 k = 0
 horizon = 0
@@ -159,13 +173,21 @@ pub(crate) fn written(alloc: Global) -> bool {
     }
 }
 
-/// A large project is written, and read as itself.
+/// A large project, whose script is drawn, is written, and read as itself.
 pub(crate) fn large(alloc: Global) -> bool {
-    let Some(Some(project)) = again!(Project::of_scale(alloc, Scale::Large, 0, 2_001)) else {
+    let Some(Some(blank)) = again!(Project::of_scale(alloc, Scale::Large, 0, 2_001)) else {
         return false;
     };
-    match again!(write_project(alloc, &project)) {
-        Some(bytes) => project.horizon() == 2_001 && is_file_of(alloc, &bytes, &project),
+    match project_of(alloc, DRAWN) {
+        Some(project) => project.horizon() == blank.horizon() && is_written(alloc, &project),
+        None => false,
+    }
+}
+
+/// Whether what is written of a project with a script is read as the project.
+fn is_written(alloc: Global, project: &Project) -> bool {
+    match again!(write_project(alloc, project)) {
+        Some(bytes) => project.length(0) > 0 && is_file_of(alloc, &bytes, project),
         None => false,
     }
 }

@@ -2,20 +2,21 @@ use Rattle.std.proofs.Common.{◌≡◌, ◌^◌, ◌-◌, ◌∙◌, rules, ap,
 use Rattle.std.specs.Prelude.{replicate, slice_set}
 use Rattle.std.proofs.lemmas.List.{length-replicate}
 use Rattle.omega_net.specs.declared.script.ScriptEntry.{ScriptEntry}
-use Rattle.project_book.specs.Limits.{usual_entries}
+use Rattle.project_book.specs.Scales.{most_entries}
 use Rattle.project_book.specs.Scripts.{AreFew}
 use Rattle.project_book.proofs.Lengths.{few_set, few_none}
-use Rattle.experiments.specs.Loads.{script_drawn}
+use Rattle.experiments.specs.Loads.{scale_of, script_drawn}
 use Rattle.experiments.proofs.Draws.{set_next}
 use Rattle.experiments.proofs.load.scripts.Goals as goal
 
 pub loop-proc-preserved : goal.loop-proc-preserved
 loop-proc-preserved c =
     let each = script_drawn c.args.load in
+    let most = most_entries (scale_of c.args.load) in
     let p = c.loop-proc.proc in
     let set = c.in_ok-set.ensures.ok in (
       ap length set ∙ length-set _ _ _ ∙ c.loop-proc.invariant.0,
-      subst (AreFew usual_entries) (sym set) (few_set usual_entries p c.loop-proc.all _ (omega (arith, c.loop-proc.invariant.0)) c.loop-proc.invariant.1 (omega (arith, c.in_ok-script.ensures.count))),
+      subst (AreFew most) (sym set) (few_set most p c.loop-proc.all _ (omega (arith, c.loop-proc.invariant.0)) c.loop-proc.invariant.1 (omega (arith, c.in_ok-script.ensures.few))),
       set
           ∙ ap (λ (es : List ScriptEntry). slice_set c.loop-proc.all p es) c.in_ok-script.ensures.drawn
           ∙ ap (λ (all : List (List ScriptEntry)). slice_set all p (each p)) c.loop-proc.invariant.2
@@ -24,6 +25,7 @@ loop-proc-preserved c =
 
 pub loop-proc-init : goal.loop-proc-init
 loop-proc-init c =
+    let most = most_entries (scale_of c.args.load) in
     let none : c.in_ok-all.all ≡ replicate (2 ^ c.args.load.k) [] = search rules in
     let all : 2 ^ c.args.load.k ≡ 2 ^ c.args.load.k - 0 = omega arith in
-    (ap length none ∙ length-replicate (2 ^ c.args.load.k) [], subst (AreFew usual_entries) (sym none) (few_none usual_entries (2 ^ c.args.load.k)), none ∙ ap (λ n. replicate n []) all)
+    (ap length none ∙ length-replicate (2 ^ c.args.load.k) [], subst (AreFew most) (sym none) (few_none most (2 ^ c.args.load.k)), none ∙ ap (λ n. replicate n []) all)
