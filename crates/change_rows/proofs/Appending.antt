@@ -3,7 +3,7 @@ use Rattle.std.proofs.Common.{◌≡◌, ℕ, zero, suc, ◌+◌, ◌-◌, ◌<�
 use Rattle.std.proofs.lemmas.Bool.{cases_eq, cases_lt}
 use Rattle.std.proofs.lemmas.List.{get_or_default, get_or-drop, get_or-take, get_or-map, length-map, get_or_append_left, get_or-append_right, same_lists, length-append, length-take, length-drop, append-nil, append_assoc, map-append, take_more, drop-drop}
 use lib.Seq.{take-add}
-use Rattle.change_rows.specs.declared.cells.Head.{Head}
+use Rattle.change_rows.specs.declared.head.Head.{Head}
 use Rattle.change_rows.specs.Cells.{Held, no_cell, end_of, component_at}
 use Rattle.change_rows.specs.Packed.{head_at, start_at, moved, cell_at, cells_of, IsPacked}
 use Rattle.change_rows.proofs.Finding.{ascends, end_append}
@@ -100,7 +100,7 @@ module _ (heads hs : List Head) (words ws : List ℕ) (from : ℕ) (packed : IsP
         holds = subst (λ (v : List Head). IsPacked v (run_words 0)) (sym heads_are) (subst (IsPacked heads) (sym words_are) packed);
       }
 
-  run_more : (n : ℕ) → from + n < length hs → end_of (cells_of heads words) ≤ component_at (cells_of hs ws) from → start_at hs (length ws) (from + n + 1) - start + length words < 2 ^ 32 → IsRun n → IsRun (n + 1)
+  run_more : (n : ℕ) → from + n < length hs → end_of (cells_of heads words) ≤ component_at (cells_of hs ws) from → start_at hs (length ws) (from + n + 1) - start + length words < 2 ^ 20 → IsRun n → IsRun (n + 1)
   run_more n there above small before = record {
     cells =
         more_cells (run_heads n) (run_heads (n + 1)) (run_words n) (run_words (n + 1)) (cell_at hs ws (from + n)).words (head_at hs (length ws) (from + n)).component _ before.holds (heads_more n there) begins (words_more n there)
@@ -124,10 +124,10 @@ module _ (heads hs : List Head) (words ws : List ℕ) (from : ℕ) (packed : IsP
       low : end_of (cells_of (run_heads n) (run_words n)) ≤ (head_at hs (length ws) (from + n)).component
       low = omega (arith, ap end_of before.cells, run_end n there above, component)
 
-      longer : length (run_words n) + length (cell_at hs ws (from + n)).words < 2 ^ 32
+      longer : length (run_words n) + length (cell_at hs ws (from + n)).words < 2 ^ 20
       longer = omega (arith, small, words_length n (omega (arith, there)), climb, step, length-take (start_at hs (length ws) (from + n + 1) - start_at hs (length ws) (from + n)) (drop (start_at hs (length ws) (from + n)) ws))
 
-  run : (n : ℕ) → from + n ≤ length hs → (0 < n → end_of (cells_of heads words) ≤ component_at (cells_of hs ws) from) → start_at hs (length ws) (from + n) - start + length words < 2 ^ 32 → IsRun n
+  run : (n : ℕ) → from + n ≤ length hs → (0 < n → end_of (cells_of heads words) ≤ component_at (cells_of hs ws) from) → start_at hs (length ws) (from + n) - start + length words < 2 ^ 20 → IsRun n
   run zero h above small = run_none
   run (suc n) h above small =
       let there : from + n < length hs = omega (arith, h) in
@@ -172,13 +172,13 @@ module _ (heads hs hs1 : List Head) (words ws ws1 more : List ℕ) (from to star
   pub run_climbs : (k : ℕ) → from ≤ k → k < to → start ≤ start_at hs1 0 k
   run_climbs k low high = omega (arith, start_is, (at k low high).0, (at k low high).1.0)
 
-  pub run_small : length more + base < 2 ^ 32 → (k : ℕ) → from ≤ k → k < to → start_at hs1 0 k - start + base < 2 ^ 32
+  pub run_small : length more + base < 2 ^ 20 → (k : ℕ) → from ≤ k → k < to → start_at hs1 0 k - start + base < 2 ^ 20
   run_small small k low high = omega (arith, small, more_length, start_is, (at k low high).0, (at k low high).1.0, (at k low high).1.1)
 
   module _ (heads1 : List Head) (words1 : List ℕ) (above : from < to → end_of (cells_of heads words) ≤ component_at (cells_of hs ws) from)
       (heads_are : heads1 ≡ heads ++ map (moved start base) (slice_range hs1 from to))
       (words_are : words1 ≡ words ++ more)
-      (small : length more + base < 2 ^ 32) where
+      (small : length more + base < 2 ^ 20) where
     heads_is : heads1 ≡ run_heads heads hs words ws from packed others (to - from)
     heads_is =
         heads_are

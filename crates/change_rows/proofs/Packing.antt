@@ -4,7 +4,7 @@ use Rattle.std.proofs.Math.Seq.{drop-nil, take-nil}
 use Rattle.std.proofs.lemmas.Bool.{cases_eq, cases_lt}
 use Rattle.std.proofs.lemmas.List.{get_or_default, get_or_past, get_or_append_left, get_or_push, length_push, length-append, drop-append-le, take-append-le, length-drop, take_all, drop_at, append-nil, same_lists}
 use Rattle.std.proofs.lemmas.List.FromFn.{length-map-range_with_len, get_or-map-range_with_len}
-use Rattle.change_rows.specs.declared.cells.Head.{Head}
+use Rattle.change_rows.specs.declared.head.Head.{Head}
 use Rattle.change_rows.specs.Cells.{Held, no_cell, found, end_of, component_at, IsAscending}
 use Rattle.change_rows.specs.Packed.{head_at, start_at, cell_at, cells_of, IsPacked, IsPlace}
 use Rattle.change_rows.proofs.Finding.{ascends, found_at, found_none, ascending_push, same_ascends}
@@ -143,7 +143,7 @@ module _ (heads : List Head) (words ws : List ℕ) (c : ℕ) (packed : IsPacked 
               at_cells longer (words ++ ws) k d inside ∙ cell_before k less
               ∙ sym (get_or_append_left (cells_of heads words) _ d k (omega (arith, less, length_cells heads words)) ∙ at_cells heads words k d less)
 
-  pub pushed_packed : end_of (cells_of heads words) ≤ c → length words + length ws < 2 ^ 32 → IsPacked longer (words ++ ws)
+  pub pushed_packed : end_of (cells_of heads words) ≤ c → length words + length ws < 2 ^ 20 → IsPacked longer (words ++ ws)
   pushed_packed above room = record {
     ascends = subst IsAscending (sym pushed_cells) (ascending_push (cells_of heads words) (record { component = c; words = ws }) packed.ascends above);
     climbs = λ k h. climb k h (cases_eq k (length heads));
@@ -177,7 +177,7 @@ more_cells heads heads1 words words1 ws c from packed e f g =
     ∙ ap (λ (n : ℕ). cells_of (heads ++ record { component = c; from = n } ∷ []) (words ++ ws)) f
     ∙ pushed_cells heads words ws c packed
 
-pub more_packed : (heads heads1 : List Head) (words words1 ws : List ℕ) (c from : ℕ) → IsPacked heads words → heads1 ≡ heads ++ record { component = c; from = from } ∷ [] → from ≡ length words → words1 ≡ words ++ ws → end_of (cells_of heads words) ≤ c → length words + length ws < 2 ^ 32 → IsPacked heads1 words1
+pub more_packed : (heads heads1 : List Head) (words words1 ws : List ℕ) (c from : ℕ) → IsPacked heads words → heads1 ≡ heads ++ record { component = c; from = from } ∷ [] → from ≡ length words → words1 ≡ words ++ ws → end_of (cells_of heads words) ≤ c → length words + length ws < 2 ^ 20 → IsPacked heads1 words1
 more_packed heads heads1 words words1 ws c from packed e f g above room =
     subst (λ (h : List Head). IsPacked h words1) (sym e)
     (
@@ -250,7 +250,7 @@ module _ (heads : List Head) (words ws : List ℕ) (packed : IsPacked heads word
               ∙ get_or_append_left front (cell ∷ []) d k less
               ∙ sym (get_or_append_left front (a_cell cell.component (cell.words ++ ws) ∷ []) d k less)
 
-  pub extended_packed : length words + length ws < 2 ^ 32 → IsPacked heads (words ++ ws)
+  pub extended_packed : length words + length ws < 2 ^ 20 → IsPacked heads (words ++ ws)
   extended_packed room = record {
     ascends = same_ascends (cells_of heads words) (cells_of heads (words ++ ws)) (length_cells heads words ∙ sym (length_cells heads (words ++ ws))) alike packed.ascends;
     climbs = λ k h. climb k h (cases_eq (k + 1) (length heads));
@@ -274,7 +274,7 @@ module _ (heads : List Head) (words ws : List ℕ) (packed : IsPacked heads word
 pub longer_cells : (heads : List Head) (words words1 ws : List ℕ) (front : List Held) (cell : Held) → IsPacked heads words → words1 ≡ words ++ ws → cells_of heads words ≡ front ++ cell ∷ [] → cells_of heads words1 ≡ front ++ record { component = cell.component; words = cell.words ++ ws } ∷ []
 longer_cells heads words words1 ws front cell packed g e = ap (cells_of heads) g ∙ extended_cells heads words ws packed front cell e
 
-pub longer_packed : (heads : List Head) (words words1 ws : List ℕ) → IsPacked heads words → words1 ≡ words ++ ws → length words + length ws < 2 ^ 32 → IsPacked heads words1
+pub longer_packed : (heads : List Head) (words words1 ws : List ℕ) → IsPacked heads words → words1 ≡ words ++ ws → length words + length ws < 2 ^ 20 → IsPacked heads words1
 longer_packed heads words words1 ws packed g room = subst (IsPacked heads) (sym g) (extended_packed heads words ws packed room)
 
 -- where a component's cell stands is its place

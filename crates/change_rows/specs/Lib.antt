@@ -1,3 +1,4 @@
+pub mod Heads
 pub mod Cells
 pub mod Packed
 pub mod Marks

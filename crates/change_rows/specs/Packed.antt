@@ -1,7 +1,7 @@
 -- Cells in two buffers: their heads, and all their words, one cell's after another's.
 use Rattle.std.specs.Prelude.{ℕ, ◌+◌, ◌-◌, ◌<◌, ◌≤◌, ◌^◌, List, length, map, slice_index_or, slice_range}
 use Rattle.std.specs.List.{range_with_len}
-use Rattle.change_rows.specs.declared.cells.Head.{Head}
+use Rattle.change_rows.specs.declared.head.Head.{Head}
 use Rattle.change_rows.specs.Cells.{Held, IsAscending}
 
 -- the head of a cell; behind the last one that of a cell which would begin behind all n words
@@ -26,7 +26,7 @@ pub record IsPacked (heads : List Head) (words : List ℕ) : Type 0 where
   pub ascends : IsAscending (cells_of heads words)
   pub climbs : (i : ℕ) → i < length heads → start_at heads (length words) i ≤ start_at heads (length words) (i + 1)
   pub within : (i : ℕ) → start_at heads (length words) i ≤ length words
-  pub small : length words < 2 ^ 32
+  pub small : length words < 2 ^ 20
 
 -- the first n components are below c, and the others aren't
 pub record IsPlace (heads : List Head) (c n : ℕ) : Type 0 where

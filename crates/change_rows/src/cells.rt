@@ -1,24 +1,18 @@
 //! Some cells of one row.
 ghost use Rattle.std.specs.Prelude.{◌≡◌, ℕ, ◌+◌, ◌-◌, ◌^◌, ◌<◌, ◌≤◌, ◌++◌, ◌∷◌, [], List, true, IsTrue, ◌↔◌, MatchResult, MatchOption, cond, OnErr, OnOk, IfOk, length, map, is_some, Some, None, slice_index_or, slice_range, unwrap_or, vec_len, vec_capacity};
 ghost use Rattle.std.specs.Option.{option_copied};
-ghost use Rattle.change_rows.specs.declared.cells.Head.{Head};
+ghost use Rattle.change_rows.specs.declared.head.Head.{Head};
 ghost use Rattle.change_rows.specs.Packed.{head_at, start_at, moved, cell_at, cells_of, IsPacked, IsPlace};
 ghost use Rattle.change_rows.specs.Cells.{Held, no_cell, found, end_of, component_at, IsAscending};
 
+use crate::head::{Head, head_for};
 use crate::sets::word_at;
 use crate::source::Source;
 use std::alloc::{AllocError, Global};
 use std::marker::Model;
 
-/// The most words that cells hold together.
-const MOST_WORDS: usize = u32::MAX as usize;
-
-/// A cell's component, and where its words begin.
-#[derive(Clone, Copy)]
-pub(crate) struct Head {
-    component: u32,
-    from: u32,
-}
+/// The most words that cells hold together: 2^20 - 1.
+const MOST_WORDS: usize = 1_048_575;
 
 /// Cells of one row by ascending component, each with its words. They lie in two buffers, which
 /// `clear` keeps.
@@ -96,7 +90,7 @@ impl Cells {
         requires { i < length self.now }
         ensures { result ≡ component_at self.now i }
     {
-        self.heads[i].component
+        self.heads[i].component()
     }
 
     /// The words of the cell at a place.
@@ -170,17 +164,15 @@ impl Cells {
     ///
     /// # Errors
     ///
-    /// Where a growth was refused, and at 2^32 words. Nothing is changed.
+    /// Where a growth was refused, at 2^20 words, and at component 4,096. Nothing is changed.
     pub fn begin(&mut self, component: u32) -> Result<(), AllocError>
         requires { end_of self.old ≤ component }
         ensures { MatchResult result
             (λ _. self.new ≡ self.old ++ record { component = component; words = [] } ∷ [])
             (λ _. self.new ≡ self.old) }
     {
-        let Ok(from) = u32::try_from(self.words.len()) else {
-            return Err(AllocError);
-        };
-        self.heads.push(Head { component, from })?;
+        let head = head_for(component, self.words.len())?;
+        self.heads.push(head)?;
         Ok(())
     }
 
@@ -188,7 +180,7 @@ impl Cells {
     ///
     /// # Errors
     ///
-    /// Where a growth was refused, and at 2^32 words. Nothing is changed.
+    /// Where a growth was refused, and at 2^20 words. Nothing is changed.
     pub fn extend(&mut self, words: &[u64]) -> Result<(), AllocError>
         requires { 0 < length self.old }
         ensures { MatchResult result
@@ -207,7 +199,7 @@ impl Cells {
     ///
     /// # Errors
     ///
-    /// Where a growth was refused, and at 2^32 words. Nothing is changed.
+    /// Where a growth was refused, at 2^20 words, and at component 4,096. Nothing is changed.
     pub fn push(&mut self, component: u32, words: &[u64]) -> Result<(), AllocError>
         requires { end_of self.old ≤ component }
         ensures { MatchResult result
@@ -218,13 +210,11 @@ impl Cells {
         if words.len() > MOST_WORDS - from {
             return Err(AllocError);
         }
+        let head = head_for(component, from)?;
         self.heads.reserve(1)?;
         match self.words.extend_from_slice(words) {
             Ok(()) => {
-                self.heads.push_reserved(Head {
-                    component,
-                    from: from as u32,
-                });
+                self.heads.push_reserved(head);
                 Ok(())
             }
             Err(e) => Err(e),
@@ -235,7 +225,7 @@ impl Cells {
     ///
     /// # Errors
     ///
-    /// Where a growth was refused, and at 2^32 words. Nothing is changed.
+    /// Where a growth was refused, at 2^20 words, and at component 4,096. Nothing is changed.
     pub(crate) fn push_from<S: Source>(
         &mut self,
         component: u32,
@@ -250,13 +240,11 @@ impl Cells {
         ensures same { IfOk result (λ same. IsTrue same ↔ (held.now ≡ S.words source.now component)) }
     {
         let from = self.words.len();
+        let head = head_for(component, from)?;
         self.heads.reserve(1)?;
         match write_words(source, component, held, &mut self.words) {
             Ok(same) => {
-                self.heads.push_reserved(Head {
-                    component,
-                    from: from as u32,
-                });
+                self.heads.push_reserved(head);
                 Ok(same)
             }
             Err(e) => Err(e),
@@ -267,7 +255,7 @@ impl Cells {
     ///
     /// # Errors
     ///
-    /// Where a growth was refused, and at 2^32 words. Nothing is changed.
+    /// Where a growth was refused, at 2^20 words, and at component 4,096. Nothing is changed.
     pub(crate) fn push_unless<S: Source>(
         &mut self,
         component: u32,
@@ -282,6 +270,7 @@ impl Cells {
         ensures same { IfOk result (λ same. IsTrue same ↔ (held.now ≡ S.words source.now component)) }
     {
         let from = self.words.len();
+        let head = head_for(component, from)?;
         self.heads.reserve(1)?;
         match write_words(source, component, held, &mut self.words) {
             Ok(true) => {
@@ -289,10 +278,7 @@ impl Cells {
                 Ok(true)
             }
             Ok(false) => {
-                self.heads.push_reserved(Head {
-                    component,
-                    from: from as u32,
-                });
+                self.heads.push_reserved(head);
                 Ok(false)
             }
             Err(e) => Err(e),
@@ -303,7 +289,7 @@ impl Cells {
     ///
     /// # Errors
     ///
-    /// Where a growth was refused, and at 2^32 words. Nothing is changed.
+    /// Where a growth was refused, and at 2^20 words. Nothing is changed.
     pub(crate) fn tells<S: Source>(
         &mut self,
         component: u32,
@@ -328,7 +314,7 @@ impl Cells {
     ///
     /// # Errors
     ///
-    /// Where a growth was refused, and at 2^32 words. Nothing is changed.
+    /// Where a growth was refused, and at 2^20 words. Nothing is changed.
     pub(crate) fn append(
         &mut self,
         others: &Cells,
@@ -402,7 +388,7 @@ impl Cells {
 ///
 /// # Errors
 ///
-/// Where a growth was refused, and at 2^32 words. The buffer has what it had.
+/// Where a growth was refused, and at 2^20 words. The buffer has what it had.
 fn write_words<S: Source>(
     source: &S,
     c: u32,
@@ -413,7 +399,7 @@ fn write_words<S: Source>(
     ensures words { MatchResult result
         (λ _. words.new.items ≡ words.old.items ++ S.words source.now c)
         (λ _. words.new.items ≡ words.old.items) }
-    ensures small { OnOk result (length words.old.items + length (S.words source.now c) < 2 ^ 32) }
+    ensures small { OnOk result (length words.old.items + length (S.words source.now c) < 2 ^ 20) }
     ensures same { IfOk result (λ same. IsTrue same ↔ (held.now ≡ S.words source.now c)) }
 {
     let from = words.len();
@@ -456,14 +442,14 @@ fn push_heads(heads: &mut Vec<Head>, others: &[Head], from: usize, to: usize, st
     requires order { from ≤ to }
     requires there { to ≤ length others.now }
     requires climbs { (k : ℕ) → from ≤ k → k < to → start ≤ start_at others.now 0 k }
-    requires small { (k : ℕ) → from ≤ k → k < to → start_at others.now 0 k - start + base < 2 ^ 32 }
+    requires small { (k : ℕ) → from ≤ k → k < to → start_at others.now 0 k - start + base < 2 ^ 20 }
     ensures { heads.new.items ≡ heads.old.items ++ map (moved start base) (slice_range others.now from to) }
 {
     let at = heads.len();
     // There is room, so nothing grows and nothing is refused.
     let _ = heads.extend_from_slice(&others[from..to]);
     for i in at..heads.len() {
-        heads[i].from = heads[i].from - start + base;
+        heads[i] = heads[i].begun_at(start, base);
     }
 }
 
@@ -473,7 +459,7 @@ fn copy_heads(heads: &mut Vec<Head>, others: &[Head], from: usize, to: usize, st
     requires order { from ≤ to }
     requires there { to ≤ length others.now }
     requires climbs { (k : ℕ) → from ≤ k → k < to → start ≤ start_at others.now 0 k }
-    requires small { (k : ℕ) → from ≤ k → k < to → start_at others.now 0 k - start + base < 2 ^ 32 }
+    requires small { (k : ℕ) → from ≤ k → k < to → start_at others.now 0 k - start + base < 2 ^ 20 }
     ensures { heads.new.items ≡ heads.old.items ++ map (moved start base) (slice_range others.now from to) }
 {
     if start == base {
@@ -494,7 +480,7 @@ fn end_in(heads: &[Head], words: &[u64]) -> u64
     if count == 0 {
         return 0;
     }
-    u64::from(heads[count - 1].component) + 1
+    u64::from(heads[count - 1].component()) + 1
 }
 
 /// Where the words of the cell at a place begin, or n behind the last cell.
@@ -502,7 +488,7 @@ fn start_in(heads: &[Head], n: usize, i: usize) -> usize
     ensures { result ≡ start_at heads.now n i }
 {
     match heads.get(i) {
-        Some(head) => head.from as usize,
+        Some(head) => head.from() as usize,
         None => n,
     }
 }
@@ -560,7 +546,7 @@ fn is_at(heads: &[Head], i: usize, c: u32) -> bool
     ensures { IsTrue result ↔ ((i < length heads.now) × ((head_at heads.now 0 i).component ≡ c)) }
 {
     match heads.get(i) {
-        Some(head) => head.component == c,
+        Some(head) => head.component() == c,
         None => false,
     }
 }
@@ -574,7 +560,7 @@ fn place_in(heads: &[Head], c: u32) -> usize
     let mut high = heads.len();
     while low < high {
         let mid = low + (high - low) / 2;
-        if heads[mid].component < c {
+        if heads[mid].component() < c {
             low = mid + 1;
         } else {
             high = mid;

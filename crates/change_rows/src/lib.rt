@@ -19,6 +19,7 @@ mod changes;
 mod edit;
 mod fill;
 mod grow;
+mod head;
 mod kinds;
 mod marks;
 mod merge;

@@ -1,4 +1,5 @@
-use Rattle.std.proofs.Common.{◌≡◌, ◌+◌, ◌-◌, ◌∙◌, arith, length}
+use Rattle.std.proofs.Common.{◌≡◌, ◌+◌, ◌-◌, ◌∙◌, ap, arith, length}
+use Rattle.change_rows.specs.declared.head.Head.{Head}
 use Rattle.change_rows.specs.Packed.{cells_of}
 use Rattle.change_rows.proofs.Finding.{end_last}
 use Rattle.change_rows.proofs.Packing.{length_cells, component_is}
@@ -10,4 +11,4 @@ returns c =
     let words = c.args.words.now in
     let n = length heads - 1 in
     let e : length heads ≡ n + 1 = omega (arith, c.if-count-eq0.false) in
-    omega (arith, c.from.ensures, end_last (cells_of heads words) n c.requires.ascends (length_cells heads words ∙ e), component_is heads words n (record { component = 0; from = 0 }) (omega (arith, e)))
+    omega (arith, c.from.ensures, c.component.ensures, ap (λ (x : Head). x.component) c.index-heads-count.is, end_last (cells_of heads words) n c.requires.ascends (length_cells heads words ∙ e), component_is heads words n c.index-heads-count.result (omega (arith, e)))

@@ -1,5 +1,5 @@
 use Rattle.std.proofs.Common.{◌++◌, ◌∙◌, ap, arith, List, length, map, slice_range}
-use Rattle.change_rows.specs.declared.cells.Head.{Head}
+use Rattle.change_rows.specs.declared.head.Head.{Head}
 use Rattle.change_rows.specs.Cells.{Held, end_of, component_at}
 use Rattle.change_rows.specs.Packed.{moved}
 use Rattle.change_rows.proofs.Packing.{length_cells}

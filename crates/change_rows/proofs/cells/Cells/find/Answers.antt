@@ -1,7 +1,7 @@
 use Rattle.std.proofs.Common.{◌∙◌, ap, List, ℕ}
 use Rattle.change_rows.specs.Cells.{Held, found}
 use Rattle.change_rows.specs.Packed.{cells_of}
-use Rattle.change_rows.specs.declared.cells.Head.{Head}
+use Rattle.change_rows.specs.declared.head.Head.{Head}
 use Rattle.change_rows.proofs.cells.Cells.find.Goals as goal
 
 pub returns : goal.returns

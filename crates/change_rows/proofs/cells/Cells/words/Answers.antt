@@ -1,7 +1,7 @@
 use Rattle.std.proofs.Common.{◌<◌, ◌∙◌, ap, sym, arith, length, List, ℕ, get_or}
 use Rattle.change_rows.specs.Cells.{Held, no_cell}
 use Rattle.change_rows.specs.Packed.{cell_at}
-use Rattle.change_rows.specs.declared.cells.Head.{Head}
+use Rattle.change_rows.specs.declared.head.Head.{Head}
 use Rattle.change_rows.proofs.Packing.{length_cells, at_cells}
 use Rattle.change_rows.proofs.cells.Cells.words.Goals as goal
 
