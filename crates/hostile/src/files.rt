@@ -28,14 +28,51 @@ const CUT: &[u8] = b"\
 22552222222222552222222200022222222255222222222222552222222222200222222222552222\
 22222222552222222222200";
 
+/// A file of format 3 with the short forms of scripts, and with scripts that are drawn.
+const LARGE: &str = "format = 3
+k = 2
+horizon = 5000
+window = 8
+[[script]]
+processors = [0]
+entries = [\"plain load 0 0 9 step 4\", { repeat = 2, entries = [\"fence\", \"idle 7\"] }]
+[[script]]
+processors = \"3..3\"
+entries = []
+[[traffic]]
+processors = \"1..2\"
+rate = 0.45
+hot = 4
+word = 0
+page = 63
+references = 9
+seed = 20
+";
+
+/// The same of this file.
+const LARGE_CUT: &[u8] = b"\
+32222222225522225522222222220000022222222200222222222552222222222222225522222222\
+22222222222222222222222222222222222222222222222222222222222222222222222222200222\
+22222255222222222222222222552222222222200222222222255222222222222222222552222222\
+725552222225522222225522222225552222222222222552222222000";
+
 /// Cut after each of its bytes.
 pub(crate) fn cut(alloc: Global) -> Option<u32> {
-    let file = BASE.as_bytes();
-    if CUT.len() != file.len() + 1 {
+    all_cut(alloc, BASE.as_bytes(), CUT)
+}
+
+/// The file of format 3, cut after each of its bytes.
+pub(crate) fn large_cut(alloc: Global) -> Option<u32> {
+    all_cut(alloc, LARGE.as_bytes(), LARGE_CUT)
+}
+
+/// A file that is cut after each of its bytes has the faults of these numbers.
+fn all_cut(alloc: Global, file: &[u8], numbers: &[u8]) -> Option<u32> {
+    if numbers.len() != file.len().saturating_add(1) {
         return None;
     }
     let mut held = 0u32;
-    for (length, digit) in CUT.iter().enumerate() {
+    for (length, digit) in numbers.iter().enumerate() {
         let front = file.split_at(length.min(file.len())).0;
         if !is_refused(alloc, front, digit.wrapping_sub(b'0')) {
             return None;
@@ -45,11 +82,19 @@ pub(crate) fn cut(alloc: Global) -> Option<u32> {
     Some(held)
 }
 
-/// Each of its bytes at 0, which no TOML document has, and at 255, which no UTF-8 has.
+/// Each byte of both at 0, which no TOML document has, and at 255, which no UTF-8 has.
 pub(crate) fn damaged(alloc: Global) -> Option<u32> {
     let mut held = 0u32;
-    for place in 0..BASE.len() {
-        if !is_refused_with(alloc, place, 0)? || !is_refused_with(alloc, place, 255)? {
+    for file in [BASE.as_bytes(), LARGE.as_bytes()] {
+        held = held.saturating_add(all_damaged(alloc, file)?);
+    }
+    Some(held)
+}
+
+fn all_damaged(alloc: Global, file: &[u8]) -> Option<u32> {
+    let mut held = 0u32;
+    for place in 0..file.len() {
+        if !is_refused_with(alloc, file, place, 0)? || !is_refused_with(alloc, file, place, 255)? {
             return None;
         }
         held = held.saturating_add(2);
@@ -57,9 +102,9 @@ pub(crate) fn damaged(alloc: Global) -> Option<u32> {
     Some(held)
 }
 
-/// Whether the file with this byte at a place is no document.
-fn is_refused_with(alloc: Global, place: usize, byte: u8) -> Option<bool> {
-    let Ok(mut bytes) = Vec::from_slice(alloc, BASE.as_bytes()) else {
+/// Whether a file with this byte at a place is no document.
+fn is_refused_with(alloc: Global, file: &[u8], place: usize, byte: u8) -> Option<bool> {
+    let Ok(mut bytes) = Vec::from_slice(alloc, file) else {
         return None;
     };
     if let Some(at) = bytes.get_mut(place) {

@@ -60,7 +60,12 @@ fn main(rt: HostRuntime) -> ExitCode {
     held &= tell(&rt, "13.4: a file cut after each byte", files::cut(alloc));
     held &= tell(
         &rt,
-        "a file with each byte at 0 and at 255",
+        "a file of format 3 cut after each byte",
+        files::large_cut(alloc),
+    );
+    held &= tell(
+        &rt,
+        "files with each byte at 0 and at 255",
         files::damaged(alloc),
     );
     held &= tell(
