@@ -5,14 +5,14 @@ ghost use Rattle.change_rows.specs.declared.head.Head.{Head};
 ghost use Rattle.change_rows.specs.Packed.{head_at, start_at, moved, cell_at, cells_of, IsPacked, IsPlace};
 ghost use Rattle.change_rows.specs.Cells.{Held, no_cell, found, end_of, component_at, IsAscending};
 
-use crate::head::{Head, head_for};
+use crate::head::{Head, PLACES, head_for};
 use crate::sets::word_at;
 use crate::source::Source;
 use std::alloc::{AllocError, Global};
 use std::marker::Model;
 
-/// The most words that cells hold together: 2^20 - 1.
-const MOST_WORDS: usize = 1_048_575;
+/// The most words that cells hold together: a head can name the place behind them.
+const MOST_WORDS: usize = PLACES as usize - 1;
 
 /// Cells of one row by ascending component, each with its words. They lie in two buffers, which
 /// `clear` keeps.

@@ -1,12 +1,12 @@
 //! Where a cell's words begin.
-ghost use Rattle.std.specs.Prelude.{◌≡◌, ◌+◌, ◌-◌, ◌^◌, ◌<◌, ◌≤◌, IfOk};
+ghost use Rattle.std.specs.Prelude.{◌≡◌, ◌+◌, ◌-◌, ◌^◌, ◌<◌, ◌≤◌, ◌↔◌, IfOk, IsOk};
 ghost use Rattle.change_rows.specs.Packed.{moved};
 
 use std::alloc::AllocError;
 use std::marker::Model;
 
-/// The words before which a head can name a place, 2^20: its lowest 20 bits.
-const PLACES: u32 = 1_048_576;
+/// The places that a head can name, 2^20: its lowest 20 bits.
+pub(crate) const PLACES: u32 = 1_048_576;
 
 /// The components that a head can name: its highest 12 bits.
 const COMPONENTS: u32 = 4_096;
@@ -65,7 +65,8 @@ impl Head {
 /// At component 4,096 and above.
 pub(crate) fn head_for(component: u32, from: usize) -> Result<Head, AllocError>
     requires { from < 2 ^ 20 }
-    ensures { IfOk result (λ head. head ≡ record { component = component; from = from }) }
+    ensures head { IfOk result (λ head. head ≡ record { component = component; from = from }) }
+    ensures refused { IsOk result ↔ (component < 4096) }
 {
     if component >= COMPONENTS {
         return Err(AllocError);

@@ -27,7 +27,10 @@ pub struct Disk<'a, R> {
 }
 
 impl<'a, R: Files + AllocGlobal> Disk<'a, R> {
-    pub fn new(host: &'a R) -> Self {
+    /// The files of this host.
+    pub fn new(host: &'a R) -> Self
+        ensures { result.host.now ≡ host.now }
+    {
         Disk { host }
     }
 }

@@ -1,6 +1,7 @@
 //! Lots: cells of one cycle that a worker claims in one turn of the bench, computes one after another outside of every turn,
 //! and gives back in one more.
-ghost use Rattle.std.specs.Prelude.{◌≡◌, ◌+◌, ◌≤◌, length, vec_len, vec_capacity};
+ghost use Rattle.std.specs.Prelude.{◌≡◌, ◌+◌, ◌-◌, ◌*◌, ◌^◌, ◌≤◌, min, max, length, vec_len, vec_capacity};
+ghost use Rattle.wave_workers.specs.Lots.{lot_of};
 ghost use Rattle.wave_workers.specs.Working.{IsKept, counted, stored_in};
 
 use crate::gate::Gate;
@@ -33,7 +34,11 @@ impl Share {
     /// The share of the worker of this number on a machine of 2^k processors. A lot has 64 cells, the part of a cycle that falls
     /// to each worker, or as many as the worker has turns, whatever is least. That of a worker alone has one cell: nobody else
     /// wants the turns that a longer one would save.
-    pub fn of(k: u32, number: u32, plan: Plan) -> Share {
+    pub fn of(k: u32, number: u32, plan: Plan) -> Share
+        ensures lot { result.lot ≡ lot_of result.components (max plan.workers 1) plan.turns }
+        ensures first { result.first ≡ min (result.lot * number) (2 ^ 32 - 1) }
+        ensures stride { result.stride ≡ min (result.lot * max plan.workers 1) (2 ^ 32 - 1) }
+    {
         let components = match Shape::new(k) {
             Some(shape) => shape.components(),
             None => 0,
@@ -54,7 +59,9 @@ impl Share {
     }
 
     /// Where its first lot begins.
-    pub fn start(self) -> Cell {
+    pub fn start(self) -> Cell
+        ensures { result ≡ record { cycle = 0; component = self.first } }
+    {
         Cell {
             cycle: 0,
             component: self.first,

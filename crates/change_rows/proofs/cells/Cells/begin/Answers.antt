@@ -9,10 +9,10 @@ pub invariant_of-self-2 : goal.invariant_of-self-2
 invariant_of-self-2 c =
     let i = c.self.inside in
     let above : end_of (cells_of i.heads.items i.words.items) ≤ c.args.component = omega (arith, c.requires, ap end_of c.self.view_is) in
-    begun_packed i.heads.items c.push.new.self.items i.words.items c.args.component c.len.result c.self.invariant (c.in_ok-push.ensures.items ∙ ap (λ (h : Head). i.heads.items ++ h ∷ []) c.in_ok-head.ensures) (omega (arith, c.len.ensures, i.words.ok.0)) above
+    begun_packed i.heads.items c.push.new.self.items i.words.items c.args.component c.len.result c.self.invariant (c.in_ok-push.ensures.items ∙ ap (λ (h : Head). i.heads.items ++ h ∷ []) c.in_ok-head.ensures.head) (omega (arith, c.len.ensures, i.words.ok.0)) above
 
 pub returns : goal.returns
 returns c =
     let i = c.self.inside in
-    begun_cells i.heads.items c.push.new.self.items i.words.items c.args.component c.len.result c.self.invariant (c.in_ok-push.ensures.items ∙ ap (λ (h : Head). i.heads.items ++ h ∷ []) c.in_ok-head.ensures) (omega (arith, c.len.ensures, i.words.ok.0))
+    begun_cells i.heads.items c.push.new.self.items i.words.items c.args.component c.len.result c.self.invariant (c.in_ok-push.ensures.items ∙ ap (λ (h : Head). i.heads.items ++ h ∷ []) c.in_ok-head.ensures.head) (omega (arith, c.len.ensures, i.words.ok.0))
     ∙ ap (λ (v : List Held). v ++ record { component = c.args.component; words = [] } ∷ []) c.self.view_is
