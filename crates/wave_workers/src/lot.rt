@@ -1,6 +1,8 @@
 //! Lots: cells of one cycle that a worker claims in one turn of the bench, computes one after another outside of every turn,
 //! and gives back in one more.
-ghost use Rattle.std.specs.Prelude.{◌≡◌, ◌+◌, ◌-◌, ◌*◌, ◌^◌, ◌≤◌, min, max, length, vec_len, vec_capacity};
+ghost use Rattle.std.specs.Prelude.{◌≡◌, ◌+◌, ◌-◌, ◌*◌, ◌^◌, ◌≤◌, nat_le, min, max, if◌then◌else◌, length, vec_len, vec_capacity};
+ghost use Rattle.page_map.specs.Limits.{max_k};
+ghost use Rattle.omega_net.specs.Numbers.{components};
 ghost use Rattle.wave_workers.specs.Lots.{lot_of};
 ghost use Rattle.wave_workers.specs.Working.{IsKept, counted, stored_in};
 
@@ -35,6 +37,7 @@ impl Share {
     /// to each worker, or as many as the worker has turns, whatever is least. That of a worker alone has one cell: nobody else
     /// wants the turns that a longer one would save.
     pub fn of(k: u32, number: u32, plan: Plan) -> Share
+        ensures components { result.components ≡ (if nat_le k max_k then components k else 0) }
         ensures lot { result.lot ≡ lot_of result.components (max plan.workers 1) plan.turns }
         ensures first { result.first ≡ min (result.lot * number) (2 ^ 32 - 1) }
         ensures stride { result.stride ≡ min (result.lot * max plan.workers 1) (2 ^ 32 - 1) }
