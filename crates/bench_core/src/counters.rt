@@ -199,6 +199,10 @@ impl Watcher<Rp3> for Counters {
 
     ghost keeps = { λ counters table. (table.horizon ≤ last_counted table.slots) × AreCounted counters table };
 
+    fn is_idle(&self) -> bool {
+        self.sums.is_none()
+    }
+
     fn stored(&mut self, table: &Table<Rp3>, cell: Cell) {
         // Where a state couldn't be shared there are no sums then, and they are counted again when they are next asked for.
         if let Some(mut sums) = self.sums.take() {

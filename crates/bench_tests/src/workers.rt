@@ -19,6 +19,7 @@ use std::process::Abort;
 use std::sync::{Arc, Wait};
 use std::test::*;
 use std::thread::Threads;
+use std::time::Clock;
 use wave_workers::{Gate, Ungated, WorkFault, work};
 
 /// How many references all modules have served.
@@ -39,7 +40,7 @@ fn worked<R, G>(
     turns: u64,
 ) -> (u64, u64, Option<WorkFault>)
 where
-    R: Threads + Wait + Abort + Sync + Send + Copy + 'static,
+    R: Threads + Wait + Clock + Abort + Sync + Send + Copy + 'static,
     G: Gate + Send + Drop + 'static,
 {
     let worked = work(rt, pass, gates, turns);

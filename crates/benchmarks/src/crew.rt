@@ -11,15 +11,16 @@ use std::sync::atomic::{AtomicU64, Ordering};
 use std::sync::{Arc, Wait};
 use std::thread;
 use std::thread::Threads;
+use std::time::Clock;
 use wave_workers::{Gate, attend};
 
 /// How many seats a bench has: for four workers, for who starts them, and for who edits.
 const SEATS: u32 = 6;
 
 /// What lets workers run: a handle that each thread takes with it.
-pub trait Hall: Threads + Wait + Sync + Send + Copy + Drop + 'static {}
+pub trait Hall: Threads + Wait + Clock + Sync + Send + Copy + Drop + 'static {}
 
-impl<H: Threads + Wait + Sync + Send + Copy + Drop + 'static> Hall for H {}
+impl<H: Threads + Wait + Clock + Sync + Send + Copy + Drop + 'static> Hall for H {}
 
 /// What workers do, counted.
 #[derive(Drop)]

@@ -1,4 +1,5 @@
 //! Who is told of the states that are stored.
+ghost use Rattle.std.specs.Prelude.{◌≡◌, true};
 
 use crate::Table;
 use cell_states::{Cell, CellRange};
@@ -6,7 +7,7 @@ use grid_law::Grid;
 
 /// Who is told of each state that is stored, right afterwards, and whether it is another one than the
 /// cell held: `Table::settle_rows` and `settle_rows_to` tell it, and so may whoever calls `Table::give`. Of cycles that are
-/// settled together it is told at once.
+/// settled together it is told at once, where it isn't idle.
 pub trait Watcher<G: Grid> {
     ghost use Rattle.due_cells.specs.Seen.{Seen};
     ghost use Rattle.cell_table.specs.Gives.{IsStored, HoldsSame};
@@ -14,6 +15,10 @@ pub trait Watcher<G: Grid> {
 
     /// What a watcher keeps of the table that it watches.
     ghost keeps: { Self → Seen G.State G.Slots → Type 0 };
+
+    /// Whether it needn't be told, since whatever states the table holds it keeps what it keeps of it.
+    fn is_idle(&self) -> bool
+        ensures { result ≡ true → (before after : Seen G.State G.Slots) → keeps self.now before → after.slots ≡ before.slots → after.horizon ≡ before.horizon → keeps self.now after };
 
     /// A state was stored for the cell, which may be the one that it held.
     fn stored(&mut self, table: &Table<G>, cell: Cell)
@@ -37,6 +42,10 @@ pub(crate) struct Nobody;
 
 impl<G: Grid> Watcher<G> for Nobody {
     ghost keeps = { λ watcher table. Unit {0} };
+
+    fn is_idle(&self) -> bool {
+        true
+    }
 
     fn stored(&mut self, table: &Table<G>, cell: Cell) {
         let _ = table;

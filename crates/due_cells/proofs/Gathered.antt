@@ -1,6 +1,6 @@
 -- Versions that all components have, and rows that are marked whole.
 use Rattle.std.proofs.Common.{◌≡◌, ℕ, zero, suc, ◌+◌, ◌<◌, ◌≤◌, ◌∙◌, sym, ap, refl, arith, Bool, true, false, cond, eq-eqb, ◌&&◌, ◌||◌, ◌⊎◌, inl, inr, List, [], ◌∷◌, length, replicate, get_or}
-use Rattle.std.proofs.lemmas.Bool.{cases_lt, false≢true}
+use Rattle.std.proofs.lemmas.Bool.{cases_lt, and_from, or_left, or_right}
 use Rattle.std.proofs.lemmas.List.{length-replicate, get_or-replicate}
 use Rattle.std.proofs.lemmas.List.Sums.{sum_by-cons}
 use Rattle.cell_marks.specs.Marked.{is_set, count_in}
@@ -34,26 +34,14 @@ all_counted (m ∷ row) c e h = by_first m (sym (sum_by-cons (λ (b : Bool). con
     by_first true f zero l rest = refl
     by_first true f (suc c) l rest = rest c (omega (arith, f)) (omega (arith, l))
 
--- where all change, one of the components near one does that reads itself
-pub any_of_all : (changes : List Bool) (near : List ℕ) (k n : ℕ) → k < n → ((c : ℕ) → c < n → is_awake changes c ≡ true) → has near k ≡ true → any_changes changes near n ≡ true
-any_of_all changes near k zero h all own = absurd (omega (arith, h))
-any_of_all changes near k (suc n) h all own = by_place (cases_lt k n) (λ l. any_of_all changes near k n l (λ c i. all c (omega (arith, i))) own)
+-- where one changes that has itself near, one of the components near it does
+pub any_of_one : (changes : List Bool) (near : List ℕ) (k n : ℕ) → k < n → is_awake changes k ≡ true → has near k ≡ true → any_changes changes near n ≡ true
+any_of_one changes near k zero h a own = absurd (omega (arith, h))
+any_of_one changes near k (suc n) h a own = by_place (cases_lt k n) (λ l. any_of_one changes near k n l a own)
   where
-    left : (a b : Bool) → a ≡ true → (a || b) ≡ true
-    left true b e = refl
-    left false b e = absurd (false≢true e)
-
-    right : (a b : Bool) → b ≡ true → (a || b) ≡ true
-    right true b e = refl
-    right false b e = e
-
-    both : (a b : Bool) → a ≡ true → b ≡ true → (a && b) ≡ true
-    both true b e f = f
-    both false b e f = e
-
     by_place : (k < n) ⊎ (n ≤ k) → (k < n → any_changes changes near n ≡ true) → any_changes changes near (suc n) ≡ true
-    by_place (inl l) before = right (is_awake changes n && has near n) (any_changes changes near n) (before l)
-    by_place (inr l) before = left (is_awake changes n && has near n) (any_changes changes near n) (both (is_awake changes n) (has near n) (all n (omega arith)) (let e : k ≡ n = omega (arith, h, l) in ap (has near) (sym e) ∙ own))
+    by_place (inl l) before = or_right (is_awake changes n && has near n) (any_changes changes near n) (before l)
+    by_place (inr l) before = let e : k ≡ n = omega (arith, h, l) in or_left (is_awake changes n && has near n) (any_changes changes near n) (and_from (is_awake changes n) (has near n) (ap (is_awake changes) (sym e) ∙ a) (ap (has near) (sym e) ∙ own))
 
 -- what is near a component has it
 pub is_first : (near rest : List ℕ) (k : ℕ) → near ≡ k ∷ rest → has near k ≡ true

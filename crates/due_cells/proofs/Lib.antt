@@ -14,5 +14,6 @@ pub mod Noted
 pub mod NotedRows
 pub mod Ranging
 pub mod Gathered
+pub mod Others
 pub mod Taken
 pub mod Joined

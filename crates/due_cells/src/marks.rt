@@ -84,6 +84,19 @@ fn first_of(ranges: &[CellRange]) -> u32
     first
 }
 
+/// Before which cycle all of these ranges end.
+fn end_of(ranges: &[CellRange]) -> u32
+    ensures { All (λ range. range.to ≤ result) ranges.now }
+{
+    let mut end = 0;
+    for range in ranges {
+        if end < range.to {
+            end = range.to;
+        }
+    }
+    end
+}
+
 /// Adds cycles of new cells up to the horizon, where there are fewer.
 fn grow_to<G: Grid>(cells: &mut Cells<G>, horizon: u32, version: u64) -> Result<(), NoMemory>
     requires some { 0 < length cells.old }
@@ -144,7 +157,9 @@ pub fn retouch<G: Grid>(
     let alloc = cells.allocator();
     // The cycles are at most this many, so the next cycle's number fits.
     let before = cells.cycles();
-    let to = last + 1;
+    // No cycle from there on is looked at, and none may be left.
+    let to = end_of(ranges).min(last + 1);
+    let to = if to == 0 { 1 } else { to };
     let mut row = Row::new(alloc, count, false)?;
     let mut list = Vec::new(alloc);
     gather(ranges, to, &mut row, &mut list)?;

@@ -1,7 +1,8 @@
 //! Which components read which.
-ghost use Rattle.std.specs.Prelude.{◌≡◌, ℕ, ◌<◌, ◌||◌, IfOk, OnOk, length, List, [], true, false, replicate, All};
+ghost use Rattle.std.specs.Prelude.{◌≡◌, ℕ, ◌<◌, ◌||◌, ◌&&◌, IfOk, OnOk, length, List, [], true, false, replicate, All};
 ghost use Rattle.std.specs.Arc.{arc_value};
-ghost use Rattle.cell_states.specs.Near.{has, AreNear};
+ghost use Rattle.std.specs.List.{list_any};
+ghost use Rattle.cell_states.specs.Near.{has, near_at, AreNear};
 ghost use Rattle.due_cells.specs.Readers.{readers_at, IsIndex, AreMasks, AreTurned};
 ghost use Rattle.cell_states.specs.Filling.{is_awake};
 ghost use Rattle.cell_states.specs.Versions.{any_changes};
@@ -122,6 +123,46 @@ fn near_of<G: Grid>(alloc: Global, slots: &G::Slots) -> Result<Arc<Neighbours>, 
     }
 }
 
+/// Whether one of these components is marked.
+fn has_any(changes: &Row, components: &[u32]) -> bool
+    ensures { result ≡ list_any (is_awake changes.now) components.now }
+{
+    for component in components {
+        if changes.has(*component) {
+            return true;
+        }
+    }
+    false
+}
+
+/// Takes away the marks of those near which none is marked in `changes`.
+fn keep_woken(near: &Neighbours, changes: &Row, rest: &mut Row)
+    ensures len { length rest.new ≡ length rest.old }
+    ensures at { (k : ℕ) → is_awake rest.new k ≡ (is_awake rest.old k && list_any (is_awake changes.now) (near_at near.now k)) }
+{
+    // The number of a component is below this one, so that of the next fits.
+    let _count = rest.len();
+    let mut next = 0;
+    while let Some(component) = rest.first_from(next) {
+        if !has_any(changes, near.of(component)) {
+            rest.clear(component);
+        }
+        next = component + 1;
+    }
+}
+
+/// Marks just the components that are marked in `changes`, and those near which one is. Only the others are asked.
+fn gather_others(near: &Neighbours, changes: &Row, reached: &mut Row)
+    requires { length changes.now ≡ length reached.old }
+    ensures len { length reached.new ≡ length reached.old }
+    ensures at { (k : ℕ) → k < length reached.old → is_awake reached.new k ≡ (is_awake changes.now k || list_any (is_awake changes.now) (near_at near.now k)) }
+{
+    reached.mark_all();
+    reached.remove(changes);
+    keep_woken(near, changes, reached);
+    reached.add(changes);
+}
+
 impl Readers {
     /// One look at each component's near ones.
     ///
@@ -156,6 +197,11 @@ impl Readers {
         if changes.count() == changes.len() {
             // Each component reads itself.
             reached.mark_all();
+            return;
+        }
+        if changes.count() > changes.len() / 4 * 3 {
+            // The marked ones read themselves, too, so only the others are asked.
+            gather_others(&self.near, changes, reached);
             return;
         }
         reached.gather(&self.masks, changes);

@@ -8,11 +8,12 @@ use run_queries::{Body, Query};
 use shared_bench::Pass;
 use std::sync::Wait;
 use std::thread::Threads;
+use std::time::Clock;
 
 /// What passes wait and are asked with.
-pub(crate) trait Host: Threads + Wait + Sync {}
+pub(crate) trait Host: Threads + Wait + Clock + Sync {}
 
-impl<R: Threads + Wait + Sync> Host for R {}
+impl<R: Threads + Wait + Clock + Sync> Host for R {}
 
 /// What a pass does.
 #[derive(Clone, Copy)]

@@ -1,3 +1,4 @@
 pub mod Working
 pub mod Settling
 pub mod Lots
+pub mod Pacing

@@ -15,6 +15,7 @@
 
 mod gate;
 mod lot;
+mod pace;
 mod tally;
 mod threads;
 mod wave;

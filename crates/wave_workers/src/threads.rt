@@ -11,6 +11,7 @@ use std::snapshot::Snapshot;
 use std::sync::Wait;
 use std::thread;
 use std::thread::{PromisedHandle, Threads};
+use std::time::Clock;
 
 /// What came of it: nothing so far.
 fn none(pass: Pass, fault: Option<WorkFault>) -> Worked
@@ -43,7 +44,7 @@ impl Working {
 }
 
 /// Starts a worker on a pass of its own.
-fn start<R: Threads + Wait + Sync + Send + Copy + 'static, G: Gate + Send + Drop + 'static>(
+fn start<R: Threads + Wait + Clock + Sync + Send + Copy + 'static, G: Gate + Send + Drop + 'static>(
     rt: &R,
     own: Pass,
     gate: G,
@@ -71,7 +72,7 @@ fn start<R: Threads + Wait + Sync + Send + Copy + 'static, G: Gate + Send + Drop
 }
 
 /// Starts a worker for the last gate, then those for the others, and then joins it.
-fn all<R: Threads + Wait + Sync + Send + Copy + 'static, G: Gate + Send + Drop + 'static>(
+fn all<R: Threads + Wait + Clock + Sync + Send + Copy + 'static, G: Gate + Send + Drop + 'static>(
     rt: &R,
     mut pass: Pass,
     mut gates: Vec<G>,
@@ -125,12 +126,10 @@ fn all<R: Threads + Wait + Sync + Send + Copy + 'static, G: Gate + Send + Drop +
 ///
 /// All threads have ended when it answers, and their passes are joined into the one that comes back. On a fault no further
 /// worker was started, and the results of those that were stand. `started` is their number.
-pub fn work<R: Threads + Wait + Sync + Send + Copy + 'static, G: Gate + Send + Drop + 'static>(
-    rt: &R,
-    pass: Pass,
-    gates: Vec<G>,
-    turns: u64,
-) -> Worked
+pub fn work<
+    R: Threads + Wait + Clock + Sync + Send + Copy + 'static,
+    G: Gate + Send + Drop + 'static,
+>(rt: &R, pass: Pass, gates: Vec<G>, turns: u64) -> Worked
     ensures threads_work { IsWorked pass result.pass (vec_len gates) result.started result.fault }
     ensures counts { result.stored ≤ result.given }
 {
@@ -141,15 +140,16 @@ pub fn work<R: Threads + Wait + Sync + Send + Copy + 'static, G: Gate + Send + D
 /// Settles the bench by one worker for each gate, each in a thread of its own with a pass of its own, for as long as the gates
 /// go on. In a turn a worker asks its gate whether to go on, and settles the next slice of the bench, as
 /// `Pass::settle_some`; then it gives way to whoever waits for the turn. All workers but the first nap 20 milliseconds before each
-/// slice. A worker claims nothing and gives nothing back, so its gate hears of no cell, and no result is counted. Behind a turn in
-/// which no cell was due, or which met a fault, its turns are looks at the journal's length, each behind a sleep of 2 milliseconds,
-/// until an edit has come; where none comes for a second it sleeps until one is made. `Pass::wake_all`, called on a pass of the
-/// opening, ends each sleep: then the worker asks its gate again. Threads, passes and faults are as `work` has them.
-pub fn attend<R: Threads + Wait + Sync + Send + Copy + 'static, G: Gate + Send + Drop + 'static>(
-    rt: &R,
-    pass: Pass,
-    gates: Vec<G>,
-) -> Worked
+/// slice. A slice has 16,384 cells at first, twice as many as the one before where that took less than half a millisecond, up to
+/// 131,072, and half as many where it took more than a whole one. A worker claims nothing and gives nothing back, so its gate hears of
+/// no cell, and no result is counted. Behind a turn in which no cell was due, or which met a fault, its turns are looks at the
+/// journal's length, each behind a sleep of 2 milliseconds, until an edit has come; where none comes for a second it sleeps until one
+/// is made. `Pass::wake_all`, called on a pass of the opening, ends each sleep: then the worker asks its gate again. Threads, passes
+/// and faults are as `work` has them.
+pub fn attend<
+    R: Threads + Wait + Clock + Sync + Send + Copy + 'static,
+    G: Gate + Send + Drop + 'static,
+>(rt: &R, pass: Pass, gates: Vec<G>) -> Worked
     ensures threads_work { IsWorked pass result.pass (vec_len gates) result.started result.fault }
     ensures counts { result.stored ≤ result.given }
 {

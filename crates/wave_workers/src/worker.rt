@@ -7,12 +7,13 @@ ghost use Rattle.wave_workers.specs.Working.{does_nothing, IsKept, HasLeft, HasL
 
 use crate::gate::Gate;
 use crate::lot::{Share, work_lot};
+use crate::pace::Pace;
 use crate::tally::{Came, Tally};
 use shared_bench::Pass;
 use std::snapshot::Snapshot;
 use std::sync::Wait;
 use std::thread::Promise;
-use std::time::Duration;
+use std::time::{Clock, Duration, Instant};
 
 /// How each worker works.
 #[derive(Clone, Copy)]
@@ -24,11 +25,6 @@ pub struct Plan {
     /// Whether it settles slices in place of claiming cells, and sleeps while nothing is due.
     pub sleeps: bool,
 }
-
-/// How many cells a slice has that a worker settles in a turn, at 5 to 60 nanoseconds a cell: who asks meanwhile waits for it, a
-/// millisecond at most, and seldom for that of another worker too (`ASIDE`). Each slice goes on by the row of the one before, and has a
-/// whole cycle at least.
-const CELLS: u32 = 16_384;
 
 /// For how many microseconds a worker that finds nothing to do sleeps between two looks at the journal's length. Who edits
 /// wakes no worker meanwhile, so that a question which comes at once costs what it costs without workers.
@@ -94,21 +90,21 @@ struct Watched {
     length: u32,
 }
 
-/// Settles the next slice, in one turn.
-fn slice<R: Wait>(rt: &R, pass: &mut Pass) -> Came
+/// Settles the next slice, of so many cells, in one turn. It goes on by the row of the one before, and has a whole cycle at least.
+fn slice<R: Wait>(rt: &R, pass: &mut Pass, cells: u32) -> Came
     ensures kept { IsKept pass.old pass.new }
     ensures left { (d : AnyBench) × HasLeft pass.new d × (result ≡ Came.Idle → NoneDue rp3_rules d.table) }
 {
-    Came::of_slice(pass.settle_some(rt, CELLS))
+    Came::of_slice(pass.settle_some(rt, cells))
 }
 
 /// A slice, and the journal's length before it.
-fn watched_slice<R: Wait>(rt: &R, pass: &mut Pass) -> Watched
+fn watched_slice<R: Wait>(rt: &R, pass: &mut Pass, cells: u32) -> Watched
     ensures kept { IsKept pass.old pass.new }
     ensures looked { HasLooked pass.new result.came result.length }
 {
     let length = pass.length();
-    let came = slice(rt, pass);
+    let came = slice(rt, pass, cells);
     Watched { came, length }
 }
 
@@ -149,16 +145,28 @@ fn rest_after(watched: Watched) -> Option<Rest>
     }
 }
 
-/// A slice, and the rest that follows one which could do nothing.
-fn slice_or_rest<R: Wait>(rt: &R, pass: &mut Pass, number: u32) -> Option<Rest>
+/// A slice, and the rest that follows one which could do nothing. The next slice is as long as this one was quick; behind a rest it is
+/// a first one.
+fn slice_or_rest<R: Wait + Clock>(
+    rt: &R,
+    pass: &mut Pass,
+    number: u32,
+    pace: &mut Pace,
+) -> Option<Rest>
     ensures kept { IsKept pass.old pass.new }
     ensures looked { IfSome result (λ rest. (came : Came) × HasLooked pass.new came rest.length × (does_nothing came ≡ true)) }
 {
     if number > 0 {
         pass.nap(rt, Duration::from_micros(ASIDE));
     }
-    let watched = watched_slice(rt, pass);
-    rest_after(watched)
+    let since = Instant::now(rt).ok();
+    let watched = watched_slice(rt, pass, pace.cells);
+    let rest = rest_after(watched);
+    *pace = match rest {
+        Some(_) => Pace::first(),
+        None => pace.after(rt, since),
+    };
+    rest
 }
 
 /// Sleeps for a look, or behind the last one until an edit or `Pass::wake_all` wakes it.
@@ -187,18 +195,25 @@ fn rested<R: Wait>(rt: &R, pass: &mut Pass, rest: Rest) -> Option<Rest>
 
 /// The worker of this number settles slices until its gate stops it, or its turns are used up; number 0 is the first. After a turn
 /// that could do nothing the turns are looks at the journal's length, until an edit has come, and none any more for a millisecond.
-fn settle_slices<R: Wait, G: Gate>(rt: &R, pass: &mut Pass, gate: &mut G, number: u32, plan: Plan)
+fn settle_slices<R: Wait + Clock, G: Gate>(
+    rt: &R,
+    pass: &mut Pass,
+    gate: &mut G,
+    number: u32,
+    plan: Plan,
+)
     ensures { IsKept pass.old pass.new }
 {
     pass.base();
     let mut rest = None;
+    let mut pace = Pace::first();
     'turns: for turn in 0..plan.turns {
         if !gate.go_on(turn) {
             break;
         }
         rest = match rest {
             Some(rest) => rested(rt, pass, rest),
-            None => slice_or_rest(rt, pass, number),
+            None => slice_or_rest(rt, pass, number, &mut pace),
         };
     }
 }
@@ -234,7 +249,7 @@ fn compute_lots<R: Wait, G: Gate>(
 }
 
 /// The worker of this number: it works until its gate stops it, or its turns are used up.
-pub fn run_worker<R: Wait, G: Gate + Drop>(
+pub fn run_worker<R: Wait + Clock, G: Gate + Drop>(
     rt: &R,
     mut pass: Pass,
     mut gate: G,

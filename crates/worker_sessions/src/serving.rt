@@ -20,12 +20,13 @@ use std::snapshot::Snapshot;
 use std::sync::{Arc, Wait};
 use std::thread;
 use std::thread::{Promise, PromisedHandle, Threads};
+use std::time::Clock;
 use wave_workers::{Gate, Worked, attend};
 
 /// What lets a session run with workers: a handle that each thread takes with it.
-pub trait Hall: Threads + Wait + Sync + Send + Copy + Drop + 'static {}
+pub trait Hall: Threads + Wait + Clock + Sync + Send + Copy + Drop + 'static {}
 
-impl<H: Threads + Wait + Sync + Send + Copy + Drop + 'static> Hall for H {}
+impl<H: Threads + Wait + Clock + Sync + Send + Copy + Drop + 'static> Hall for H {}
 
 /// There was no memory or no thread at the start of a session. Nothing was read.
 #[derive(Clone, Copy, PartialEq, Eq, Debug, Drop)]

@@ -1,8 +1,9 @@
 //! Settling a cycle at once, by a row of all components.
-ghost use Rattle.std.specs.Prelude.{◌≡◌, ℕ, ◌+◌, ◌≤◌, ◌<◌, true, false, IfNone, IfSome, length};
+ghost use Rattle.std.specs.Prelude.{◌≡◌, ℕ, ◌+◌, ◌≤◌, ◌<◌, ◌&&◌, nat_le, nat_lt, true, false, All, IfNone, IfSome, length, vec_capacity};
 ghost use Rattle.cell_states.specs.Filling.{is_awake};
 ghost use Rattle.cell_states.specs.Versions.{any_changes};
 ghost use Rattle.due_cells.specs.Readers.{IsIndex};
+ghost use Rattle.due_cells.specs.Ranges.{is_marked, IsWithin};
 ghost use Rattle.due_cells.specs.Seen.{Seen, row_at};
 ghost use Rattle.cell_table.specs.Cells.{AtOrAfter};
 ghost use Rattle.cell_table.specs.Settling.{NoneDueBefore, IsAt};
@@ -14,19 +15,32 @@ use super::Table;
 use super::alike::Passed;
 use crate::watcher::Watcher;
 use cell_marks::Row;
-use cell_states::{Cell, WholeRow};
+use cell_states::{Cell, CellRange, WholeRow};
 use due_cells::{
     Along, Beside, Spare, find_left, find_reached, has_room, make_room, mark_changed, no_versions,
     put_row, ranges_in,
 };
 use grid_law::Grid;
 
+/// The cells of the components that change, where somebody is to be told of them, in the place of what was in the list.
+fn list_told(is_told: bool, changes: &Row, from: u32, to: u32, ranges: &mut Vec<CellRange>)
+    requires order { from ≤ to }
+    requires room { length changes.now ≤ vec_capacity ranges.old }
+    ensures within { is_told ≡ true → All (IsWithin to (length changes.now)) ranges.new.items }
+    ensures marked { is_told ≡ true → (t c : ℕ) → is_marked ranges.new.items t c ≡ (is_awake changes.now c && (nat_le from t && nat_lt t to)) }
+{
+    if is_told {
+        ranges_in(changes, from, to, ranges);
+    }
+}
+
 impl<G: Grid> Table<G> {
-    /// Settles the cells of a cycle before which no cell is due, at once: how many were computed. Only cells of
+    /// Settles the cells of a cycle before which no cell is due, at once: how many were computed. Where it is to be told, only cells of
     /// the ranges may hold other states then.
     fn settle_row<M: WholeRow<G>>(
         &mut self,
         cycle: u32,
+        is_told: bool,
         spare: &mut Spare,
         along: &mut Option<Along<M>>,
         beside: &mut Beside<M>,
@@ -37,7 +51,8 @@ impl<G: Grid> Table<G> {
         ensures workspace { IsWorkspace G.rules G.codec M.stands M.state self.new spare.new along.new beside.new }
         ensures none { IfNone result (self.new ≡ self.old) }
         ensures on { IfSome result (λ n. (first : Seen G.State G.Slots) (k : ℕ) → IsAt G.rules first self.old cycle 0 k → IsAt G.rules first self.new (cycle + 1) 0 (k + n)) }
-        ensures but { IfSome result (λ n. HoldsBut G.rules self.old self.new spare.new.ranges.items) }
+        ensures same { IfSome result (λ n. (self.new.slots ≡ self.old.slots) × (self.new.horizon ≡ self.old.horizon)) }
+        ensures but { IfSome result (λ n. is_told ≡ true → HoldsBut G.rules self.old self.new spare.new.ranges.items) }
     {
         // There are fewer cycles than 2^32, so the next one's number fits.
         let _cycles = self.cells.cycles();
@@ -71,7 +86,7 @@ impl<G: Grid> Table<G> {
         ) {
             return None;
         }
-        ranges_in(&spare.changes, cycle, cycle + 1, &mut spare.ranges);
+        list_told(is_told, &spare.changes, cycle, cycle + 1, &mut spare.ranges);
         G::by_words(&self.slots);
         find_reached::<G>(&self.cells, &self.slots, &self.readers, cycle, spare);
         let changed = spare.changes.count();
@@ -144,11 +159,14 @@ impl<G: Grid> Table<G> {
             Some(cycle) => cycle,
             None => return None,
         };
-        let computed = match self.settle_row(cycle, spare, along, beside) {
+        let is_told = !watcher.is_idle();
+        let computed = match self.settle_row(cycle, is_told, spare, along, beside) {
             Some(computed) => computed,
             None => return None,
         };
-        watcher.refilled(self, spare.ranges.as_slice());
+        if is_told {
+            watcher.refilled(self, spare.ranges.as_slice());
+        }
         Some(Passed {
             to: Cell {
                 cycle: cycle + 1,

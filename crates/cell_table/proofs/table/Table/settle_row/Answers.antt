@@ -164,10 +164,11 @@ returns-clause-but g c =
     } in
     let others : (t d : ℕ) → t ≤ i.horizon → (t ≡ s + 1 → ⊥) → held_at rows2 t d ≡ held_at rows1 t d = λ t d h f. m.others t d (omega (arith, h, p.len, cycles)) f in
     let behind : s + 1 ≤ i.horizon → (d : ℕ) → d < n → held_at rows2 (s + 1) d ≡ woken R i.slots rows1 (λ t k. is_awake changes k) i.clock s n d = λ h d k. subst (λ marks. held_at rows2 (s + 1) d ≡ woken R i.slots rows1 (λ t k. is_awake marks k) i.clock s n d) same (m.marked (omega (arith, h, p.len, cycles)) d k) in
-    let ranges = c.ranges_in.new.ranges.items in
+    let ranges = c.list_told.new.ranges.items in
     let same_ranges : ranges ≡ c.find_reached.new.spare.ranges.items = ap (λ r. r.items) (sym c.find_reached.ensures.kept.1) in
-    let r = c.ranges_in.ensures in
-    rw (← c.self.view_is) (subst (HoldsBut R v (record { slots = i.slots; horizon = i.horizon; clock = clock; rows = rows2 })) same_ranges (row_but R g.G.Grid.laws v table s there none changes width rows1 row_put rows2 clock few c.no_versions.ensures is_clock room whole others behind ranges r.within r.marked (ranges_within ranges (s + 1) (i.horizon + 1) (length changes) n (omega (arith, there)) width r.within)))
+    let r = c.list_told.ensures in
+    λ told.
+    rw (← c.self.view_is) (subst (HoldsBut R v (record { slots = i.slots; horizon = i.horizon; clock = clock; rows = rows2 })) same_ranges (row_but R g.G.Grid.laws v table s there none changes width rows1 row_put rows2 clock few c.no_versions.ensures is_clock room whole others behind ranges (r.within told) (r.marked told) (ranges_within ranges (s + 1) (i.horizon + 1) (length changes) n (omega (arith, there)) width (r.within told))))
 
 pub returns-clause-workspace : goal.returns-clause-workspace
 returns-clause-workspace g c =

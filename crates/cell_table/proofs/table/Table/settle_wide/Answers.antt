@@ -1,4 +1,4 @@
-use Rattle.std.proofs.Common.{◌+◌, sym, subst, arith}
+use Rattle.std.proofs.Common.{◌+◌, sym, ap, subst, arith, not}
 use Rattle.cell_table.specs.Passing.{HoldsBut}
 use Rattle.cell_table.specs.Settling.{IsAt}
 use Rattle.cell_table.proofs.Passes.{further_cycle}
@@ -8,7 +8,7 @@ pub refilled-requires : goal.refilled-requires
 refilled-requires g c = (
   c.args.self.now,
   c.requires.watched,
-  subst (HoldsBut g.G.Grid.rules c.args.self.now c.settle_row.new.self) (sym c.as_slice.ensures.value) c.in-Some-settle_row.ensures.but,
+  subst (HoldsBut g.G.Grid.rules c.args.self.now c.settle_row.new.self) (sym c.as_slice.ensures.value) (c.in-Some-settle_row.ensures.but (ap not c.if-is_told.true)),
 )
 
 pub returns-clause-on : goal.returns-clause-on
