@@ -1,6 +1,6 @@
 //! How long the slices are that a worker settles.
-ghost use Rattle.std.specs.Prelude.{◌≡◌};
-ghost use Rattle.wave_workers.specs.Pacing.{least_cells, paced};
+ghost use Rattle.std.specs.Prelude.{◌≡◌, ◌≤◌};
+ghost use Rattle.wave_workers.specs.Pacing.{least_cells, most_cells, paced};
 
 use std::time::{Clock, Instant};
 
@@ -35,7 +35,9 @@ impl Pace {
     }
 
     /// The slice behind one that began then, where the clock tells how long that took; else the first one again.
-    pub fn after<R: Clock>(self, rt: &R, since: Option<Instant>) -> Pace {
+    pub fn after<R: Clock>(self, rt: &R, since: Option<Instant>) -> Pace
+        ensures { (least_cells ≤ result.cells) × (result.cells ≤ most_cells) }
+    {
         match since.and_then(|since| since.elapsed(rt).ok()) {
             Some(took) => Pace {
                 cells: paced(self.cells, took.as_nanos()),
