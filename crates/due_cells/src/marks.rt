@@ -157,7 +157,7 @@ pub fn retouch<G: Grid>(
     let alloc = cells.allocator();
     // The cycles are at most this many, so the next cycle's number fits.
     let before = cells.cycles();
-    // No cycle from there on is looked at, and none may be left.
+    // All ranges end there, so no later cycle is looked at; `mark_ranges` wants a cycle at least.
     let to = end_of(ranges).min(last + 1);
     let to = if to == 0 { 1 } else { to };
     let mut row = Row::new(alloc, count, false)?;

@@ -34,7 +34,8 @@ impl Pace {
         }
     }
 
-    /// The slice behind one that began then, where the clock tells how long that took; else the first one again.
+    /// The slice behind one that began then, where the clock tells how long that took, its wait for the turn included; else the first
+    /// one again.
     pub fn after<R: Clock>(self, rt: &R, since: Option<Instant>) -> Pace
         ensures { (least_cells ≤ result.cells) × (result.cells ≤ most_cells) }
     {
