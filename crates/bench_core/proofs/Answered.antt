@@ -3,7 +3,7 @@ use Rattle.std.proofs.Common.{◌≡◌, ◌≢◌, ℕ, zero, suc, refl, Option
 use Rattle.std.specs.Prelude.{Result, Err}
 use Rattle.run_queries.specs.declared.query.Query.{Query}
 use Rattle.run_queries.specs.declared.body.Body.{Body}
-use Rattle.run_queries.specs.Bad.{bad_query}
+use Rattle.run_queries.specs.Queries.{bad_query}
 use Rattle.run_queries.specs.Answers.{answer, unless}
 use Rattle.bench_core.specs.declared.asked.Asked.{Asked}
 use Rattle.bench_core.specs.declared.asked.Asked.TheVariants as asked

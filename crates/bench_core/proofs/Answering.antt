@@ -10,7 +10,7 @@ use Rattle.cell_table.specs.declared.given.Settled.{Settled}
 use Rattle.cell_table.specs.declared.given.SettleFault.{SettleFault}
 use Rattle.project_book.specs.Project.{Project}
 use Rattle.project_book.specs.declared.slot.Slot.{Slot}
-use Rattle.run_queries.specs.Bad.{bad_query}
+use Rattle.run_queries.specs.Queries.{bad_query}
 use Rattle.run_queries.specs.Answers.{answer}
 use Rattle.run_queries.specs.declared.query.Query.{Query}
 use Rattle.run_queries.specs.declared.query.Query.TheVariants.{Reply, Order}

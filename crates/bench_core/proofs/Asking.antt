@@ -5,8 +5,7 @@ use Rattle.machine_cells.specs.Runs.{state_in}
 use Rattle.run_queries.specs.declared.query.Query.{Query}
 use Rattle.run_queries.specs.declared.query.Query.TheVariants.{State, Memory as MemoryAt}
 use Rattle.run_queries.specs.declared.body.Body.{Body}
-use Rattle.run_queries.specs.Bad.{bad_query}
-use Rattle.run_queries.specs.Reach.{reach}
+use Rattle.run_queries.specs.Queries.{bad_query, reach}
 use Rattle.run_queries.specs.Answers.{found_in}
 use Rattle.bench_core.specs.declared.asked.Asked.{Asked}
 use Rattle.bench_core.specs.declared.asked.Asked.TheVariants.{Answer, Pending, BadQuery, Memory}

@@ -11,7 +11,7 @@ use Rattle.machine_cells.specs.Runs.{state_in}
 use Rattle.project_book.specs.Project.{Project}
 use Rattle.run_queries.specs.declared.query.Query.{Query}
 use Rattle.run_queries.specs.declared.body.Body.{Body}
-use Rattle.run_queries.specs.Bad.{bad_query}
+use Rattle.run_queries.specs.Queries.{bad_query}
 use Rattle.run_queries.specs.Answers.{answer, found_in, unless}
 use Rattle.omega_net.proofs.Same.{same_two}
 use Rattle.run_queries.proofs.Same.{and_true, same_query}

@@ -10,7 +10,7 @@ use Rattle.machine_cells.specs.Runs.{state_in}
 use Rattle.machine_cells.proofs.Runs.{runs_are_one}
 use Rattle.run_queries.specs.declared.query.Query.{Query}
 use Rattle.run_queries.specs.declared.query.Query.TheVariants.{Reply, State, Memory, Order}
-use Rattle.run_queries.specs.Bad.{bad_query}
+use Rattle.run_queries.specs.Queries.{bad_query}
 use Rattle.run_queries.specs.Answers.{found_in}
 use Rattle.run_queries.proofs.Good.{good_reply, good_state, good_memory, good_order}
 use Rattle.run_queries.proofs.Stretches.{same_issued, same_reply}

@@ -12,7 +12,7 @@ use Rattle.machine_cells.specs.Runs.{state_in}
 use Rattle.project_book.specs.Project.{Project}
 use Rattle.std.specs.Option.{option_map}
 use Rattle.run_queries.specs.Answers.{issued, first_of, received, word_got, first_reply, answer}
-use Rattle.run_queries.specs.Bad.{bad_query}
+use Rattle.run_queries.specs.Queries.{bad_query}
 use Rattle.run_queries.specs.declared.query.Query.TheVariants.{Reply}
 use Rattle.run_queries.specs.declared.body.Body.TheVariants.{Reply as Replied}
 use Rattle.run_queries.specs.declared.body.Received.{Received}

@@ -14,9 +14,9 @@ use Rattle.cell_table.proofs.Counted.{count_to_same, count_cone_same, count_to_n
 use Rattle.machine_cells.specs.GridRules.{rp3_rules}
 use Rattle.project_book.specs.Project.{Project}
 use Rattle.run_queries.specs.declared.query.Query.{Query}
-use Rattle.run_queries.specs.declared.reach.Reach.{Reach}
-use Rattle.run_queries.specs.declared.reach.Reach.TheVariants.{Nothing, State, Word, To}
-use Rattle.run_queries.specs.Reach.{last_of, reach}
+use Rattle.run_queries.specs.declared.query.Reach.{Reach}
+use Rattle.run_queries.specs.declared.query.Reach.TheVariants.{Nothing, State, Word, To}
+use Rattle.run_queries.specs.Queries.{last_of, reach}
 use Rattle.bench_core.specs.declared.asked.Asked.{Asked}
 use Rattle.bench_core.specs.Shown.{Shown, IsBench, project_of}
 use Rattle.bench_core.specs.Asks.{module_of, waits_for, waits, last_cycle, IsUpTo, pending, asked, asked_at, IsOrWants, AsksAs}

@@ -3,10 +3,10 @@ use Rattle.std.specs.Prelude.{◌≡◌, ◌⊎◌, ℕ, ◌+◌, ◌*◌, ◌/�
 use Rattle.due_cells.specs.Seen.{due_at}
 use Rattle.cell_table.specs.declared.given.SettleFault.{SettleFault}
 use Rattle.omega_net.specs.Numbers.{components}
-use Rattle.run_queries.specs.Bad.{bad_query}
+use Rattle.run_queries.specs.Queries.{bad_query}
 use Rattle.run_queries.specs.declared.query.Query.{Query}
 use Rattle.run_queries.specs.declared.query.Query.TheVariants.{Reply, Order}
-use Rattle.run_queries.specs.declared.reach.Reach.TheVariants.{To}
+use Rattle.run_queries.specs.declared.query.Reach.TheVariants.{To}
 use Rattle.run_queries.specs.declared.body.Body.TheVariants.{Reply as Replied}
 use Rattle.run_queries.specs.declared.body.Received.{Received}
 use Rattle.bench_core.specs.declared.told.Told.{Told}

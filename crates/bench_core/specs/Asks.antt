@@ -10,11 +10,10 @@ use Rattle.machine_cells.specs.Runs.{state_in}
 use Rattle.project_book.specs.Project.{Project, place_in}
 use Rattle.run_queries.specs.declared.query.Query.{Query}
 use Rattle.run_queries.specs.declared.query.Query.TheVariants.{Order}
-use Rattle.run_queries.specs.declared.reach.Reach.{Reach}
-use Rattle.run_queries.specs.declared.reach.Reach.TheVariants.{Nothing, State, Word, To}
-use Rattle.run_queries.specs.Reach.{last_of, reach}
+use Rattle.run_queries.specs.declared.query.Reach.{Reach}
+use Rattle.run_queries.specs.declared.query.Reach.TheVariants.{Nothing, State, Word, To}
+use Rattle.run_queries.specs.Queries.{last_of, reach, bad_query}
 use Rattle.run_queries.specs.declared.body.Body.{Body}
-use Rattle.run_queries.specs.Bad.{bad_query}
 use Rattle.run_queries.specs.Answers.{found_in, answer}
 use Rattle.bench_core.specs.declared.asked.Asked.{Asked}
 use Rattle.bench_core.specs.declared.asked.Asked.TheVariants.{Answer, Pending, BadQuery, Memory}

@@ -7,13 +7,12 @@ use Rattle.project_book.specs.Edits.{accepts}
 use Rattle.project_book.specs.declared.edit.Edit.{Edit}
 use Rattle.project_book.specs.declared.fault.EditFault.{EditFault}
 use Rattle.project_book.specs.declared.fault.EditFault.TheVariants.{ClockSpent, Memory}
-use Rattle.run_queries.specs.Bad.{bad_query}
+use Rattle.run_queries.specs.Queries.{bad_query, reach}
 use Rattle.run_queries.specs.Answers.{answer}
 use Rattle.run_queries.specs.declared.query.Query.{Query}
 use Rattle.run_queries.specs.declared.query.Query.TheVariants.{Reply, Order}
-use Rattle.run_queries.specs.declared.reach.Reach.{Reach}
-use Rattle.run_queries.specs.declared.reach.Reach.TheVariants.{Nothing}
-use Rattle.run_queries.specs.Reach.{reach}
+use Rattle.run_queries.specs.declared.query.Reach.{Reach}
+use Rattle.run_queries.specs.declared.query.Reach.TheVariants.{Nothing}
 use Rattle.run_queries.specs.declared.body.Body.{Body}
 use Rattle.bench_core.specs.declared.told.Told.{Told}
 use Rattle.bench_core.specs.declared.told.Told.TheVariants as told

@@ -8,7 +8,7 @@ use Rattle.line_words.specs.Words.{words_of}
 use Rattle.commands.specs.Commands.{command_of}
 use Rattle.commands.specs.declared.command.Command.{Command}
 use Rattle.commands.specs.declared.command.Command.TheVariants.{Edit, Query}
-use Rattle.run_queries.specs.Bad.{bad_query}
+use Rattle.run_queries.specs.Queries.{bad_query}
 use Rattle.run_queries.specs.Answers.{answer}
 use Rattle.run_queries.specs.declared.body.Body.{Body}
 use Rattle.bench_core.specs.Told.{MayFindSpent}

@@ -1,4 +1,3 @@
-pub mod Keywords
 pub mod Numbers
 pub mod Components
 pub mod Queues

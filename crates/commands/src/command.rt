@@ -1,7 +1,7 @@
 //! Commands.
 ghost use Rattle.std.specs.Prelude.{◌≡◌};
 ghost use Rattle.line_words.specs.Words.{words_of};
-ghost use Rattle.commands.specs.Commands.{command_of, command_for};
+ghost use Rattle.commands.specs.Commands.{command_of};
 
 use crate::edits::read_edit;
 use crate::keyword::Keyword;
@@ -26,17 +26,11 @@ impl Command {
         ensures { result ≡ command_of shape (words_of line.now) }
     {
         let (word, rest) = split_word(line)?;
-        read_command(shape, Keyword::read(word)?, rest)
-    }
-}
-
-/// The command of a keyword, by the words behind it.
-fn read_command(shape: Shape, keyword: Keyword, line: &[u8]) -> Option<Command>
-    ensures { result ≡ command_for shape keyword (words_of line.now) }
-{
-    if keyword.is_query() {
-        Some(Command::Query(read_query(shape, keyword, line)?))
-    } else {
-        Some(Command::Edit(read_edit(keyword, line)?))
+        let keyword = Keyword::read(word)?;
+        if keyword.is_query() {
+            Some(Command::Query(read_query(shape, keyword, rest)?))
+        } else {
+            Some(Command::Edit(read_edit(keyword, rest)?))
+        }
     }
 }

@@ -1,6 +1,6 @@
 //! The first words of commands.
 ghost use Rattle.std.specs.Prelude.{◌≡◌};
-ghost use Rattle.commands.specs.Keywords.{keyword_name, keyword_of, is_query};
+ghost use Rattle.commands.specs.Commands.{keyword_name, keyword_of, is_query};
 
 /// The first word of a command.
 #[derive(Clone, Copy, PartialEq, Eq, Debug)]

@@ -5,7 +5,7 @@ use Rattle.project_book.specs.declared.fault.EditFault.TheVariants as edit_fault
 use Rattle.project_book.specs.Project.{Project}
 use Rattle.run_queries.specs.declared.query.Query.{Query as AnyQuery}
 use Rattle.run_queries.specs.Answers.{answer}
-use Rattle.run_queries.specs.Bad.{bad_query}
+use Rattle.run_queries.specs.Queries.{bad_query}
 use Rattle.bench_core.specs.Shown.{Shown}
 use Rattle.bench_core.specs.Edits.{admits}
 use Rattle.experiments.specs.declared.fault.Fault.{Fault}

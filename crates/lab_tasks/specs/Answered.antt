@@ -4,8 +4,7 @@ use Rattle.omega_net.specs.Wires.{below}
 use Rattle.svg_plots.specs.Lists.{each}
 use Rattle.machine_cells.specs.Texts.{state_text}
 use Rattle.project_book.specs.Project.{Project}
-use Rattle.run_queries.specs.declared.query.Query.{Query}
-use Rattle.run_queries.specs.declared.query.Query.TheVariants as query
+use Rattle.run_queries.specs.Queries.{number_name, numbers_of}
 use Rattle.run_queries.specs.declared.body.Body.{Body}
 use Rattle.run_queries.specs.declared.body.Body.TheVariants.{Reply, State, Word, Count, Profile, Tree, Level, Fraction, Place, Order}
 use Rattle.run_queries.specs.Texts.{body_text}
@@ -23,19 +22,6 @@ form_of P numbers = record { numbers = numbers; k = P.k }
 
 -- ---- the names of the columns
 
--- how many numbers the answer to a question has; a state and an order have none, and one column for their text
-abbrev pub numbers_of : ℕ → Query → ℕ
-numbers_of k (query.Reply p n) = 2
-numbers_of k (query.State c t) = 1
-numbers_of k (query.Memory a t) = 1
-numbers_of k (query.Counter counter who from to) = 1
-numbers_of k (query.Profile net s) = 17
-numbers_of k (query.Tree net m) = k
-numbers_of k (query.Level net m t) = 1
-numbers_of k (query.Bound a b p) = 2
-numbers_of k (query.Place a) = 2
-numbers_of k (query.Order a) = 1
-
 -- how many numbers a question's answer or a report has
 abbrev pub figures_of : ℕ → Asking → ℕ
 figures_of k (asking.Query q) = numbers_of k q
@@ -51,19 +37,7 @@ width_of form what = if form.numbers then figures_of form.k what else 1
 abbrev pub one_of : List ℕ → List ℕ → ℕ → List ℕ
 one_of first other i = if i == 0 then first else other
 
--- what stands behind a question in the name of a number's column: nothing where there is one column alone
-abbrev pub number_name : Query → ℕ → List ℕ
-number_name (query.Reply p n) i = one_of (codes " cycle") (codes " word") i
-number_name (query.State c t) i = []
-number_name (query.Memory a t) i = []
-number_name (query.Counter counter who from to) i = []
-number_name (query.Profile net s) i = codes " length " ++ decimal i
-number_name (query.Tree net m) i = codes " level " ++ decimal (i + 1)
-number_name (query.Level net m t) i = []
-number_name (query.Bound a b p) i = one_of (codes " numerator") (codes " denominator") i
-number_name (query.Place a) i = one_of (codes " module") (codes " row") i
-number_name (query.Order a) i = []
-
+-- what stands behind a question or a report in the name of a number's column: nothing where there is one column alone
 abbrev pub figure_name : Asking → ℕ → List ℕ
 figure_name (asking.Query q) i = number_name q i
 figure_name (asking.Latency ask) i = latency_name i

@@ -8,7 +8,7 @@ use Rattle.project_book.specs.Project.{Project}
 use Rattle.commands.specs.Commands.{command_of}
 use Rattle.commands.specs.declared.command.Command.{Command}
 use Rattle.commands.specs.declared.command.Command.TheVariants as command
-use Rattle.run_queries.specs.Bad.{bad_query}
+use Rattle.run_queries.specs.Queries.{bad_query}
 use Rattle.bench_shell.specs.declared.answer.Answer.{Answer}
 use Rattle.bench_shell.specs.declared.answer.Answer.TheVariants.{Bad, BadCommand}
 use Rattle.lab_tasks.specs.declared.asking.Asking.{Asking}

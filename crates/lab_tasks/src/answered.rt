@@ -3,7 +3,7 @@ ghost use Rattle.std.specs.Prelude.{◌≡◌, ◌++◌, IfOk, OnOk, Some, codes
 ghost use Rattle.std.specs.List.{flat_map};
 ghost use Rattle.std.specs.Option.{option_copied};
 ghost use Rattle.run_queries.specs.Texts.{body_text};
-ghost use Rattle.lab_tasks.specs.Answered.{asked_columns, bad_text, cell_at, cells_of, column_name, columns_for, figure_name, figures_of, first_text, in_first, number_at, number_name, number_shown, numbers_of, one_of, question_columns, refused_cells, refused_text, shown, width_of};
+ghost use Rattle.lab_tasks.specs.Answered.{asked_columns, bad_text, cell_at, cells_of, column_name, columns_for, figure_name, figures_of, first_text, in_first, number_at, number_shown, one_of, question_columns, refused_cells, refused_text, shown, width_of};
 
 use crate::asking::Asking;
 use crate::grid::Cell;
@@ -11,7 +11,7 @@ use crate::report_figures::{
     DoneName, done_figure, done_line, full_figure, full_line, full_name, latency_figure,
     latency_line, latency_name,
 };
-use run_queries::{Body, Query};
+use run_queries::{Body, NumberName, Query};
 use run_reports::{Spread, Summary};
 use std::alloc::{AllocError, Global};
 use std::fmt;
@@ -24,26 +24,12 @@ pub(crate) struct Form {
     pub k: u32,
 }
 
-/// How many numbers the answer to a question has.
-fn numbers_of(k: u32, query: Query) -> u32
-    ensures { result ≡ numbers_of k query }
-{
-    match query {
-        Query::Reply { .. } | Query::Bound { .. } | Query::Place { .. } => 2,
-        Query::Profile { .. } => 17,
-        Query::Tree { .. } => k,
-        Query::State { .. } | Query::Memory { .. } => 1,
-        Query::Counter { .. } | Query::Level { .. } => 1,
-        Query::Order { .. } => 1,
-    }
-}
-
 /// How many numbers a question's answer or a report has.
 fn figures_of(k: u32, asking: Asking) -> u32
     ensures { result ≡ figures_of k asking }
 {
     match asking {
-        Asking::Query(query) => numbers_of(k, query),
+        Asking::Query(query) => query.numbers(k),
         Asking::Latency(_) | Asking::Done => 8,
         Asking::Full => 4,
     }
@@ -98,34 +84,6 @@ fn in_first(alloc: Global, text: &str, place: u32) -> Result<String, AllocError>
     ensures { IfOk result (λ cell. string_bytes cell ≡ in_first text.now place) }
 {
     String::from_str(alloc, one_of(text, "", place))
-}
-
-/// The name of a number, as it stands behind its question.
-#[derive(Clone, Copy)]
-struct NumberName {
-    query: Query,
-    place: u32,
-}
-
-impl fmt::Display for NumberName {
-    ghost output = { λ name. Some (number_name name.query name.place) };
-
-    fn fmt<W: fmt::Write>(&self, f: &mut fmt::Formatter<W>) -> fmt::Result {
-        let place = self.place;
-        match self.query {
-            Query::Reply { .. } => f.write_str(one_of(" cycle", " word", place)),
-            Query::Profile { .. } => write!(f, " length {place}"),
-            Query::Tree { .. } => {
-                let level = u64::from(place) + 1;
-                write!(f, " level {level}")
-            }
-            Query::Bound { .. } => f.write_str(one_of(" numerator", " denominator", place)),
-            Query::Place { .. } => f.write_str(one_of(" module", " row", place)),
-            Query::State { .. } | Query::Memory { .. } => Ok(()),
-            Query::Counter { .. } | Query::Level { .. } => Ok(()),
-            Query::Order { .. } => Ok(()),
-        }
-    }
 }
 
 /// The name of a number of a question's answer or of a report.

@@ -3,7 +3,7 @@ ghost use Rattle.std.specs.Prelude.{◌≡◌, IfErr, IfNone, IfOk, IfSome, None
 ghost use Rattle.std.specs.List.{AllZip};
 ghost use Rattle.clap.specs.Walk.{texts};
 ghost use Rattle.line_words.specs.Words.{words_of};
-ghost use Rattle.run_queries.specs.Bad.{bad_query};
+ghost use Rattle.run_queries.specs.Queries.{bad_query};
 ghost use Rattle.commands.specs.Commands.{command_of};
 ghost use Rattle.lab_tasks.specs.Askings.{report_words, AreUnread, IsAsked, IsLatencyAsk, IsNoLatency, IsNoReport, IsNoReportBy, IsNoReportIn, IsReport, IsReportBy, IsReportIn, RefusesAs, RefusesAsk, RefusesQuery, RefusesReport};
 ghost use Rattle.lab_tasks.specs.SweepTables.{AreNotAsked, OrMemory};

@@ -10,10 +10,9 @@ use Rattle.project_book.specs.Project.{Project}
 use Rattle.run_queries.specs.declared.query.Query.TheVariants.{Reply, State, Memory, Counter, Profile, Tree, Level, Place, Order}
 use Rattle.run_queries.specs.declared.query.Query.{Query}
 use Rattle.run_queries.specs.declared.query.Query.TheVariants.{Bound}
-use Rattle.run_queries.specs.declared.reach.Reach.{Reach}
-use Rattle.run_queries.specs.declared.reach.Reach.TheVariants as reached
-use Rattle.run_queries.specs.Bad.{is_who, bad_query}
-use Rattle.run_queries.specs.Reach.{reach}
+use Rattle.run_queries.specs.declared.query.Reach.{Reach}
+use Rattle.run_queries.specs.declared.query.Reach.TheVariants as reached
+use Rattle.run_queries.specs.Queries.{is_who, bad_query, reach}
 
 pub record GoodState (P : Project) (c t : ℕ) : Type 0 where
   pub component : c < components P.k

@@ -18,7 +18,7 @@ use Rattle.saturation.specs.Levels.{level}
 use Rattle.saturation.specs.Trees.{tree}
 use Rattle.saturation.specs.Bound.{bound}
 use Rattle.serial_order.specs.Order.{order_of}
-use Rattle.run_queries.specs.Bad.{bad_query}
+use Rattle.run_queries.specs.Queries.{bad_query}
 use Rattle.run_queries.specs.declared.query.Query.{Query}
 use Rattle.run_queries.specs.declared.query.Query.TheVariants.{Reply as ReplyTo, State as StateOf, Memory as MemoryAt, Counter as CountOf, Profile as ProfileOf, Tree as TreeOf, Level as LevelOf, Bound as BoundOf, Place as PlaceOf, Order as OrderOf}
 use Rattle.run_queries.specs.declared.body.Body.{Body}

@@ -1,4 +1,3 @@
-pub mod Bad
+pub mod Queries
 pub mod Answers
-pub mod Reach
 pub mod Texts

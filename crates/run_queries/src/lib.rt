@@ -12,11 +12,9 @@
 
 mod body;
 mod query;
-mod reach;
 mod spaced;
 mod states;
 
 pub use body::{Body, Received, SharedState};
-pub use query::Query;
-pub use reach::Reach;
+pub use query::{NumberName, Query, Reach};
 pub use states::{has_sent, word_got, word_in};

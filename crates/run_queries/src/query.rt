@@ -1,6 +1,6 @@
-//! Questions about the run of a project.
-ghost use Rattle.std.specs.Prelude.{◌≡◌};
-ghost use Rattle.run_queries.specs.Bad.{is_who, bad_window, bad_query};
+//! Questions about the run of a project: what is wrong with their numbers, how far their answers look, and the numbers of these.
+ghost use Rattle.std.specs.Prelude.{◌≡◌, ◌==◌, if◌then◌else◌, Some};
+ghost use Rattle.run_queries.specs.Queries.{is_who, bad_window, bad_query, last_of, numbers_of, number_name, reach};
 
 use grid_law::Grid;
 use machine_cells::Rp3;
@@ -9,6 +9,7 @@ use omega_net::Net;
 use page_map::ADDRESSES;
 use project_book::Project;
 use saturation::bound;
+use std::fmt;
 
 /// A question about the run of a project. The numbers may be any: what the project doesn't have is refused.
 #[derive(Clone, Copy, PartialEq, Eq, Hash, Debug)]
@@ -69,6 +70,33 @@ pub enum Query {
     },
 }
 
+/// The cells of a run that the answer to a query looks at.
+#[derive(Clone, Copy, PartialEq, Eq, Debug)]
+pub enum Reach {
+    /// None.
+    Nothing,
+    /// That of a component, by its number, at a cycle.
+    State { component: u32, cycle: u32 },
+    /// That of the module in which an address stands, at a cycle.
+    Word { address: u32, cycle: u32 },
+    /// All up to a cycle.
+    To(u32),
+}
+
+impl Reach {
+    /// The last cycle of these cells, where there are any.
+    pub fn last(self) -> Option<u32>
+        ensures { result ≡ last_of self }
+    {
+        match self {
+            Reach::Nothing => None,
+            Reach::State { cycle, .. } | Reach::Word { cycle, .. } | Reach::To(cycle) => Some(
+                cycle,
+            ),
+        }
+    }
+}
+
 /// Whether a component is there, where one is asked for.
 fn is_there(project: &Project, who: Option<u32>) -> bool
     ensures { result ≡ is_who (project.now).k who }
@@ -113,6 +141,75 @@ impl Query {
             Query::Counter { from, to, .. } => bad_window(project, from, to),
             Query::Bound { a, b, p } if bound(a, b, p).is_none() => Some(6),
             _ => None,
+        }
+    }
+
+    /// The cells that the answer looks at, whatever the query's numbers are.
+    pub fn reach(self, project: &Project) -> Reach
+        ensures { result ≡ reach project.now self }
+    {
+        match self {
+            Query::State { component, cycle } => Reach::State { component, cycle },
+            Query::Memory { address, cycle } => Reach::Word { address, cycle },
+            Query::Counter { to, .. } => Reach::To(to),
+            Query::Level { cycle, .. } => Reach::To(cycle),
+            Query::Reply { .. }
+            | Query::Profile { .. }
+            | Query::Tree { .. }
+            | Query::Order { .. } => { Reach::To(project.horizon()) }
+            Query::Bound { .. } | Query::Place { .. } => Reach::Nothing,
+        }
+    }
+}
+
+impl Query {
+    /// How many numbers the answer has, in a machine of that k. A state and an order are texts, and count as one.
+    pub fn numbers(self, k: u32) -> u32
+        ensures { result ≡ numbers_of k self }
+    {
+        match self {
+            Query::Reply { .. } | Query::Bound { .. } | Query::Place { .. } => 2,
+            Query::Profile { .. } => 17,
+            Query::Tree { .. } => k,
+            Query::State { .. } | Query::Memory { .. } => 1,
+            Query::Counter { .. } | Query::Level { .. } => 1,
+            Query::Order { .. } => 1,
+        }
+    }
+}
+
+/// The first of two texts, or the other one.
+fn one_of<'a>(first: &'a str, other: &'a str, place: u32) -> &'a str
+    ensures { result.now ≡ (if place == 0 then first.now else other.now) }
+{
+    if place == 0 { first } else { other }
+}
+
+/// Which number of an answer one is, by its place from 0. It prints as what stands behind the query to tell it from the
+/// answer's other numbers, ` cycle` and ` word` of a reply; as nothing where there is one alone.
+#[derive(Clone, Copy, PartialEq, Eq, Debug)]
+pub struct NumberName {
+    pub query: Query,
+    pub place: u32,
+}
+
+impl fmt::Display for NumberName {
+    ghost output = { λ name. Some (number_name name.query name.place) };
+
+    fn fmt<W: fmt::Write>(&self, f: &mut fmt::Formatter<W>) -> fmt::Result {
+        let place = self.place;
+        match self.query {
+            Query::Reply { .. } => f.write_str(one_of(" cycle", " word", place)),
+            Query::Profile { .. } => write!(f, " length {place}"),
+            Query::Tree { .. } => {
+                let level = u64::from(place) + 1;
+                write!(f, " level {level}")
+            }
+            Query::Bound { .. } => f.write_str(one_of(" numerator", " denominator", place)),
+            Query::Place { .. } => f.write_str(one_of(" module", " row", place)),
+            Query::State { .. } | Query::Memory { .. } => Ok(()),
+            Query::Counter { .. } | Query::Level { .. } => Ok(()),
+            Query::Order { .. } => Ok(()),
         }
     }
 }

@@ -2,7 +2,7 @@
 ghost use Rattle.std.specs.Prelude.{◌≡◌, ◌⊎◌, ℕ, ◌-◌, ◌^◌, ◌<◌, ◌≤◌, None, Some, OnOk, IfErr, List};
 ghost use Rattle.cell_table.specs.Settling.{IsClockSpent};
 ghost use Rattle.omega_net.specs.Numbers.{components};
-ghost use Rattle.run_queries.specs.Bad.{bad_query};
+ghost use Rattle.run_queries.specs.Queries.{bad_query};
 ghost use Rattle.run_queries.specs.declared.query.Query.TheVariants.{Reply as ReplyTo, Order as OrderOf};
 ghost use Rattle.bench_core.specs.Shown.{project_of, version_of};
 ghost use Rattle.bench_core.specs.Events.{Event, Opening, project_after, version_after};

@@ -1,7 +1,7 @@
 //! Serial orders.
 ghost use Rattle.std.specs.Prelude.{◌≡◌, None};
 ghost use Rattle.serial_order.specs.Answers.{AnswersOrder, AnswerExplains, AnswerIsTimely};
-ghost use Rattle.run_queries.specs.Bad.{bad_query};
+ghost use Rattle.run_queries.specs.Queries.{bad_query};
 ghost use Rattle.run_queries.specs.declared.query.Query.TheVariants.{Order as OrderOf};
 ghost use Rattle.bench_core.specs.Shown.{project_of, held};
 ghost use Rattle.bench_core.specs.Asks.{TellsRun};

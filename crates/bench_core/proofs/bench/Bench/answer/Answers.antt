@@ -1,5 +1,5 @@
 use Rattle.std.proofs.Common.{rules, ◌≡◌, refl, Some, None}
-use Rattle.run_queries.specs.Bad.{bad_query}
+use Rattle.run_queries.specs.Queries.{bad_query}
 use Rattle.bench_core.specs.Shown.{project_of}
 use Rattle.bench_core.specs.declared.told.Told.TheVariants.{BadQuery}
 use Rattle.bench_core.proofs.Asking.{asks_bad}

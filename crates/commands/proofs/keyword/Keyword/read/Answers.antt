@@ -2,7 +2,7 @@ use Rattle.std.proofs.Common.{rules, tests, ◌∙◌}
 use Rattle.std.specs.Prelude.{bytes_eq}
 use Rattle.std.proofs.lemmas.Iterator.{YieldsList-from_slice}
 use Rattle.std.proofs.lemmas.Iterator.Search.{find_from_yields_List}
-use Rattle.commands.specs.Keywords.{keyword_name, keywords}
+use Rattle.commands.specs.Commands.{keyword_name, keywords}
 use Rattle.commands.proofs.keyword.Keyword.read.Goals as goal
 
 pub returns : goal.returns
