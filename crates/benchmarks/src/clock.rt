@@ -207,17 +207,20 @@ pub fn bytes_beside(
 /// The bytes of a page of memory.
 const PAGE: u64 = 4096;
 
-/// How many bytes of memory this process has.
+/// How many bytes of memory this process has of its own: pages of files, as those of its code, are left out.
 pub fn resident(rt: &HostRuntime) -> Result<u64> {
     let pages = pages(rt).context("no /proc/self/statm")?;
     Ok(pages.saturating_mul(PAGE))
 }
 
-/// How many pages of memory the system says that this process has.
+/// How many pages of memory the system says that this process has: all, less those of files.
 fn pages(rt: &HostRuntime) -> Option<u64> {
     let mut bytes = Vec::new(rt.alloc());
     let file = fs::open(rt, "/proc/self/statm").ok()?;
     file.take(64).read_to_end(&mut bytes).ok()?;
     let text = std::str::from_utf8(&bytes).ok()?;
-    text.split(' ').nth(1)?.parse::<u64>().ok()
+    let mut numbers = text.split(' ').skip(1);
+    let all = numbers.next()?.parse::<u64>().ok()?;
+    let of_files = numbers.next()?.parse::<u64>().ok()?;
+    all.checked_sub(of_files)
 }

@@ -92,8 +92,9 @@ struct Held {
 }
 
 /// The memory of a settled bench of each load, those first that take less: what the process has more. None is dropped before
-/// all are measured, so that no memory is used twice.
+/// all are measured, so that no memory is used twice. A small one comes before them: what the stack grows by isn't a bench's.
 fn memory(rt: &HostRuntime, loads: &[Load], k: u32, horizon: u32) -> Result<()> {
+    let _small = bench_held(rt, Load::Hot, 1, 10)?;
     let mut all = Vec::new(rt.alloc());
     for load in LOADS {
         if loads.contains(&load) {
