@@ -51,8 +51,7 @@ impl<M> Near<M> {
         M: WholeRow<G>,
         ensures { result ≡ true → HoldsWords G.rules G.codec M.stands M.state slots.now self.new }
     {
-        let count = G::components(slots);
-        match know_nothing(&mut self.at, count) {
+        match know_nothing(&mut self.at, G::components(slots)) {
             Ok(()) => self.row.resume(slots),
             Err(_) => false,
         }

@@ -51,10 +51,7 @@ fn lists_of<G: Grid>(alloc: Global, slots: &G::Slots) -> Result<Vec<Near>, NoMem
     let mut lists = Vec::with_capacity(alloc, count as usize)?;
     for c in 0..count {
         let components = G::near(slots, c);
-        match lists.push(Near { components }) {
-            Ok(()) => {}
-            Err(_) => return Err(NoMemory),
-        }
+        lists.push(Near { components })?;
     }
     Ok(lists)
 }

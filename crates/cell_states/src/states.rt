@@ -173,16 +173,22 @@ impl<G: Grid> States<G> {
     }
 
     /// Whether a component reads the slot after cycle 0, where its own state one cycle earlier is the cell's and the other near states
-    /// are there. One that has no state reads none.
-    pub fn reads(&self, slots: &G::Slots, cell: Cell, slot: &G::Slot) -> bool
-        requires { cell.component < G.rules.components slots.now }
-        ensures { result ≡ reads_by G.rules slots.now cell.component slot.now (state_at self.now cell.cycle cell.component) }
+    /// are there, and to before which cycle, `end` at most, each of its cells tells the same; more may. One that has no state reads none.
+    /// Words alone are looked at.
+    #[inline(always)]
+    pub fn reads_to(&self, slots: &G::Slots, cell: Cell, slot: &G::Slot, end: u32) -> (bool, u32)
+        requires component { cell.component < G.rules.components slots.now }
+        requires before { cell.cycle < end }
+        requires within { end ≤ length self.now.rows }
+        ensures after { cell.cycle < result.1 }
+        ensures before { result.1 ≤ end }
+        ensures reads { (t : ℕ) → cell.cycle ≤ t → t < result.1 → result.0 ≡ reads_by G.rules slots.now cell.component slot.now (state_at self.now t cell.component) }
     {
-        let words = self.words.words(cell.cycle, cell.component);
+        let (words, to) = self.words.words_to(cell.cycle, end, cell.component);
         if words.is_empty() {
-            return false;
+            return (false, to);
         }
-        G::words_read(slots, words, cell.component, slot)
+        (G::words_read(slots, words, cell.component, slot), to)
     }
 
     /// Where along a run a component reads the slot, of which the cell's state is one.

@@ -18,7 +18,6 @@ mod claiming;
 mod cone;
 mod giving;
 mod settling;
-mod standing;
 mod touching;
 mod wave;
 mod wide;
@@ -193,6 +192,17 @@ impl<G: Grid> Table<G> {
         ensures { (x : G.State) → (held_at self.now.rows cell.cycle cell.component).state ≡ Some x → G.codec.memory x ≡ option_copied result }
     {
         self.cells.memory(cell)
+    }
+
+    /// To before which cycle the cells of its component hold what the cell holds, up to date or not; they may hold it longer. So a walk
+    /// over a component's states looks at each of its stretches once.
+    pub fn stands_to(&self, cell: Cell) -> u32
+        requires { IsThere G.rules self.now cell.cycle cell.component }
+        ensures after { cell.cycle < result }
+        ensures within { result ≤ self.now.horizon + 1 }
+        ensures same { (t : ℕ) → cell.cycle ≤ t → t < result → (held_at self.now.rows t cell.component).state ≡ (held_at self.now.rows cell.cycle cell.component).state }
+    {
+        self.cells.stands_to(cell)
     }
 
     /// Whether the cell is due; one that isn't there isn't.

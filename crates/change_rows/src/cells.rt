@@ -1,5 +1,5 @@
 //! Some cells of one row.
-ghost use Rattle.std.specs.Prelude.{◌≡◌, ℕ, ◌+◌, ◌-◌, ◌^◌, ◌<◌, ◌≤◌, ◌++◌, ◌∷◌, [], List, true, IsTrue, ◌↔◌, MatchResult, MatchOption, cond, OnErr, OnOk, IfOk, length, map, is_some, Some, None, slice_index_or, slice_range, unwrap_or, vec_len, vec_capacity};
+ghost use Rattle.std.specs.Prelude.{◌≡◌, ℕ, ◌+◌, ◌-◌, ◌^◌, ◌<◌, ◌≤◌, ◌++◌, ◌∷◌, [], List, true, IsTrue, ◌↔◌, MatchResult, MatchOption, IfSome, cond, OnErr, OnOk, IfOk, length, map, is_some, Some, None, slice_index_or, slice_range, unwrap_or, vec_len, vec_capacity};
 ghost use Rattle.std.specs.Option.{option_copied};
 ghost use Rattle.change_rows.specs.declared.head.Head.{Head};
 ghost use Rattle.change_rows.specs.Packed.{head_at, start_at, moved, cell_at, cells_of, IsPacked, IsPlace};
@@ -153,7 +153,21 @@ impl Cells {
         )
     }
 
+    /// The words of a component, where the cell at a place is one of it.
+    #[inline(always)]
+    pub(crate) fn find_there(&self, component: u32, place: usize) -> Option<&[u64]>
+        ensures { IfSome result (λ words. found self.now component ≡ Some words.now) }
+    {
+        find_there(
+            self.heads.as_slice(),
+            self.words.as_slice(),
+            component,
+            place,
+        )
+    }
+
     /// Whether there is a cell of a component.
+    #[inline(never)]
     pub fn has(&self, component: u32) -> bool
         ensures { result ≡ is_some (found self.now component) }
     {
@@ -484,6 +498,7 @@ fn end_in(heads: &[Head], words: &[u64]) -> u64
 }
 
 /// Where the words of the cell at a place begin, or n behind the last cell.
+#[inline(always)]
 fn start_in(heads: &[Head], n: usize, i: usize) -> usize
     ensures { result ≡ start_at heads.now n i }
 {
@@ -494,6 +509,7 @@ fn start_in(heads: &[Head], n: usize, i: usize) -> usize
 }
 
 /// The words of the cell at a place.
+#[inline(always)]
 fn words_in<'a>(heads: &'a [Head], words: &'a [u64], i: usize) -> &'a [u64]
     requires packed { IsPacked heads.now words.now }
     requires there { i < length heads.now }
@@ -529,6 +545,19 @@ fn find_in<'a>(heads: &'a [Head], words: &'a [u64], c: u32) -> Option<&'a [u64]>
     }
 }
 
+/// The words of a component, where the cell at a place is one of it.
+#[inline(always)]
+fn find_there<'a>(heads: &'a [Head], words: &'a [u64], c: u32, place: usize) -> Option<&'a [u64]>
+    requires { IsPacked heads.now words.now }
+    ensures { IfSome result (λ held. found (cells_of heads.now words.now) c ≡ Some held.now) }
+{
+    if is_at(heads, place, c) {
+        Some(words_in(heads, words, place))
+    } else {
+        None
+    }
+}
+
 /// The same, where a guess of the cell's place is tried first.
 fn find_near<'a>(heads: &'a [Head], words: &'a [u64], c: u32, guess: usize) -> Option<&'a [u64]>
     requires { IsPacked heads.now words.now }
@@ -542,6 +571,7 @@ fn find_near<'a>(heads: &'a [Head], words: &'a [u64], c: u32, guess: usize) -> O
 }
 
 /// Whether the cell at a place is one of c.
+#[inline(always)]
 fn is_at(heads: &[Head], i: usize, c: u32) -> bool
     ensures { IsTrue result ↔ ((i < length heads.now) × ((head_at heads.now 0 i).component ≡ c)) }
 {

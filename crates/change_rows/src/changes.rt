@@ -239,6 +239,7 @@ pub(crate) fn next_begin(s: &Changes, t: u32, end: u32, set: &[u64]) -> u32
 }
 
 /// The same of one component.
+#[inline(always)]
 pub(crate) fn next_of(s: &Changes, t: u32, end: u32, c: u32) -> u32
     requires changes { IsChanges s.now.width s.now.rows.items s.now.marks.items s.now.seam s.now.at }
     requires end { end ≤ length s.now.rows.items }
@@ -253,6 +254,27 @@ pub(crate) fn next_of(s: &Changes, t: u32, end: u32, c: u32) -> u32
         return s.at as u32;
     }
     next
+}
+
+/// The words of a cell, and to before which row, `end` at most, its component goes on with them; it may go on longer.
+#[inline(always)]
+pub(crate) fn words_to(s: &Changes, t: u32, end: u32, c: u32) -> (&[u64], u32)
+    requires changes { IsChanges s.now.width s.now.rows.items s.now.marks.items s.now.seam s.now.at }
+    requires before { t < end }
+    requires end { end ≤ length s.now.rows.items }
+    requires component { c < s.now.width }
+    ensures words { result.0.now ≡ standing (begins_at s.now.rows.items s.now.seam s.now.at c) t }
+    ensures after { t < result.1 }
+    ensures to { result.1 ≤ end }
+    ensures steady { (u : ℕ) → t < u → u < result.1 → begins_at s.now.rows.items s.now.seam s.now.at c u ≡ None }
+{
+    let next = next_of(s, t + 1, end, c);
+    let row = t as usize;
+    // What begins there is found by its place, with no walk back.
+    match s.rows[row].find_there(c, rank(&s.marks, row, c)) {
+        Some(words) => (words, next),
+        None => (words_in(s, row, c), next),
+    }
 }
 
 /// Other cells for a row, with their marks.

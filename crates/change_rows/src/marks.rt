@@ -77,6 +77,7 @@ impl Marks {
     }
 
     /// The first cycle from t on, and before `end`, at which a component is marked, or else that.
+    #[inline(always)]
     pub fn next(&self, t: usize, end: usize, k: u32) -> usize
         requires cycles { end ≤ length self.now }
         requires component { k < 64 }
@@ -85,6 +86,10 @@ impl Marks {
         ensures past { end < t → result ≡ t }
         ensures none { (u : ℕ) → t ≤ u → u < result → is_set self.now u k ≡ false }
     {
+        // Mostly it is marked there already, and no block is looked at.
+        if t < end && has_bit(self.words[t], k) {
+            return t;
+        }
         next_in(self.words.as_slice(), self.blocks.as_slice(), t, end, k)
     }
 
@@ -267,6 +272,7 @@ fn last_in(words: &[u64], blocks: &[u64], t: usize, k: u32) -> Option<usize>
 }
 
 /// The first cycle from one on, and before another one, at which a component is marked, or else that.
+#[inline(always)]
 fn first_of(words: &[u64], from: usize, to: usize, k: u32) -> usize
     requires cycles { to ≤ length words.now }
     requires order { from ≤ to }
@@ -284,6 +290,7 @@ fn first_of(words: &[u64], from: usize, to: usize, k: u32) -> usize
 }
 
 /// The same. Blocks without the mark are passed over at once.
+#[inline(always)]
 fn next_in(words: &[u64], blocks: &[u64], t: usize, end: usize, k: u32) -> usize
     requires cycles { end ≤ length words.now }
     requires component { k < 64 }
@@ -340,12 +347,26 @@ pub(crate) fn block_has_any(lines: &Vec<Marks>, t: usize, set: &[u64]) -> bool
 }
 
 /// How many components below c are marked at a cycle: the place of its cell, where a row has one.
+#[inline(always)]
 pub(crate) fn rank(lines: &Vec<Marks>, t: usize, c: u32) -> usize
     requires tall { (w : ℕ) → w < length lines.now.items → t < length (slice_index_or lines.now.items w []) }
     requires component { c < 64 * length lines.now.items }
 {
     let line = c as usize / 64;
-    let mut below = bits_below(lines[line].word(t), c % 64);
+    let below = bits_below(lines[line].word(t), c % 64);
+    if line == 0 {
+        return below;
+    }
+    below.wrapping_add(lines_below(lines, t, line))
+}
+
+/// How many components of the first lines are marked at a cycle.
+#[inline(never)]
+fn lines_below(lines: &Vec<Marks>, t: usize, line: usize) -> usize
+    requires tall { (w : ℕ) → w < length lines.now.items → t < length (slice_index_or lines.now.items w []) }
+    requires there { line ≤ length lines.now.items }
+{
+    let mut below: usize = 0;
     for w in 0..line {
         below = below.wrapping_add(lines[w].word(t).count_ones() as usize);
     }
@@ -353,6 +374,7 @@ pub(crate) fn rank(lines: &Vec<Marks>, t: usize, c: u32) -> usize
 }
 
 /// How many of the first k bits are set.
+#[inline(always)]
 fn bits_below(word: u64, k: u32) -> usize
     requires { k < 64 }
 {

@@ -5,7 +5,7 @@ ghost use Rattle.change_rows.specs.Marks.{is_one, is_in};
 ghost use Rattle.change_rows.specs.Rows.{Table, words_at, overlaid, replaced, filled, repeated, IsWhole};
 
 use crate::cells::Cells;
-use crate::changes::{Changes, begin_word, begins_in, next_begin, next_of, words_in};
+use crate::changes::{Changes, begin_word, begins_in, next_begin, next_of, words_in, words_to};
 use crate::edit::{Buffers, put};
 use crate::fill::fill;
 use crate::grow::{cut, grow};
@@ -107,6 +107,21 @@ impl Rows {
             return &[];
         }
         words_in(&self.changes, t as usize, c)
+    }
+
+    /// The words of a cell, and to before which row, `end` at most, its component holds them; it may hold them longer.
+    #[inline(always)]
+    pub fn words_to(&self, t: u32, end: u32, c: u32) -> (&[u64], u32)
+        requires before { t < end }
+        requires within { end ≤ length self.now.rows }
+        ensures after { t < result.1 }
+        ensures before { result.1 ≤ end }
+        ensures same { (u : ℕ) → t ≤ u → u < result.1 → words_at self.now.rows u c ≡ result.0.now }
+    {
+        if c >= self.changes.width {
+            return (&[], end);
+        }
+        words_to(&self.changes, t, end, c)
     }
 
     /// Whether other words may begin at a cell than its component holds a cycle before. Where they

@@ -3,7 +3,6 @@ ghost use Rattle.std.specs.Prelude.{◌≡◌, ℕ, is_some, ◌+◌, ◌<◌, �
 ghost use Rattle.grid_law.specs.Rules.{Differ, reader_at};
 ghost use Rattle.cell_table.specs.Cells.{IsThere};
 ghost use Rattle.due_cells.specs.Inputs.{inputs_of};
-ghost use Rattle.cell_states.specs.ReadsBy.{reads_by};
 ghost use Rattle.cell_table.specs.Reads.{is_reader};
 ghost use Rattle.due_cells.specs.Seen.{held_at};
 ghost use Rattle.due_cells.specs.Ranges.{covers, is_marked, IsWithin};
@@ -30,15 +29,6 @@ impl<G: Grid> Table<G> {
     {
         let near: Vec<Arc<G::State>> = Vec::new(self.cells.allocator());
         G::reads(&self.slots, near.as_slice(), component, slot)
-    }
-
-    /// Whether a component reads the slot after cycle 0, where its own state one cycle earlier is this cell's and the other near
-    /// states are there.
-    fn reads_by(&self, own: Cell, slot: &G::Slot) -> bool
-        requires { own.component < G.rules.components self.now.slots }
-        ensures { result ≡ reads_by G.rules self.now.slots own.component slot.now (held_at self.now.rows own.cycle own.component).state }
-    {
-        self.cells.reads(&self.slots, own, slot)
     }
 
     /// Before which cycle each cell's near states are known to be there, as far as `end`; no cell is looked at.
@@ -186,7 +176,7 @@ impl<G: Grid> Table<G> {
     }
 
     /// Adds the cells of later cycles, up to the last, at which a component reads the slot. One that is sure to read it isn't
-    /// asked; another one is, once for each stretch of its own states.
+    /// asked; another one is, once for each stretch in which its own state has the same words.
     #[inline(never)]
     fn add_later(
         &self,
@@ -215,9 +205,8 @@ impl<G: Grid> Table<G> {
             if self.has_passed(turns, own, slot) {
                 return Ok(());
             }
-            let end = self.stands_to(own);
-            let to = end.min(last) + 1;
-            let reads = self.reads_by(own, slot);
+            let (reads, end) = self.cells.reads_to(&self.slots, own, slot, last);
+            let to = end + 1;
             let range = CellRange {
                 component,
                 from,

@@ -1,5 +1,5 @@
 //! What is asked of the states that cells hold; none of them is lent.
-ghost use Rattle.std.specs.Prelude.{◌≡◌, ℕ, ◌-◌, ◌<◌, ◌≤◌, ◌↔◌, ◌∷◌, [], IsTrue, is_some, false, Some};
+ghost use Rattle.std.specs.Prelude.{◌≡◌, ℕ, ◌-◌, ◌<◌, ◌≤◌, ◌↔◌, ◌∷◌, [], IsTrue, is_some, false, Some, length};
 ghost use Rattle.grid_law.specs.declared.turn.Turn.TheVariants.{Ahead, Passed};
 ghost use Rattle.grid_law.specs.Run.{run};
 ghost use Rattle.due_cells.specs.Seen.{held_at};
@@ -35,12 +35,17 @@ impl<G: Grid> Cells<G> {
     }
 
     /// Whether a component reads the slot after cycle 0, where its own state one cycle earlier is the cell's and the other near states
-    /// are there. One that has no state reads none.
-    pub fn reads(&self, slots: &G::Slots, cell: Cell, slot: &G::Slot) -> bool
-        requires { cell.component < G.rules.components slots.now }
-        ensures { result ≡ reads_by G.rules slots.now cell.component slot.now (held_at self.now cell.cycle cell.component).state }
+    /// are there, and to before which cycle, `end` at most, each of its cells tells the same; more may. One that has no state reads none.
+    #[inline(always)]
+    pub fn reads_to(&self, slots: &G::Slots, cell: Cell, slot: &G::Slot, end: u32) -> (bool, u32)
+        requires component { cell.component < G.rules.components slots.now }
+        requires before { cell.cycle < end }
+        requires within { end ≤ length self.now }
+        ensures after { cell.cycle < result.1 }
+        ensures before { result.1 ≤ end }
+        ensures reads { (t : ℕ) → cell.cycle ≤ t → t < result.1 → result.0 ≡ reads_by G.rules slots.now cell.component slot.now (held_at self.now t cell.component).state }
     {
-        self.states.reads(slots, cell, slot)
+        self.states.reads_to(slots, cell, slot, end)
     }
 
     /// Where along a run a component reads the slot, of which the cell's state is one.

@@ -1,5 +1,6 @@
-use Rattle.std.proofs.Common.{ℕ, ◌≡◌, ◌<◌, ◌≤◌, ◌+◌, ◌-◌, ◌∙◌, ◌&&◌, ◌||◌, sym, ap, arith, eqb, leb, ltb, is_some}
+use Rattle.std.proofs.Common.{ℕ, ◌≡◌, ◌<◌, ◌≤◌, ◌+◌, ◌-◌, ◌∙◌, ◌&&◌, ◌||◌, sym, ap, refl, arith, eqb, leb, ltb, is_some}
 use Rattle.std.proofs.lemmas.Bool.{lt-ltb, ltb-true}
+use Rattle.cell_states.specs.ReadsBy.{reads_by}
 use Rattle.due_cells.specs.Seen.{held_at}
 use Rattle.due_cells.specs.Inputs.{inputs_of}
 use Rattle.due_cells.specs.Ranges.{is_marked}
@@ -20,6 +21,11 @@ loop-from-init g c =
       at = λ t d h. none_more _ (is_marked c.args.ranges.now.items t d) (eqb d c.args.component) t c.in_ok-begun.begun c.asked_from-from.result (one t) (begun.at t d h) asked.from (asked.none t);
     }
 
+pub reads_to-reads-requires-clause-within : goal.reads_to-reads-requires-clause-within
+reads_to-reads-requires-clause-within g c =
+    let horizon : c.args.last ≤ c.self.inside.horizon = rw (← c.self.view_is) at c.requires.there in
+    omega (arith, horizon, c.self.invariant.table.whole.cycles)
+
 pub loop-from-preserved : goal.loop-from-preserved
 loop-from-preserved g c =
     let R = g.G.Grid.rules in
@@ -28,17 +34,16 @@ loop-from-preserved g c =
     let component = c.args.component in
     let inv = c.loop-from.invariant in
     let from = c.loop-from.from in
-    let to = c.min-to.result + 1 in
-    let own = c.stands_to-end.ensures in
-    let reads = c.reads_by-reads.result in
-    let after : from ≤ c.min-to.result = omega (arith, own.after, inv.first, c.loop-from-test.true, c.min-to.ensures) in
-    let within : to ≤ c.args.last + 1 = omega (arith, c.min-to.ensures) in
-    let up : to ≤ c.stands_to-end.result + 1 = omega (arith, c.min-to.ensures) in
+    let reads = c.reads_to-reads.result.0 in
+    let to = c.reads_to-reads.result.1 + 1 in
+    let after : from ≤ c.reads_to-reads.result.1 = omega (arith, c.reads_to-reads.ensures.after, inv.first) in
+    let within : to ≤ c.args.last + 1 = omega (arith, c.reads_to-reads.ensures.before) in
     let one = λ (t : ℕ). cell_reads_one R s rows c.args.slot.now t component in
     let ready = λ (t : ℕ). is_some (inputs_of R s rows t component) in
+    let told : (t : ℕ) → from - 1 ≤ t → t < c.reads_to-reads.result.1 → reads ≡ reads_by R s component c.args.slot.now (held_at rows t component).state = rw (← c.self.view_is) c.reads_to-reads.ensures.reads in
     let same : (t : ℕ) → from ≤ t → t < to → one t ≡ (ready t && reads) = λ t k l.
-    by_own R g.G.Grid.laws s rows component t c.args.slot.now (held_at rows (from - 1) component).state (omega (arith, inv.first, k)) (own.same (t - 1) (omega (arith, k)) (omega (arith, k, l, up, inv.first)))
-    ∙ ap (λ b. ready t && b) (sym c.reads_by-reads.ensures) in
+    by_own R g.G.Grid.laws s rows component t c.args.slot.now (held_at rows (t - 1) component).state (omega (arith, inv.first, k)) refl
+    ∙ ap (λ b. ready t && b) (sym (told (t - 1) (omega (arith, k)) (omega (arith, k, l, inv.first)))) in
     record {
       first = omega (arith, inv.first, after);
       to = within;
