@@ -1,15 +1,20 @@
--- What a good query names is there.
-use Rattle.std.proofs.Common.{◌≡◌, ℕ, ◌<◌, ◌≤◌, subst, arith, true, Option, None, Some}
-use Rattle.std.specs.Option.{ForSome}
-use Rattle.std.proofs.lemmas.Bool.Decides.{nat_tests}
+-- Queries: what a good one names is there, and those that `==` takes for the same are the same.
+use Rattle.std.proofs.Common.{rules, ◌≡◌, ℕ, ◌<◌, ◌≤◌, Bool, true, refl, ap, subst, arith, Option, None, Some}
+use Rattle.std.specs.Prelude.{◌==◌, ◌&&◌}
+use Rattle.std.specs.Option.{ForSome, option_eq}
+use Rattle.std.proofs.lemmas.Bool.{false≢true}
+use Rattle.std.proofs.lemmas.Bool.Decides.{Decides-eqb, nat_tests}
+use denote.Enum.Bare.{same_true}
 use Rattle.page_map.specs.Limits.{address_count}
 use Rattle.omega_net.specs.Numbers.{lines, components}
+use Rattle.omega_net.specs.contracts.component.Net.{the_type as the_net}
 use Rattle.omega_net.specs.declared.component.Net.{Net}
+use Rattle.monitor_sums.specs.contracts.counter.Counter.{the_type as the_counter}
 use Rattle.monitor_sums.specs.declared.counter.Counter.{Counter as WhichCounter}
 use Rattle.project_book.specs.Project.{Project}
-use Rattle.run_queries.specs.declared.query.Query.TheVariants.{Reply, State, Memory, Counter, Profile, Tree, Level, Place, Order}
+use Rattle.run_queries.specs.contracts.query.QueryPartialEq.TheImpl as queries
 use Rattle.run_queries.specs.declared.query.Query.{Query}
-use Rattle.run_queries.specs.declared.query.Query.TheVariants.{Bound}
+use Rattle.run_queries.specs.declared.query.Query.TheVariants.{Reply, State, Memory, Counter, Profile, Tree, Level, Bound, Place, Order}
 use Rattle.run_queries.specs.declared.query.Reach.{Reach}
 use Rattle.run_queries.specs.declared.query.Reach.TheVariants as reached
 use Rattle.run_queries.specs.Queries.{is_who, bad_query, reach}
@@ -80,3 +85,39 @@ good_reach P (Level net m t) h = (good_level P net m t h).cycle
 good_reach P (Bound a b p) h = tt
 good_reach P (Place a) h = tt
 good_reach P (Order a) h = omega arith
+
+number : (x y : ℕ) → (x == y) ≡ true → x ≡ y
+number x y h = (Decides-eqb x y).0 h
+
+maybe : (x y : Option ℕ) → option_eq (λ a b. a == b) x y ≡ true → x ≡ y
+maybe None None h = refl
+maybe (Some x) (Some y) h = ap (λ n. Some n) (number x y h)
+maybe _ _ h = absurd (false≢true h)
+
+-- both tests passed
+pub and_true : (x y : Bool) → (x && y) ≡ true → (x ≡ true) × (y ≡ true)
+and_true true y h = (refl, h)
+and_true _ y h = absurd (false≢true h)
+
+pub same_query : (a b : Query) → queries.eq-value.it a b ≡ true → a ≡ b
+same_query (Reply x y) (Reply x' y') h =
+    let e = and_true _ _ h in let p = number x x' e.0 in let q = number y y' e.1 in cc
+same_query (State x y) (State x' y') h =
+    let e = and_true _ _ h in let p = number x x' e.0 in let q = number y y' e.1 in cc
+same_query (Memory x y) (Memory x' y') h =
+    let e = and_true _ _ h in let p = number x x' e.0 in let q = number y y' e.1 in cc
+same_query (Counter k x y z) (Counter k' x' y' z') h =
+    let e = and_true _ _ h in let f = and_true _ _ e.1 in let g = and_true _ _ f.1 in
+    let p : k ≡ k' = same_true the_counter (search rules) k k' e.0 in let q = maybe x x' f.0 in let r = number y y' g.0 in let s = number z z' g.1 in cc
+same_query (Profile n x) (Profile n' x') h =
+    let e = and_true _ _ h in let p : n ≡ n' = same_true the_net (search rules) n n' e.0 in let q = number x x' e.1 in cc
+same_query (Tree n x) (Tree n' x') h =
+    let e = and_true _ _ h in let p : n ≡ n' = same_true the_net (search rules) n n' e.0 in let q = number x x' e.1 in cc
+same_query (Level n x y) (Level n' x' y') h =
+    let e = and_true _ _ h in let f = and_true _ _ e.1 in
+    let p : n ≡ n' = same_true the_net (search rules) n n' e.0 in let q = number x x' f.0 in let r = number y y' f.1 in cc
+same_query (Bound x y z) (Bound x' y' z') h =
+    let e = and_true _ _ h in let f = and_true _ _ e.1 in let p = number x x' e.0 in let q = number y y' f.0 in let r = number z z' f.1 in cc
+same_query (Place x) (Place x') h = ap (λ a. Place a) (number x x' h)
+same_query (Order x) (Order x') h = ap (λ a. Order a) (number x x' h)
+same_query _ _ h = absurd (false≢true h)
