@@ -558,7 +558,7 @@ fn find_there<'a>(heads: &'a [Head], words: &'a [u64], c: u32, place: usize) -> 
     }
 }
 
-/// The same, where a guess of the cell's place is tried first.
+/// The words of a component, where there is a cell of it. A guess of its place is tried first.
 fn find_near<'a>(heads: &'a [Head], words: &'a [u64], c: u32, guess: usize) -> Option<&'a [u64]>
     requires { IsPacked heads.now words.now }
     ensures { option_copied result ≡ found (cells_of heads.now words.now) c }
