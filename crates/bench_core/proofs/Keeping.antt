@@ -14,7 +14,7 @@ use Rattle.run_queries.specs.declared.body.Body.{Body}
 use Rattle.run_queries.specs.Queries.{bad_query}
 use Rattle.run_queries.specs.Answers.{answer, found_in, unless}
 use Rattle.omega_net.proofs.Same.{same_two}
-use Rattle.run_queries.proofs.Same.{and_true, same_query}
+use Rattle.run_queries.proofs.Good.{and_true, same_query}
 use Rattle.bench_core.specs.declared.asked.Asked.TheVariants as asked
 use Rattle.bench_core.specs.declared.recent.Asking.{Asking}
 use Rattle.bench_core.specs.contracts.recent.AskingPartialEq.TheImpl as askings
