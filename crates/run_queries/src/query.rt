@@ -160,9 +160,7 @@ impl Query {
             Query::Bound { .. } | Query::Place { .. } => Reach::Nothing,
         }
     }
-}
 
-impl Query {
     /// How many numbers the answer has, in a machine of that k. A state and an order are texts, and count as one.
     pub fn numbers(self, k: u32) -> u32
         ensures { result ≡ numbers_of k self }
