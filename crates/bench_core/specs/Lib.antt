@@ -1,5 +1,6 @@
 pub mod Limits
 pub mod Shown
+pub mod Later
 pub mod Events
 pub mod Stands
 pub mod Edits

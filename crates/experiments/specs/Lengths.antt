@@ -12,7 +12,8 @@ use Rattle.saturation.specs.Levels.{level}
 use Rattle.experiments.specs.declared.map.Kept.{Kept}
 use Rattle.experiments.specs.declared.map.Scope.{Scope}
 use Rattle.experiments.specs.declared.map.Window.{Window}
-use Rattle.experiments.specs.Maps.{has_served, length_on, line_towards, queues_at}
+use Rattle.saturation.specs.Towards.{line_towards, queues_at}
+use Rattle.experiments.specs.Maps.{has_served, length_on}
 
 -- the length of the queue at a place among those of a stage that lead to module m, in the states of one cycle
 abbrev pub length_there : ℕ → Net → ℕ → (ℕ → Option MachineState) → ℕ → ℕ → ℕ

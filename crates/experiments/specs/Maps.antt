@@ -10,6 +10,7 @@ use Rattle.machine_cells.specs.declared.state.MachineState.{MachineState}
 use Rattle.machine_cells.specs.declared.state.MachineState.TheVariants.{Low, Comb, Module}
 use Rattle.mem_module.specs.MemModule.{is_net, other_net}
 use Rattle.saturation.specs.Levels.{level}
+use Rattle.saturation.specs.Towards.{line_towards, queues_at}
 use Rattle.experiments.specs.declared.series.QueueLengths.{QueueLengths}
 use Rattle.experiments.specs.declared.map.StageLengths.{StageLengths}
 
@@ -27,13 +28,6 @@ has_served net _ = false
 -- what f is at each cycle from one to another
 abbrev pub over_cycles : {T : Type 0} → (ℕ → T) → ℕ → ℕ → List T
 over_cycles f from to = map (λ i. f (i + from)) (below (to + 1 - from))
-
--- how many queues of a stage lead to a module, and the line of each by its place: the module's first bits come last
-abbrev pub queues_at : ℕ → ℕ → ℕ
-queues_at k stage = 2 ^ (k - 1 - stage)
-
-abbrev pub line_towards : ℕ → ℕ → ℕ → ℕ → ℕ
-line_towards k m stage place = place * 2 ^ (stage + 1) + m / 2 ^ (k - 1 - stage)
 
 -- the length of the queue on a line of a stage: line 2j + o is output o of switch j
 abbrev pub length_on : ℕ → Net → (ℕ → Option MachineState) → ℕ → ℕ → ℕ

@@ -44,7 +44,6 @@ pub use load::{Load, MOST_CYCLES, USUAL_CYCLES, project_of};
 pub use map::{SaturationMap, StageLengths, Window, saturation_map};
 pub use offer::{Offer, offered, project_offered};
 pub use order::{Issue, OrderRow, order_rows, rows_shown};
-pub use queues::{line_towards, queues_at};
 pub use series::{QueueLengths, Queues, Series};
 pub use steady::{Steady, steady_each};
 pub use sweep::{sweep_row, told, told_each, told_or_bad};

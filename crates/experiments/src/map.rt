@@ -7,17 +7,18 @@ ghost use Rattle.project_book.specs.Project.{forward};
 ghost use Rattle.machine_cells.specs.Run.{run};
 ghost use Rattle.machine_cells.specs.Runs.{state_in};
 ghost use Rattle.saturation.specs.Levels.{level, first_cycles};
-ghost use Rattle.saturation.specs.Towards.{is_full_on, is_full_stage};
+ghost use Rattle.saturation.specs.Towards.{is_full_on, is_full_stage, queues_at};
 ghost use Rattle.experiments.specs.Lengths.{length_there, lengths_now, stage_now, AreLengths, IsKept};
-ghost use Rattle.experiments.specs.Maps.{length_on, queues_at, lengths_towards, stage_lengths, stages_lengths, levels_over, served_over};
+ghost use Rattle.experiments.specs.Maps.{length_on, lengths_towards, stage_lengths, stages_lengths, levels_over, served_over};
 ghost use Rattle.run_reports.specs.Runners.{IsAt};
 
-use crate::queues::{has_served, line_towards, queues_at};
+use crate::queues::has_served;
 use crate::series::{QueueLengths, Queues, Series};
 use grid_law::NoMemory;
 use omega_net::Net;
 use project_book::{Depths, Project};
 use run_reports::Runner;
+use saturation::{line_towards, queues_at};
 use std::alloc::{AllocError, Global};
 
 /// The cycles from one to another, both included.

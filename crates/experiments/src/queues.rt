@@ -8,7 +8,7 @@ ghost use Rattle.machine_cells.specs.declared.state.MachineState.TheVariants.{Mo
 ghost use Rattle.machine_cells.specs.Runs.{state_in};
 ghost use Rattle.mem_module.specs.MemModule.{is_net, other_net};
 ghost use Rattle.flat_row.specs.Row.{module_of};
-ghost use Rattle.experiments.specs.Maps.{has_served, line_towards, queues_at};
+ghost use Rattle.experiments.specs.Maps.{has_served};
 
 use flat_row::Row;
 use machine_cells::MachineState;
@@ -48,25 +48,4 @@ pub(crate) fn state_at(
         },
         None => None,
     }
-}
-
-/// How many queues of a stage lead to a module.
-pub fn queues_at(k: u32, stage: u32) -> u32
-    requires k { k ≤ max_k }
-    requires stage { stage < k }
-    ensures { result ≡ queues_at k stage }
-{
-    1 << (k - 1 - stage)
-}
-
-/// The line of one of these queues, by its place among them: the module's first bits come last.
-pub fn line_towards(k: u32, module: u32, stage: u32, place: u32) -> u32
-    requires k { k ≤ max_k }
-    requires stage { stage < k }
-    requires there { «module» < lines k }
-    requires place { place < queues_at k stage }
-    ensures line { result ≡ line_towards k «module» stage place }
-    ensures within { result < lines k }
-{
-    (place << (stage + 1)) + (module >> (k - 1 - stage))
 }

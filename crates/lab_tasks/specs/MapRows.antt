@@ -6,7 +6,7 @@ use Rattle.omega_net.specs.declared.component.Component.TheVariants.{Module, Swi
 use Rattle.omega_net.specs.Numbers.{lines, number_of}
 use Rattle.omega_net.specs.Texts.{component_text}
 use Rattle.omega_net.specs.Wires.{below}
-use Rattle.experiments.specs.Maps.{line_towards, queues_at}
+use Rattle.saturation.specs.Towards.{line_towards, queues_at}
 use Rattle.run_reports.specs.declared.full_queues.Part.{Part}
 use Rattle.run_reports.specs.declared.full_queues.Part.TheVariants.{Forward as ForwardAt, Reverse as ReverseAt, Requests, Replies}
 use Rattle.run_reports.specs.declared.full_queues.PartQueue.{PartQueue}

@@ -3,15 +3,15 @@ ghost use Rattle.std.specs.Prelude.{◌≡◌, ◌<◌, ◌/◌, ◌-◌, ◌++�
 ghost use Rattle.std.specs.List.{flat_map};
 ghost use Rattle.omega_net.specs.Numbers.{half, lines};
 ghost use Rattle.omega_net.specs.Wires.{below};
-ghost use Rattle.experiments.specs.Maps.{line_towards, queues_at};
+ghost use Rattle.saturation.specs.Towards.{line_towards, queues_at};
 ghost use Rattle.lab_tasks.specs.declared.map_rows.Over.TheVariants.{Modules};
 ghost use Rattle.lab_tasks.specs.MapRows.{group_label, input_rows, module_row, output_row, over_of, part_of, queues_in, queues_of, row_groups, row_label, stage_group, stage_rows, switch_row, way_of, IsNoOver, IsNotTaken, IsNoWay, IsTaken};
 ghost use Rattle.lab_tasks.specs.Words.{text_of};
 
 use crate::end::{End, Reason};
-use experiments::{line_towards, queues_at};
 use omega_net::{Component, Net, Shape};
 use run_reports::{Part, PartQueue};
+use saturation::{line_towards, queues_at};
 use std::alloc::{AllocError, Global};
 use std::fmt;
 use std::marker::Model;

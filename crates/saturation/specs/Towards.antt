@@ -1,5 +1,5 @@
 -- The queues towards a module, and when they are full.
-use Rattle.std.specs.Prelude.{ℕ, ◌+◌, ◌-◌, ◌/◌, ◌%◌, ◌^◌, ◌==◌, nat_lt, Bool, true, false, if◌then◌else◌, Option, Some}
+use Rattle.std.specs.Prelude.{ℕ, ◌+◌, ◌-◌, ◌*◌, ◌/◌, ◌%◌, ◌^◌, ◌==◌, nat_lt, Bool, true, false, if◌then◌else◌, Option, Some}
 use Rattle.std.specs.List.{list_all}
 use Rattle.omega_net.specs.declared.component.Net.{Net}
 use Rattle.omega_net.specs.declared.component.Component.TheVariants.{Switch}
@@ -14,6 +14,13 @@ use Rattle.machine_cells.specs.declared.state.MachineState.TheVariants.{Low, Com
 -- whether the queue on this line of a stage leads to module m: the line's last bits are the module's first ones
 abbrev pub leads_to : ℕ → ℕ → ℕ → ℕ → Bool
 leads_to k m stage line = (line % 2 ^ (stage + 1)) == (m / 2 ^ (k - 1 - stage))
+
+-- how many queues of a stage lead to a module, and the line of each by its place: the module's first bits come last
+abbrev pub queues_at : ℕ → ℕ → ℕ
+queues_at k stage = 2 ^ (k - 1 - stage)
+
+abbrev pub line_towards : ℕ → ℕ → ℕ → ℕ → ℕ
+line_towards k m stage place = place * 2 ^ (stage + 1) + m / 2 ^ (k - 1 - stage)
 
 -- whether an output queue of this depth is full in a switch's state: it has fewer than two free places
 abbrev pub is_full : ℕ → ℕ → Option MachineState → Bool

@@ -19,6 +19,7 @@ mod report;
 mod trees;
 
 pub use levels::level;
+pub use queues::{line_towards, queues_at};
 pub use rate::bound;
 pub use report::{Levels, Tree};
 pub use trees::tree;

@@ -4,7 +4,7 @@ ghost use Rattle.std.specs.Option.{option_copied};
 ghost use Rattle.omega_net.specs.declared.component.Component.TheVariants.{Switch};
 ghost use Rattle.omega_net.specs.Numbers.{lines, half, number_of};
 ghost use Rattle.page_map.specs.Limits.{max_k};
-ghost use Rattle.saturation.specs.Towards.{is_full, is_full_on, is_full_stage};
+ghost use Rattle.saturation.specs.Towards.{is_full, is_full_on, is_full_stage, line_towards, queues_at};
 
 use machine_cells::MachineState;
 use omega_net::{Component, Net, free};
@@ -23,7 +23,7 @@ pub(crate) fn is_full_stage(
     ensures { result ≡ is_full_stage project.now net «module» (slice_get (map (λ r. r.now) row.now)) stage }
 {
     let k = project.k();
-    for place in 0..queues_towards(k, stage) {
+    for place in 0..queues_at(k, stage) {
         let line = line_towards(k, module, stage, place);
         if !is_full_on(project, row, net, stage, line) {
             return false;
@@ -33,21 +33,21 @@ pub(crate) fn is_full_stage(
 }
 
 /// How many queues of a stage lead to a module.
-fn queues_towards(k: u32, stage: u32) -> u32
+pub fn queues_at(k: u32, stage: u32) -> u32
     requires k { k ≤ max_k }
     requires stage { stage < k }
-    ensures { result ≡ 2 ^ (k - 1 - stage) }
+    ensures { result ≡ queues_at k stage }
 {
     1 << (k - 1 - stage)
 }
 
 /// The line of one of these queues, by its place among them: the module's first bits come last.
-fn line_towards(k: u32, module: u32, stage: u32, place: u32) -> u32
+pub fn line_towards(k: u32, module: u32, stage: u32, place: u32) -> u32
     requires k { k ≤ max_k }
     requires stage { stage < k }
     requires there { «module» < lines k }
-    requires place { place < 2 ^ (k - 1 - stage) }
-    ensures line { result ≡ place * 2 ^ (stage + 1) + «module» / 2 ^ (k - 1 - stage) }
+    requires place { place < queues_at k stage }
+    ensures line { result ≡ line_towards k «module» stage place }
     ensures within { result < lines k }
 {
     (place << (stage + 1)) + (module >> (k - 1 - stage))

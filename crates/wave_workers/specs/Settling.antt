@@ -9,7 +9,8 @@ use Rattle.machine_cells.specs.GridRules.{rp3_rules}
 use Rattle.project_book.specs.Project.{Project}
 use Rattle.project_book.specs.declared.slot.Slot.{Slot}
 use Rattle.run_queries.specs.declared.query.Query.{Query}
-use Rattle.bench_core.specs.Shown.{Shown, project_of}
+use Rattle.bench_core.specs.Later.{IsLater}
+use Rattle.bench_core.specs.Shown.{Shown}
 use Rattle.bench_core.specs.Asks.{pending}
 use Rattle.bench_core.specs.Events.{Event, Opening}
 use Rattle.bench_core.specs.Stands.{Stands}
@@ -21,9 +22,6 @@ pub record IsSettledAs (b next : Shown) (r : Result Settled SettleFault) : Type 
   pub after_fault : IfErr r (λ f. (done : List (TableEvent MachineState Project Slot)) × ((o : Opening) (h : List Event) → Stands o b h → SettlesFirst o h next done (computed_of f)))
   pub settled : OnOk r (IsSettled rp3_rules next.table)
   pub ready : OnOk r ((query : Query) → pending next query ≡ 0)
-  pub project : project_of next ≡ project_of b
-  pub journal : next.journal ≡ b.journal
+  pub later : IsLater b next
   pub spent : IfErr r (λ f. IsClockSpent f → next.table.clock ≡ 2 ^ 64 - 1)
   pub differs : IfErr r (λ f. IsClockSpent f → IsSpent rp3_rules next.table 0 0)
-  pub rises : b.table.clock ≤ next.table.clock
-  pub clock : b.table.clock ≡ 2 ^ 64 - 1 → next.table.clock ≡ 2 ^ 64 - 1

@@ -4,6 +4,7 @@ ghost use Rattle.cell_table.specs.Settling.{IsClockSpent};
 ghost use Rattle.omega_net.specs.Numbers.{components};
 ghost use Rattle.run_queries.specs.Queries.{bad_query};
 ghost use Rattle.run_queries.specs.declared.query.Query.TheVariants.{Reply as ReplyTo, Order as OrderOf};
+ghost use Rattle.bench_core.specs.Later.{IsLater};
 ghost use Rattle.bench_core.specs.Shown.{project_of, version_of};
 ghost use Rattle.bench_core.specs.Events.{Event, Opening, project_after, version_after};
 ghost use Rattle.bench_core.specs.Stands.{Stands};
@@ -50,12 +51,9 @@ impl Bench {
         ensures after_fault { IfErr result (λ f. IsPartlySettledFrom (settled_for (project_of self.old) query) self.old self.new) }
         ensures ready { OnOk result (pending self.new query ≡ 0) }
         ensures there { OnOk result (IsUpToDate self.new query) }
-        ensures project { project_of self.new ≡ project_of self.old }
-        ensures journal { self.new.journal ≡ self.old.journal }
+        ensures later { IsLater self.old self.new }
         ensures spent { IfErr result (λ f. IsClockSpent f → self.new.table.clock ≡ 2 ^ 64 - 1) }
         ensures differs { IfErr result (λ f. IsClockSpent f → IsSpentTo (settled_for (project_of self.old) query) self.new) }
-        ensures rises { self.old.table.clock ≤ self.new.table.clock }
-        ensures clock { self.old.table.clock ≡ 2 ^ 64 - 1 → self.new.table.clock ≡ 2 ^ 64 - 1 }
     {
         let last = match self.last_cycle(query) {
             Some(last) => last,
@@ -97,11 +95,8 @@ impl Bench {
         ensures told { TellsAt (project_of self.new) (version_of self.new) query result }
         ensures asks { TellsAsked self.new query result }
         ensures settles { SettlesOnceAs query result self.old self.new }
-        ensures project { project_of self.new ≡ project_of self.old }
-        ensures journal { self.new.journal ≡ self.old.journal }
+        ensures later { IsLater self.old self.new }
         ensures spent { result ≡ Told.ClockSpent → self.new.table.clock ≡ 2 ^ 64 - 1 }
-        ensures rises { self.old.table.clock ≤ self.new.table.clock }
-        ensures clock { self.old.table.clock ≡ 2 ^ 64 - 1 → self.new.table.clock ≡ 2 ^ 64 - 1 }
     {
         match self.settle_for(query) {
             Ok(()) => self.tell(rt, query),
@@ -116,11 +111,8 @@ impl Bench {
         ensures told { TellsAt (project_of self.new) (version_of self.new) (ReplyTo proc issue) result }
         ensures asks { TellsAsked self.new (ReplyTo proc issue) result }
         ensures settles { StaysAs (ReplyTo proc issue) result self.old self.new ⊎ SettlesReplyAs proc issue result self.old self.new }
-        ensures project { project_of self.new ≡ project_of self.old }
-        ensures journal { self.new.journal ≡ self.old.journal }
+        ensures later { IsLater self.old self.new }
         ensures spent { result ≡ Told.ClockSpent → self.new.table.clock ≡ 2 ^ 64 - 1 }
-        ensures rises { self.old.table.clock ≤ self.new.table.clock }
-        ensures clock { self.old.table.clock ≡ 2 ^ 64 - 1 → self.new.table.clock ≡ 2 ^ 64 - 1 }
     {
         let query = Query::Reply { proc, issue };
         if self.pending_to(self.project().horizon()) == 0 {
@@ -150,10 +142,7 @@ impl Bench {
     #[tactic(auto, using(crate::proofs::Answering::leaves_many))]
     fn settle_few(&mut self)
         ensures settles { SettlesFew (has_few_due self.old) self.old self.new }
-        ensures project { project_of self.new ≡ project_of self.old }
-        ensures journal { self.new.journal ≡ self.old.journal }
-        ensures rises { self.old.table.clock ≤ self.new.table.clock }
-        ensures clock { self.old.table.clock ≡ 2 ^ 64 - 1 → self.new.table.clock ≡ 2 ^ 64 - 1 }
+        ensures later { IsLater self.old self.new }
     {
         if !self.has_few_due() {
             return;
@@ -185,11 +174,8 @@ impl Bench {
         ensures told { TellsAt (project_of self.new) (version_of self.new) (OrderOf address) result }
         ensures asks { TellsAsked self.new (OrderOf address) result }
         ensures settles { SettlesOrderAs result self.old self.new }
-        ensures project { project_of self.new ≡ project_of self.old }
-        ensures journal { self.new.journal ≡ self.old.journal }
+        ensures later { IsLater self.old self.new }
         ensures in_time { result ≡ Told.ClockSpent → ⊥ }
-        ensures rises { self.old.table.clock ≤ self.new.table.clock }
-        ensures clock { self.old.table.clock ≡ 2 ^ 64 - 1 → self.new.table.clock ≡ 2 ^ 64 - 1 }
     {
         self.settle_few();
         self.tell_order(rt, address)
@@ -210,11 +196,8 @@ impl Bench {
         ensures told { TellsAt (project_of self.new) (version_of self.new) query result }
         ensures asks { TellsAsked self.new query result }
         ensures settles { SettlesAs query result self.old self.new }
-        ensures project { project_of self.new ≡ project_of self.old }
-        ensures journal { self.new.journal ≡ self.old.journal }
+        ensures later { IsLater self.old self.new }
         ensures spent { result ≡ Told.ClockSpent → self.new.table.clock ≡ 2 ^ 64 - 1 }
-        ensures rises { self.old.table.clock ≤ self.new.table.clock }
-        ensures clock { self.old.table.clock ≡ 2 ^ 64 - 1 → self.new.table.clock ≡ 2 ^ 64 - 1 }
         ensures headline_tells { (o : Opening) (h : List Event) → Stands o self.old h → TellsAt (project_after o h) (version_after h) query result }
     {
         if let Some(number) = query.bad(self.project()) {

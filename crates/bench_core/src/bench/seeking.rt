@@ -3,6 +3,7 @@ ghost use Rattle.std.specs.Prelude.{◌≡◌, ◌-◌, ◌^◌, ◌<◌, ◌≤
 ghost use Rattle.cell_table.specs.Settling.{IsClockSpent};
 ghost use Rattle.omega_net.specs.Numbers.{components};
 ghost use Rattle.run_queries.specs.declared.query.Query.TheVariants.{Reply as ReplyTo};
+ghost use Rattle.bench_core.specs.Later.{IsLater};
 ghost use Rattle.bench_core.specs.Shown.{project_of};
 ghost use Rattle.bench_core.specs.Asks.{pending, HoldsRunTo};
 ghost use Rattle.bench_core.specs.Seeking.{begins_at, SeeksAs};
@@ -46,11 +47,8 @@ impl Bench {
         ensures seeks { SeeksAs proc issue last self.old self.new result }
         ensures ready { IfOk result (λ o. IfNone o (pending self.new (ReplyTo proc issue) ≡ 0)) }
         ensures there { IfOk result (λ o. IfNone o (HoldsRunTo self.new (project_of self.new).horizon)) }
-        ensures project { project_of self.new ≡ project_of self.old }
-        ensures journal { self.new.journal ≡ self.old.journal }
+        ensures later { IsLater self.old self.new }
         ensures spent { IfErr result (λ f. IsClockSpent f → self.new.table.clock ≡ 2 ^ 64 - 1) }
-        ensures rises { self.old.table.clock ≤ self.new.table.clock }
-        ensures clock { self.old.table.clock ≡ 2 ^ 64 - 1 → self.new.table.clock ≡ 2 ^ 64 - 1 }
     {
         match self.settle_to(last) {
             Ok(_) => {}

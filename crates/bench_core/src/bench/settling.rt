@@ -11,6 +11,7 @@ ghost use Rattle.machine_cells.specs.GridRules.{rp3_rules};
 ghost use Rattle.project_book.specs.Project.{Project as ProjectValue};
 ghost use Rattle.project_book.specs.declared.slot.Slot.{Slot as ReadSlot};
 ghost use Rattle.run_queries.specs.declared.query.Query.{Query as AnyQuery};
+ghost use Rattle.bench_core.specs.Later.{IsLater};
 ghost use Rattle.bench_core.specs.Shown.{project_of};
 ghost use Rattle.bench_core.specs.Asks.{pending, last_cycle, IsUpTo};
 ghost use Rattle.bench_core.specs.Events.{Event, Claimed, Opening};
@@ -81,12 +82,9 @@ impl Bench {
             → SettlesFirst o h self.new done (computed_of f))) }
         ensures settled { OnOk result (IsSettled rp3_rules self.new.table) }
         ensures ready { OnOk result ((query : AnyQuery) → pending self.new query ≡ 0) }
-        ensures project { project_of self.new ≡ project_of self.old }
-        ensures journal { self.new.journal ≡ self.old.journal }
+        ensures later { IsLater self.old self.new }
         ensures spent { IfErr result (λ f. IsClockSpent f → self.new.table.clock ≡ 2 ^ 64 - 1) }
         ensures differs { IfErr result (λ f. IsClockSpent f → IsSpent rp3_rules self.new.table 0 0) }
-        ensures rises { self.old.table.clock ≤ self.new.table.clock }
-        ensures clock { self.old.table.clock ≡ 2 ^ 64 - 1 → self.new.table.clock ≡ 2 ^ 64 - 1 }
     {
         let table = &mut self.table;
         table.settle_rows::<MachineRow, _>(&mut self.rows, &mut self.counters)
@@ -107,12 +105,9 @@ impl Bench {
             → SettlesFirstTo last o h self.new done (computed_of f))) }
         ensures settled { OnOk result (IsSettledTo rp3_rules last self.new.table) }
         ensures ready { OnOk result ((query : AnyQuery) → IsUpTo (last_cycle (project_of self.new) query) last → pending self.new query ≡ 0) }
-        ensures project { project_of self.new ≡ project_of self.old }
-        ensures journal { self.new.journal ≡ self.old.journal }
+        ensures later { IsLater self.old self.new }
         ensures spent { IfErr result (λ f. IsClockSpent f → self.new.table.clock ≡ 2 ^ 64 - 1) }
         ensures differs { IfErr result (λ f. IsClockSpent f → (spent : IsSpent rp3_rules self.new.table 0 0) × (spent.cell.cycle ≤ last)) }
-        ensures rises { self.old.table.clock ≤ self.new.table.clock }
-        ensures clock { self.old.table.clock ≡ 2 ^ 64 - 1 → self.new.table.clock ≡ 2 ^ 64 - 1 }
     {
         let (table, counters) = (&mut self.table, &mut self.counters);
         table.settle_rows_to::<MachineRow, _>(last, &mut self.rows, counters)

@@ -500,10 +500,7 @@ impl<G: Grid> Table<G> {
         ensures after_fault { IfErr result (λ f. (done : List (Event G.State G.Slots G.Slot)) × ((o : Start G.Slots) (h : List (Event G.State G.Slots G.Slot)) → Stands G.rules o self.old h
             → SettlesFirstTo G.rules o last h self.new done (computed_of f))) }
         ensures settled { OnOk result (IsSettledTo G.rules last self.new) }
-        ensures slots { self.new.slots ≡ self.old.slots }
-        ensures horizon { self.new.horizon ≡ self.old.horizon }
-        ensures rises { self.old.clock ≤ self.new.clock }
-        ensures clock { self.old.clock ≡ 2 ^ 64 - 1 → self.new.clock ≡ 2 ^ 64 - 1 }
+        ensures later { IsLater self.old self.new }
         ensures spent { IfErr result (λ f. IsClockSpent f → self.new.clock ≡ 2 ^ 64 - 1) }
         ensures differs { IfErr result (λ f. IsClockSpent f → (spent : IsSpent G.rules self.new 0 0) × (spent.cell.cycle ≤ last)) }
     {
@@ -527,10 +524,7 @@ impl<G: Grid> Table<G> {
         ensures after_fault { IfErr result (λ f. (done : List (Event G.State G.Slots G.Slot)) × ((o : Start G.Slots) (h : List (Event G.State G.Slots G.Slot)) → Stands G.rules o self.old h
             → SettlesFirst G.rules o h self.new done (computed_of f))) }
         ensures settled { OnOk result (IsSettled G.rules self.new) }
-        ensures slots { self.new.slots ≡ self.old.slots }
-        ensures horizon { self.new.horizon ≡ self.old.horizon }
-        ensures rises { self.old.clock ≤ self.new.clock }
-        ensures clock { self.old.clock ≡ 2 ^ 64 - 1 → self.new.clock ≡ 2 ^ 64 - 1 }
+        ensures later { IsLater self.old self.new }
         ensures spent { IfErr result (λ f. IsClockSpent f → self.new.clock ≡ 2 ^ 64 - 1) }
         ensures differs { IfErr result (λ f. IsClockSpent f → IsSpent G.rules self.new 0 0) }
     {

@@ -2,7 +2,8 @@ use Rattle.std.proofs.Common.{ℕ, sym, ap, ◌∙◌, append-nil}
 use Rattle.machine_cells.specs.Run.{run}
 use Rattle.machine_cells.specs.Runs.{state_in}
 use Rattle.experiments.specs.Lengths.{length_there}
-use Rattle.experiments.specs.Maps.{length_on, line_towards}
+use Rattle.saturation.specs.Towards.{line_towards}
+use Rattle.experiments.specs.Maps.{length_on}
 use Rattle.experiments.proofs.Keeping.{queue_next}
 use Rattle.experiments.proofs.map.add_stage.Goals as goal
 

@@ -1,7 +1,7 @@
 use Rattle.std.proofs.Common.{◌≡◌, ◌/◌}
 use Rattle.std.specs.List.{flat_map}
 use Rattle.omega_net.specs.Wires.{below}
-use Rattle.experiments.specs.Maps.{line_towards}
+use Rattle.saturation.specs.Towards.{line_towards}
 use Rattle.lab_tasks.specs.MapRows.{input_rows}
 use Rattle.lab_tasks.proofs.map_rows.reply_rows.Given as goal
 

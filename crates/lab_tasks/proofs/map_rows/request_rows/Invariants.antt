@@ -1,6 +1,6 @@
 use Rattle.std.proofs.Common.{◌≡◌, map}
 use Rattle.omega_net.specs.Wires.{below}
-use Rattle.experiments.specs.Maps.{line_towards}
+use Rattle.saturation.specs.Towards.{line_towards}
 use Rattle.lab_tasks.specs.MapRows.{output_row}
 use Rattle.lab_tasks.proofs.map_rows.request_rows.Given as goal
 

@@ -16,7 +16,7 @@ pub returns-in-Some-clause-seeks : goal.returns-in-Some-clause-seeks
 returns-in-Some-clause-seeks t c =
     let d = c.args.self.now in
     let mid = c.settle_to.new.self in
-    let project : project_of mid ≡ project_of d = c.settle_to.ensures.project in
+    let project : project_of mid ≡ project_of d = c.settle_to.ensures.later.project in
     let within : c.args.last ≤ (project_of mid).horizon = subst (λ P. c.args.last ≤ P.horizon) (sym project) c.requires.within in
     let there : c.args.proc < components (project_of mid).k = subst (λ P. c.args.proc < components P.k) (sym project) c.requires.proc in
     let holds : HoldsRunTo mid c.args.last = holds_to mid c.is_bench.ensures.bench c.args.last c.in-Ok.ensures.settled c.args.last (omega arith) within in
@@ -27,7 +27,7 @@ pub returns-then-last-horizon-clause-seeks : goal.returns-then-last-horizon-clau
 returns-then-last-horizon-clause-seeks t c =
     let d = c.args.self.now in
     let mid = c.settle_to.new.self in
-    let project : project_of mid ≡ project_of d = c.settle_to.ensures.project in
+    let project : project_of mid ≡ project_of d = c.settle_to.ensures.later.project in
     let whole : c.args.last ≡ (project_of d).horizon = c.if-last-horizon.true ∙ c.horizon-horizon.ensures.horizon ∙ ap (λ P. P.horizon) (c.project.ensures ∙ project) in
     seeks_none c.args.proc c.args.issue c.args.last d mid c.requires.within whole (c.in-Ok.ensures.headline_settles.0, _, c.in-Ok.ensures.headline_settles.1)
 
@@ -41,7 +41,7 @@ pub returns-clause-seeks : goal.returns-clause-seeks
 returns-clause-seeks t c =
     let d = c.args.self.now in
     let mid = c.settle_to.new.self in
-    let project : project_of mid ≡ project_of d = c.settle_to.ensures.project in
+    let project : project_of mid ≡ project_of d = c.settle_to.ensures.later.project in
     let within : c.args.last ≤ (project_of mid).horizon = subst (λ P. c.args.last ≤ P.horizon) (sym project) c.requires.within in
     let there : c.args.proc < components (project_of mid).k = subst (λ P. c.args.proc < components P.k) (sym project) c.requires.proc in
     let holds : HoldsRunTo mid c.args.last = holds_to mid c.is_bench.ensures.bench c.args.last c.in-Ok.ensures.settled c.args.last (omega arith) within in

@@ -41,7 +41,7 @@ returns-in-Reply-clause-settles g c =
 pub returns-in-Reply-clause-headline_tells : goal.returns-in-Reply-clause-headline_tells
 returns-in-Reply-clause-headline_tells g c =
     let told = c.answer_reply.ensures in
-    tells_run c.args.self.now c.answer_reply.new.self c.args.query c.answer_reply.result told.project told.journal (returns-in-Reply-clause-told g c)
+    tells_run c.args.self.now c.answer_reply.new.self c.args.query c.answer_reply.result told.later.project told.later.journal (returns-in-Reply-clause-told g c)
 
 pub returns-in-Order-clause-told : goal.returns-in-Order-clause-told
 returns-in-Order-clause-told g c = rw c.in-Order.is c.answer_order.ensures.told
@@ -54,7 +54,7 @@ returns-in-Order-clause-settles g c =
 pub returns-in-Order-clause-headline_tells : goal.returns-in-Order-clause-headline_tells
 returns-in-Order-clause-headline_tells g c =
     let told = c.answer_order.ensures in
-    tells_run c.args.self.now c.answer_order.new.self c.args.query c.answer_order.result told.project told.journal (returns-in-Order-clause-told g c)
+    tells_run c.args.self.now c.answer_order.new.self c.args.query c.answer_order.result told.later.project told.later.journal (returns-in-Order-clause-told g c)
 
 pub returns-in_default-query : goal.returns-in_default-query
 returns-in_default-query g c =
@@ -63,10 +63,7 @@ returns-in_default-query g c =
       told = told.told;
       asks = told.asks;
       settles = other_as c.args.self.now c.answer_at_once.new.self c.args.query c.answer_at_once.result (is_once c.args.query c.in_default-query.not-Reply c.in_default-query.not-Order) told.settles;
-      project = told.project;
-      journal = told.journal;
+      later = told.later;
       spent = told.spent;
-      rises = told.rises;
-      clock = told.clock;
-      headline_tells = tells_run c.args.self.now c.answer_at_once.new.self c.args.query c.answer_at_once.result told.project told.journal told.told;
+      headline_tells = tells_run c.args.self.now c.answer_at_once.new.self c.args.query c.answer_at_once.result told.later.project told.later.journal told.told;
     }

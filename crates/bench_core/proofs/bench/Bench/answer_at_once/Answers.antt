@@ -16,15 +16,15 @@ returns-in-Ok-clause-settles g c =
 
 pub returns-in-Err-clause-told : goal.returns-in-Err-clause-told
 returns-in-Err-clause-told g c =
-    rw c.told_at_fault.ensures (fault_told c.args.self.now c.settle_for.new.self c.args.query c.requires.good c.settle_for.ensures.project c.requires.once c.in-Err.fault c.in-Err.ensures.differs).0
+    rw c.told_at_fault.ensures (fault_told c.args.self.now c.settle_for.new.self c.args.query c.requires.good c.settle_for.ensures.later.project c.requires.once c.in-Err.fault c.in-Err.ensures.differs).0
 
 pub returns-in-Err-clause-asks : goal.returns-in-Err-clause-asks
 returns-in-Err-clause-asks g c =
-    rw c.told_at_fault.ensures (fault_told c.args.self.now c.settle_for.new.self c.args.query c.requires.good c.settle_for.ensures.project c.requires.once c.in-Err.fault c.in-Err.ensures.differs).1
+    rw c.told_at_fault.ensures (fault_told c.args.self.now c.settle_for.new.self c.args.query c.requires.good c.settle_for.ensures.later.project c.requires.once c.in-Err.fault c.in-Err.ensures.differs).1
 
 pub returns-in-Err-clause-settles : goal.returns-in-Err-clause-settles
 returns-in-Err-clause-settles g c =
-    rw c.told_at_fault.ensures (fault_settles c.args.self.now c.settle_for.new.self c.args.query c.requires.good c.settle_for.ensures.project c.in-Err.fault c.in-Err.ensures.after_fault c.in-Err.ensures.differs)
+    rw c.told_at_fault.ensures (fault_settles c.args.self.now c.settle_for.new.self c.args.query c.requires.good c.settle_for.ensures.later.project c.in-Err.fault c.in-Err.ensures.after_fault c.in-Err.ensures.differs)
 
 pub returns-in-Err-clause-spent : goal.returns-in-Err-clause-spent
 returns-in-Err-clause-spent g c = λ is. c.in-Err.ensures.spent (fault_spent c.in-Err.fault (sym c.told_at_fault.ensures ∙ is))

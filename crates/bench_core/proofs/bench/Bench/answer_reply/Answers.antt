@@ -5,11 +5,11 @@ use Rattle.bench_core.proofs.bench.Bench.answer_reply.Goals as goal
 
 pub returns-in-Ok-Some-clause-told : goal.returns-in-Ok-Some-clause-told
 returns-in-Ok-Some-clause-told g c =
-    (found_told c.args.self.now c.seek.new.self c.args.proc c.args.issue c.begins_at-begin.result c.version.result c.in-Ok-Some.received c.requires.good c.seek.ensures.project c.version.ensures (subst (λ o. SeeksAs c.args.proc c.args.issue c.begins_at-begin.result c.args.self.now c.seek.new.self (Ok o)) c.in-Ok-Some.field-0-is c.in-Ok-Some.ensures.seeks)).0
+    (found_told c.args.self.now c.seek.new.self c.args.proc c.args.issue c.begins_at-begin.result c.version.result c.in-Ok-Some.received c.requires.good c.seek.ensures.later.project c.version.ensures (subst (λ o. SeeksAs c.args.proc c.args.issue c.begins_at-begin.result c.args.self.now c.seek.new.self (Ok o)) c.in-Ok-Some.field-0-is c.in-Ok-Some.ensures.seeks)).0
 
 pub returns-in-Ok-Some-clause-asks : goal.returns-in-Ok-Some-clause-asks
 returns-in-Ok-Some-clause-asks g c =
-    (found_told c.args.self.now c.seek.new.self c.args.proc c.args.issue c.begins_at-begin.result c.version.result c.in-Ok-Some.received c.requires.good c.seek.ensures.project c.version.ensures (subst (λ o. SeeksAs c.args.proc c.args.issue c.begins_at-begin.result c.args.self.now c.seek.new.self (Ok o)) c.in-Ok-Some.field-0-is c.in-Ok-Some.ensures.seeks)).1
+    (found_told c.args.self.now c.seek.new.self c.args.proc c.args.issue c.begins_at-begin.result c.version.result c.in-Ok-Some.received c.requires.good c.seek.ensures.later.project c.version.ensures (subst (λ o. SeeksAs c.args.proc c.args.issue c.begins_at-begin.result c.args.self.now c.seek.new.self (Ok o)) c.in-Ok-Some.field-0-is c.in-Ok-Some.ensures.seeks)).1
 
 pub returns-in-Ok-Some-clause-settles : goal.returns-in-Ok-Some-clause-settles
 returns-in-Ok-Some-clause-settles g c =

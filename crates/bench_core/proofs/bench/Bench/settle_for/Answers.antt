@@ -21,11 +21,11 @@ returns-in-Ok-clause-settles c =
     settles_all d c.settle_to.new.self c.args.query c.in-Some.last c.in-Ok.field-0.computed is c.in-Ok.ensures.headline_settles
 
 pub returns-in-Ok-clause-ready : goal.returns-in-Ok-clause-ready
-returns-in-Ok-clause-ready c = settled_ready c.args.self.now c.settle_to.new.self c.args.query c.in-Some.last c.settle_to.ensures.project c.in-Some.ensures.is c.in-Ok.ensures.ready
+returns-in-Ok-clause-ready c = settled_ready c.args.self.now c.settle_to.new.self c.args.query c.in-Some.last c.settle_to.ensures.later.project c.in-Some.ensures.is c.in-Ok.ensures.ready
 
 pub returns-in-Ok-clause-there : goal.returns-in-Ok-clause-there
 returns-in-Ok-clause-there c =
-    settled_there c.args.self.now c.settle_to.new.self c.args.query c.in-Some.last c.settle_to.ensures.project c.in-Some.ensures.is c.is_bench.ensures.bench c.in-Ok.ensures.settled c.requires.good c.is_placed.ensures
+    settled_there c.args.self.now c.settle_to.new.self c.args.query c.in-Some.last c.settle_to.ensures.later.project c.in-Some.ensures.is c.is_bench.ensures.bench c.in-Ok.ensures.settled c.requires.good c.is_placed.ensures
 
 pub returns-in-Err-clause-after_fault : goal.returns-in-Err-clause-after_fault
 returns-in-Err-clause-after_fault c =
