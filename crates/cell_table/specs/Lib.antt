@@ -14,6 +14,7 @@ pub mod Made
 pub mod Answers
 pub mod Settling
 pub mod Later
+pub mod Tended
 pub mod Advances
 pub mod Cost
 pub mod Waves

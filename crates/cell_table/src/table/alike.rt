@@ -5,8 +5,8 @@ ghost use Rattle.cell_table.specs.Cells.{IsThere, AtOrAfter};
 ghost use Rattle.cell_states.specs.Near.{has};
 ghost use Rattle.cell_states.specs.Filling.{is_awake};
 ghost use Rattle.cell_table.specs.Settling.{NoneDueBefore, IsAt};
-ghost use Rattle.cell_table.specs.Advances.{Advances};
-ghost use Rattle.cell_table.specs.Passing.{HoldsBut};
+ghost use Rattle.cell_table.specs.Tended.{IsMarked};
+ghost use Rattle.cell_table.specs.Advances.{Advances, PassesCycles};
 ghost use Rattle.cell_states.specs.Versions.{any_changes};
 ghost use Rattle.cell_table.specs.Repeating.{BeginsAlike, StaysBefore, StaysAlike, IsAlike, StaysAlikeTo};
 ghost use Rattle.due_cells.specs.Spares.{IsSpare, IsWide};
@@ -199,10 +199,8 @@ impl<G: Grid> Table<G> {
         requires spare { IsSpare G.rules self.old spare.old }
         ensures spare { IsSpare G.rules self.new spare.new }
         ensures none { IfNone result (self.new ≡ self.old) }
-        ensures on { IfSome result (λ p. Advances G.rules end self.old self.new cycle 0 p.to.cycle p.to.component p.computed) }
-        ensures begins { IfSome result (λ p. p.to.component ≡ 0) }
         ensures slots { self.new.slots ≡ self.old.slots }
-        ensures but { IfSome result (λ p. HoldsBut G.rules self.old self.new spare.new.ranges.items) }
+        ensures passes { IfSome result (λ p. PassesCycles G.rules end self.old self.new cycle p.to.cycle p.to.component p.computed spare.new.ranges.items) }
     {
         let count = G::components(&self.slots);
         spare.changes.clear_all();
@@ -294,11 +292,9 @@ impl<G: Grid> Table<G> {
     ) -> Option<Passed>
         requires within { end ≤ self.old.horizon + 1 }
         requires none { NoneDueBefore G.rules self.old from.cycle from.component }
-        requires spare { IsSpare G.rules self.old spare.old }
-        requires watched { W.keeps watcher.old self.old }
-        ensures spare { IsSpare G.rules self.new spare.new }
+        requires marked { IsMarked G.rules (W.keeps watcher.old) self.old spare.old }
+        ensures marked { IsMarked G.rules (W.keeps watcher.new) self.new spare.new }
         ensures slots { self.new.slots ≡ self.old.slots }
-        ensures watched { W.keeps watcher.new self.new }
         ensures none { IfNone result (self.new ≡ self.old) }
         ensures on { IfSome result (λ p. Advances G.rules end self.old self.new from.cycle from.component p.to.cycle p.to.component p.computed) }
     {

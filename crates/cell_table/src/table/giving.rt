@@ -6,6 +6,7 @@ ghost use Rattle.due_cells.specs.Inputs.{inputs_of};
 ghost use Rattle.cell_table.specs.Cells.{IsThere};
 ghost use Rattle.cell_table.specs.Consistent.{IsCurrentState, current_of};
 ghost use Rattle.cell_table.specs.Gives.{IsPresent, GivesAs, IsAfterStore};
+ghost use Rattle.cell_table.specs.Settling.{IsAsBefore};
 ghost use Rattle.cell_table.specs.Events.{Event, Start};
 ghost use Rattle.cell_table.specs.Stands.{Stands};
 ghost use Rattle.cell_table.specs.Made.{Made};
@@ -108,11 +109,9 @@ impl<G: Grid> Table<G> {
         changed: bool,
     ) -> Result<(), NoMemory>
         requires there { IsThere G.rules self.old cell.cycle cell.component }
-        requires later { 0 < cell.cycle }
+        requires again { IsAsBefore G.rules self.old cell.cycle cell.component }
         requires stays { stays ≡ true → (held_at self.old.rows (cell.cycle - 1) cell.component).state ≡ (held_at self.old.rows cell.cycle cell.component).state }
-        requires kept { stays ≡ true → changed ≡ false }
         requires room { changed ≡ true → self.old.clock < 2 ^ 64 - 1 }
-        requires repeats { (held_at self.old.rows (cell.cycle - 1) cell.component).state ≡ Some (current_of G.rules self.old.slots self.old.rows cell.cycle cell.component) }
         requires changes { (changed ≡ false) ↔ ((held_at self.old.rows cell.cycle cell.component).state ≡ Some (current_of G.rules self.old.slots self.old.rows cell.cycle cell.component)) }
         requires computed { IsCurrentState G.rules self.old.slots self.old.rows cell.cycle cell.component (current_of G.rules self.old.slots self.old.rows cell.cycle cell.component) }
         ensures ok { OnOk result (IsAfterStore G.rules self.old self.new cell.cycle cell.component (current_of G.rules self.old.slots self.old.rows cell.cycle cell.component) changed) }

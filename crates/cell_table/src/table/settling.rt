@@ -10,9 +10,9 @@ ghost use Rattle.cell_table.specs.Events.{Event, Start};
 ghost use Rattle.cell_table.specs.Stands.{Stands};
 ghost use Rattle.cell_table.specs.Settling.{IsAsBefore, NoneDueBefore, NoneDueFrom, HoldsRunBefore, IsNextDue, IsSettled, IsSettledTo, SettlesNext, IsSpent, IsSpentBefore, IsAt, StopsBefore, computed_of, IsClockSpent};
 ghost use Rattle.cell_table.specs.Later.{IsLater};
+ghost use Rattle.cell_table.specs.Tended.{IsTended, IsWorked};
 ghost use Rattle.cell_table.specs.Advances.{Advances};
 ghost use Rattle.due_cells.specs.NextDue.{IsNextDueInRow};
-ghost use Rattle.due_cells.specs.Spares.{AreKept, IsWorkspace};
 ghost use Rattle.cell_table.specs.Cost.{Settles, SettlesTo, SettlesFirst, SettlesFirstTo};
 
 use super::Table;
@@ -283,10 +283,8 @@ impl<G: Grid> Table<G> {
     ) -> Result<Option<Passed>, StoreFault>
         requires within { end ≤ self.old.horizon + 1 }
         requires none { NoneDueBefore G.rules self.old from.cycle from.component }
-        requires workspace { IsWorkspace G.rules G.codec M.stands M.state self.old spare.old along.old beside.old }
-        requires watched { W.keeps watcher.old self.old }
-        ensures workspace { IsWorkspace G.rules G.codec M.stands M.state self.new spare.new along.new beside.new }
-        ensures watched { W.keeps watcher.new self.new }
+        requires worked { IsWorked G.rules G.codec M.stands M.state (W.keeps watcher.old) self.old spare.old along.old beside.old }
+        ensures worked { IsWorked G.rules G.codec M.stands M.state (W.keeps watcher.new) self.new spare.new along.new beside.new }
         ensures none { IfOk result (λ o. IfNone o (NoneDueBefore G.rules self.old end 0 × HoldsRunBefore G.rules self.old end 0 × (self.new ≡ self.old))) }
         ensures on { IfOk result (λ o. IfSome o (λ p. Advances G.rules end self.old self.new from.cycle from.component p.to.cycle p.to.component p.computed)) }
         ensures err { OnErr result (self.new ≡ self.old) }
@@ -324,10 +322,8 @@ impl<G: Grid> Table<G> {
         requires start { start ≤ end }
         requires at { IsAt G.rules self.old self.old start 0 0 }
         requires within { end ≤ self.old.horizon + 1 }
-        requires workspace { IsWorkspace G.rules G.codec M.stands M.state self.old spare.old along.old beside.old }
-        requires watched { W.keeps watcher.old self.old }
-        ensures workspace { IsWorkspace G.rules G.codec M.stands M.state self.new spare.new along.new beside.new }
-        ensures watched { W.keeps watcher.new self.new }
+        requires worked { IsWorked G.rules G.codec M.stands M.state (W.keeps watcher.old) self.old spare.old along.old beside.old }
+        ensures worked { IsWorked G.rules G.codec M.stands M.state (W.keeps watcher.new) self.new spare.new along.new beside.new }
         ensures all { IfOk result (λ s. IsAt G.rules self.old self.new end 0 s.computed) }
         ensures stops { IfErr result (λ f. StopsBefore G.rules end self.old self.new (computed_of f)) }
         ensures spent { IfErr result (λ f. IsClockSpent f → IsSpentBefore G.rules end self.new 0 0) }
@@ -358,10 +354,8 @@ impl<G: Grid> Table<G> {
         watcher: &mut W,
     ) -> Result<Settled, SettleFault>
         requires within { end ≤ self.old.horizon + 1 }
-        requires watched { W.keeps watcher.old self.old }
-        requires beside { AreKept G.rules G.codec M.stands M.state self.old.slots beside.old }
-        ensures watched { W.keeps watcher.new self.new }
-        ensures beside { AreKept G.rules G.codec M.stands M.state self.new.slots beside.new }
+        requires tended { IsTended G.rules G.codec M.stands M.state (W.keeps watcher.old) self.old beside.old }
+        ensures tended { IsTended G.rules G.codec M.stands M.state (W.keeps watcher.new) self.new beside.new }
         ensures all { IfOk result (λ s. IsAt G.rules self.old self.new end 0 s.computed) }
         ensures stops { IfErr result (λ f. StopsBefore G.rules end self.old self.new (computed_of f)) }
         ensures spent { IfErr result (λ f. IsClockSpent f → IsSpentBefore G.rules end self.new 0 0) }
@@ -417,10 +411,8 @@ impl<G: Grid> Table<G> {
         watcher: &mut W,
     ) -> Result<Settled, SettleFault>
         requires within { end ≤ self.old.horizon + 1 }
-        requires watched { W.keeps watcher.old self.old }
-        requires beside { AreKept G.rules G.codec M.stands M.state self.old.slots beside.old }
-        ensures watched { W.keeps watcher.new self.new }
-        ensures beside { AreKept G.rules G.codec M.stands M.state self.new.slots beside.new }
+        requires tended { IsTended G.rules G.codec M.stands M.state (W.keeps watcher.old) self.old beside.old }
+        ensures tended { IsTended G.rules G.codec M.stands M.state (W.keeps watcher.new) self.new beside.new }
         ensures all { IfOk result (λ s. IsAt G.rules self.old self.new end 0 s.computed) }
         ensures stops { IfErr result (λ f. StopsBefore G.rules end self.old self.new (computed_of f)) }
         ensures spent { IfErr result (λ f. IsClockSpent f → IsSpentBefore G.rules end self.new 0 0) }
@@ -442,10 +434,8 @@ impl<G: Grid> Table<G> {
         beside: &mut Beside<M>,
         watcher: &mut W,
     ) -> Result<Settled, SettleFault>
-        requires watched { W.keeps watcher.old self.old }
-        requires beside { AreKept G.rules G.codec M.stands M.state self.old.slots beside.old }
-        ensures watched { W.keeps watcher.new self.new }
-        ensures beside { AreKept G.rules G.codec M.stands M.state self.new.slots beside.new }
+        requires tended { IsTended G.rules G.codec M.stands M.state (W.keeps watcher.old) self.old beside.old }
+        ensures tended { IsTended G.rules G.codec M.stands M.state (W.keeps watcher.new) self.new beside.new }
         ensures headline_settles { IfOk result (λ s. (done : List (Event G.State G.Slots G.Slot)) × ((o : Start G.Slots) (h : List (Event G.State G.Slots G.Slot)) → Stands G.rules o self.old h
             → SettlesTo G.rules o last h self.new done s.computed)) }
         ensures after_fault { IfErr result (λ f. (done : List (Event G.State G.Slots G.Slot)) × ((o : Start G.Slots) (h : List (Event G.State G.Slots G.Slot)) → Stands G.rules o self.old h
@@ -470,10 +460,8 @@ impl<G: Grid> Table<G> {
         beside: &mut Beside<M>,
         watcher: &mut W,
     ) -> Result<Settled, SettleFault>
-        requires watched { W.keeps watcher.old self.old }
-        requires beside { AreKept G.rules G.codec M.stands M.state self.old.slots beside.old }
-        ensures watched { W.keeps watcher.new self.new }
-        ensures beside { AreKept G.rules G.codec M.stands M.state self.new.slots beside.new }
+        requires tended { IsTended G.rules G.codec M.stands M.state (W.keeps watcher.old) self.old beside.old }
+        ensures tended { IsTended G.rules G.codec M.stands M.state (W.keeps watcher.new) self.new beside.new }
         ensures headline_settles { IfOk result (λ s. (done : List (Event G.State G.Slots G.Slot)) × ((o : Start G.Slots) (h : List (Event G.State G.Slots G.Slot)) → Stands G.rules o self.old h
             → Settles G.rules o h self.new done s.computed)) }
         ensures after_fault { IfErr result (λ f. (done : List (Event G.State G.Slots G.Slot)) × ((o : Start G.Slots) (h : List (Event G.State G.Slots G.Slot)) → Stands G.rules o self.old h

@@ -7,6 +7,7 @@ ghost use Rattle.due_cells.specs.Ranges.{is_marked, IsWithin};
 ghost use Rattle.due_cells.specs.Seen.{Seen, row_at};
 ghost use Rattle.cell_table.specs.Cells.{AtOrAfter};
 ghost use Rattle.cell_table.specs.Settling.{NoneDueBefore, IsAt};
+ghost use Rattle.cell_table.specs.Tended.{IsWorked};
 ghost use Rattle.cell_table.specs.Advances.{Advances};
 ghost use Rattle.cell_table.specs.Passing.{HoldsBut};
 ghost use Rattle.due_cells.specs.Spares.{IsLeftOut, IsSpare, IsWide, IsWorkspace};
@@ -119,10 +120,8 @@ impl<G: Grid> Table<G> {
     ) -> Option<Passed>
         requires within { end ≤ self.old.horizon + 1 }
         requires none { NoneDueBefore G.rules self.old from.cycle from.component }
-        requires workspace { IsWorkspace G.rules G.codec M.stands M.state self.old spare.old along.old beside.old }
-        requires watched { W.keeps watcher.old self.old }
-        ensures workspace { IsWorkspace G.rules G.codec M.stands M.state self.new spare.new along.new beside.new }
-        ensures watched { W.keeps watcher.new self.new }
+        requires worked { IsWorked G.rules G.codec M.stands M.state (W.keeps watcher.old) self.old spare.old along.old beside.old }
+        ensures worked { IsWorked G.rules G.codec M.stands M.state (W.keeps watcher.new) self.new spare.new along.new beside.new }
         ensures none { IfNone result (self.new ≡ self.old) }
         ensures on { IfSome result (λ p. Advances G.rules end self.old self.new from.cycle from.component p.to.cycle p.to.component p.computed) }
     {
@@ -148,10 +147,8 @@ impl<G: Grid> Table<G> {
     ) -> Option<Passed>
         requires within { end ≤ self.old.horizon + 1 }
         requires none { NoneDueBefore G.rules self.old from.cycle from.component }
-        requires workspace { IsWorkspace G.rules G.codec M.stands M.state self.old spare.old along.old beside.old }
-        requires watched { W.keeps watcher.old self.old }
-        ensures workspace { IsWorkspace G.rules G.codec M.stands M.state self.new spare.new along.new beside.new }
-        ensures watched { W.keeps watcher.new self.new }
+        requires worked { IsWorked G.rules G.codec M.stands M.state (W.keeps watcher.old) self.old spare.old along.old beside.old }
+        ensures worked { IsWorked G.rules G.codec M.stands M.state (W.keeps watcher.new) self.new spare.new along.new beside.new }
         ensures none { IfNone result (self.new ≡ self.old) }
         ensures on { IfSome result (λ p. Advances G.rules end self.old self.new from.cycle from.component p.to.cycle p.to.component p.computed) }
     {

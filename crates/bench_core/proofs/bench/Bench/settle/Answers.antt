@@ -16,7 +16,7 @@ invariant_of-self c =
     let old : Shown = record { table = i.table; journal = i.journal.items } in
     let new : Shown = record { table = c.settle_rows.new.self; journal = i.journal.items } in
     let history = history_settled old new c.settle_rows.result (settle_all old new refl c.settle_rows.result settled.headline_settles) (settle_some old new refl c.settle_rows.result settled.after_fault) c.self.invariant.2 in
-    inside_still i.table c.settle_rows.new.self i.counters c.settle_rows.new.watcher i.journal.items i.recent (λ P. AreRowsOf P i.rows) (λ P. AreRowsOf P c.settle_rows.new.beside) c.self.invariant settled.later.slots settled.later.horizon settled.watched.1 history settled.beside
+    inside_still i.table c.settle_rows.new.self i.counters c.settle_rows.new.watcher i.journal.items i.recent (λ P. AreRowsOf P i.rows) (λ P. AreRowsOf P c.settle_rows.new.beside) c.self.invariant settled.later.slots settled.later.horizon settled.tended.watched.1 history settled.tended.beside
 
 pub returns-clause-headline_settles : goal.returns-clause-headline_settles
 returns-clause-headline_settles c =

@@ -1,4 +1,4 @@
-use Rattle.std.proofs.Common.{◌≡◌, ℕ, ◌+◌, ◌-◌, ◌*◌, ◌^◌, ◌<◌, ◌≤◌, ◌||◌, ◌∙◌, sym, ap, subst, arith, length, false}
+use Rattle.std.proofs.Common.{◌≡◌, ℕ, ◌+◌, ◌-◌, ◌*◌, ◌^◌, ◌<◌, ◌≤◌, ◌||◌, ◌∙◌, refl, sym, ap, subst, arith, length, false}
 use Rattle.std.proofs.lemmas.List.{length-replicate}
 use Rattle.std.proofs.lemmas.List.Sums.{count_by-le-length}
 use Rattle.cell_marks.specs.Marked.{count_in}
@@ -7,7 +7,8 @@ use Rattle.cell_table.specs.Consistent.{IsWhole}
 use Rattle.cell_states.specs.Filling.{is_awake}
 use Rattle.due_cells.specs.Woken.{woken}
 use Rattle.cell_table.specs.Settling.{NoneDueBefore, IsAt}
-use Rattle.cell_table.specs.Advances.{Advances}
+use Rattle.cell_table.specs.Advances.{Advances, PassesCycles}
+use Rattle.cell_table.specs.Passing.{HoldsBut}
 use Rattle.cell_states.specs.Versions.{any_changes}
 use Rattle.cell_table.specs.Repeating.{BeginsAlike, StaysAlike, AreDueAlike}
 use Rattle.cell_table.proofs.Held.{kept_alike, kept_behind}
@@ -105,8 +106,8 @@ invariant_of-self-2 g c =
       within = c.self.invariant.within;
     }
 
-pub returns-clause-on : goal.returns-clause-on
-returns-clause-on g c =
+pub returns-clause-passes : goal.returns-clause-passes
+returns-clause-passes g c =
     let R = g.G.Grid.rules in
     let i = c.self.inside in
     let v : Seen g.row.G-State.Denot g.row.G-Slots.Denot = record { slots = i.slots; horizon = i.horizon; clock = i.clock; rows = i.cells } in
@@ -156,49 +157,11 @@ returns-clause-on g c =
       further = further_cycle i.horizon s 0 e after end;
       before = (omega (arith, c.alike_end-end.ensures.before, c.due_alike_to-end.ensures.before), λ q. omega arith);
     } in
-    rw (← c.self.view_is) advances
-
-pub returns-clause-but : goal.returns-clause-but
-returns-clause-but g c =
-    let R = g.G.Grid.rules in
-    let i = c.self.inside in
-    let v : Seen g.row.G-State.Denot g.row.G-Slots.Denot = record { slots = i.slots; horizon = i.horizon; clock = i.clock; rows = i.cells } in
-    let table = c.self.invariant.table in
-    let s = c.args.cycle in
-    let e = c.due_alike_to-end.result in
-    let n = R.components i.slots in
-    let changes = c.begins_alike.new.changes in
-    let rows1 = c.repeat_cells.new.cells in
-    let rows2 = c.mark_changed.new.cells in
-    let clock = c.clock_filled-clock.result in
-    let before = c.clock_filled-before.result in
-    let within : c.args.end ≤ i.horizon + 1 = rw (← c.self.view_is) at c.requires.within in
-    let there : s ≤ i.horizon = omega (arith, c.requires.there, within) in
-    let none : NoneDueBefore R v s 0 = rw (← c.self.view_is) at c.requires.none in
-    let wide : length c.args.spare.now.changes ≡ n = (rw (← c.self.view_is) at c.requires.spare).wide.changes in
-    let width : length changes ≡ n = c.begins_alike.ensures.len ∙ ap length c.clear_all.ensures ∙ length-replicate (length c.args.spare.now.changes) false ∙ wide in
-    let begins : BeginsAlike R v s changes = rw (← c.self.view_is) at (c.begins_alike.ensures.alike c.if-not-begins_alike.false) in
-    let last : c.alike_end-end.result ≤ i.horizon + 1 = omega (arith, c.alike_end-end.ensures.before, within) in
-    let so_far : StaysAlike R v s changes c.alike_end-end.result = rw (← c.self.view_is) at c.alike_end-end.ensures.stays in
-    let stays = stays_less R v s changes c.alike_end-end.result e c.due_alike_to-end.ensures.before so_far in
-    let reached : (d : ℕ) → d < n → is_awake c.reach_in.new.reached d ≡ any_changes changes (R.near i.slots d) n = c.reach_in.ensures.reached in
-    let due : (d u : ℕ) → d < n → s < u → u < e → ((held_at i.cells u d).is_due || is_awake c.reach_in.new.reached d) ≡ (held_at i.cells s d).is_due = rw (← c.self.view_is) at c.due_alike_to-end.ensures.alike in
-    let alike : AreDueAlike R v s changes e = λ d u k h l. ap (λ b. (held_at i.cells u d).is_due || b) (sym (reached d k)) ∙ due d u k h l in
-    let end : e ≤ i.horizon + 1 = omega (arith, last, c.due_alike_to-end.ensures.before) in
-    let after = c.due_alike_to-end.ensures.after in
-    let few : n < 4294967296 = omega (arith, c.components-count.ensures) in
-    let is_clock : clock ≡ i.clock + (e - s) * count_in changes = c.clock_filled-clock.ensures ∙ ap (λ k. i.clock + (e - s) * k) c.count-changed.ensures in
-    let is_before : before ≡ i.clock + (e - s - 1) * count_in changes = c.clock_filled-before.ensures ∙ ap (λ k. i.clock + (e - s - 1) * k) c.count-changed.ensures in
-    let room : i.clock + (e - s) * n < 2 ^ 64 = subst (λ k. i.clock + (e - s) * k < 2 ^ 64) c.components-count.ensures (c.has_room.ensures c.if-not-has_room.false) in
-    let whole : IsWhole R i.slots i.horizon rows2 = record {
-      cycles = c.mark_changed.ensures.len ∙ c.repeat_cells.ensures.len ∙ table.whole.cycles;
-      components = λ t h. c.mark_changed.ensures.lens t ∙ c.repeat_cells.ensures.lens t (omega (arith, h, table.whole.cycles)) ∙ width;
-    } in
-    let last_one : e - 1 + 1 ≡ e = omega (arith, after) in
-    let behind : e ≤ i.horizon → (d : ℕ) → d < n → held_at rows2 e d ≡ woken R i.slots rows1 (λ t k. is_awake changes k) before (e - 1) n d = λ h d k. subst (λ u. held_at rows2 u d ≡ woken R i.slots rows1 (λ t k. is_awake changes k) before (e - 1) n d) last_one (c.mark_changed.ensures.marked (omega (arith, h, last_one, c.repeat_cells.ensures.len, table.whole.cycles)) d k) in
-    rw (← c.self.view_is) (holds_but R g.G.Grid.laws v table s e there end none changes begins stays alike after width rows1 rows2 clock before few c.no_versions.ensures is_clock is_before room whole
+    let but : HoldsBut R v now c.ranges_of.new.ranges.items = holds_but R g.G.Grid.laws v table s e there end none changes begins stays alike after width rows1 rows2 clock before few c.no_versions.ensures is_clock is_before room whole
     (λ t d k h l. c.in-Ok-repeat_cells.ensures.repeated t d (omega (arith, k, width)) h l)
     c.in-Ok-repeat_cells.ensures.earlier
     c.in-Ok-repeat_cells.ensures.later
     (λ t d h p. c.mark_changed.ensures.others t d (omega (arith, h, c.repeat_cells.ensures.len, table.whole.cycles)) (λ q. p (omega (arith, q, last_one))))
-    behind c.ranges_of.new.ranges.items (ranges_within c.ranges_of.new.ranges.items e (i.horizon + 1) (length changes) n end width c.in-Ok.ensures.within) c.in-Ok.ensures.marked)
+    behind c.ranges_of.new.ranges.items (ranges_within c.ranges_of.new.ranges.items e (i.horizon + 1) (length changes) n end width c.in-Ok.ensures.within) c.in-Ok.ensures.marked in
+    let passes : PassesCycles R c.args.end v now s e 0 (c.from.result * c.from-2.result) c.ranges_of.new.ranges.items = record { on = advances; begins = refl; but = but } in
+    rw (← c.self.view_is) passes

@@ -10,8 +10,7 @@ loop-passed-init g c = record {
   at = c.requires.at;
   before = (c.requires.start, λ e. omega arith);
   within = c.requires.within;
-  workspace = c.requires.workspace;
-  watched = c.requires.watched;
+  worked = c.requires.worked;
 }
 
 pub overflow_add-computed : goal.overflow_add-computed
@@ -34,8 +33,7 @@ loop-passed-preserved g c =
       at = at;
       before = advances.before;
       within = omega (arith, c.requires.within, at.horizon);
-      workspace = c.settle_more.ensures.workspace;
-      watched = c.settle_more.ensures.watched;
+      worked = c.settle_more.ensures.worked;
     }
 
 pub loop-passed-smaller : goal.loop-passed-smaller

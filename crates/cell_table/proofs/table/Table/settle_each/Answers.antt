@@ -29,8 +29,8 @@ returns-in-Err-clause-stops g c = record {
   before = (omega arith, λ e. omega arith);
 }
 
-pub settle_all-settled-requires-clause-workspace : goal.settle_all-settled-requires-clause-workspace
-settle_all-settled-requires-clause-workspace g c =
+pub settle_all-settled-requires-clause-worked : goal.settle_all-settled-requires-clause-worked
+settle_all-settled-requires-clause-worked g c =
     let count : c.components-count.result ≡ g.G.Grid.rules.components c.args.self.now.slots = rw (← c.self.view_is) c.components-count.ensures in
     let R = g.G.Grid.rules in
     let W = g.M.WholeRow in
@@ -38,9 +38,12 @@ settle_all-settled-requires-clause-workspace g c =
     let along : IfSome c.renew.new.beside.along (GoesAlong R W.stands W.state s) = rw (← c.self.view_is) c.renew.ensures.along in
     let rows : AreBeside R g.G.Grid.codec W.stands W.state s c.renew.new.beside = rw (← c.self.view_is) c.renew.ensures.rows in
     record {
-      spare = new_spare g.G.Grid.rules c.args.self.now c.components-count.result c.in-Ok.spare c.in-Ok.ensures.wide count c.in-Ok.ensures.none;
-      along = subst (λ row. IfSome row (GoesAlong R W.stands W.state s)) (sym c.take-along.ensures.value) along;
-      beside = record { near = rows.near; idle = rows.idle };
+      watched = c.requires.tended.watched;
+      workspace = record {
+        spare = new_spare g.G.Grid.rules c.args.self.now c.components-count.result c.in-Ok.spare c.in-Ok.ensures.wide count c.in-Ok.ensures.none;
+        along = subst (λ row. IfSome row (GoesAlong R W.stands W.state s)) (sym c.take-along.ensures.value) along;
+        beside = record { near = rows.near; idle = rows.idle };
+      };
     }
 
 pub settle_all-settled-requires-clause-at : goal.settle_all-settled-requires-clause-at

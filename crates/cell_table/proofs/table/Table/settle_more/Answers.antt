@@ -11,7 +11,7 @@ tell-requires g c =
     let settled = c.in-Ok-Some.settled in
     let next = of_some (λ s. SettlesNext R c.settle_at_once.new.self c.settle_next.new.self c.args.from.cycle c.args.from.component s.cell) c.in-Ok-Some.field-0 settled c.in-Ok-Some.field-0-is c.in-Ok-Some.ensures.some in
     let same = of_some (λ s. s.changed ≡ false → HoldsSame R c.settle_at_once.new.self c.settle_next.new.self) c.in-Ok-Some.field-0 settled c.in-Ok-Some.field-0-is c.in-Ok-Some.ensures.kept in
-    (c.settle_at_once.new.self, c.settle_at_once.ensures.watched, record { there = next.settled.there; state = _; changed = next.changed; after = next.settled.after }, same)
+    (c.settle_at_once.new.self, c.settle_at_once.ensures.worked.watched, record { there = next.settled.there; state = _; changed = next.changed; after = next.settled.after }, same)
 
 pub returns-in-Ok-Some-clause-on : goal.returns-in-Ok-Some-clause-on
 returns-in-Ok-Some-clause-on g c =

@@ -7,7 +7,7 @@ use Rattle.cell_table.proofs.table.Table.settle_wide.Goals as goal
 pub refilled-requires : goal.refilled-requires
 refilled-requires g c = (
   c.args.self.now,
-  c.requires.watched,
+  c.requires.worked.watched,
   subst (HoldsBut g.G.Grid.rules c.args.self.now c.settle_row.new.self) (sym c.as_slice.ensures.value) (c.in-Some-settle_row.ensures.but (ap not c.if-is_told.true)),
 )
 
