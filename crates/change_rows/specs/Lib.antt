@@ -8,3 +8,5 @@ pub mod Changes
 pub mod Laid
 pub mod Left
 pub mod Kinds
+pub mod Edited
+pub mod Drafts

@@ -4,6 +4,8 @@ ghost use Rattle.std.specs.Option.{option_or};
 ghost use Rattle.change_rows.specs.Cells.{found, end_of, IsSplit};
 ghost use Rattle.change_rows.specs.Standing.{standing, standing_before};
 ghost use Rattle.change_rows.specs.Changes.{row_at, begins_at, IsChanges};
+ghost use Rattle.change_rows.specs.Edited.{IsEdited};
+ghost use Rattle.change_rows.specs.Drafts.{IsSettledFor, IsPushed, IsCellLaid, IsDraftLaid};
 
 use crate::cells::{Cells, same_words};
 use crate::changes::{Changes, is_change, lay, words_in};
@@ -40,9 +42,7 @@ impl Buffers {
 /// Where a growth was refused. Nothing is changed.
 pub(crate) fn settle(s: &mut Changes, buffer: &mut Cells) -> Result<(), AllocError>
     requires { IsChanges s.old.width s.old.rows.items s.old.marks.items s.old.seam s.old.at }
-    ensures changes { IsChanges s.new.width s.new.rows.items s.new.marks.items s.new.seam s.new.at }
-    ensures width { s.new.width ≡ s.old.width }
-    ensures len { length s.new.rows.items ≡ length s.old.rows.items }
+    ensures edited { IsEdited s.old s.new }
     ensures same { (c u : ℕ) → begins_at s.new.rows.items s.new.seam s.new.at c u ≡ begins_at s.old.rows.items s.old.seam s.old.at c u }
     ensures settled { OnOk result (s.new.seam ≡ []) }
 {
@@ -76,9 +76,7 @@ pub(crate) fn words_before(s: &Changes, t: usize, c: u32) -> &[u64]
 /// Where a growth was refused. Nothing is changed.
 pub(crate) fn settle_for(s: &mut Changes, t: usize, buffer: &mut Cells) -> Result<(), AllocError>
     requires { IsChanges s.old.width s.old.rows.items s.old.marks.items s.old.seam s.old.at }
-    ensures changes { IsChanges s.new.width s.new.rows.items s.new.marks.items s.new.seam s.new.at }
-    ensures width { s.new.width ≡ s.old.width }
-    ensures len { length s.new.rows.items ≡ length s.old.rows.items }
+    ensures edited { IsEdited s.old s.new }
     ensures same { (c u : ℕ) → begins_at s.new.rows.items s.new.seam s.new.at c u ≡ begins_at s.old.rows.items s.old.seam s.old.at c u }
     ensures elsewhere { OnOk result ((s.new.at ≡ t → ⊥) → s.new.seam ≡ []) }
 {
@@ -96,9 +94,7 @@ pub(crate) fn push_other(
     out: &mut Cells,
 ) -> Result<(), AllocError>
     requires ascending { end_of out.old ≤ c }
-    ensures kept { OnOk result (unwrap_or (found out.new c) held.now ≡ words.now) }
-    ensures others { OnOk result ((d : ℕ) → (d ≡ c → ⊥) → found out.new d ≡ found out.old d) }
-    ensures end { OnOk result (end_of out.new ≤ c + 1) }
+    ensures { OnOk result (IsPushed c words.now held.now out.old out.new) }
 {
     if same_words(held, words) {
         return Ok(());
@@ -129,21 +125,13 @@ fn put_cell(
     row: &mut Cells,
     seam: &mut Cells,
 ) -> Result<(), AllocError>
-    requires changes { IsChanges s.now.width s.now.rows.items s.now.marks.items s.now.seam s.now.at }
-    requires row { t < length s.now.rows.items }
+    requires settled { IsSettledFor s.now t }
     requires component { c < s.now.width }
-    requires elsewhere { (s.now.at ≡ t → ⊥) → s.now.seam ≡ [] }
     requires here { found under.now c ≡ option_or (found (row_at s.now.rows.items t) c) (found s.now.seam c) }
     requires split { IsSplit under.now c place }
     requires ascending { end_of row.old ≤ c }
     requires seam_ascending { end_of seam.old ≤ c }
-    ensures kept { OnOk result (unwrap_or (found row.new c) (standing_before (begins_at s.now.rows.items s.now.seam s.now.at c) t) ≡ words.now) }
-    ensures others { OnOk result ((d : ℕ) → (d ≡ c → ⊥) → found row.new d ≡ found row.old d) }
-    ensures end { OnOk result (end_of row.new ≤ c + 1) }
-    ensures seam_kept { OnOk result (t + 1 < length s.now.rows.items → found (row_at s.now.rows.items (t + 1)) c ≡ None → unwrap_or (found seam.new c) words.now ≡ standing (begins_at s.now.rows.items s.now.seam s.now.at c) t) }
-    ensures seam_others { OnOk result ((d : ℕ) → (d ≡ c → ⊥) → found seam.new d ≡ found seam.old d) }
-    ensures seam_end { OnOk result (end_of seam.new ≤ c + 1) }
-    ensures seam_past { OnOk result ((t + 1 < length s.now.rows.items → ⊥) → seam.new ≡ seam.old) }
+    ensures { OnOk result (IsCellLaid s.now t c words.now row.old row.new seam.old seam.new) }
 {
     let before = words_before(s, t, c);
     push_other(c, words, before, row)?;
@@ -163,19 +151,11 @@ fn lay_over(
     row: &mut Cells,
     seam: &mut Cells,
 ) -> Result<(), AllocError>
-    requires changes { IsChanges s.now.width s.now.rows.items s.now.marks.items s.now.seam s.now.at }
-    requires row { t < length s.now.rows.items }
+    requires settled { IsSettledFor s.now t }
     requires wide { end_of draft.now ≤ s.now.width }
     requires under_wide { end_of under.now ≤ s.now.width }
-    requires elsewhere { (s.now.at ≡ t → ⊥) → s.now.seam ≡ [] }
     requires here { (c : ℕ) → found under.now c ≡ option_or (found (row_at s.now.rows.items t) c) (found s.now.seam c) }
-    ensures kept { OnOk result ((c : ℕ) (w : List ℕ) → found draft.now c ≡ Some w → unwrap_or (found row.new c) (standing_before (begins_at s.now.rows.items s.now.seam s.now.at c) t) ≡ w) }
-    ensures others { OnOk result ((c : ℕ) → found draft.now c ≡ None → found row.new c ≡ found under.now c) }
-    ensures end { OnOk result (end_of row.new ≤ s.now.width) }
-    ensures seam_kept { OnOk result (t + 1 < length s.now.rows.items → (c : ℕ) (w : List ℕ) → found draft.now c ≡ Some w → found (row_at s.now.rows.items (t + 1)) c ≡ None → unwrap_or (found seam.new c) w ≡ standing (begins_at s.now.rows.items s.now.seam s.now.at c) t) }
-    ensures seam_only { OnOk result ((c : ℕ) → found draft.now c ≡ None → found seam.new c ≡ None) }
-    ensures seam_end { OnOk result (end_of seam.new ≤ s.now.width) }
-    ensures seam_past { OnOk result ((t + 1 < length s.now.rows.items → ⊥) → seam.new ≡ []) }
+    ensures { OnOk result (IsDraftLaid s.now t draft.now (found under.now) row.new seam.new) }
 {
     row.clear();
     seam.clear();
@@ -194,17 +174,9 @@ fn lay_over(
 /// The row once a draft is put there, and the seam behind it. What begins at the row already is its own cells, those of the
 /// seam, or both.
 fn row_of(s: &Changes, t: usize, draft: &Cells, b: &mut Buffers) -> Result<(), AllocError>
-    requires changes { IsChanges s.now.width s.now.rows.items s.now.marks.items s.now.seam s.now.at }
-    requires row { t < length s.now.rows.items }
+    requires settled { IsSettledFor s.now t }
     requires wide { end_of draft.now ≤ s.now.width }
-    requires elsewhere { (s.now.at ≡ t → ⊥) → s.now.seam ≡ [] }
-    ensures kept { OnOk result ((c : ℕ) (w : List ℕ) → found draft.now c ≡ Some w → unwrap_or (found b.new.row c) (standing_before (begins_at s.now.rows.items s.now.seam s.now.at c) t) ≡ w) }
-    ensures others { OnOk result ((c : ℕ) → found draft.now c ≡ None → found b.new.row c ≡ option_or (found (row_at s.now.rows.items t) c) (found s.now.seam c)) }
-    ensures end { OnOk result (end_of b.new.row ≤ s.now.width) }
-    ensures seam_kept { OnOk result (t + 1 < length s.now.rows.items → (c : ℕ) (w : List ℕ) → found draft.now c ≡ Some w → found (row_at s.now.rows.items (t + 1)) c ≡ None → unwrap_or (found b.new.seam c) w ≡ standing (begins_at s.now.rows.items s.now.seam s.now.at c) t) }
-    ensures seam_only { OnOk result ((c : ℕ) → found draft.now c ≡ None → found b.new.seam c ≡ None) }
-    ensures seam_end { OnOk result (end_of b.new.seam ≤ s.now.width) }
-    ensures seam_past { OnOk result ((t + 1 < length s.now.rows.items → ⊥) → b.new.seam ≡ []) }
+    ensures { OnOk result (IsDraftLaid s.now t draft.now (λ c. option_or (found (row_at s.now.rows.items t) c) (found s.now.seam c)) b.new.row b.new.seam) }
 {
     if s.seam.is_empty() {
         return lay_over(s, t, &s.rows[t], draft, &mut b.row, &mut b.seam);
@@ -230,9 +202,7 @@ pub(crate) fn put(
     requires changes { IsChanges s.old.width s.old.rows.items s.old.marks.items s.old.seam s.old.at }
     requires row { t < length s.old.rows.items }
     requires wide { end_of draft.now ≤ s.old.width }
-    ensures changes { IsChanges s.new.width s.new.rows.items s.new.marks.items s.new.seam s.new.at }
-    ensures width { s.new.width ≡ s.old.width }
-    ensures len { length s.new.rows.items ≡ length s.old.rows.items }
+    ensures edited { IsEdited s.old s.new }
     ensures put { OnOk result ((c u : ℕ) → u < length s.old.rows.items → standing (begins_at s.new.rows.items s.new.seam s.new.at c) u ≡ cond (nat_eq u t) (unwrap_or (found draft.now c) (standing (begins_at s.old.rows.items s.old.seam s.old.at c) u)) (standing (begins_at s.old.rows.items s.old.seam s.old.at c) u)) }
     ensures err { OnErr result ((c u : ℕ) → begins_at s.new.rows.items s.new.seam s.new.at c u ≡ begins_at s.old.rows.items s.old.seam s.old.at c u) }
 {

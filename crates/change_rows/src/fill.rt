@@ -4,6 +4,7 @@ ghost use Rattle.change_rows.specs.Cells.{found, end_of};
 ghost use Rattle.change_rows.specs.Marks.{is_in};
 ghost use Rattle.change_rows.specs.Standing.{standing, standing_before};
 ghost use Rattle.change_rows.specs.Changes.{begins_at, IsChanges};
+ghost use Rattle.change_rows.specs.Edited.{IsEdited, IsBlankRow};
 ghost use Rattle.change_rows.specs.Kinds.{IsRoomy};
 
 use crate::cells::Cells;
@@ -47,9 +48,7 @@ fn write_all<S: Source>(
 ///
 /// Where a growth was refused.
 fn blank_from(s: &Changes, t: usize, out: &mut Cells) -> Result<(), AllocError>
-    requires changes { IsChanges s.now.width s.now.rows.items s.now.marks.items s.now.seam s.now.at }
-    requires row { t < length s.now.rows.items }
-    requires none { (c : ℕ) → c < s.now.width → standing (begins_at s.now.rows.items s.now.seam s.now.at c) t ≡ [] }
+    requires { IsBlankRow s.now t }
     ensures found { OnOk result ((c : ℕ) → c < s.now.width → found out.new c ≡ Some []) }
     ensures end { OnOk result (end_of out.new ≤ s.now.width) }
 {
@@ -66,9 +65,7 @@ fn blank_from(s: &Changes, t: usize, out: &mut Cells) -> Result<(), AllocError>
 ///
 /// Where a growth was refused.
 fn blank_behind(s: &Changes, t: usize, out: &mut Cells) -> Result<(), AllocError>
-    requires changes { IsChanges s.now.width s.now.rows.items s.now.marks.items s.now.seam s.now.at }
-    requires row { t < length s.now.rows.items }
-    requires none { (c : ℕ) → c < s.now.width → standing (begins_at s.now.rows.items s.now.seam s.now.at c) t ≡ [] }
+    requires { IsBlankRow s.now t }
     ensures found { OnOk result (t + 1 < length s.now.rows.items → (c : ℕ) → c < s.now.width → found out.new c ≡ Some []) }
     ensures end { OnOk result (end_of out.new ≤ s.now.width) }
     ensures past { OnOk result ((t + 1 < length s.now.rows.items → ⊥) → out.new ≡ []) }
@@ -92,15 +89,11 @@ pub(crate) fn fill<S: Source>(
     t: usize,
     source: &S,
 ) -> Result<(), AllocError>
-    requires changes { IsChanges s.old.width s.old.rows.items s.old.marks.items s.old.seam s.old.at }
-    requires row { t < length s.old.rows.items }
-    requires none { (c : ℕ) → c < s.old.width → standing (begins_at s.old.rows.items s.old.seam s.old.at c) t ≡ [] }
+    requires blank { IsBlankRow s.old t }
     requires room { IsRoomy s.old.width k.old }
     requires has { (c : ℕ) → c < s.old.width → S.has source.now c }
     requires still { (c : ℕ) → c < s.old.width → S.still source.now c ≡ true → S.words source.now c ≡ standing_before (begins_at s.old.rows.items s.old.seam s.old.at c) t }
-    ensures changes { IsChanges s.new.width s.new.rows.items s.new.marks.items s.new.seam s.new.at }
-    ensures width { s.new.width ≡ s.old.width }
-    ensures len { length s.new.rows.items ≡ length s.old.rows.items }
+    ensures edited { IsEdited s.old s.new }
     ensures filled { OnOk result ((c u : ℕ) → c < s.old.width → u < length s.old.rows.items → standing (begins_at s.new.rows.items s.new.seam s.new.at c) u ≡ cond (nat_eq u t) (S.words source.now c) (standing (begins_at s.old.rows.items s.old.seam s.old.at c) u)) }
     ensures room { IsRoomy s.old.width k.new }
     ensures err { OnErr result ((c u : ℕ) → begins_at s.new.rows.items s.new.seam s.new.at c u ≡ begins_at s.old.rows.items s.old.seam s.old.at c u) }

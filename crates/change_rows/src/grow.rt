@@ -3,6 +3,7 @@ ghost use Rattle.std.specs.Prelude.{◌≡◌, ℕ, ◌+◌, ◌*◌, ◌<◌, �
 ghost use Rattle.change_rows.specs.Cells.{found, end_of};
 ghost use Rattle.change_rows.specs.Standing.{standing};
 ghost use Rattle.change_rows.specs.Changes.{begins_at, IsChanges};
+ghost use Rattle.change_rows.specs.Edited.{IsGrown};
 
 use crate::cells::Cells;
 use crate::changes::{Changes, put_cells};
@@ -47,9 +48,7 @@ pub(crate) fn grow(
     requires few { length s.old.rows.items + m < 2 ^ 32 }
     ensures changes { IsChanges s.new.width s.new.rows.items s.new.marks.items s.new.seam s.new.at }
     ensures width { s.new.width ≡ s.old.width }
-    ensures len { OnOk result (length s.new.rows.items ≡ length s.old.rows.items + m) }
-    ensures same { OnOk result ((c u : ℕ) → u < length s.old.rows.items → begins_at s.new.rows.items s.new.seam s.new.at c u ≡ begins_at s.old.rows.items s.old.seam s.old.at c u) }
-    ensures blank { OnOk result ((c u : ℕ) → c < s.old.width → length s.old.rows.items ≤ u → standing (begins_at s.new.rows.items s.new.seam s.new.at c) u ≡ []) }
+    ensures grown { OnOk result (IsGrown m s.old s.new) }
     ensures err { OnErr result ((c u : ℕ) → begins_at s.new.rows.items s.new.seam s.new.at c u ≡ begins_at s.old.rows.items s.old.seam s.old.at c u) }
     ensures err_len { OnErr result (length s.new.rows.items ≡ length s.old.rows.items) }
 {

@@ -4,6 +4,7 @@ ghost use Rattle.change_rows.specs.Cells.{found, end_of};
 ghost use Rattle.change_rows.specs.Marks.{is_in};
 ghost use Rattle.change_rows.specs.Standing.{standing};
 ghost use Rattle.change_rows.specs.Changes.{row_at, begins_at, IsChanges};
+ghost use Rattle.change_rows.specs.Edited.{IsEdited};
 ghost use Rattle.change_rows.specs.Left.{left_in};
 
 use crate::cells::Cells;
@@ -200,10 +201,8 @@ fn put_rows(s: &mut Changes, rest: Vec<Left>)
     requires changes { IsChanges s.old.width s.old.rows.items s.old.marks.items s.old.seam s.old.at }
     requires rows { All (λ left. left.row < length s.old.rows.items) rest.items }
     requires wide { All (λ left. end_of left.cells ≤ s.old.width) rest.items }
-    ensures changes { IsChanges s.new.width s.new.rows.items s.new.marks.items s.new.seam s.new.at }
-    ensures width { s.new.width ≡ s.old.width }
+    ensures edited { IsEdited s.old s.new }
     ensures seam { s.new.seam ≡ s.old.seam }
-    ensures len { length s.new.rows.items ≡ length s.old.rows.items }
     ensures rows { (u : ℕ) → row_at s.new.rows.items u ≡ unwrap_or (left_in rest.items u) (row_at s.old.rows.items u) }
 {
     let mut rest = rest;
@@ -229,9 +228,7 @@ pub(crate) fn repeat(
     requires changes { IsChanges s.old.width s.old.rows.items s.old.marks.items s.old.seam s.old.at }
     requires order { before ≤ last }
     requires row { last < length s.old.rows.items }
-    ensures changes { IsChanges s.new.width s.new.rows.items s.new.marks.items s.new.seam s.new.at }
-    ensures width { s.new.width ≡ s.old.width }
-    ensures len { length s.new.rows.items ≡ length s.old.rows.items }
+    ensures edited { IsEdited s.old s.new }
     ensures run { OnOk result ((c u : ℕ) → c < s.old.width → u < length s.old.rows.items → standing (begins_at s.new.rows.items s.new.seam s.new.at c) u ≡ cond (is_in set.now c && (nat_lt before u && nat_le u last)) (standing (begins_at s.old.rows.items s.old.seam s.old.at c) before) (standing (begins_at s.old.rows.items s.old.seam s.old.at c) u)) }
     ensures err { OnErr result ((c u : ℕ) → begins_at s.new.rows.items s.new.seam s.new.at c u ≡ begins_at s.old.rows.items s.old.seam s.old.at c u) }
 {

@@ -1,4 +1,4 @@
-use Rattle.std.proofs.Common.{◌≡◌, ◌<◌, ◌∙◌, Some, sym, ap, arith, length, List, []}
+use Rattle.std.proofs.Common.{◌≡◌, ◌<◌, ◌∙◌, sym, ap, arith, length, List, []}
 use Rattle.std.proofs.lemmas.List.{get_or_default}
 use Rattle.change_rows.specs.Cells.{Held, found}
 use Rattle.change_rows.specs.Changes.{row_at, begins_at}

@@ -42,12 +42,12 @@ loop-i-preserved c =
       there = c.behind-from.ensures.there;
       low = omega (arith, next_end, c.behind-from.ensures.low);
       high = λ h. omega (arith, next_end, c.behind-from.ensures.high h);
-      kept = laid_kept row draft l.row c.append.new.self c.put_cell.new.row l.from l.i c.component-c.result c.seek-place.result c.behind-from.result c.seek-place.ensures.ascending c.len-i-end.ensures.ascending c.seek-place.ensures.order c.seek-place.ensures.split.within there c.component-c.ensures l.invariant.high c.in_ok-append.ensures e.others c.behind-from.ensures.others
+      kept = laid_kept row draft l.row c.append.new.self c.put_cell.new.row l.from l.i c.component-c.result c.seek-place.result c.behind-from.result c.seek-place.ensures.ascending c.len-i-end.ensures.ascending c.seek-place.ensures.order c.seek-place.ensures.split.within there c.component-c.ensures l.invariant.high c.in_ok-append.ensures e.pushed.others c.behind-from.ensures.others
           (λ (k : ℕ) (w : List ℕ) (o : Option (List ℕ)). unwrap_or o (standing_before (begins_at s.rows.items s.seam s.at k) t) ≡ w)
           l.invariant.kept
-          (subst (λ (k : ℕ). unwrap_or (found row1 k) (standing_before (begins_at s.rows.items s.seam s.at k) t) ≡ (get_or draft l.i no_cell).words) c.component-c.ensures (e.kept ∙ c.words.ensures));
-      others = laid_others row draft l.row c.append.new.self c.put_cell.new.row l.from l.i c.component-c.result c.seek-place.result c.behind-from.result c.seek-place.ensures.ascending c.len-i-end.ensures.ascending c.seek-place.ensures.order c.seek-place.ensures.split.within there c.component-c.ensures l.invariant.high c.in_ok-append.ensures e.others c.behind-from.ensures.others l.invariant.others;
-      end = omega (arith, e.end, next_end);
+          (subst (λ (k : ℕ). unwrap_or (found row1 k) (standing_before (begins_at s.rows.items s.seam s.at k) t) ≡ (get_or draft l.i no_cell).words) c.component-c.ensures (e.pushed.kept ∙ c.words.ensures));
+      others = laid_others row draft l.row c.append.new.self c.put_cell.new.row l.from l.i c.component-c.result c.seek-place.result c.behind-from.result c.seek-place.ensures.ascending c.len-i-end.ensures.ascending c.seek-place.ensures.order c.seek-place.ensures.split.within there c.component-c.ensures l.invariant.high c.in_ok-append.ensures e.pushed.others c.behind-from.ensures.others l.invariant.others;
+      end = omega (arith, e.pushed.end, next_end);
       seam_kept = kept_more draft l.seam seam1 l.i c.len-i-end.ensures.ascending there seam_others
           (λ (k : ℕ) (w : List ℕ) (o : Option (List ℕ)). t + 1 < length s.rows.items → found (row_at s.rows.items (t + 1)) k ≡ None → unwrap_or o w ≡ standing (begins_at s.rows.items s.seam s.at k) t)
           l.invariant.seam_kept
@@ -57,8 +57,8 @@ loop-i-preserved c =
       seam_past = λ n. e.seam_past n ∙ l.invariant.seam_past n;
     }
 
-pub returns-clause-kept : goal.returns-clause-kept
-returns-clause-kept c = λ d w e.
+pub returns : goal.returns
+returns c =
     let s = c.args.s.now in
     let l = c.loop-i in
     let t = c.args.t in
@@ -66,30 +66,17 @@ returns-clause-kept c = λ d w e.
     let row = c.args.under.now in
     let n : c.len.result ≡ length row = c.len.ensures.count in
     let whole : take l.i draft ≡ draft = take_all l.i draft (omega (arith, c.loop-i-test.false, c.len-i-end.ensures.count)) in
-    let here : found (take l.i draft) d ≡ found draft d = ap (λ (v : List Held). found v d) whole in
-    ap (λ (o : Option (List ℕ)). unwrap_or o (standing_before (begins_at s.rows.items s.seam s.at d) t)) (ran_low row (take l.i draft) l.row c.append-2.new.self l.from c.len.result c.len.ensures.ascending (omega (arith, n, l.invariant.there)) (omega (arith, n)) l.invariant.high c.in_ok-append-2.ensures d (some_low (take l.i draft) d w (here ∙ e)))
-    ∙ l.invariant.kept d w (here ∙ e)
-
-pub returns-clause-others : goal.returns-clause-others
-returns-clause-others c = λ d e.
-    let s = c.args.s.now in
-    let l = c.loop-i in
-    let t = c.args.t in
-    let draft = c.args.draft.now in
-    let row = c.args.under.now in
-    let n : c.len.result ≡ length row = c.len.ensures.count in
-    let whole : take l.i draft ≡ draft = take_all l.i draft (omega (arith, c.loop-i-test.false, c.len-i-end.ensures.count)) in
-    let here : found (take l.i draft) d ≡ found draft d = ap (λ (v : List Held). found v d) whole in
-    ran_others row (take l.i draft) l.row c.append-2.new.self l.from c.len.result c.len.ensures.ascending (omega (arith, n, l.invariant.there)) (omega (arith, n)) l.invariant.high c.in_ok-append-2.ensures d (l.invariant.others d (here ∙ e))
-    ∙ ap (λ (v : List Held). found v d) (take_all c.len.result row (omega (arith, n)))
-
-pub returns-clause-end : goal.returns-clause-end
-returns-clause-end c =
-    let s = c.args.s.now in
-    let l = c.loop-i in
-    let t = c.args.t in
-    let draft = c.args.draft.now in
-    let row = c.args.under.now in
-    let n : c.len.result ≡ length row = c.len.ensures.count in
-    let whole : take l.i draft ≡ draft = take_all l.i draft (omega (arith, c.loop-i-test.false, c.len-i-end.ensures.count)) in
-    omega (arith, ran_end row (take l.i draft) l.row c.append-2.new.self l.from c.len.result c.len.ensures.ascending (omega (arith, n, l.invariant.there)) (omega (arith, n)) l.invariant.high c.in_ok-append-2.ensures, slice_end row l.from c.len.result (omega (arith, n, l.invariant.there)), ap end_of (take_all c.len.result row (omega (arith, n))), ap end_of whole, l.invariant.end, c.requires.under_wide, c.requires.wide)
+    let here : (d : ℕ) → found (take l.i draft) d ≡ found draft d = λ d. ap (λ (v : List Held). found v d) whole in
+    record {
+      kept = λ d w e.
+          ap (λ (o : Option (List ℕ)). unwrap_or o (standing_before (begins_at s.rows.items s.seam s.at d) t)) (ran_low row (take l.i draft) l.row c.append-2.new.self l.from c.len.result c.len.ensures.ascending (omega (arith, n, l.invariant.there)) (omega (arith, n)) l.invariant.high c.in_ok-append-2.ensures d (some_low (take l.i draft) d w (here d ∙ e)))
+          ∙ l.invariant.kept d w (here d ∙ e);
+      others = λ d e.
+          ran_others row (take l.i draft) l.row c.append-2.new.self l.from c.len.result c.len.ensures.ascending (omega (arith, n, l.invariant.there)) (omega (arith, n)) l.invariant.high c.in_ok-append-2.ensures d (l.invariant.others d (here d ∙ e))
+          ∙ ap (λ (v : List Held). found v d) (take_all c.len.result row (omega (arith, n)));
+      end = omega (arith, ran_end row (take l.i draft) l.row c.append-2.new.self l.from c.len.result c.len.ensures.ascending (omega (arith, n, l.invariant.there)) (omega (arith, n)) l.invariant.high c.in_ok-append-2.ensures, slice_end row l.from c.len.result (omega (arith, n, l.invariant.there)), ap end_of (take_all c.len.result row (omega (arith, n))), ap end_of whole, l.invariant.end, c.requires.under_wide, c.requires.wide);
+      seam_kept = λ h d w e. l.invariant.seam_kept d w (here d ∙ e) h;
+      seam_only = λ d e. l.invariant.seam_only d (here d ∙ e);
+      seam_end = omega (arith, ap end_of whole, l.invariant.seam_end, c.requires.wide);
+      seam_past = l.invariant.seam_past;
+    }

@@ -22,7 +22,7 @@ pub returns : goal.returns
 returns c =
     let i = c.self.inside.changes in
     let s = c.grow.new.s in
-    view_grow i.rows.items s.rows.items i.seam s.seam i.at s.at i.width s.width c.args.m c.args.self.now c.self.view_is c.in_ok-grow.ensures.width c.in_ok-grow.ensures.len c.in_ok-grow.ensures.same c.in_ok-grow.ensures.blank
+    view_grow i.rows.items s.rows.items i.seam s.seam i.at s.at i.width s.width c.args.m c.args.self.now c.self.view_is c.in_ok-grow.ensures.width c.in_ok-grow.ensures.grown.len c.in_ok-grow.ensures.grown.same c.in_ok-grow.ensures.grown.blank
 
 pub invariant_of-self : goal.invariant_of-self
 invariant_of-self c = kept_anew c.self.inside.changes.width c.grow.new.s.width c.grow.new.s.rows.items c.grow.new.s.marks.items c.grow.new.s.seam c.grow.new.s.at c.self.inside.kinds c.self.inside.notes c.forget.new.n c.grow.ensures.changes c.grow.ensures.width (c.self.invariant.room) c.self.invariant.notes c.forget.ensures.room c.forget.ensures.apart c.forget.ensures.known
