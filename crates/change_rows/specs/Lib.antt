@@ -10,3 +10,4 @@ pub mod Left
 pub mod Kinds
 pub mod Edited
 pub mod Drafts
+pub mod Sourced

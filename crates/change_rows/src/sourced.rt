@@ -8,7 +8,10 @@ ghost use Rattle.change_rows.specs.Marks.{is_in};
 ghost use Rattle.change_rows.specs.Standing.{standing, standing_before};
 ghost use Rattle.change_rows.specs.Changes.{row_at, begins_at, IsChanges};
 ghost use Rattle.change_rows.specs.Laid.{IsOver, IsTold};
-ghost use Rattle.change_rows.specs.Kinds.{IsRoomy, HasRoom, AreBegun, AreMoved, IsNoted, IsRowLaid, AreHeads, IsSeamLaid, GoOn};
+ghost use Rattle.change_rows.specs.Kinds.{IsRoomy, HasRoom, AreBegun, AreMoved, IsKept, IsNoted, IsRowLaid, AreHeads, IsSeamLaid, GoOn};
+ghost use Rattle.change_rows.specs.Edited.{IsEdited};
+ghost use Rattle.change_rows.specs.Drafts.{IsPushed};
+ghost use Rattle.change_rows.specs.Sourced.{IsSorted, AreNotes, IsMember, IsFurther, CanPut, IsStill, CanLay, IsNext, TellsOther, TellsMoved, IsOneLaid, IsLaidTo, IsLaidFrom, IsHeadKept, StaysNoted, IsNotedAs};
 
 use crate::cells::Cells;
 use crate::changes::{Changes, lay};
@@ -42,11 +45,7 @@ fn head_of<S: Source>(n: &mut Notes, source: &S, c: u32) -> u64
     requires heads { c < length n.old.heads.items }
     requires known { is_in n.old.known.items c ≡ true → slice_index_or n.old.heads.items c 0 ≡ slice_index_or (S.words source.now c) 0 0 }
     ensures head { result ≡ slice_index_or (S.words source.now c) 0 0 }
-    ensures kept { slice_index_or n.new.heads.items c 0 ≡ slice_index_or (S.words source.now c) 0 0 }
-    ensures others { (d : ℕ) → (d ≡ c → ⊥) → (is_in n.new.known.items d ≡ is_in n.old.known.items d) × (slice_index_or n.new.heads.items d 0 ≡ slice_index_or n.old.heads.items d 0) }
-    ensures apart { n.new.apart.items ≡ n.old.apart.items }
-    ensures other { n.new.other.items ≡ n.old.other.items }
-    ensures room { (width : ℕ) → HasRoom width n.old → HasRoom width n.new }
+    ensures kept { IsHeadKept c (S.words source.now c) n.old n.new }
 {
     if !is_member(&n.known, c) {
         n.heads[c as usize] = source.first(c);
@@ -68,20 +67,14 @@ fn ask_one<S: Source>(
     source: &S,
     row: &mut Cells,
 ) -> Result<bool, AllocError>
-    requires row { s.now.at < length s.now.rows.items }
-    requires component { c < s.now.width }
-    requires begun { AreBegun s.now.rows.items s.now.seam s.now.at s.now.width k.now }
-    requires has { S.has source.now c }
-    requires still { S.words source.now c ≡ standing_before (begins_at s.now.rows.items s.now.seam s.now.at c) s.now.at }
-    requires room { HasRoom s.now.width n.old }
-    requires noted { IsNoted s.now.rows.items s.now.seam s.now.at s.now.width n.old }
+    requires sorted { IsSorted s.now k.now }
+    requires still { IsStill s.now c (S.has source.now) (S.words source.now) }
+    requires notes { AreNotes s.now n.old }
     ensures row { row.new ≡ row.old }
-    ensures room { HasRoom s.now.width n.new }
-    ensures noted { IsNoted s.now.rows.items s.now.seam s.now.at s.now.width n.new }
-    ensures told { n.new.other.items ≡ n.old.other.items }
+    ensures notes { AreNotes s.now n.new }
+    ensures others { n.new.other.items ≡ n.old.other.items }
     ensures apart { n.new.apart.items ≡ n.old.apart.items }
-    ensures other { IfOk result (λ other. other ≡ true → standing (begins_at s.now.rows.items s.now.seam s.now.at c) s.now.at ≡ S.words source.now c → ⊥) }
-    ensures same { IfOk result (λ other. other ≡ false → standing (begins_at s.now.rows.items s.now.seam s.now.at c) s.now.at ≡ S.words source.now c) }
+    ensures told { IfOk result (TellsOther s.now c (S.words source.now c)) }
 {
     match begun_at(s, k, c) {
         Some(stood) => {
@@ -107,15 +100,12 @@ fn ask_all<S: Source>(
     source: &S,
     row: &mut Cells,
 ) -> Result<(), AllocError>
-    requires row { s.now.at < length s.now.rows.items }
-    requires begun { AreBegun s.now.rows.items s.now.seam s.now.at s.now.width k.now }
+    requires sorted { IsSorted s.now k.now }
     requires has { (c : ℕ) → c < s.now.width → is_in asked.now c ≡ true → S.has source.now c }
     requires still { (c : ℕ) → c < s.now.width → is_in asked.now c ≡ true → S.words source.now c ≡ standing_before (begins_at s.now.rows.items s.now.seam s.now.at c) s.now.at }
-    requires room { HasRoom s.now.width n.old }
-    requires noted { IsNoted s.now.rows.items s.now.seam s.now.at s.now.width n.old }
+    requires notes { AreNotes s.now n.old }
     ensures row { row.new ≡ row.old }
-    ensures room { HasRoom s.now.width n.new }
-    ensures noted { IsNoted s.now.rows.items s.now.seam s.now.at s.now.width n.new }
+    ensures notes { AreNotes s.now n.new }
     ensures told { OnOk result (IsTold s.now.rows.items s.now.seam s.now.at s.now.at asked.now (S.words source.now) s.now.width n.new.other.items) }
 {
     wipe(&mut n.other);
@@ -141,21 +131,14 @@ fn lay_moved<S: Source>(
     row: &mut Cells,
     heads: &mut Vec<u64>,
 ) -> Result<bool, AllocError>
-    requires changes { IsChanges s.now.width s.now.rows.items s.now.marks.items s.now.seam s.now.at }
-    requires row { s.now.at < length s.now.rows.items }
-    requires component { c < s.now.width }
-    requires begun { AreBegun s.now.rows.items s.now.seam s.now.at s.now.width k.now }
+    requires sorted { IsSorted s.now k.now }
+    requires next { IsNext s.now.width c row.old heads.old.items }
     requires has { S.has source.now c }
-    requires ascending { end_of row.old ≤ c }
-    requires room { c < length heads.old.items }
-    ensures kept { OnOk result (unwrap_or (found row.new c) (standing_before (begins_at s.now.rows.items s.now.seam s.now.at c) s.now.at) ≡ S.words source.now c) }
-    ensures others { OnOk result ((d : ℕ) → (d ≡ c → ⊥) → found row.new d ≡ found row.old d) }
-    ensures end { OnOk result (end_of row.new ≤ c + 1) }
+    ensures pushed { OnOk result (IsPushed c (S.words source.now c) (standing_before (begins_at s.now.rows.items s.now.seam s.now.at c) s.now.at) row.old row.new) }
     ensures len { length heads.new.items ≡ length heads.old.items }
     ensures head { OnOk result (slice_index_or heads.new.items c 0 ≡ slice_index_or (S.words source.now c) 0 0) }
     ensures heads { (d : ℕ) → (d ≡ c → ⊥) → slice_index_or heads.new.items d 0 ≡ slice_index_or heads.old.items d 0 }
-    ensures other { IfOk result (λ other. other ≡ true → standing (begins_at s.now.rows.items s.now.seam s.now.at c) s.now.at ≡ S.words source.now c → ⊥) }
-    ensures same { IfOk result (λ other. other ≡ false → standing (begins_at s.now.rows.items s.now.seam s.now.at c) s.now.at ≡ S.words source.now c) }
+    ensures told { IfOk result (TellsOther s.now c (S.words source.now c)) }
 {
     match begun_at(s, k, c) {
         Some(stood) => {
@@ -182,9 +165,8 @@ fn lay_moved<S: Source>(
 ///
 /// Where a growth was refused.
 fn lay_begun(s: &Changes, k: &Kinds, c: u32, row: &mut Cells) -> Result<(), AllocError>
-    requires row { s.now.at < length s.now.rows.items }
+    requires sorted { IsSorted s.now k.now }
     requires component { c < s.now.width }
-    requires begun { AreBegun s.now.rows.items s.now.seam s.now.at s.now.width k.now }
     requires ascending { end_of row.old ≤ c }
     ensures begun { OnOk result (found row.new c ≡ begins_at s.now.rows.items s.now.seam s.now.at c s.now.at) }
     ensures others { OnOk result ((d : ℕ) → (d ≡ c → ⊥) → found row.new d ≡ found row.old d) }
@@ -213,22 +195,14 @@ fn lay_one<S: Source>(
     row: &mut Cells,
     heads: &mut Vec<u64>,
 ) -> Result<bool, AllocError>
-    requires changes { IsChanges s.now.width s.now.rows.items s.now.marks.items s.now.seam s.now.at }
-    requires row { s.now.at < length s.now.rows.items }
-    requires component { c < s.now.width }
-    requires begun { AreBegun s.now.rows.items s.now.seam s.now.at s.now.width k.now }
+    requires sorted { IsSorted s.now k.now }
+    requires next { IsNext s.now.width c row.old heads.old.items }
     requires has { is_in k.now.moved.items c ≡ true → S.has source.now c }
-    requires ascending { end_of row.old ≤ c }
-    requires room { c < length heads.old.items }
-    ensures kept { OnOk result (is_in k.now.moved.items c ≡ true → unwrap_or (found row.new c) (standing_before (begins_at s.now.rows.items s.now.seam s.now.at c) s.now.at) ≡ S.words source.now c) }
-    ensures begun { OnOk result (is_in k.now.moved.items c ≡ false → found row.new c ≡ begins_at s.now.rows.items s.now.seam s.now.at c s.now.at) }
-    ensures others { OnOk result ((d : ℕ) → (d ≡ c → ⊥) → found row.new d ≡ found row.old d) }
-    ensures end { OnOk result (end_of row.new ≤ c + 1) }
+    ensures laid { OnOk result (IsOneLaid s.now k.now.moved.items c (S.words source.now c) row.old row.new) }
     ensures len { length heads.new.items ≡ length heads.old.items }
     ensures head { OnOk result (is_in k.now.moved.items c ≡ true → slice_index_or heads.new.items c 0 ≡ slice_index_or (S.words source.now c) 0 0) }
     ensures heads { (d : ℕ) → (d ≡ c → is_in k.now.moved.items c ≡ true → ⊥) → slice_index_or heads.new.items d 0 ≡ slice_index_or heads.old.items d 0 }
-    ensures other { IfOk result (λ other. other ≡ true → (is_in k.now.moved.items c ≡ true) × (standing (begins_at s.now.rows.items s.now.seam s.now.at c) s.now.at ≡ S.words source.now c → ⊥)) }
-    ensures same { IfOk result (λ other. other ≡ false → is_in k.now.moved.items c ≡ true → standing (begins_at s.now.rows.items s.now.seam s.now.at c) s.now.at ≡ S.words source.now c) }
+    ensures told { IfOk result (TellsMoved s.now k.now.moved.items c (S.words source.now c)) }
 {
     if is_member(&k.moved, c) {
         return lay_moved(s, k, c, source, row, heads);
@@ -252,25 +226,14 @@ fn lay_next<S: Source>(
     source: &S,
     row: &mut Cells,
 ) -> Result<u32, AllocError>
-    requires changes { IsChanges s.now.width s.now.rows.items s.now.marks.items s.now.seam s.now.at }
-    requires row { s.now.at < length s.now.rows.items }
-    requires begun { AreBegun s.now.rows.items s.now.seam s.now.at s.now.width k.now }
-    requires among { (d : ℕ) → d < s.now.width → is_in k.now.moved.items d ≡ true → is_in laid.now d ≡ true }
-    requires has { (d : ℕ) → d < s.now.width → is_in k.now.moved.items d ≡ true → S.has source.now d }
+    requires can { CanLay s.now k.now laid.now (S.has source.now) }
     requires room { HasRoom s.now.width n.old }
-    requires component { c < s.now.width }
-    requires member { is_in laid.now c ≡ true }
-    requires laid { IsRowLaid s.now.rows.items s.now.seam s.now.at k.now.moved.items laid.now (S.words source.now) c row.old }
-    requires told { IsTold s.now.rows.items s.now.seam s.now.at s.now.at k.now.moved.items (S.words source.now) c n.old.other.items }
-    ensures room { HasRoom s.now.width n.new }
-    ensures apart { n.new.apart.items ≡ n.old.apart.items }
-    ensures known { n.new.known.items ≡ n.old.known.items }
-    ensures further { IfOk result (λ next. c < next) }
-    ensures within { IfOk result (λ next. next ≤ s.now.width) }
-    ensures laid { IfOk result (λ next. IsRowLaid s.now.rows.items s.now.seam s.now.at k.now.moved.items laid.now (S.words source.now) next row.new) }
+    requires member { IsMember s.now.width laid.now c }
+    requires laid { IsLaidTo s.now k.now.moved.items laid.now (S.words source.now) c row.old n.old.other.items }
+    ensures stays { StaysNoted s.now.width k.now.moved.items n.old n.new }
+    ensures further { IfOk result (IsFurther s.now.width c) }
+    ensures laid { IfOk result (λ next. IsLaidTo s.now k.now.moved.items laid.now (S.words source.now) next row.new n.new.other.items) }
     ensures heads { IfOk result (λ next. (heads : List ℕ) → AreHeads k.now.moved.items (S.words source.now) c heads n.old.heads.items → AreHeads k.now.moved.items (S.words source.now) next heads n.new.heads.items) }
-    ensures others { (d : ℕ) → is_in k.now.moved.items d ≡ false → slice_index_or n.new.heads.items d 0 ≡ slice_index_or n.old.heads.items d 0 }
-    ensures told { IfOk result (λ next. IsTold s.now.rows.items s.now.seam s.now.at s.now.at k.now.moved.items (S.words source.now) next n.new.other.items) }
 {
     let width = s.width;
     if !is_member(&k.moved, c) {
@@ -299,19 +262,11 @@ fn lay_all<S: Source>(
     source: &S,
     row: &mut Cells,
 ) -> Result<(), AllocError>
-    requires changes { IsChanges s.now.width s.now.rows.items s.now.marks.items s.now.seam s.now.at }
-    requires row { s.now.at < length s.now.rows.items }
-    requires begun { AreBegun s.now.rows.items s.now.seam s.now.at s.now.width k.now }
-    requires among { (c : ℕ) → c < s.now.width → is_in k.now.moved.items c ≡ true → is_in laid.now c ≡ true }
-    requires has { (c : ℕ) → c < s.now.width → is_in k.now.moved.items c ≡ true → S.has source.now c }
+    requires can { CanLay s.now k.now laid.now (S.has source.now) }
     requires room { HasRoom s.now.width n.old }
-    ensures room { HasRoom s.now.width n.new }
-    ensures apart { n.new.apart.items ≡ n.old.apart.items }
-    ensures known { n.new.known.items ≡ n.old.known.items }
-    ensures laid { OnOk result (IsRowLaid s.now.rows.items s.now.seam s.now.at k.now.moved.items laid.now (S.words source.now) s.now.width row.new) }
+    ensures stays { StaysNoted s.now.width k.now.moved.items n.old n.new }
+    ensures laid { OnOk result (IsLaidTo s.now k.now.moved.items laid.now (S.words source.now) s.now.width row.new n.new.other.items) }
     ensures heads { OnOk result (AreHeads k.now.moved.items (S.words source.now) s.now.width n.old.heads.items n.new.heads.items) }
-    ensures others { (c : ℕ) → is_in k.now.moved.items c ≡ false → slice_index_or n.new.heads.items c 0 ≡ slice_index_or n.old.heads.items c 0 }
-    ensures told { OnOk result (IsTold s.now.rows.items s.now.seam s.now.at s.now.at k.now.moved.items (S.words source.now) s.now.width n.new.other.items) }
 {
     row.clear();
     wipe(&mut n.other);
@@ -325,10 +280,8 @@ fn lay_all<S: Source>(
 
 /// What a component holds at the row.
 fn stood_at<'a>(s: &'a Changes, k: &Kinds, c: u32) -> &'a [u64]
-    requires changes { IsChanges s.now.width s.now.rows.items s.now.marks.items s.now.seam s.now.at }
-    requires row { s.now.at < length s.now.rows.items }
+    requires sorted { IsSorted s.now k.now }
     requires component { c < s.now.width }
-    requires begun { AreBegun s.now.rows.items s.now.seam s.now.at s.now.width k.now }
     ensures { result.now ≡ standing (begins_at s.now.rows.items s.now.seam s.now.at c) s.now.at }
 {
     match begun_at(s, k, c) {
@@ -349,9 +302,7 @@ fn are_same<S: Source>(
     source: &S,
     row: &mut Cells,
 ) -> Result<bool, AllocError>
-    requires changes { IsChanges s.now.width s.now.rows.items s.now.marks.items s.now.seam s.now.at }
-    requires row { s.now.at < length s.now.rows.items }
-    requires begun { AreBegun s.now.rows.items s.now.seam s.now.at s.now.width k.now }
+    requires sorted { IsSorted s.now k.now }
     requires has { (c : ℕ) → c < s.now.width → is_in moved.now c ≡ true → S.has source.now c }
     ensures same { IfOk result (λ same. same ≡ true → (c : ℕ) → c < s.now.width → is_in moved.now c ≡ true → standing (begins_at s.now.rows.items s.now.seam s.now.at c) s.now.at ≡ S.words source.now c) }
     ensures other { IfOk result (λ same. same ≡ false → ((c : ℕ) → c < s.now.width → is_in moved.now c ≡ true → standing (begins_at s.now.rows.items s.now.seam s.now.at c) s.now.at ≡ S.words source.now c) → ⊥) }
@@ -395,14 +346,10 @@ fn keep_next(
     c: u32,
     seam: &mut Cells,
 ) -> Result<u32, AllocError>
-    requires changes { IsChanges s.now.width s.now.rows.items s.now.marks.items s.now.seam s.now.at }
-    requires row { s.now.at < length s.now.rows.items }
-    requires begun { AreBegun s.now.rows.items s.now.seam s.now.at s.now.width k.now }
-    requires component { c < s.now.width }
-    requires member { is_in kept.now c ≡ true }
+    requires sorted { IsSorted s.now k.now }
+    requires member { IsMember s.now.width kept.now c }
     requires laid { IsSeamLaid s.now.rows.items s.now.seam s.now.at kept.now c seam.old }
-    ensures further { IfOk result (λ next. c < next) }
-    ensures within { IfOk result (λ next. next ≤ s.now.width) }
+    ensures further { IfOk result (IsFurther s.now.width c) }
     ensures laid { IfOk result (λ next. IsSeamLaid s.now.rows.items s.now.seam s.now.at kept.now next seam.new) }
 {
     let end = same_to(kept, &k.under, &k.own, c, s.width);
@@ -421,9 +368,7 @@ fn keep_next(
 ///
 /// Where a growth was refused.
 fn keep_all(s: &Changes, k: &Kinds, kept: &[u64], seam: &mut Cells) -> Result<(), AllocError>
-    requires changes { IsChanges s.now.width s.now.rows.items s.now.marks.items s.now.seam s.now.at }
-    requires row { s.now.at < length s.now.rows.items }
-    requires begun { AreBegun s.now.rows.items s.now.seam s.now.at s.now.width k.now }
+    requires sorted { IsSorted s.now k.now }
     ensures { OnOk result (IsSeamLaid s.now.rows.items s.now.seam s.now.at kept.now s.now.width seam.new) }
 {
     seam.clear();
@@ -475,15 +420,11 @@ fn keep_noted(
     changed: &[u64],
     seam: &mut Cells,
 ) -> Result<(), AllocError>
-    requires changes { IsChanges s.now.width s.now.rows.items s.now.marks.items s.now.seam s.now.at }
-    requires row { s.now.at < length s.now.rows.items }
-    requires begun { AreBegun s.now.rows.items s.now.seam s.now.at s.now.width k.now }
+    requires sorted { IsSorted s.now k.now }
     requires within { (c : ℕ) → is_in changed.now c ≡ true → c < s.now.width }
     requires room { HasRoom s.now.width n.old }
     ensures room { HasRoom s.now.width n.new }
-    ensures apart { n.new.apart.items ≡ n.old.apart.items }
-    ensures known { n.new.known.items ≡ n.old.known.items }
-    ensures heads { n.new.heads.items ≡ n.old.heads.items }
+    ensures noted { IsNotedAs n.old n.new }
     ensures kept { GoOn s.now.rows.items s.now.at s.now.width changed.now n.new.kept.items }
     ensures laid { OnOk result (IsSeamLaid s.now.rows.items s.now.seam s.now.at n.new.kept.items s.now.width seam.new) }
 {
@@ -508,23 +449,14 @@ fn lay_from<S: Source>(
     seam: &mut Cells,
     changed: &mut [u64],
 ) -> Result<bool, AllocError>
-    requires changes { IsChanges s.now.width s.now.rows.items s.now.marks.items s.now.seam s.now.at }
-    requires row { s.now.at < length s.now.rows.items }
+    requires kept { IsKept s.now.width s.now.rows.items s.now.marks.items s.now.seam s.now.at k.old n.old }
+    requires can { CanPut s.now s.now.at set.now (S.has source.now) (S.still source.now) (S.words source.now) }
     requires changed { length changed.old ≡ length set.now }
-    requires has { (c : ℕ) → c < s.now.width → is_in set.now c ≡ true → S.has source.now c }
-    requires still { (c : ℕ) → c < s.now.width → is_in set.now c ≡ true → S.still source.now c ≡ true → S.words source.now c ≡ standing_before (begins_at s.now.rows.items s.now.seam s.now.at c) s.now.at }
-    requires room { IsRoomy s.now.width k.old }
-    requires notes { HasRoom s.now.width n.old }
-    requires noted { IsNoted s.now.rows.items s.now.seam s.now.at s.now.width n.old }
-    ensures room { IsRoomy s.now.width k.new }
-    ensures notes { HasRoom s.now.width n.new }
-    ensures noted { IsNoted s.now.rows.items s.now.seam s.now.at s.now.width n.new }
-    ensures over { IfOk result (λ laid. laid ≡ true → IsOver s.now.rows.items s.now.seam s.now.at s.now.at s.now.width set.now (S.words source.now) row.new seam.new) }
+    ensures kept { IsKept s.now.width s.now.rows.items s.now.marks.items s.now.seam s.now.at k.new n.new }
+    ensures laid { IfOk result (λ laid. laid ≡ true → IsLaidFrom s.now set.now (S.words source.now) k.new.moved.items changed.new row.new seam.new n.new) }
     ensures told { OnOk result (IsTold s.now.rows.items s.now.seam s.now.at s.now.at set.now (S.words source.now) s.now.width changed.new) }
     ensures none { IfOk result (λ laid. laid ≡ false → (c : ℕ) → is_in changed.new c ≡ false) }
     ensures moved { OnOk result (AreMoved (S.still source.now) s.now.width set.now k.new.moved.items) }
-    ensures heads { IfOk result (λ laid. laid ≡ true → (c : ℕ) → c < s.now.width → is_in k.new.moved.items c ≡ true → slice_index_or n.new.heads.items c 0 ≡ slice_index_or (S.words source.now c) 0 0) }
-    ensures kept { IfOk result (λ laid. laid ≡ true → GoOn s.now.rows.items s.now.at s.now.width changed.new n.new.kept.items) }
 {
     sort(s, k, set, source);
     tell_apart(k, n, changed);
@@ -553,15 +485,11 @@ fn bring_seam(
 ) -> Result<(), AllocError>
     requires changes { IsChanges s.old.width s.old.rows.items s.old.marks.items s.old.seam s.old.at }
     requires row { t < length s.old.rows.items }
-    requires notes { HasRoom s.old.width n.old }
-    requires noted { IsNoted s.old.rows.items s.old.seam s.old.at s.old.width n.old }
-    ensures changes { IsChanges s.new.width s.new.rows.items s.new.marks.items s.new.seam s.new.at }
-    ensures width { s.new.width ≡ s.old.width }
-    ensures len { length s.new.rows.items ≡ length s.old.rows.items }
+    requires notes { AreNotes s.old n.old }
+    ensures edited { IsEdited s.old s.new }
     ensures same { (c u : ℕ) → begins_at s.new.rows.items s.new.seam s.new.at c u ≡ begins_at s.old.rows.items s.old.seam s.old.at c u }
     ensures here { OnOk result (s.new.at ≡ t) }
-    ensures notes { HasRoom s.new.width n.new }
-    ensures noted { IsNoted s.new.rows.items s.new.seam s.new.at s.new.width n.new }
+    ensures notes { AreNotes s.new n.new }
 {
     if s.at == t {
         return Ok(());
@@ -600,20 +528,11 @@ pub(crate) fn put_from<S: Source>(
     source: &S,
     changed: &mut [u64],
 ) -> Result<(), AllocError>
-    requires changes { IsChanges s.old.width s.old.rows.items s.old.marks.items s.old.seam s.old.at }
-    requires row { t < length s.old.rows.items }
+    requires kept { IsKept s.old.width s.old.rows.items s.old.marks.items s.old.seam s.old.at k.old n.old }
+    requires can { CanPut s.old t set.now (S.has source.now) (S.still source.now) (S.words source.now) }
     requires changed { length changed.old ≡ length set.now }
-    requires has { (c : ℕ) → c < s.old.width → is_in set.now c ≡ true → S.has source.now c }
-    requires still { (c : ℕ) → c < s.old.width → is_in set.now c ≡ true → S.still source.now c ≡ true → S.words source.now c ≡ standing_before (begins_at s.old.rows.items s.old.seam s.old.at c) t }
-    requires room { IsRoomy s.old.width k.old }
-    requires notes { HasRoom s.old.width n.old }
-    requires noted { IsNoted s.old.rows.items s.old.seam s.old.at s.old.width n.old }
-    ensures changes { IsChanges s.new.width s.new.rows.items s.new.marks.items s.new.seam s.new.at }
-    ensures width { s.new.width ≡ s.old.width }
-    ensures len { length s.new.rows.items ≡ length s.old.rows.items }
-    ensures room { IsRoomy s.old.width k.new }
-    ensures notes { HasRoom s.old.width n.new }
-    ensures noted { IsNoted s.new.rows.items s.new.seam s.new.at s.new.width n.new }
+    ensures edited { IsEdited s.old s.new }
+    ensures kept { IsKept s.new.width s.new.rows.items s.new.marks.items s.new.seam s.new.at k.new n.new }
     ensures put { OnOk result ((c u : ℕ) → c < s.old.width → u < length s.old.rows.items → standing (begins_at s.new.rows.items s.new.seam s.new.at c) u ≡ cond (nat_eq u t && is_in set.now c) (S.words source.now c) (standing (begins_at s.old.rows.items s.old.seam s.old.at c) u)) }
     ensures told { OnOk result (IsTold s.old.rows.items s.old.seam s.old.at t set.now (S.words source.now) s.old.width changed.new) }
     ensures err { OnErr result ((c u : ℕ) → begins_at s.new.rows.items s.new.seam s.new.at c u ≡ begins_at s.old.rows.items s.old.seam s.old.at c u) }

@@ -15,12 +15,12 @@ loop-c-preserved g c =
     let next = c.next_in-c-in-loop-c.result in
     let n = c.next_in-c-in-loop-c.ensures in
     let e = c.in_ok-next.ensures in
-    let o = c.lay_next.ensures in
-    let none : (d : ℕ) → from ≤ d → d < next → is_in moved d ≡ false = none_among moved laid from next s.width n.to c.requires.among n.passed in
+    let o = c.lay_next.ensures.stays in
+    let none : (d : ℕ) → from ≤ d → d < next → is_in moved d ≡ false = none_among moved laid from next s.width n.to c.requires.can.among n.passed in
     record {
-      laid = row_on s.rows.items s.seam s.at moved laid words from next c.lay_next.new.row e.laid n.from n.passed;
+      laid = row_on s.rows.items s.seam s.at moved laid words from next c.lay_next.new.row e.laid.row n.from n.passed;
       heads = heads_on moved words c.args.n.now.heads.items from next c.lay_next.new.n.heads.items (e.heads c.args.n.now.heads.items i.heads) none;
-      told = told_on s.rows.items s.seam s.at s.at moved words from next c.lay_next.new.n.other.items e.told n.from none;
+      told = told_on s.rows.items s.seam s.at s.at moved words from next c.lay_next.new.n.other.items e.laid.told n.from none;
       room = o.room;
       apart = o.apart ∙ i.apart;
       known = o.known ∙ i.known;
