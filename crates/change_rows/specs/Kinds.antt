@@ -4,6 +4,7 @@ use Rattle.change_rows.specs.Cells.{Held, found, end_of}
 use Rattle.change_rows.specs.Marks.{is_in}
 use Rattle.change_rows.specs.Standing.{standing, standing_before}
 use Rattle.change_rows.specs.Changes.{row_at, begins_at, IsChanges}
+use Rattle.change_rows.specs.declared.changes.Changes.{Changes}
 use Rattle.change_rows.specs.declared.kinds.Kinds.{Kinds}
 use Rattle.change_rows.specs.declared.notes.Notes.{Notes}
 
@@ -26,6 +27,12 @@ pub record HasRoom (width : ℕ) (n : Notes) : Type 0 where
 pub record AreBegun (rows : List (List Held)) (seam : List Held) (t width : ℕ) (k : Kinds) : Type 0 where
   pub own : (c : ℕ) → c < width → is_in k.own.items c ≡ is_some (found (row_at rows t) c)
   pub under : (c : ℕ) → c < width → is_in k.under.items c ≡ is_some (found seam c)
+
+-- row `at` is one of the rows, and what begins there is sorted
+pub record IsSorted (s : Changes) (k : Kinds) : Type 0 where
+  pub changes : IsChanges s.width s.rows.items s.marks.items s.seam s.at
+  pub row : s.at < length s.rows.items
+  pub begun : AreBegun s.rows.items s.seam s.at s.width k
 
 -- of the components of a set those that may have moved; all others are still
 pub record AreMoved (rests : ℕ → Bool) (width : ℕ) (set moved : List ℕ) : Type 0 where

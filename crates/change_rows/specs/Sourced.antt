@@ -6,15 +6,9 @@ use Rattle.change_rows.specs.declared.notes.Notes.{Notes}
 use Rattle.change_rows.specs.Cells.{Held, found, end_of}
 use Rattle.change_rows.specs.Marks.{is_in}
 use Rattle.change_rows.specs.Standing.{standing, standing_before}
-use Rattle.change_rows.specs.Changes.{begins_at, IsChanges}
+use Rattle.change_rows.specs.Changes.{begins_at}
 use Rattle.change_rows.specs.Laid.{IsOver, IsTold}
-use Rattle.change_rows.specs.Kinds.{HasRoom, AreBegun, IsNoted, IsRowLaid, GoOn}
-
--- row `at` is one of the rows, and what begins there is sorted
-pub record IsSorted (s : Changes) (k : Kinds) : Type 0 where
-  pub changes : IsChanges s.width s.rows.items s.marks.items s.seam s.at
-  pub row : s.at < length s.rows.items
-  pub begun : AreBegun s.rows.items s.seam s.at s.width k
+use Rattle.change_rows.specs.Kinds.{HasRoom, IsSorted, IsNoted, IsRowLaid, GoOn}
 
 -- the notes have room for all components, and are true at row `at`
 pub record AreNotes (s : Changes) (n : Notes) : Type 0 where

@@ -1,5 +1,5 @@
 //! A row is put, step by step: all buffers are made before anything changes.
-ghost use Rattle.std.specs.Prelude.{◌≡◌, ℕ, ◌+◌, ◌*◌, ◌<◌, ◌≤◌, ◌↔◌, [], List, None, Some, true, false, cond, nat_eq, IsTrue, OnOk, OnErr, length, is_some, unwrap_or, slice_index_or};
+ghost use Rattle.std.specs.Prelude.{◌≡◌, ℕ, ◌+◌, ◌*◌, ◌<◌, ◌≤◌, ◌↔◌, [], None, true, false, cond, nat_eq, IsTrue, OnOk, OnErr, length, is_some, unwrap_or, slice_index_or};
 ghost use Rattle.std.specs.Option.{option_or};
 ghost use Rattle.change_rows.specs.Cells.{found, end_of, IsSplit};
 ghost use Rattle.change_rows.specs.Standing.{standing, standing_before};

@@ -3,7 +3,7 @@ ghost use Rattle.std.specs.Prelude.{◌≡◌, ℕ, ◌+◌, ◌<◌, ◌≤◌,
 ghost use Rattle.change_rows.specs.Cells.{found, end_of};
 ghost use Rattle.change_rows.specs.Marks.{is_in};
 ghost use Rattle.change_rows.specs.Standing.{standing, standing_before};
-ghost use Rattle.change_rows.specs.Changes.{begins_at, IsChanges};
+ghost use Rattle.change_rows.specs.Changes.{begins_at};
 ghost use Rattle.change_rows.specs.Edited.{IsEdited, IsBlankRow};
 ghost use Rattle.change_rows.specs.Kinds.{IsRoomy};
 

@@ -1,7 +1,6 @@
 //! Rows more, and fewer.
 ghost use Rattle.std.specs.Prelude.{◌≡◌, ℕ, ◌+◌, ◌*◌, ◌<◌, ◌≤◌, ◌^◌, ◌++◌, min, [], Some, OnOk, OnErr, length, take, replicate, vec_len, vec_capacity, slice_index_or};
 ghost use Rattle.change_rows.specs.Cells.{found, end_of};
-ghost use Rattle.change_rows.specs.Standing.{standing};
 ghost use Rattle.change_rows.specs.Changes.{begins_at, IsChanges};
 ghost use Rattle.change_rows.specs.Edited.{IsGrown};
 

@@ -4,7 +4,7 @@ ghost use Rattle.std.specs.Option.{option_copied};
 ghost use Rattle.change_rows.specs.Cells.{found, end_of};
 ghost use Rattle.change_rows.specs.Marks.{is_in};
 ghost use Rattle.change_rows.specs.Changes.{row_at, begins_at, IsChanges};
-ghost use Rattle.change_rows.specs.Kinds.{IsRoomy, AreBegun, AreMoved};
+ghost use Rattle.change_rows.specs.Kinds.{IsRoomy, AreBegun, IsSorted, AreMoved};
 
 use crate::cells::Cells;
 use crate::changes::{Changes, add_cells};
@@ -142,9 +142,8 @@ pub(crate) fn sort<S: Source>(s: &Changes, k: &mut Kinds, set: &[u64], source: &
 /// What begins at a cell of the row `at`.
 #[inline(always)]
 pub(crate) fn begun_at<'a>(s: &'a Changes, k: &Kinds, c: u32) -> Option<&'a [u64]>
-    requires row { s.now.at < length s.now.rows.items }
+    requires sorted { IsSorted s.now k.now }
     requires component { c < s.now.width }
-    requires begun { AreBegun s.now.rows.items s.now.seam s.now.at s.now.width k.now }
     ensures { option_copied result ≡ begins_at s.now.rows.items s.now.seam s.now.at c s.now.at }
 {
     if is_member(&k.own, c) {

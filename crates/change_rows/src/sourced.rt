@@ -2,16 +2,16 @@
 //!
 //! Of a cell that is still only what began there is looked at, and where it is known to hold other words nothing is. So a pass that
 //! puts row after row has work with the cells that move, and with those at which something began.
-ghost use Rattle.std.specs.Prelude.{◌≡◌, ℕ, ◌+◌, ◌*◌, ◌/◌, ◌<◌, ◌≤◌, true, false, cond, ◌&&◌, ◌||◌, not, nat_eq, List, OnOk, OnErr, IfOk, length, unwrap_or, slice_index_or};
+ghost use Rattle.std.specs.Prelude.{◌≡◌, ℕ, ◌+◌, ◌*◌, ◌/◌, ◌<◌, ◌≤◌, true, false, cond, ◌&&◌, ◌||◌, not, nat_eq, List, OnOk, OnErr, IfOk, length, slice_index_or};
 ghost use Rattle.change_rows.specs.Cells.{found, end_of};
 ghost use Rattle.change_rows.specs.Marks.{is_in};
 ghost use Rattle.change_rows.specs.Standing.{standing, standing_before};
 ghost use Rattle.change_rows.specs.Changes.{row_at, begins_at, IsChanges};
-ghost use Rattle.change_rows.specs.Laid.{IsOver, IsTold};
-ghost use Rattle.change_rows.specs.Kinds.{IsRoomy, HasRoom, AreBegun, AreMoved, IsKept, IsNoted, IsRowLaid, AreHeads, IsSeamLaid, GoOn};
+ghost use Rattle.change_rows.specs.Laid.{IsTold};
+ghost use Rattle.change_rows.specs.Kinds.{HasRoom, IsSorted, AreMoved, IsKept, AreHeads, IsSeamLaid, GoOn};
 ghost use Rattle.change_rows.specs.Edited.{IsEdited};
 ghost use Rattle.change_rows.specs.Drafts.{IsPushed};
-ghost use Rattle.change_rows.specs.Sourced.{IsSorted, AreNotes, IsMember, IsFurther, CanPut, IsStill, CanLay, IsNext, TellsOther, TellsMoved, IsOneLaid, IsLaidTo, IsLaidFrom, IsHeadKept, StaysNoted, IsNotedAs};
+ghost use Rattle.change_rows.specs.Sourced.{AreNotes, IsMember, IsFurther, CanPut, IsStill, CanLay, IsNext, TellsOther, TellsMoved, IsOneLaid, IsLaidTo, IsLaidFrom, IsHeadKept, StaysNoted, IsNotedAs};
 
 use crate::cells::Cells;
 use crate::changes::{Changes, lay};
