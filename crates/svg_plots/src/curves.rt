@@ -195,100 +195,69 @@ pub(crate) fn area_of(panel: &Panel<'_>, place: usize, count: usize) -> Area
 
 /// A number across, with a fine line up from it.
 #[tactic(auto, unfolding(crate::specs::CurvePanels::across_tick))]
-fn draw_across_tick(
-    alloc: Global,
-    picture: &mut Picture,
-    area: Area,
-    tick: Tick,
-) -> Result<(), AllocError>
+fn draw_across_tick(picture: &mut Picture, area: Area, tick: Tick) -> Result<(), AllocError>
     requires { IsInside area }
     ensures { OnOk result (picture.new ≡ picture.old ++ across_tick area tick) }
 {
     let x = area.x(tick.value);
-    let number = format!(in alloc; "{}", tick.number)?;
     picture.line(Spot { x, y: 860 }, Spot { x, y: 3_860 }, FINE)?;
-    picture.words(Spot { x, y: 4_030 }, plain(Anchor::Middle), number.as_str())
+    let number = u64::from(tick.number);
+    picture.number(Spot { x, y: 4_030 }, plain(Anchor::Middle), number)
 }
 
-fn draw_across_ticks(
-    alloc: Global,
-    picture: &mut Picture,
-    area: Area,
-    ticks: &[Tick],
-) -> Result<(), AllocError>
+fn draw_across_ticks(picture: &mut Picture, area: Area, ticks: &[Tick]) -> Result<(), AllocError>
     requires { IsInside area }
     ensures { OnOk result (picture.new ≡ picture.old ++ flat_map (across_tick area) ticks.now) }
 {
     for tick in ticks {
-        draw_across_tick(alloc, picture, area, *tick)?;
+        draw_across_tick(picture, area, *tick)?;
     }
     Ok(())
 }
 
 /// The numbers across, and what they are.
 #[tactic(auto, unfolding(crate::specs::CurvePanels::across_drawn))]
-fn draw_across(
-    alloc: Global,
-    picture: &mut Picture,
-    area: Area,
-    axis: &Axis<'_>,
-) -> Result<(), AllocError>
+fn draw_across(picture: &mut Picture, area: Area, axis: &Axis<'_>) -> Result<(), AllocError>
     requires { IsInside area }
     ensures { OnOk result (picture.new ≡ picture.old ++ across_drawn area axis.now) }
 {
-    draw_across_ticks(alloc, picture, area, axis.ticks)?;
+    draw_across_ticks(picture, area, axis.ticks)?;
     let x = (area.left + area.right) / 2;
     picture.words(Spot { x, y: 4_200 }, plain(Anchor::Middle), axis.title)
 }
 
 /// A number up, with a fine line across from it.
 #[tactic(auto, unfolding(crate::specs::CurvePanels::up_tick))]
-fn draw_up_tick(
-    alloc: Global,
-    picture: &mut Picture,
-    area: Area,
-    tick: Tick,
-) -> Result<(), AllocError>
+fn draw_up_tick(picture: &mut Picture, area: Area, tick: Tick) -> Result<(), AllocError>
     requires { IsInside area }
     ensures { OnOk result (picture.new ≡ picture.old ++ up_tick area tick) }
 {
     let y = area.y(tick.value);
-    let number = format!(in alloc; "{}", tick.number)?;
     picture.line(Spot { x: area.left, y }, Spot { x: area.right, y }, FINE)?;
     let at = Spot {
         x: area.left.saturating_sub(60),
         y: y + 40,
     };
-    picture.words(at, plain(Anchor::End), number.as_str())
+    picture.number(at, plain(Anchor::End), u64::from(tick.number))
 }
 
-fn draw_up_ticks(
-    alloc: Global,
-    picture: &mut Picture,
-    area: Area,
-    ticks: &[Tick],
-) -> Result<(), AllocError>
+fn draw_up_ticks(picture: &mut Picture, area: Area, ticks: &[Tick]) -> Result<(), AllocError>
     requires { IsInside area }
     ensures { OnOk result (picture.new ≡ picture.old ++ flat_map (up_tick area) ticks.now) }
 {
     for tick in ticks {
-        draw_up_tick(alloc, picture, area, *tick)?;
+        draw_up_tick(picture, area, *tick)?;
     }
     Ok(())
 }
 
 /// The numbers up, and what they are.
 #[tactic(auto, unfolding(crate::specs::CurvePanels::up_drawn))]
-fn draw_up(
-    alloc: Global,
-    picture: &mut Picture,
-    area: Area,
-    axis: &Axis<'_>,
-) -> Result<(), AllocError>
+fn draw_up(picture: &mut Picture, area: Area, axis: &Axis<'_>) -> Result<(), AllocError>
     requires { IsInside area }
     ensures { OnOk result (picture.new ≡ picture.old ++ up_drawn area axis.now) }
 {
-    draw_up_ticks(alloc, picture, area, axis.ticks)?;
+    draw_up_ticks(picture, area, axis.ticks)?;
     let x = area.left.saturating_sub(260);
     picture.words(Spot { x, y: 740 }, plain(Anchor::Start), axis.title)
 }
@@ -430,8 +399,8 @@ pub(crate) fn draw_panel(
         y: 3_860,
     };
     picture.words(Spot { x, y: 540 }, PANEL_TITLE, panel.title)?;
-    draw_across(alloc, picture, area, &panel.across)?;
-    draw_up(alloc, picture, area, &panel.up)?;
+    draw_across(picture, area, &panel.across)?;
+    draw_up(picture, area, &panel.up)?;
     picture.frame(from, to, FRAME)?;
     draw_each_curve(alloc, picture, area, panel.curves.as_slice())
 }

@@ -63,11 +63,11 @@ impl fmt::Display for Anchor {
 
     #[tactic(auto, unfolding(crate::specs::Texts::anchor_text))]
     fn fmt<W: fmt::Write>(&self, f: &mut fmt::Formatter<W>) -> fmt::Result {
-        match self {
-            Anchor::Start => write!(f, "start"),
-            Anchor::Middle => write!(f, "middle"),
-            Anchor::End => write!(f, "end"),
-        }
+        f.write_str(match self {
+            Anchor::Start => "start",
+            Anchor::Middle => "middle",
+            Anchor::End => "end",
+        })
     }
 }
 
@@ -127,15 +127,15 @@ impl fmt::Display for Mark {
 
     #[tactic(auto, unfolding(crate::specs::Texts::mark_text))]
     fn fmt<W: fmt::Write>(&self, f: &mut fmt::Formatter<W>) -> fmt::Result {
-        match self {
-            Mark::Circle => write!(f, "m-3.5 0a3.5 3.5 0 1 0 7 0a3.5 3.5 0 1 0 -7 0z"),
-            Mark::Square => write!(f, "m-3 -3h6v6h-6z"),
-            Mark::Diamond => write!(f, "m0 -4.5l4 4.5l-4 4.5l-4 -4.5z"),
-            Mark::Up => write!(f, "m0 -4l4 7h-8z"),
-            Mark::Down => write!(f, "m0 4l4 -7h-8z"),
-            Mark::Cross => write!(f, "m-3.5 -3.5l7 7m0 -7l-7 7"),
-            Mark::Plus => write!(f, "m-4 0h8m-4 -4v8"),
-        }
+        f.write_str(match self {
+            Mark::Circle => "m-3.5 0a3.5 3.5 0 1 0 7 0a3.5 3.5 0 1 0 -7 0z",
+            Mark::Square => "m-3 -3h6v6h-6z",
+            Mark::Diamond => "m0 -4.5l4 4.5l-4 4.5l-4 -4.5z",
+            Mark::Up => "m0 -4l4 7h-8z",
+            Mark::Down => "m0 4l4 -7h-8z",
+            Mark::Cross => "m-3.5 -3.5l7 7m0 -7l-7 7",
+            Mark::Plus => "m-4 0h8m-4 -4v8",
+        })
     }
 }
 

@@ -1,5 +1,5 @@
 //! Rows of cells over a line of time.
-ghost use Rattle.std.specs.Prelude.{◌≡◌, ◌<◌, ◌≤◌, ◌+◌, ◌-◌, ◌*◌, ◌/◌, ◌^◌, ◌++◌, IfOk, OnOk, max, min, sum_by, string_bytes};
+ghost use Rattle.std.specs.Prelude.{◌≡◌, ◌<◌, ◌≤◌, ◌+◌, ◌-◌, ◌*◌, ◌/◌, ◌^◌, ◌++◌, IfOk, OnOk, max, min, decimal, sum_by, string_bytes};
 ghost use Rattle.std.specs.List.{flat_map};
 ghost use Rattle.svg_plots.specs.Places.{place_of};
 ghost use Rattle.svg_plots.specs.Lists.{each, each_from, few_of};
@@ -534,33 +534,27 @@ fn draw_levels(
     if map.highest == 0 {
         return Ok(());
     }
-    let spots = level_spots(alloc, map, layout, map.levels.as_slice())?;
-    let highest = format!(in alloc; "{}", map.highest)?;
     let y = layout.cells.saturating_sub(160);
     picture.line(Spot { x: 1_000, y }, Spot { x: 6_700, y }, GROUP)?;
+    let spots = level_spots(alloc, map, layout, map.levels.as_slice())?;
     picture.path(spots, LEVEL)?;
-    draw_level_words(picture, map, layout, highest.as_str())
+    draw_level_words(picture, map, layout)
 }
 
 /// What stands beside the stepped line.
-fn draw_level_words(
-    picture: &mut Picture,
-    map: &CellMap,
-    layout: Layout,
-    highest: &str,
-) -> Result<(), AllocError>
+fn draw_level_words(picture: &mut Picture, map: &CellMap, layout: Layout) -> Result<(), AllocError>
     requires { IsFit layout }
-    ensures { OnOk result (picture.new ≡ picture.old ++ level_words map.now layout highest.now) }
+    ensures { OnOk result (picture.new ≡ picture.old ++ level_words map.now layout (decimal map.now.highest)) }
 {
     let lowest = layout.cells.saturating_sub(160);
     let middle = (layout.levels + lowest) / 2 + 40;
-    picture.words(
+    picture.number(
         Spot {
             x: 920,
             y: layout.levels + 40,
         },
         plain(Anchor::End),
-        highest,
+        u64::from(map.highest),
     )?;
     picture.words(
         Spot {
@@ -672,55 +666,36 @@ fn draw_strokes(picture: &mut Picture, map: &CellMap, layout: Layout) -> Result<
 }
 
 #[tactic(auto, unfolding(crate::specs::CellMaps::tick_drawn))]
-fn draw_tick(
-    alloc: Global,
-    picture: &mut Picture,
-    layout: Layout,
-    tick: Tick,
-) -> Result<(), AllocError>
+fn draw_tick(picture: &mut Picture, layout: Layout, tick: Tick) -> Result<(), AllocError>
     requires { IsFit layout }
     ensures { OnOk result (picture.new ≡ picture.old ++ tick_drawn layout tick) }
 {
     let x = layout.x(tick.value as usize);
     let y = layout.below + 280;
-    let number = format!(in alloc; "{}", tick.number)?;
     picture.line(Spot { x, y }, Spot { x, y: y + 50 }, FRAME)?;
-    picture.words(
-        Spot { x, y: y + 180 },
-        plain(Anchor::Middle),
-        number.as_str(),
-    )
+    let number = u64::from(tick.number);
+    picture.number(Spot { x, y: y + 180 }, plain(Anchor::Middle), number)
 }
 
-fn draw_ticks(
-    alloc: Global,
-    picture: &mut Picture,
-    layout: Layout,
-    ticks: &[Tick],
-) -> Result<(), AllocError>
+fn draw_ticks(picture: &mut Picture, layout: Layout, ticks: &[Tick]) -> Result<(), AllocError>
     requires { IsFit layout }
     ensures { OnOk result (picture.new ≡ picture.old ++ flat_map (tick_drawn layout) ticks.now) }
 {
     for tick in ticks {
-        draw_tick(alloc, picture, layout, *tick)?;
+        draw_tick(picture, layout, *tick)?;
     }
     Ok(())
 }
 
 /// The numbers of the columns, under a line, and before them what they are.
 #[tactic(auto, unfolding(crate::specs::CellMaps::columns_drawn))]
-fn draw_columns(
-    alloc: Global,
-    picture: &mut Picture,
-    map: &CellMap,
-    layout: Layout,
-) -> Result<(), AllocError>
+fn draw_columns(picture: &mut Picture, map: &CellMap, layout: Layout) -> Result<(), AllocError>
     requires { IsFit layout }
     ensures { OnOk result (picture.new ≡ picture.old ++ columns_drawn map.now layout) }
 {
     let y = layout.below + 280;
     picture.line(Spot { x: 1_000, y }, Spot { x: 6_700, y }, FRAME)?;
-    draw_ticks(alloc, picture, layout, map.ticks.as_slice())?;
+    draw_ticks(picture, layout, map.ticks.as_slice())?;
     picture.words(Spot { x: 820, y: y + 180 }, plain(Anchor::End), map.across)
 }
 
@@ -796,7 +771,7 @@ fn draw_parts(
     draw_crossings(picture, layout, map.crossings.as_slice())?;
     draw_levels(alloc, picture, map, layout)?;
     draw_strokes(picture, map, layout)?;
-    draw_columns(alloc, picture, map, layout)?;
+    draw_columns(picture, map, layout)?;
     draw_keys(picture, map, layout, map.key.as_slice())?;
     draw_notes(picture, map.notes.as_slice(), notes_at(map, layout))
 }

@@ -1,7 +1,8 @@
 //! Drawings, and the documents that they are written as.
-ghost use Rattle.std.specs.Prelude.{◌≡◌, ◌++◌, ◌∷◌, [], IfOk, OnOk, string_bytes};
+ghost use Rattle.std.specs.Prelude.{◌≡◌, ◌++◌, ◌∷◌, [], IfOk, OnOk, decimal, string_bytes};
 ghost use Rattle.svg_plots.specs.Texts.{cell_text, frame_text, line_text, marked_text, opening_text, path_text, spots_text, words_text};
 ghost use Rattle.svg_plots.specs.Drawings.{drawing_text, element_text, elements_text};
+ghost use Rattle.svg_plots.specs.Timelines.{named};
 ghost use Rattle.svg_plots.specs.declared.element.Element.TheVariants.{Cell, Frame, Line, Marked, Path, Words};
 
 use crate::element::{Element, Label, Mark, Spot, Spots, Stroke, Writing};
@@ -174,6 +175,14 @@ impl Picture {
         }
     }
 
+    /// Adds an element; nothing is added where a growth was refused.
+    fn add(&mut self, element: Element) -> Result<(), AllocError>
+        ensures { OnOk result (self.new ≡ self.old ++ element ∷ []) }
+    {
+        self.elements.push(element)?;
+        Ok(())
+    }
+
     /// A straight line.
     ///
     /// # Errors
@@ -182,8 +191,7 @@ impl Picture {
     pub fn line(&mut self, from: Spot, to: Spot, stroke: Stroke) -> Result<(), AllocError>
         ensures { OnOk result (self.new ≡ self.old ++ Line from to stroke ∷ []) }
     {
-        self.elements.push(Element::Line { from, to, stroke })?;
-        Ok(())
+        self.add(Element::Line { from, to, stroke })
     }
 
     /// A filled rectangle, by its left upper corner and its size.
@@ -200,13 +208,12 @@ impl Picture {
     ) -> Result<(), AllocError>
         ensures { OnOk result (self.new ≡ self.old ++ Cell at width height fill ∷ []) }
     {
-        self.elements.push(Element::Cell {
+        self.add(Element::Cell {
             at,
             width,
             height,
             fill,
-        })?;
-        Ok(())
+        })
     }
 
     /// The outline of a rectangle, by its left upper and right lower corners.
@@ -217,8 +224,7 @@ impl Picture {
     pub fn frame(&mut self, from: Spot, to: Spot, stroke: Stroke) -> Result<(), AllocError>
         ensures { OnOk result (self.new ≡ self.old ++ Frame from to stroke ∷ []) }
     {
-        self.elements.push(Element::Frame { from, to, stroke })?;
-        Ok(())
+        self.add(Element::Frame { from, to, stroke })
     }
 
     /// A text.
@@ -230,8 +236,29 @@ impl Picture {
         ensures { OnOk result (self.new ≡ self.old ++ Words at how words.now ∷ []) }
     {
         let words = Label::new(self.alloc, words)?;
-        self.elements.push(Element::Words { at, how, words })?;
-        Ok(())
+        self.add(Element::Words { at, how, words })
+    }
+
+    /// A number.
+    pub(crate) fn number(&mut self, at: Spot, how: Writing, number: u64) -> Result<(), AllocError>
+        ensures { OnOk result (self.new ≡ self.old ++ Words at how (decimal number) ∷ []) }
+    {
+        let words = Label::from_string(format!(in self.alloc; "{number}")?);
+        self.add(Element::Words { at, how, words })
+    }
+
+    /// A name and a number.
+    pub(crate) fn named(
+        &mut self,
+        at: Spot,
+        how: Writing,
+        name: &str,
+        number: u32,
+    ) -> Result<(), AllocError>
+        ensures { OnOk result (self.new ≡ self.old ++ Words at how (named name.now number) ∷ []) }
+    {
+        let words = Label::from_string(format!(in self.alloc; "{name} {number}")?);
+        self.add(Element::Words { at, how, words })
     }
 
     /// A line through these places, which isn't written where there are fewer than two.
@@ -243,8 +270,7 @@ impl Picture {
         ensures { OnOk result (self.new ≡ self.old ++ Path spots.items stroke ∷ []) }
     {
         let spots = Spots::from_vec(spots);
-        self.elements.push(Element::Path { spots, stroke })?;
-        Ok(())
+        self.add(Element::Path { spots, stroke })
     }
 
     /// A mark with its middle at a place.
@@ -255,8 +281,7 @@ impl Picture {
     pub fn mark(&mut self, at: Spot, mark: Mark, colour: Colour) -> Result<(), AllocError>
         ensures { OnOk result (self.new ≡ self.old ++ Marked at mark colour ∷ []) }
     {
-        self.elements.push(Element::Marked { at, mark, colour })?;
-        Ok(())
+        self.add(Element::Marked { at, mark, colour })
     }
 
     /// The drawing as an SVG document: white, of so many pixels, with a title that readers of the screen are told.

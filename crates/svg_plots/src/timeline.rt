@@ -1,7 +1,7 @@
 //! Space-time diagrams: bars in lanes over columns of time, each with a numbered dot, and lines between dots.
 ghost use Rattle.std.specs.Prelude.{◌≡◌, ◌≤◌, ◌++◌, ◌∷◌, [], IfOk, OnOk, string_bytes};
 ghost use Rattle.std.specs.List.{flat_map};
-ghost use Rattle.svg_plots.specs.Timelines.{band_elements, bar_cell, bar_elements, column_x, dot_elements, ground_elements, is_in, join_elements, key_elements, lane_y, middle_y, named, note_elements, scale_elements, spot, stroke, tick_at, tick_elements, timeline_elements, timeline_height, timeline_text, writing};
+ghost use Rattle.svg_plots.specs.Timelines.{band_elements, bar_cell, bar_elements, column_x, dot_elements, ground_elements, is_in, join_elements, key_elements, lane_y, middle_y, note_elements, scale_elements, spot, stroke, tick_at, tick_elements, timeline_elements, timeline_height, timeline_text, writing};
 
 use crate::scale::tick_step;
 use crate::{Anchor, Colour, Mark, Picture, Scale, Spot, Stroke, Writing};
@@ -138,12 +138,7 @@ fn draw_cell(picture: &mut Picture, columns: Columns, bar: Bar) -> Result<(), Al
 }
 
 /// The dot of a bar and its number, where its column is drawn.
-fn draw_dot(
-    alloc: Global,
-    picture: &mut Picture,
-    columns: Columns,
-    bar: Bar,
-) -> Result<(), AllocError>
+fn draw_dot(picture: &mut Picture, columns: Columns, bar: Bar) -> Result<(), AllocError>
     ensures { OnOk result (picture.new ≡ picture.old ++ dot_elements columns bar) }
 {
     if !is_in(columns, bar.dot) {
@@ -151,33 +146,22 @@ fn draw_dot(
     }
     let x = column_x(columns, bar.dot);
     picture.mark(spot(x, middle_y(bar.lane)), Mark::Circle, Colour::Ink)?;
-    let number = format!(in alloc; "{}", bar.number)?;
     let at = spot(x + 45, lane_y(bar.lane) + 75);
-    picture.words(at, writing(Anchor::Start, 9, false), number.as_str())
+    picture.number(at, writing(Anchor::Start, 9, false), bar.number)
 }
 
-fn draw_bar(
-    alloc: Global,
-    picture: &mut Picture,
-    columns: Columns,
-    bar: Bar,
-) -> Result<(), AllocError>
+fn draw_bar(picture: &mut Picture, columns: Columns, bar: Bar) -> Result<(), AllocError>
     ensures { OnOk result (picture.new ≡ picture.old ++ bar_elements columns bar) }
 {
     draw_cell(picture, columns, bar)?;
-    draw_dot(alloc, picture, columns, bar)
+    draw_dot(picture, columns, bar)
 }
 
-fn draw_bars(
-    alloc: Global,
-    picture: &mut Picture,
-    columns: Columns,
-    bars: &[Bar],
-) -> Result<(), AllocError>
+fn draw_bars(picture: &mut Picture, columns: Columns, bars: &[Bar]) -> Result<(), AllocError>
     ensures { OnOk result (picture.new ≡ picture.old ++ flat_map (bar_elements columns) bars.now) }
 {
     for bar in bars {
-        draw_bar(alloc, picture, columns, *bar)?;
+        draw_bar(picture, columns, *bar)?;
     }
     Ok(())
 }
@@ -204,33 +188,20 @@ fn draw_joins(picture: &mut Picture, columns: Columns, joins: &[Join]) -> Result
     Ok(())
 }
 
-/// A name and a number.
-fn named(alloc: Global, name: &str, number: u32) -> Result<String, AllocError>
-    ensures { IfOk result (λ text. string_bytes text ≡ named name.now number) }
-{
-    format!(in alloc; "{name} {number}")
-}
-
-fn draw_band(alloc: Global, picture: &mut Picture, name: &str, band: Band) -> Result<(), AllocError>
+fn draw_band(picture: &mut Picture, name: &str, band: Band) -> Result<(), AllocError>
     ensures { OnOk result (picture.new ≡ picture.old ++ band_elements name.now band) }
 {
     let y = lane_y(band.lane);
     picture.line(spot(200, y), spot(7_700, y), stroke(Colour::Pale, 8))?;
-    let label = named(alloc, name, band.number)?;
     let how = writing(Anchor::End, 11, false);
-    picture.words(spot(820, y + 125), how, label.as_str())
+    picture.named(spot(820, y + 125), how, name, band.number)
 }
 
-fn draw_bands(
-    alloc: Global,
-    picture: &mut Picture,
-    name: &str,
-    bands: &[Band],
-) -> Result<(), AllocError>
+fn draw_bands(picture: &mut Picture, name: &str, bands: &[Band]) -> Result<(), AllocError>
     ensures { OnOk result (picture.new ≡ picture.old ++ flat_map (band_elements name.now) bands.now) }
 {
     for band in bands {
-        draw_band(alloc, picture, name, *band)?;
+        draw_band(picture, name, *band)?;
     }
     Ok(())
 }
@@ -250,7 +221,6 @@ fn tick_at(columns: Columns, tick: u8) -> Option<u32>
 
 /// The line of a tick through all lanes, and its number.
 fn draw_tick(
-    alloc: Global,
     picture: &mut Picture,
     columns: Columns,
     lanes: u16,
@@ -264,18 +234,13 @@ fn draw_tick(
     let x = column_x(columns, column);
     let bottom = lane_y(lanes);
     picture.line(spot(x, 700), spot(x, bottom + 50), stroke(Colour::Pale, 8))?;
-    let number = format!(in alloc; "{column}")?;
-    picture.words(
-        spot(x, bottom + 180),
-        writing(Anchor::Middle, 11, false),
-        number.as_str(),
-    )
+    let how = writing(Anchor::Middle, 11, false);
+    picture.number(spot(x, bottom + 180), how, u64::from(column))
 }
 
 pub(crate) const TICKS: [u8; 10] = [0, 1, 2, 3, 4, 5, 6, 7, 8, 9];
 
 fn draw_ticks(
-    alloc: Global,
     picture: &mut Picture,
     columns: Columns,
     lanes: u16,
@@ -284,7 +249,7 @@ fn draw_ticks(
     ensures { OnOk result (picture.new ≡ picture.old ++ flat_map (tick_elements columns lanes) ticks.now) }
 {
     for tick in ticks {
-        draw_tick(alloc, picture, columns, lanes, *tick)?;
+        draw_tick(picture, columns, lanes, *tick)?;
     }
     Ok(())
 }
@@ -298,26 +263,20 @@ fn draw_ground(picture: &mut Picture, lanes: u16, across: &str) -> Result<(), Al
     picture.words(spot(740, y + 180), writing(Anchor::End, 11, false), across)
 }
 
-fn draw_key(alloc: Global, picture: &mut Picture, name: &str, key: Key) -> Result<(), AllocError>
+fn draw_key(picture: &mut Picture, name: &str, key: Key) -> Result<(), AllocError>
     ensures { OnOk result (picture.new ≡ picture.old ++ key_elements name.now key) }
 {
     let x = 900 + 1_360 * u32::from(key.place);
     picture.cell(spot(x, 470), 240, 60, key.colour)?;
-    let label = named(alloc, name, key.number)?;
     let how = writing(Anchor::Start, 11, false);
-    picture.words(spot(x + 300, 540), how, label.as_str())
+    picture.named(spot(x + 300, 540), how, name, key.number)
 }
 
-fn draw_keys(
-    alloc: Global,
-    picture: &mut Picture,
-    name: &str,
-    keys: &[Key],
-) -> Result<(), AllocError>
+fn draw_keys(picture: &mut Picture, name: &str, keys: &[Key]) -> Result<(), AllocError>
     ensures { OnOk result (picture.new ≡ picture.old ++ flat_map (key_elements name.now) keys.now) }
 {
     for key in keys {
-        draw_key(alloc, picture, name, *key)?;
+        draw_key(picture, name, *key)?;
     }
     Ok(())
 }
@@ -338,11 +297,7 @@ fn draw_notes(
 }
 
 /// What lies below the bars: title, ticks, bands and keys.
-fn draw_scale(
-    alloc: Global,
-    picture: &mut Picture,
-    timeline: &Timeline<'_>,
-) -> Result<(), AllocError>
+fn draw_scale(picture: &mut Picture, timeline: &Timeline<'_>) -> Result<(), AllocError>
     ensures { OnOk result (picture.new ≡ picture.old ++ scale_elements timeline.now) }
 {
     let lanes = timeline.lanes;
@@ -351,10 +306,10 @@ fn draw_scale(
         writing(Anchor::Start, 15, true),
         timeline.title,
     )?;
-    draw_ticks(alloc, picture, timeline.columns, lanes, &TICKS)?;
-    draw_bands(alloc, picture, timeline.band_name, timeline.bands)?;
+    draw_ticks(picture, timeline.columns, lanes, &TICKS)?;
+    draw_bands(picture, timeline.band_name, timeline.bands)?;
     draw_ground(picture, lanes, timeline.across)?;
-    draw_keys(alloc, picture, timeline.key_name, timeline.keys)
+    draw_keys(picture, timeline.key_name, timeline.keys)
 }
 
 /// How many pixels high a diagram of so many lanes is.
@@ -369,9 +324,9 @@ fn timeline_picture(alloc: Global, timeline: &Timeline<'_>) -> Result<Picture, A
     ensures { IfOk result (λ picture. picture ≡ timeline_elements timeline.now) }
 {
     let mut picture = Picture::new(alloc);
-    draw_scale(alloc, &mut picture, timeline)?;
+    draw_scale(&mut picture, timeline)?;
     draw_joins(&mut picture, timeline.columns, timeline.joins)?;
-    draw_bars(alloc, &mut picture, timeline.columns, timeline.bars)?;
+    draw_bars(&mut picture, timeline.columns, timeline.bars)?;
     draw_notes(
         &mut picture,
         timeline.lanes,
