@@ -2,11 +2,11 @@
 
 /// A part of a file's text: what stands before the first table, a table of one name, or an item of an array of tables.
 #[derive(Clone, Copy)]
-pub(crate) enum Section {
+pub(crate) enum Section<'a> {
     Root,
-    Table(&'static str),
+    Table(&'a str),
     /// The item of that number, from 0.
-    Item(&'static str, usize),
+    Item(&'a str, usize),
 }
 
 /// The line, from 1, in which a key of a part stands, or else the one with which that part begins; None where it has no
@@ -40,8 +40,8 @@ pub(crate) fn line_of_text(text: &str, section: Section, key: &str, quoted: &str
 
 /// What was found of a part, line by line.
 #[derive(Drop)]
-struct Search {
-    section: Section,
+struct Search<'a> {
+    section: Section<'a>,
     /// How many items of the array went before.
     before: usize,
     is_within: bool,
@@ -49,8 +49,8 @@ struct Search {
     begin: Option<usize>,
 }
 
-impl Search {
-    fn new(section: Section) -> Search {
+impl<'a> Search<'a> {
+    fn new(section: Section<'a>) -> Search<'a> {
         Search {
             section,
             before: 0,

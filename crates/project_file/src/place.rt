@@ -3,7 +3,7 @@ ghost use Rattle.std.specs.Prelude.{◌≡◌, ◌≤◌, ◌^◌, IfOk, length}
 ghost use Rattle.page_map.specs.Limits.{max_k, address_count};
 
 use crate::depths::KEYS as DEPTH_KEYS;
-use crate::entry_fault::{form_fault, limit_fault, step_fault};
+use crate::entry_fault::{form_fault, limit_fault, operation_names, step_fault};
 use crate::expanding::{REPEAT_KEYS, read_stepped};
 use crate::fault::ProjectFault;
 use crate::fields::{find, is_among};
@@ -63,29 +63,23 @@ impl From<NoMemory> for Found {
 
 /// A table of a project file.
 #[derive(Clone, Copy)]
-enum Place {
+enum Place<'a> {
     Root,
     Depths,
     /// An item of the array of that key, by its number from 0, and what it is about, where it tells.
-    Item(&'static str, usize, Subject),
+    Item(&'a str, usize, Subject<'a>),
 }
 
 /// What an item is about: of which kind, and that one's number, where the item has one.
 #[derive(Clone, Copy)]
-struct Subject {
-    kind: &'static str,
+struct Subject<'a> {
+    kind: &'a str,
     number: Option<i64>,
 }
 
-impl Place {
+impl<'a> Place<'a> {
     /// The item of an array, which tells by that key what it is about.
-    fn item(
-        name: &'static str,
-        number: usize,
-        item: &Value,
-        kind: &'static str,
-        key: &str,
-    ) -> Place {
+    fn item(name: &'a str, number: usize, item: &Value, kind: &'a str, key: &str) -> Place<'a> {
         let about = match item.as_table() {
             Some(table) => match find(table, key) {
                 Some(value) => value.as_integer(),
@@ -100,7 +94,7 @@ impl Place {
         Place::Item(name, number, subject)
     }
 
-    fn section(self) -> Section {
+    fn section(self) -> Section<'a> {
         match self {
             Place::Root => Section::Root,
             Place::Depths => Section::Table("depths"),
@@ -110,7 +104,7 @@ impl Place {
 }
 
 /// It prints as the beginning of the path of its keys: `script of processor 2 (the third), `.
-impl fmt::Display for Place {
+impl fmt::Display for Place<'_> {
     fn fmt<W: fmt::Write>(&self, f: &mut fmt::Formatter<W>) -> fmt::Result {
         match *self {
             Place::Root => Ok(()),
@@ -151,6 +145,19 @@ const FEW: [&str; 10] = [
     "first", "second", "third", "fourth", "fifth", "sixth", "seventh", "eighth", "ninth", "tenth",
 ];
 
+/// A line of the file by its number, where it is known. It prints as `line 17, `, and as nothing where it isn't.
+#[derive(Clone, Copy)]
+struct InLine(Option<usize>);
+
+impl fmt::Display for InLine {
+    fn fmt<W: fmt::Write>(&self, f: &mut fmt::Formatter<W>) -> fmt::Result {
+        match self.0 {
+            Some(line) => write!(f, "line {line}, "),
+            None => Ok(()),
+        }
+    }
+}
+
 /// An entry of a script by its number from 0, behind that of the table that repeats it, where one does. It prints as
 /// `entry 2` or `entry 2, entry 0`.
 #[derive(Clone, Copy)]
@@ -174,7 +181,7 @@ impl fmt::Display for EntryAt {
 struct At<'a> {
     alloc: Global,
     text: &'a str,
-    place: Place,
+    place: Place<'a>,
 }
 
 impl<'a> At<'a> {
@@ -186,32 +193,24 @@ impl<'a> At<'a> {
         }
     }
 
-    fn of(self, place: Place) -> At<'a> {
+    fn of(self, place: Place<'a>) -> At<'a> {
         At { place, ..self }
     }
 
     /// The walk ends with what is wrong at a key of this table.
-    fn fault(&self, key: &str, what: Result<String, AllocError>) -> Found {
+    fn fault<T: fmt::Display + Drop>(&self, key: &str, what: T) -> Found {
         let line = line_of_key(self.text, self.place.section(), key);
         self.fault_in(line, key, what)
     }
 
     /// The walk ends with what is wrong in that line, where it is known.
-    fn fault_in(&self, line: Option<usize>, path: &str, what: Result<String, AllocError>) -> Found {
-        let Ok(what) = what else {
-            return Found::NoMemory;
-        };
-        let place = self.place;
-        let what = what.as_str();
-        let path = Shown(path);
-        ended(match line {
-            Some(line) => format!(in self.alloc; "line {line}, {place}{path}: {what}"),
-            None => format!(in self.alloc; "{place}{path}: {what}"),
-        })
+    fn fault_in<T: fmt::Display + Drop>(&self, line: Option<usize>, path: &str, what: T) -> Found {
+        let (line, place, path) = (InLine(line), self.place, Shown(path));
+        ended(format!(in self.alloc; "{line}{place}{path}: {what}"))
     }
 
     /// What is wrong with the text of an entry.
-    fn entry_fault(&self, entry: EntryAt, text: &str, what: Result<String, AllocError>) -> Found {
+    fn entry_fault<T: fmt::Display + Drop>(&self, entry: EntryAt, text: &str, what: T) -> Found {
         let section = self.place.section();
         let line = line_of_text(self.text, section, "entries", text).or(line_of_key(
             self.text, section, "entries",
@@ -224,7 +223,7 @@ impl<'a> At<'a> {
     }
 
     /// What is wrong at a key of a table that repeats entries.
-    fn repeat_fault(&self, number: usize, key: &str, what: Result<String, AllocError>) -> Found {
+    fn repeat_fault<T: fmt::Display + Drop>(&self, number: usize, key: &str, what: T) -> Found {
         let line = line_of_key(self.text, self.place.section(), "entries");
         match format!(in self.alloc; "entry {number}, {key}") {
             Ok(path) => self.fault_in(line, path.as_str(), what),
@@ -234,10 +233,7 @@ impl<'a> At<'a> {
 
     fn other_type(&self, key: &str, value: &Value, wanted: &str) -> Found {
         let given = value.type_str();
-        self.fault(
-            key,
-            format!(in self.alloc; "of type {given} where {wanted} belongs"),
-        )
+        self.fault(key, format_args!("of type {given} where {wanted} belongs"))
     }
 }
 
@@ -319,8 +315,7 @@ fn root_checked(at: At, root: &Table) -> Result<(), Found> {
 
 fn root_keys_checked(at: At, root: &Table, format: FileFormat) -> Result<(), Found> {
     if !format.has_short_forms() && find(root, "traffic").is_some() {
-        let told = format!(in at.alloc; "no such key; format 3 has it");
-        return Err(at.fault("traffic", told));
+        return Err(at.fault("traffic", "no such key; format 3 has it"));
     }
     keys_checked(at, root, keys_of(format))
 }
@@ -329,7 +324,7 @@ fn keys_checked(at: At, table: &Table, keys: &[&str]) -> Result<(), Found> {
     'members: for (key, _value) in table.iter() {
         if !is_among(keys, key.as_str()) {
             let hint = Hint::of(at.alloc, key.as_str(), keys)?;
-            return Err(at.fault(key.as_str(), format!(in at.alloc; "no such key{hint}")));
+            return Err(at.fault(key.as_str(), format_args!("no such key{hint}")));
         }
     }
     Ok(())
@@ -340,7 +335,7 @@ fn number_checked(at: At, table: &Table, key: &str, least: u32, most: u32) -> Re
 {
     match find(table, key) {
         Some(value) => number_within(at, key, value, least, most),
-        None => Err(at.fault(key, format!(in at.alloc; "missing"))),
+        None => Err(at.fault(key, "missing")),
     }
 }
 
@@ -358,9 +353,7 @@ fn size_checked(at: At, root: &Table, key: &str, most: u32, widest: [u32; 2]) ->
             let number = format + 2;
             return Err(at.fault(
                 key,
-                format!(in at.alloc;
-                    "{given} is not 0 to {most}; format {number} allows 0 to {wider}"
-                ),
+                format_args!("{given} is not 0 to {most}; format {number} allows 0 to {wider}"),
             ));
         }
     }
@@ -382,10 +375,7 @@ fn number_within(at: At, key: &str, value: &Value, least: u32, most: u32) -> Res
 {
     match value.as_integer() {
         Some(number) if number < i64::from(least) || number > i64::from(most) => {
-            Err(at.fault(
-                key,
-                format!(in at.alloc; "{number} is not {least} to {most}"),
-            ))
+            Err(at.fault(key, format_args!("{number} is not {least} to {most}")))
         }
         Some(number) => Ok(number as u32),
         None => Err(at.other_type(key, value, "a whole number")),
@@ -401,14 +391,14 @@ fn array_checked<'a>(at: At, key: &str, value: &'a Value) -> Result<&'a Array, F
 }
 
 /// The items of an array, each of which is a table.
-fn tables_checked<'a>(at: At, key: &'static str, value: &'a Value) -> Result<&'a Array, Found> {
+fn tables_checked<'a>(at: At, key: &str, value: &'a Value) -> Result<&'a Array, Found> {
     let array = array_checked(at, key, value)?;
     for (number, item) in array.iter().enumerate() {
         if !item.is_table() {
             let (which, given) = (Nth(number), item.type_str());
             return Err(at.fault(
                 key,
-                format!(in at.alloc; "the {which} is of type {given} where a table belongs"),
+                format_args!("the {which} is of type {given} where a table belongs"),
             ));
         }
     }
@@ -425,18 +415,13 @@ fn combine_checked(at: At, root: &Table, k: u32) -> Result<(), Found> {
             let given = item.type_str();
             return Err(at.fault(
                 "combine",
-                format!(in at.alloc;
-                    "stage {stage} is of type {given} where true or false belongs"
-                ),
+                format_args!("stage {stage} is of type {given} where true or false belongs"),
             ));
         }
     }
     let count = array.len();
     if count != k as usize {
-        return Err(at.fault(
-            "combine",
-            format!(in at.alloc; "{count} stages where k is {k}"),
-        ));
+        return Err(at.fault("combine", format_args!("{count} stages where k is {k}")));
     }
     Ok(())
 }
@@ -483,14 +468,14 @@ fn page_found(at: At, item: &Value, k: u32, so_far: &GivenPages) -> Result<(), F
     keys_checked(at, table, &PAGE_KEYS)?;
     let page = number_checked(at, table, "number", 0, PAGES - 1)?;
     if so_far.given[page as usize] {
-        return Err(at.fault("number", format!(in at.alloc; "{page} is given twice")));
+        return Err(at.fault("number", format_args!("{page} is given twice")));
     }
     let amount = number_checked(at, table, "amount", 0, u32::MAX)?;
     let base = number_checked(at, table, "base", 0, u32::MAX)?;
     let modules = 1u32 << k;
     Err(at.fault(
         "amount",
-        format!(in at.alloc; "{amount} with base {base} is no interleaving of {modules} modules"),
+        format_args!("{amount} with base {base} is no interleaving of {modules} modules"),
     ))
 }
 
@@ -519,7 +504,7 @@ fn word_found(at: At, item: &Value, so_far: &[Option<u32>]) -> Result<(), Found>
     keys_checked(at, table, &WORD_KEYS)?;
     let address = number_checked(at, table, "address", 0, ADDRESSES - 1)?;
     if so_far[address as usize].is_some() {
-        return Err(at.fault("address", format!(in at.alloc; "{address} is given twice")));
+        return Err(at.fault("address", format_args!("{address} is given twice")));
     }
     match number_checked(at, table, "value", 0, u32::MAX) {
         Ok(_) => Ok(()),
@@ -613,7 +598,7 @@ fn network_checked(at: At, table: &Table) -> Result<(), Found> {
     };
     let hint = Hint::of(at.alloc, text, &NETWORKS)?;
     let text = Shown(text);
-    let told = format!(in at.alloc; "\"{text}\" is no network{hint}");
+    let told = format_args!("\"{text}\" is no network{hint}");
     Err(at.fault("network", told))
 }
 
@@ -627,8 +612,7 @@ fn rate_checked(at: At, table: &Table) -> Result<(), Found> {
     if !value.is_float() && !value.is_integer() {
         return Err(at.other_type("rate", value, "a number"));
     }
-    let told = format!(in at.alloc; "not 0.01 to 1 in steps of 0.01");
-    Err(at.fault("rate", told))
+    Err(at.fault("rate", "not 0.01 to 1 in steps of 0.01"))
 }
 
 /// What is wrong with an item that can't be added.
@@ -650,7 +634,7 @@ fn script_found(
     given_checked(at, table, several, k, so_far)?;
     match find(table, "entries") {
         Some(value) => entries_found(at, value, format),
-        None => Err(at.fault("entries", format!(in at.alloc; "missing"))),
+        None => Err(at.fault("entries", "missing")),
     }
 }
 
@@ -677,7 +661,7 @@ fn given_checked(
         let proc = procs[index];
         let is_given = so_far.given.get(proc as usize).copied().unwrap_or(false);
         if is_given || procs[..index].contains(&proc) {
-            return Err(at.fault(key, format!(in at.alloc; "{proc} is given twice")));
+            return Err(at.fault(key, format_args!("{proc} is given twice")));
         }
     }
     Ok(())
@@ -687,9 +671,9 @@ fn given_checked(
 fn beside_checked(at: At, table: &Table, several: bool, format: FileFormat) -> Result<(), Found> {
     if !several && find(table, "processors").is_some() {
         let told = if format.has_short_forms() {
-            format!(in at.alloc; "no such key beside processor")
+            "no such key beside processor"
         } else {
-            format!(in at.alloc; "no such key; format 3 has it, in place of processor")
+            "no such key; format 3 has it, in place of processor"
         };
         return Err(at.fault("processors", told));
     }
@@ -701,8 +685,7 @@ fn processors_checked(at: At, table: &Table, k: u32) -> Result<(), Found>
     requires { k ≤ max_k }
 {
     let Some(value) = find(table, "processors") else {
-        let told = format!(in at.alloc; "missing, and so is processor");
-        return Err(at.fault("processors", told));
+        return Err(at.fault("processors", "missing, and so is processor"));
     };
     if let Some(text) = value.as_str() {
         return range_checked(at, text, k);
@@ -713,9 +696,7 @@ fn processors_checked(at: At, table: &Table, k: u32) -> Result<(), Found>
     for (number, item) in array.iter().enumerate() {
         if !item.is_integer() {
             let (which, given) = (Nth(number), item.type_str());
-            let told = format!(in at.alloc;
-                "the {which} is of type {given} where a whole number belongs"
-            );
+            let told = format_args!("the {which} is of type {given} where a whole number belongs");
             return Err(at.fault("processors", told));
         }
     }
@@ -733,16 +714,22 @@ fn range_checked(at: At, text: &str, k: u32) -> Result<(), Found>
         return Ok(());
     }
     let last = (1u32 << k) - 1;
-    let told = match ends_of(text.as_bytes()) {
-        Some((a, b)) if a > b => format!(in at.alloc; "{a}..{b} goes downwards"),
-        Some((a, b)) if b > last => format!(in at.alloc; "{a}..{b} is not within 0..{last}"),
+    let fault = match ends_of(text.as_bytes()) {
+        Some((a, b)) if a > b => at.fault("processors", format_args!("{a}..{b} goes downwards")),
+        Some((a, b)) if b > last => at.fault(
+            "processors",
+            format_args!("{a}..{b} is not within 0..{last}"),
+        ),
         Some(_) => return Ok(()),
         None => {
             let text = Shown(text);
-            format!(in at.alloc; "\"{text}\" is neither all nor, as 0..{last}, from one to another")
+            let told = format_args!(
+                "\"{text}\" is neither all nor, as 0..{last}, from one to another"
+            );
+            at.fault("processors", told)
         }
     };
-    Err(at.fault("processors", told))
+    Err(fault)
 }
 
 /// What is wrong with entries that are no script, or want of memory where nothing is.
@@ -779,7 +766,7 @@ fn items_checked(at: At, array: &Array, format: FileFormat) -> Result<(), Found>
             let given = item.type_str();
             return Err(at.fault(
                 "entries",
-                format!(in at.alloc; "entry {number} is of type {given} where {wanted} belongs"),
+                format_args!("entry {number} is of type {given} where {wanted} belongs"),
             ));
         }
     }
@@ -792,47 +779,47 @@ fn repeat_checked(at: At, number: usize, table: &Table, format: FileFormat) -> R
         let key = key.as_str();
         if !is_among(&REPEAT_KEYS, key) {
             let hint = Hint::of(at.alloc, key, &REPEAT_KEYS)?;
-            return Err(at.repeat_fault(number, key, format!(in at.alloc; "no such key{hint}")));
+            return Err(at.repeat_fault(number, key, format_args!("no such key{hint}")));
         }
     }
-    if let Some(told) = times_told(at.alloc, table)? {
-        return Err(at.repeat_fault(number, "repeat", Ok(told)));
-    }
+    times_checked(at, number, table)?;
     repeated_checked(at, number, table, format)
 }
 
-/// What is wrong with how often entries are repeated; None where nothing is.
-fn times_told(alloc: Global, table: &Table) -> Result<Option<String>, AllocError> {
+/// How often a table repeats its entries.
+fn times_checked(at: At, number: usize, table: &Table) -> Result<(), Found> {
     let Some(value) = find(table, "repeat") else {
-        return Ok(Some(format!(in alloc; "missing")?));
+        return Err(at.repeat_fault(number, "repeat", "missing"));
     };
-    let told = match value.as_integer() {
-        Some(times) if (1..=i64::from(SCRIPT_ENTRIES)).contains(&times) => return Ok(None),
-        Some(times) => format!(in alloc; "{times} is not 1 to {SCRIPT_ENTRIES}")?,
+    let fault = match value.as_integer() {
+        Some(times) if (1..=i64::from(SCRIPT_ENTRIES)).contains(&times) => return Ok(()),
+        Some(times) => {
+            let told = format_args!("{times} is not 1 to {SCRIPT_ENTRIES}");
+            at.repeat_fault(number, "repeat", told)
+        }
         None => {
             let given = value.type_str();
-            format!(in alloc; "of type {given} where a whole number belongs")?
+            let told = format_args!("of type {given} where a whole number belongs");
+            at.repeat_fault(number, "repeat", told)
         }
     };
-    Ok(Some(told))
+    Err(fault)
 }
 
 /// The entries of a table that repeats them.
 fn repeated_checked(at: At, number: usize, table: &Table, format: FileFormat) -> Result<(), Found> {
     let Some(value) = find(table, "entries") else {
-        return Err(at.repeat_fault(number, "entries", format!(in at.alloc; "missing")));
+        return Err(at.repeat_fault(number, "entries", "missing"));
     };
     let Some(array) = value.as_array() else {
         let given = value.type_str();
-        let told = format!(in at.alloc; "of type {given} where an array belongs");
+        let told = format_args!("of type {given} where an array belongs");
         return Err(at.repeat_fault(number, "entries", told));
     };
     for (inner, item) in array.iter().enumerate() {
         if !item.is_str() {
             let given = item.type_str();
-            let told = format!(in at.alloc;
-                "entry {inner} is of type {given} where a text belongs"
-            );
+            let told = format_args!("entry {inner} is of type {given} where a text belongs");
             return Err(at.repeat_fault(number, "entries", told));
         }
     }
@@ -854,18 +841,21 @@ fn text_checked(at: At, entry: EntryAt, item: &Value, format: FileFormat) -> Res
         if format.has_entry(read) {
             return Ok(());
         }
-        let told = format!(in at.alloc; "format 1 has no such entry; format 2 has");
+        let told = "format 1 has no such entry; format 2 has";
         return Err(at.entry_fault(entry, text, told));
     }
-    let told = match read_stepped(bytes) {
-        Some(stepped) if format.has_short_forms() => match step_fault(at.alloc, stepped)? {
-            Some(told) => Ok(told),
-            None => return Ok(()),
+    match read_stepped(bytes) {
+        Some(stepped) if format.has_short_forms() => match step_fault(stepped) {
+            Some(fault) => Err(at.entry_fault(entry, text, fault)),
+            None => Ok(()),
         },
-        Some(_) => format!(in at.alloc; "only format 3 has a step"),
-        None => form_fault(at.alloc, text, format.has_short_forms()),
-    };
-    Err(at.entry_fault(entry, text, told))
+        Some(_) => Err(at.entry_fault(entry, text, "only format 3 has a step")),
+        None => {
+            let names = operation_names();
+            let fault = form_fault(at.alloc, text, format.has_short_forms(), &names)?;
+            Err(at.entry_fault(entry, text, fault))
+        }
+    }
 }
 
 /// How many entries there are.
@@ -878,17 +868,18 @@ fn count_checked(at: At, array: &Array, format: FileFormat) -> Result<(), Found>
     if count <= most as usize {
         return Ok(());
     }
-    let told = if most == SCRIPT_ENTRIES {
-        format!(in at.alloc; "more than {most} of them")
+    Err(if most == SCRIPT_ENTRIES {
+        at.fault("entries", format_args!("more than {most} of them"))
     } else if count <= SCRIPT_ENTRIES as usize {
-        format!(in at.alloc;
+        let told = format_args!(
             "{count} of them where {most} are the most; format 3 allows {SCRIPT_ENTRIES}"
-        )
+        );
+        at.fault("entries", told)
     } else {
         let count = array.len();
-        format!(in at.alloc; "{count} of them where {most} are the most")
-    };
-    Err(at.fault("entries", told))
+        let told = format_args!("{count} of them where {most} are the most");
+        at.fault("entries", told)
+    })
 }
 
 fn limits_checked(at: At, array: &Array) -> Result<(), Found> {
@@ -924,8 +915,8 @@ fn repeated_texts(item: &Value) -> Option<&Array> {
 fn limit_checked(at: At, entry: EntryAt, item: &Value) -> Result<(), Found> {
     let text = item.as_str().unwrap_or("");
     if let Some(read) = read_entry(text.as_bytes()) {
-        if let Some(told) = limit_fault(at.alloc, read)? {
-            return Err(at.entry_fault(entry, text, Ok(told)));
+        if let Some(fault) = limit_fault(read) {
+            return Err(at.entry_fault(entry, text, fault));
         }
     }
     Ok(())
