@@ -17,8 +17,8 @@ use Rattle.machine_cells.specs.GridRules.{rp3_rules}
 use Rattle.machine_cells.specs.Run.{run}
 use Rattle.machine_cells.specs.Runs.{state_in}
 use Rattle.monitor_sums.specs.declared.counter.Counter.{Counter}
-use Rattle.monitor_sums.specs.Counts.{count, output_lengths}
-use Rattle.monitor_sums.specs.Kept.{Kept, StandsFor, counted}
+use Rattle.monitor_sums.specs.Counts.{count, counted, output_lengths}
+use Rattle.monitor_sums.specs.Kept.{Kept, StandsFor}
 use Rattle.monitor_sums.specs.Sums.{States, sum_of, in_profile, pairs_of, profile_of, changed, cleared, NonePast}
 use Rattle.project_book.specs.Project.{Project}
 use Rattle.project_book.specs.Edits.{edited}

@@ -2,7 +2,7 @@
 use Rattle.std.specs.Prelude.{ℕ, if◌then◌else◌, List, ◌∷◌, Option, None, Some, option_map, bytes_eq, codes}
 use Rattle.omega_net.specs.declared.component.Net.{Net}
 use Rattle.omega_net.specs.declared.component.Net.TheVariants.{Low as LowNet, Comb as CombNet}
-use Rattle.monitor_sums.specs.Names.{counter_named}
+use Rattle.monitor_sums.specs.Counts.{counter_named}
 use Rattle.run_queries.specs.declared.query.Query.{Query}
 use Rattle.run_queries.specs.declared.query.Query.TheVariants as query
 use Rattle.commands.specs.Numbers.{both, one_number, two_numbers}

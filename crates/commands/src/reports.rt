@@ -1,7 +1,6 @@
 //! Queries of counters and reports.
-ghost use Rattle.std.specs.Prelude.{◌≡◌, bytes_eq};
+ghost use Rattle.std.specs.Prelude.{◌≡◌};
 ghost use Rattle.line_words.specs.Words.{words_of};
-ghost use Rattle.monitor_sums.specs.Names.{counter_name, counter_named};
 ghost use Rattle.commands.specs.Reports.{net_named, who_named, counter_query, in_net, level_query};
 
 use crate::component::component;
@@ -17,7 +16,7 @@ pub(crate) fn read_counter(shape: Shape, line: &[u8]) -> Option<Query>
 {
     let (name, rest) = split_word(line)?;
     let (who, rest) = split_word(rest)?;
-    let counter = read_name(name)?;
+    let counter = Counter::from_name(name)?;
     let who = read_who(shape, who)?;
     let (from, to) = two_numbers(rest)?;
     Some(Query::Counter {
@@ -46,22 +45,6 @@ pub(crate) fn read_in_net(line: &[u8]) -> Option<(Net, u32)>
     let net = read_net(net)?;
     let number = one_number(rest)?;
     Some((net, number))
-}
-
-fn has_name(counter: Counter, word: &[u8]) -> bool
-    ensures { result ≡ bytes_eq (counter_name counter) word.now }
-{
-    counter.name().as_bytes() == word
-}
-
-/// The counter of a name.
-fn read_name(word: &[u8]) -> Option<Counter>
-    ensures { result ≡ counter_named word.now }
-{
-    Counter::ALL
-        .iter()
-        .find(|counter| has_name(**counter, word))
-        .copied()
 }
 
 /// `low` or `comb`.

@@ -5,7 +5,8 @@ use Rattle.std.proofs.lemmas.Bool.Decides.{nat_tests}
 use Rattle.omega_net.specs.Numbers.{components}
 use Rattle.monitor_sums.specs.declared.counted.Counted.{Counted}
 use Rattle.monitor_sums.specs.Sums.{States, cleared}
-use Rattle.monitor_sums.specs.Kept.{Kept, StandsFor, counted, kept_at, nothing}
+use Rattle.monitor_sums.specs.Counts.{counted, nothing}
+use Rattle.monitor_sums.specs.Kept.{Kept, StandsFor, kept_at}
 
 -- tests with the same answer choose the same
 chosen : (a b : Bool) (x y : Counted) → (a ≡ true → b ≡ true) → (b ≡ true → a ≡ true) → cond a x y ≡ cond b x y

@@ -1,7 +1,6 @@
-pub mod Named
 pub mod Adding
 pub mod Over
-pub mod Parts
+pub mod Counters
 pub mod Profiles
 pub mod Putting
 pub mod Standing

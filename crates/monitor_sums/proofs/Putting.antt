@@ -10,12 +10,13 @@ use Rattle.omega_net.specs.declared.component.Net.{Net}
 use Rattle.omega_net.specs.Numbers.{components}
 use Rattle.monitor_sums.specs.declared.counter.Counter.{Counter}
 use Rattle.monitor_sums.specs.declared.counted.Counted.{Counted}
-use Rattle.monitor_sums.specs.declared.tally.Tally.{Tally}
+use Rattle.monitor_sums.specs.declared.counted.Tally.{Tally}
 use Rattle.monitor_sums.specs.Sums.{in_profile}
-use Rattle.monitor_sums.specs.Parts.{part, tallied, AreShort, IsSmall}
-use Rattle.monitor_sums.specs.Kept.{Row, blank, row_at, nothing, kept_at}
+use Rattle.monitor_sums.specs.Counts.{nothing, part, tallied, AreShort, IsSmall}
+use Rattle.monitor_sums.specs.Kept.{Row, blank, row_at, kept_at}
 use Rattle.monitor_sums.specs.Whole.{counted_in, block_end, block_place, lengths_of, tally_at, profile_at, AddsUp}
-use Rattle.monitor_sums.proofs.Parts.{part_small, in_profile_small}
+use Rattle.monitor_sums.proofs.Counters.{part_small}
+use Rattle.monitor_sums.proofs.Profiles.{in_profile_small}
 use Rattle.monitor_sums.proofs.Over.{same_before, same_cycles, changed_own, changed_all, part_own, part_all, small_before}
 use Rattle.monitor_sums.specs.Limits.{profile_lengths, blocks}
 

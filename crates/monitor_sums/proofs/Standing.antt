@@ -11,13 +11,13 @@ use Rattle.omega_net.specs.Numbers.{components}
 use Rattle.omega_net.specs.Wires.{below}
 use Rattle.monitor_sums.specs.declared.counter.Counter.{Counter}
 use Rattle.monitor_sums.specs.declared.counted.Counted.{Counted}
-use Rattle.monitor_sums.specs.Counts.{count, output_lengths}
+use Rattle.monitor_sums.specs.Counts.{count, output_lengths, counted, part}
 use Rattle.monitor_sums.specs.Sums.{States, sum_of, in_profile, pairs_of, profile_of, changed, NonePast}
-use Rattle.monitor_sums.specs.Parts.{part}
-use Rattle.monitor_sums.specs.Kept.{Kept, Row, StandsFor, counted, kept_at}
+use Rattle.monitor_sums.specs.Kept.{Kept, Row, StandsFor, kept_at}
 use Rattle.monitor_sums.specs.Whole.{counted_before, lengths_of, profile_place, AddsUp}
-use Rattle.monitor_sums.specs.declared.tally.Tally.{Tally}
-use Rattle.monitor_sums.proofs.Parts.{part_counted, in_profile_nothing}
+use Rattle.monitor_sums.specs.declared.counted.Tally.{Tally}
+use Rattle.monitor_sums.proofs.Counters.{part_counted}
+use Rattle.monitor_sums.proofs.Profiles.{in_profile_nothing}
 use Rattle.monitor_sums.proofs.Over.{same_over, over_before, cut_over}
 use Rattle.monitor_sums.specs.Limits.{profile_lengths}
 

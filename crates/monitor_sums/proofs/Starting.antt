@@ -8,14 +8,14 @@ use Rattle.omega_net.specs.declared.component.Net.{Net}
 use Rattle.omega_net.specs.Numbers.{components}
 use Rattle.project_book.specs.Limits.{max_horizon}
 use Rattle.monitor_sums.specs.declared.counter.Counter.{Counter}
-use Rattle.monitor_sums.specs.declared.counter.Counter.TheVariants.{Issued, Answered, Served, Combined, Waiting}
 use Rattle.monitor_sums.specs.declared.counted.Counted.{Counted}
-use Rattle.monitor_sums.specs.declared.tally.Tally.{Tally}
+use Rattle.monitor_sums.specs.declared.counted.Tally.{Tally}
 use Rattle.monitor_sums.specs.Sums.{in_profile}
-use Rattle.monitor_sums.specs.Parts.{part, tallied, IsSmall}
-use Rattle.monitor_sums.specs.Kept.{Kept, Row, StandsFor, blank, row_at, nothing, kept_at}
-use Rattle.monitor_sums.specs.Whole.{counted_in, block_end, block_place, lengths_of, none, profile_place, profile_at, AddsUp}
-use Rattle.monitor_sums.proofs.Parts.{part_nothing, in_profile_nothing}
+use Rattle.monitor_sums.specs.Counts.{nothing, part, tallied, none, IsSmall}
+use Rattle.monitor_sums.specs.Kept.{Kept, Row, StandsFor, blank, row_at, kept_at}
+use Rattle.monitor_sums.specs.Whole.{counted_in, block_end, block_place, lengths_of, profile_place, profile_at, AddsUp}
+use Rattle.monitor_sums.proofs.Counters.{part_nothing, small_nothing, tallied_none}
+use Rattle.monitor_sums.proofs.Profiles.{in_profile_nothing}
 use Rattle.monitor_sums.proofs.Over.{none_before}
 use Rattle.monitor_sums.specs.Limits.{profile_lengths, blocks}
 
@@ -33,16 +33,6 @@ copy_of n i x = by_cases (copy_or n i x x)
     by_cases : (get_or (replicate n x) i x ≡ x) ⊎ (get_or (replicate n x) i x ≡ x) → get_or (replicate n x) i x ≡ x
     by_cases (inl e) = e
     by_cases (inr e) = e
-
-small_nothing : IsSmall nothing
-small_nothing = record { issued = omega arith; answered = omega arith; served = omega arith; combined = omega arith; waiting = omega arith; lengths = tt }
-
-tallied_none : (counter : Counter) → tallied counter none ≡ 0
-tallied_none Issued = refl
-tallied_none Answered = refl
-tallied_none Served = refl
-tallied_none Combined = refl
-tallied_none Waiting = refl
 
 module _ (k last n m : ℕ) where
   nothing_kept : (t c : ℕ) → kept_at (replicate n (blank (last + 1))) t c ≡ nothing

@@ -1,11 +1,31 @@
--- What a state counts.
-use Rattle.std.specs.Prelude.{ℕ, ◌+◌, Bool, if◌then◌else◌, List, [], ◌∷◌, length, Option, None, Some, is_some}
+-- The counters: what each counts in a state, its name, and its part of what is kept.
+use Rattle.std.specs.Prelude.{ℕ, ◌+◌, ◌<◌, Bool, if◌then◌else◌, List, [], ◌∷◌, length, slice_index, Option, None, Some, is_some, codes, bytes_eq}
+use Rattle.std.specs.List.{find}
 use Rattle.arrayvec.specs.ArrayVec.{ArrayVec}
 use Rattle.omega_net.specs.Ports.{queue_at, message_at}
 use Rattle.machine_cells.specs.declared.state.MachineState.{MachineState}
 use Rattle.machine_cells.specs.declared.state.MachineState.TheVariants.{Proc, Module, Low, Comb}
 use Rattle.monitor_sums.specs.declared.counter.Counter.{Counter}
 use Rattle.monitor_sums.specs.declared.counter.Counter.TheVariants.{Issued, Answered, Served, Combined, Waiting}
+use Rattle.monitor_sums.specs.declared.counted.Counted.{Counted}
+use Rattle.monitor_sums.specs.declared.counted.Tally.{Tally}
+use Rattle.monitor_sums.specs.Limits.{profile_lengths}
+
+-- a counter's name
+abbrev pub counter_name : Counter → List ℕ
+counter_name Issued = codes "issued"
+counter_name Answered = codes "answered"
+counter_name Served = codes "served"
+counter_name Combined = codes "combined"
+counter_name Waiting = codes "waiting"
+
+-- all counters
+abbrev pub counters : List Counter
+counters = Issued ∷ Answered ∷ Served ∷ Combined ∷ Waiting ∷ []
+
+-- the counter of that name, if there is one
+abbrev pub counter_named : List ℕ → Option Counter
+counter_named text = find (λ counter. bytes_eq (counter_name counter) text) counters
 
 -- 1 for what is so
 abbrev pub one : Bool → ℕ
@@ -64,3 +84,52 @@ abbrev pub output_lengths : Option MachineState → Option (List ℕ)
 output_lengths (Some (Low s)) = Some (lengths s.fwd)
 output_lengths (Some (Comb s)) = Some (lengths s.fwd)
 output_lengths _ = None
+
+-- what is kept of a cell: what it counts, and the lengths of its output queues
+abbrev pub counted : Option MachineState → Counted
+counted s = record {
+  issued = count Issued s;
+  answered = count Answered s;
+  served = count Served s;
+  combined = count Combined s;
+  waiting = count Waiting s;
+  lengths = output_lengths s;
+}
+
+-- of a cell without a state
+abbrev pub nothing : Counted
+nothing = counted None
+
+-- what a cell counted
+abbrev pub part : Counter → Counted → ℕ
+part Issued x = x.issued
+part Answered x = x.answered
+part Served x = x.served
+part Combined x = x.combined
+part Waiting x = x.waiting
+
+-- queues have at most 16 places
+abbrev pub AreShort : Option (List ℕ) → Type 0
+AreShort None = Unit {0}
+AreShort (Some ls) = (slice_index ls 0 < profile_lengths) × (slice_index ls 1 < profile_lengths)
+
+-- counts fit a byte
+pub record IsSmall (x : Counted) : Type 0 where
+  pub issued : x.issued < 256
+  pub answered : x.answered < 256
+  pub served : x.served < 256
+  pub combined : x.combined < 256
+  pub waiting : x.waiting < 256
+  pub lengths : AreShort x.lengths
+
+-- what a tally has of it
+abbrev pub tallied : Counter → Tally → ℕ
+tallied Issued x = x.issued
+tallied Answered x = x.answered
+tallied Served x = x.served
+tallied Combined x = x.combined
+tallied Waiting x = x.waiting
+
+-- a tally of nothing
+abbrev pub none : Tally
+none = record { issued = 0; answered = 0; served = 0; combined = 0; waiting = 0 }

@@ -1,26 +1,9 @@
 -- What is kept of a run: what each cell counts.
-use Rattle.std.specs.Prelude.{◌≡◌, ℕ, ◌<◌, ◌≤◌, List, [], Option, None, slice_index_or}
+use Rattle.std.specs.Prelude.{◌≡◌, ℕ, ◌<◌, ◌≤◌, List, [], slice_index_or}
 use Rattle.omega_net.specs.Numbers.{components}
-use Rattle.monitor_sums.specs.declared.counter.Counter.TheVariants.{Issued, Answered, Served, Combined, Waiting}
 use Rattle.monitor_sums.specs.declared.counted.Counted.{Counted}
-use Rattle.monitor_sums.specs.Counts.{count, output_lengths}
+use Rattle.monitor_sums.specs.Counts.{counted, nothing}
 use Rattle.monitor_sums.specs.Sums.{States}
-use Rattle.machine_cells.specs.declared.state.MachineState.{MachineState}
-
--- what a cell counts, and the lengths of its output queues
-abbrev pub counted : Option MachineState → Counted
-counted s = record {
-  issued = count Issued s;
-  answered = count Answered s;
-  served = count Served s;
-  combined = count Combined s;
-  waiting = count Waiting s;
-  lengths = output_lengths s;
-}
-
--- a cell without a state
-abbrev pub nothing : Counted
-nothing = counted None
 
 -- what is kept of a component's cells, by cycle, and for how many cycles there is room
 pub record Row : Type 0 where

@@ -6,10 +6,10 @@ use Rattle.omega_net.specs.declared.component.Net.TheVariants.{Low, Comb}
 use Rattle.omega_net.specs.Numbers.{components}
 use Rattle.project_book.specs.Limits.{max_horizon}
 use Rattle.monitor_sums.specs.declared.counter.Counter.{Counter}
-use Rattle.monitor_sums.specs.declared.tally.Tally.{Tally}
+use Rattle.monitor_sums.specs.declared.counted.Tally.{Tally}
 use Rattle.monitor_sums.specs.Adding.{sum_below}
 use Rattle.monitor_sums.specs.Sums.{sum_over, in_profile}
-use Rattle.monitor_sums.specs.Parts.{part, tallied, IsSmall}
+use Rattle.monitor_sums.specs.Counts.{part, tallied, none, IsSmall}
 use Rattle.monitor_sums.specs.Kept.{Row, row_at, kept_at}
 use Rattle.monitor_sums.specs.Limits.{profile_lengths, blocks}
 
@@ -33,10 +33,6 @@ counted_in k last counter cells who b = counted_before k counter cells who (32 *
 -- how often an output queue of a stage was of length n
 abbrev pub lengths_of : ℕ → ℕ → List Row → Net → ℕ → ℕ → ℕ
 lengths_of k last cells net stage n = sum_over k (λ t c. in_profile k net stage n c (kept_at cells t c).lengths) None 0 last
-
--- a tally of nothing
-abbrev pub none : Tally
-none = record { issued = 0; answered = 0; served = 0; combined = 0; waiting = 0 }
 
 -- the tally at a place
 abbrev pub tally_at : List Tally → ℕ → Tally

@@ -1,18 +1,14 @@
-//! What one cell counts.
-ghost use Rattle.std.specs.Prelude.{◌≡◌, ◌+◌, ◌<◌, ◌≤◌, length, None, Some, slice_index, true};
-ghost use Rattle.monitor_sums.specs.declared.counter.Counter.{Counter as CounterIs};
+//! What cells count: one of them by each counter, and several in sum.
+ghost use Rattle.std.specs.Prelude.{◌≡◌, ◌+◌, ◌*◌, ◌<◌, ◌≤◌, ◌^◌, None, Some, slice_index, true};
 ghost use Rattle.std.specs.Option.{option_copied};
-ghost use Rattle.machine_cells.specs.declared.state.MachineState.TheVariants.{Proc, Module, Low, Comb};
-ghost use Rattle.monitor_sums.specs.Counts.{in_queues, lengths};
+ghost use Rattle.monitor_sums.specs.declared.counter.Counter.{Counter as CounterIs};
+ghost use Rattle.monitor_sums.specs.Counts.{lengths, output_lengths, part, AreShort};
 ghost use Rattle.monitor_sums.specs.Limits.{profile_lengths};
 
 use crate::Counter;
-use comb_switch::CombState;
-use low_switch::LowState;
+use crate::counter::length_of;
 use machine_cells::MachineState;
-use mem_module::ModuleState;
-use omega_net::{Queue, Reply, Request};
-use ref_proc::ProcState;
+use omega_net::Queue;
 
 /// What a cell counts, by counter, and the lengths of its two output queues, where it is a switch's.
 #[derive(Clone, Copy, PartialEq, Eq, Debug)]
@@ -26,8 +22,7 @@ pub struct Counted {
 }
 
 impl Counted {
-    ghost use Rattle.monitor_sums.specs.Kept.{counted, nothing};
-    ghost use Rattle.monitor_sums.specs.Parts.{part, IsSmall};
+    ghost use Rattle.monitor_sums.specs.Counts.{counted, nothing, IsSmall};
 
     /// A cell without a state counts nothing.
     pub fn nothing() -> Counted
@@ -49,16 +44,21 @@ impl Counted {
         ensures value { result ≡ counted (option_copied state.entry) }
         ensures small { IsSmall result }
     {
-        match state {
-            Some(MachineState::Proc(state)) => Counted::of_proc(state),
-            Some(MachineState::Module(state)) => Counted::of_module(state),
-            Some(MachineState::Low(state)) => Counted::of_low(state),
-            Some(MachineState::Comb(state)) => Counted::of_comb(state),
-            None => Counted::nothing(),
+        let Some(state) = state else {
+            return Counted::nothing();
+        };
+        Counted {
+            issued: Counter::Issued.count_in(state),
+            answered: Counter::Answered.count_in(state),
+            served: Counter::Served.count_in(state),
+            combined: Counter::Combined.count_in(state),
+            waiting: Counter::Waiting.count_in(state),
+            lengths: output_lengths(state),
         }
     }
 
     /// What it counts by this counter.
+    #[inline(always)]
     pub fn part(&self, counter: Counter) -> u8
         ensures { result ≡ part counter self.now }
     {
@@ -81,70 +81,19 @@ impl Counted {
             && self.combined == other.combined
             && self.waiting == other.waiting
     }
-
-    fn of_proc(state: &ProcState) -> Counted
-        ensures value { result ≡ counted (Some (Proc state.now)) }
-        ensures small { IsSmall result }
-    {
-        let [low, comb] = state.got;
-        Counted {
-            issued: u8::from(state.sent),
-            answered: u8::from(low.is_some()) + u8::from(comb.is_some()),
-            waiting: u8::from(state.out.is_some()),
-            ..Counted::nothing()
-        }
-    }
-
-    fn of_module(state: &ModuleState) -> Counted
-        ensures value { result ≡ counted (Some (Module state.now)) }
-        ensures small { IsSmall result }
-    {
-        Counted {
-            served: u8::from(state.served),
-            waiting: in_queues(&state.requests) + in_queues(&state.replies),
-            ..Counted::nothing()
-        }
-    }
-
-    fn of_low(state: &LowState) -> Counted
-        ensures value { result ≡ counted (Some (Low state.now)) }
-        ensures small { IsSmall result }
-    {
-        Counted::of_switch(0, &state.fwd, &state.rev)
-    }
-
-    fn of_comb(state: &CombState) -> Counted
-        ensures value { result ≡ counted (Some (Comb state.now)) }
-        ensures small { IsSmall result }
-    {
-        Counted::of_switch(state.combined, &state.fwd, &state.rev)
-    }
-
-    fn of_switch(combined: u8, fwd: &[Queue<Request>; 2], rev: &[Queue<Reply>; 2]) -> Counted
-        ensures value { result ≡ record nothing { combined = combined; waiting = in_queues fwd.now + in_queues rev.now; lengths = Some (lengths fwd.now) } }
-        ensures small { IsSmall result }
-    {
-        Counted {
-            combined,
-            waiting: in_queues(fwd) + in_queues(rev),
-            lengths: Some(lengths_of(fwd)),
-            ..Counted::nothing()
-        }
-    }
 }
 
-fn length_of<T>(queue: &Queue<T>) -> u8
-    ensures value { result ≡ length queue.now.items }
-    ensures within { result ≤ 16 }
+/// The lengths of the output queues of a switch.
+#[inline(always)]
+fn output_lengths(state: &MachineState) -> Option<[u8; 2]>
+    ensures value { result ≡ output_lengths (Some state.now) }
+    ensures short { AreShort result }
 {
-    queue.len() as u8
-}
-
-fn in_queues<T>(queues: &[Queue<T>; 2]) -> u8
-    ensures value { result ≡ in_queues queues.now }
-    ensures within { result ≤ 32 }
-{
-    length_of(&queues[0]) + length_of(&queues[1])
+    match state {
+        MachineState::Low(state) => Some(lengths_of(&state.fwd)),
+        MachineState::Comb(state) => Some(lengths_of(&state.fwd)),
+        MachineState::Proc(_) | MachineState::Module(_) => None,
+    }
 }
 
 fn lengths_of<T>(queues: &[Queue<T>; 2]) -> [u8; 2]
@@ -153,4 +102,97 @@ fn lengths_of<T>(queues: &[Queue<T>; 2]) -> [u8; 2]
     ensures second { slice_index result 1 < profile_lengths }
 {
     [length_of(&queues[0]), length_of(&queues[1])]
+}
+
+/// A total for each counter.
+#[derive(Clone, Copy, PartialEq, Eq, Debug)]
+pub struct Tally {
+    pub issued: u64,
+    pub answered: u64,
+    pub served: u64,
+    pub combined: u64,
+    pub waiting: u64,
+}
+
+impl Tally {
+    ghost use Rattle.monitor_sums.specs.Counts.{none, tallied};
+
+    /// Nothing counted.
+    pub fn zero() -> Tally
+        ensures { result ≡ none }
+    {
+        Tally {
+            issued: 0,
+            answered: 0,
+            served: 0,
+            combined: 0,
+            waiting: 0,
+        }
+    }
+
+    /// The total of a counter.
+    #[inline(always)]
+    pub fn of(&self, counter: Counter) -> u64
+        ensures { result ≡ tallied counter self.now }
+    {
+        let Tally {
+            issued,
+            answered,
+            served,
+            combined,
+            waiting,
+        } = *self;
+        match counter {
+            Counter::Issued => issued,
+            Counter::Answered => answered,
+            Counter::Served => served,
+            Counter::Combined => combined,
+            Counter::Waiting => waiting,
+        }
+    }
+
+    /// The totals where so many of the cells that they are over, which each counted `old`, count
+    /// something else.
+    pub fn moved(&self, old: &Counted, new: &Counted, cells: u32) -> Tally
+        requires few { cells ≤ 32 }
+        requires held { (counter : CounterIs) → part counter old.now * cells ≤ tallied counter self.now }
+        requires room { (counter : CounterIs) → tallied counter self.now < 2 ^ 32 }
+        ensures { (counter : CounterIs) → tallied counter result + part counter old.now * cells ≡ tallied counter self.now + part counter new.now * cells }
+    {
+        Tally {
+            issued: self.moved_by(Counter::Issued, old, new, cells),
+            answered: self.moved_by(Counter::Answered, old, new, cells),
+            served: self.moved_by(Counter::Served, old, new, cells),
+            combined: self.moved_by(Counter::Combined, old, new, cells),
+            waiting: self.moved_by(Counter::Waiting, old, new, cells),
+        }
+    }
+
+    /// The total of a counter there.
+    #[inline(always)]
+    fn moved_by(&self, counter: Counter, old: &Counted, new: &Counted, cells: u32) -> u64
+        requires few { cells ≤ 32 }
+        requires held { (counter : CounterIs) → part counter old.now * cells ≤ tallied counter self.now }
+        requires room { (counter : CounterIs) → tallied counter self.now < 2 ^ 32 }
+        ensures { result + part counter old.now * cells ≡ tallied counter self.now + part counter new.now * cells }
+    {
+        moved(
+            self.of(counter),
+            old.part(counter),
+            new.part(counter),
+            cells,
+        )
+    }
+}
+
+/// A total where so many of its parts were `old` and are `new`.
+fn moved(total: u64, old: u8, new: u8, parts: u32) -> u64
+    requires few { parts ≤ 32 }
+    requires held { old * parts ≤ total }
+    requires room { total < 2 ^ 32 }
+    ensures { result + old * parts ≡ total + new * parts }
+{
+    let was = u64::from(old) * u64::from(parts);
+    let is = u64::from(new) * u64::from(parts);
+    total - was + is
 }

@@ -1,8 +1,10 @@
 //! What is counted.
-ghost use Rattle.std.specs.Prelude.{◌≡◌, Some, IfSome, bytes_eq};
+ghost use Rattle.std.specs.Prelude.{◌≡◌, ◌≤◌, Some, IfSome, bytes_eq, length};
 ghost use Rattle.monitor_sums.specs.declared.counter.Counter.{Counter};
-ghost use Rattle.monitor_sums.specs.Names.{counter_name, counter_named};
+ghost use Rattle.monitor_sums.specs.Counts.{answered, combined, count_in, counter_name, counter_named, in_queues, issued, served, waiting};
 
+use machine_cells::MachineState;
+use omega_net::Queue;
 use std::fmt;
 
 /// What a cell counts. It prints as its name.
@@ -60,6 +62,20 @@ impl Counter {
             .find(|counter| counter.has_name(word))
             .copied()
     }
+
+    /// What a component in this state counts.
+    #[inline(always)]
+    pub fn count_in(self, state: &MachineState) -> u8
+        ensures { result ≡ count_in self state.now }
+    {
+        match self {
+            Counter::Issued => issued(state),
+            Counter::Answered => answered(state),
+            Counter::Served => served(state),
+            Counter::Combined => combined(state),
+            Counter::Waiting => waiting(state),
+        }
+    }
 }
 
 impl fmt::Display for Counter {
@@ -68,4 +84,74 @@ impl fmt::Display for Counter {
     fn fmt<W: fmt::Write>(&self, f: &mut fmt::Formatter<W>) -> fmt::Result {
         f.write_str(self.name())
     }
+}
+
+#[inline(always)]
+fn issued(state: &MachineState) -> u8
+    ensures { result ≡ issued state.now }
+{
+    match state {
+        MachineState::Proc(state) => u8::from(state.sent),
+        MachineState::Module(_) | MachineState::Low(_) | MachineState::Comb(_) => 0,
+    }
+}
+
+#[inline(always)]
+fn answered(state: &MachineState) -> u8
+    ensures { result ≡ answered state.now }
+{
+    match state {
+        MachineState::Proc(state) => {
+            let [low, comb] = state.got;
+            u8::from(low.is_some()) + u8::from(comb.is_some())
+        }
+        MachineState::Module(_) | MachineState::Low(_) | MachineState::Comb(_) => 0,
+    }
+}
+
+#[inline(always)]
+fn served(state: &MachineState) -> u8
+    ensures { result ≡ served state.now }
+{
+    match state {
+        MachineState::Module(state) => u8::from(state.served),
+        MachineState::Proc(_) | MachineState::Low(_) | MachineState::Comb(_) => 0,
+    }
+}
+
+#[inline(always)]
+fn combined(state: &MachineState) -> u8
+    ensures { result ≡ combined state.now }
+{
+    match state {
+        MachineState::Comb(state) => state.combined,
+        MachineState::Proc(_) | MachineState::Module(_) | MachineState::Low(_) => 0,
+    }
+}
+
+#[inline(always)]
+fn waiting(state: &MachineState) -> u8
+    ensures { result ≡ waiting state.now }
+{
+    match state {
+        MachineState::Proc(state) => u8::from(state.out.is_some()),
+        MachineState::Module(state) => in_queues(&state.requests) + in_queues(&state.replies),
+        MachineState::Low(state) => in_queues(&state.fwd) + in_queues(&state.rev),
+        MachineState::Comb(state) => in_queues(&state.fwd) + in_queues(&state.rev),
+    }
+}
+
+fn in_queues<T>(queues: &[Queue<T>; 2]) -> u8
+    ensures value { result ≡ in_queues queues.now }
+    ensures within { result ≤ 32 }
+{
+    length_of(&queues[0]) + length_of(&queues[1])
+}
+
+/// The length of a queue.
+pub(crate) fn length_of<T>(queue: &Queue<T>) -> u8
+    ensures value { result ≡ length queue.now.items }
+    ensures within { result ≤ 16 }
+{
+    queue.len() as u8
 }

@@ -1,6 +1,7 @@
 //! What one component counts, by cycle.
 ghost use Rattle.std.specs.Prelude.{◌≡◌, ℕ, ◌<◌, ◌≤◌, [], IfOk, length, vec_capacity, slice_index_or, ◌==◌, ◌&&◌, nat_le, nat_lt, ◌+◌, if◌then◌else◌};
-ghost use Rattle.monitor_sums.specs.Kept.{blank, nothing};
+ghost use Rattle.monitor_sums.specs.Counts.{nothing};
+ghost use Rattle.monitor_sums.specs.Kept.{blank};
 
 use crate::counted::Counted;
 use grid_law::NoMemory;

@@ -2,9 +2,8 @@
 ghost use Rattle.std.specs.Prelude.{◌≡◌, ℕ, ◌+◌, ◌*◌, ◌<◌, ◌≤◌, ◌^◌, ◌==◌, length, slice_index, slice_index_or, vec_len, []};
 ghost use Rattle.omega_net.specs.declared.component.Net.{Net as NetIs};
 ghost use Rattle.omega_net.specs.Numbers.{components};
-ghost use Rattle.monitor_sums.specs.Counts.{one};
+ghost use Rattle.monitor_sums.specs.Counts.{one, AreShort};
 ghost use Rattle.monitor_sums.specs.Sums.{of_length, in_profile};
-ghost use Rattle.monitor_sums.specs.Parts.{AreShort};
 ghost use Rattle.monitor_sums.specs.Whole.{profile_place, profile_at};
 ghost use Rattle.monitor_sums.specs.Limits.{profile_lengths};
 

@@ -3,19 +3,18 @@ ghost use Rattle.std.specs.Prelude.{◌≡◌, ℕ, ◌+◌, ◌-◌, ◌*◌, �
 ghost use Rattle.std.specs.Option.{ForSome, option_copied};
 ghost use Rattle.omega_net.specs.Numbers.{components};
 ghost use Rattle.monitor_sums.specs.Sums.{States, sum_of, total_of, profile_of, changed, filled, cleared, NonePast};
-ghost use Rattle.monitor_sums.specs.Kept.{StandsFor, blank, kept_at, nothing};
+ghost use Rattle.monitor_sums.specs.Kept.{StandsFor, blank, kept_at};
 ghost use Rattle.monitor_sums.specs.Adding.{sum_below};
 ghost use Rattle.monitor_sums.specs.declared.counter.Counter.{Counter as CounterIs};
-ghost use Rattle.monitor_sums.specs.Parts.{part, tallied, IsSmall};
+ghost use Rattle.monitor_sums.specs.Counts.{nothing, part, tallied, IsSmall};
 ghost use Rattle.monitor_sums.specs.Whole.{tally_at, block_place, block_end, counted_before, counted_in};
 ghost use Rattle.project_book.specs.Limits.{max_horizon};
 ghost use Rattle.monitor_sums.specs.Limits.{max_components, profile_lengths, blocks};
 
 use crate::Counter;
-use crate::counted::Counted;
+use crate::counted::{Counted, Tally};
 use crate::counts::Counts;
 use crate::profile::{LENGTHS, Profile, move_lengths, place_of as profile_place, profile_at};
-use crate::tally::Tally;
 use grid_law::NoMemory;
 use machine_cells::MachineState;
 use omega_net::{Net, Shape};

@@ -6,7 +6,7 @@ use Rattle.omega_net.specs.declared.component.Net.TheVariants.{Low, Comb}
 use Rattle.omega_net.specs.Numbers.{component_of, components}
 use Rattle.omega_net.specs.Wires.{below}
 use Rattle.monitor_sums.specs.declared.counter.Counter.{Counter}
-use Rattle.monitor_sums.specs.Names.{counter_name, counters}
+use Rattle.monitor_sums.specs.Counts.{counter_name, counters}
 use Rattle.run_reports.specs.declared.gauge.Gauge.{Gauge}
 use Rattle.run_reports.specs.declared.gauge.Gauge.TheVariants.{Counted, CountedAt, Length, Held, Busy}
 use Rattle.run_reports.specs.FullQueues.{queues}

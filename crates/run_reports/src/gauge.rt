@@ -2,7 +2,7 @@
 ghost use Rattle.std.specs.Prelude.{◌≡◌, ◌≤◌, ◌+◌, length, nat_lt, slice_get, Some};
 ghost use Rattle.std.specs.Option.{option_copied};
 ghost use Rattle.monitor_sums.specs.Adding.{sum_below};
-ghost use Rattle.monitor_sums.specs.Counts.{count, count_in, in_queues, one, output_lengths, waiting};
+ghost use Rattle.monitor_sums.specs.Counts.{count, in_queues, one, output_lengths};
 ghost use Rattle.monitor_sums.specs.Sums.{is_in_stage};
 ghost use Rattle.omega_net.specs.Numbers.{components};
 ghost use Rattle.omega_net.specs.Ports.{queue_at};
@@ -78,41 +78,12 @@ fn queue_length(part: Part, state: &MachineState) -> u8
     }
 }
 
-/// The requests and replies that wait in a component's queues.
-fn waiting(state: &MachineState) -> u8
-    ensures { result ≡ waiting state.now }
-{
-    match state {
-        MachineState::Proc(s) => u8::from(s.out.is_some()),
-        MachineState::Module(s) => in_queues(&s.requests) + in_queues(&s.replies),
-        MachineState::Low(s) => in_queues(&s.fwd) + in_queues(&s.rev),
-        MachineState::Comb(s) => in_queues(&s.fwd) + in_queues(&s.rev),
-    }
-}
-
-/// What a component counts in its state.
-fn count_in(counter: Counter, state: &MachineState) -> u8
-    ensures { result ≡ count_in counter state.now }
-{
-    match (counter, state) {
-        (Counter::Issued, MachineState::Proc(s)) => u8::from(s.sent),
-        (Counter::Answered, MachineState::Proc(s)) => {
-            let [low, comb] = s.got;
-            u8::from(low.is_some()) + u8::from(comb.is_some())
-        }
-        (Counter::Served, MachineState::Module(s)) => u8::from(s.served),
-        (Counter::Combined, MachineState::Comb(s)) => s.combined,
-        (Counter::Waiting, state) => waiting(state),
-        (Counter::Issued | Counter::Answered | Counter::Served | Counter::Combined, _) => 0,
-    }
-}
-
 /// What the component of a number counts.
 fn count_at(counter: Counter, states: &[MachineState], place: u32) -> u8
     ensures { result ≡ count counter (slice_get states.now place) }
 {
     match states.get(place as usize) {
-        Some(state) => count_in(counter, state),
+        Some(state) => counter.count_in(state),
         None => 0,
     }
 }

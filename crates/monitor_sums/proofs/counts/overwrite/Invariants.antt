@@ -1,6 +1,6 @@
 use Rattle.std.proofs.Common.{◌≡◌, ℕ, length, vec_capacity, cond}
 use Rattle.std.specs.Prelude.{slice_index_or, nat_le, nat_lt, ◌&&◌}
-use Rattle.monitor_sums.specs.Kept.{nothing}
+use Rattle.monitor_sums.specs.Counts.{nothing}
 use Rattle.monitor_sums.proofs.counts.overwrite.Given as goal
 
 abbrev pub invariant-loop-cycle : goal.invariant-loop-cycle

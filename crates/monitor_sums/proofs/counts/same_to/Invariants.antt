@@ -1,6 +1,6 @@
 use Rattle.std.proofs.Common.{◌≡◌, ℕ, ◌-◌, ◌<◌, ◌≤◌}
 use Rattle.std.specs.Prelude.{slice_index_or}
-use Rattle.monitor_sums.specs.Kept.{nothing}
+use Rattle.monitor_sums.specs.Counts.{nothing}
 use Rattle.monitor_sums.proofs.counts.same_to.Given as goal
 
 abbrev pub decreases-loop-next : goal.decreases-loop-next

@@ -1,7 +1,7 @@
 use Rattle.std.proofs.Common.{◌≡◌, ◌+◌, ◌-◌, ◌*◌, ◌≤◌}
 use Rattle.project_book.specs.Limits.{max_horizon}
 use Rattle.monitor_sums.specs.Adding.{sum_below}
-use Rattle.monitor_sums.specs.Parts.{part}
+use Rattle.monitor_sums.specs.Counts.{part}
 use Rattle.monitor_sums.specs.Kept.{kept_at}
 use Rattle.monitor_sums.proofs.sums.sum_all.Given as goal
 

@@ -1,6 +1,6 @@
 use Rattle.std.proofs.Common.{◌≡◌, ◌+◌, ◌-◌, ap, sym, arith}
 use Rattle.monitor_sums.specs.Adding.{sum_below}
-use Rattle.monitor_sums.specs.Parts.{part}
+use Rattle.monitor_sums.specs.Counts.{part}
 use Rattle.monitor_sums.specs.Kept.{kept_at}
 use Rattle.monitor_sums.proofs.Over.{cycles_none, cycles_more}
 use Rattle.monitor_sums.proofs.sums.sum_at.Goals as goal

@@ -2,8 +2,8 @@ use Rattle.std.proofs.Common.{rules, tests, ◌∙◌, sym, ap}
 use Rattle.std.specs.Prelude.{bytes_eq}
 use Rattle.std.proofs.lemmas.Iterator.{YieldsList-from_slice}
 use Rattle.std.proofs.lemmas.Iterator.Search.{find_from_yields_List}
-use Rattle.monitor_sums.specs.Names.{counter_name, counter_named, counters}
-use Rattle.monitor_sums.proofs.Named.{name_read}
+use Rattle.monitor_sums.specs.Counts.{counter_name, counter_named, counters}
+use Rattle.monitor_sums.proofs.Counters.{name_read}
 use Rattle.monitor_sums.proofs.counter.Counter.from_name.Goals as goal
 
 pub returns-clause-counter : goal.returns-clause-counter

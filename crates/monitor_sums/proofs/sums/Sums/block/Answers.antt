@@ -2,7 +2,7 @@ use Rattle.std.proofs.Common.{◌≡◌, ◌<◌, ◌^◌, ◌∙◌, ap, subst,
 use Rattle.omega_net.specs.Numbers.{components}
 use Rattle.monitor_sums.specs.Limits.{blocks}
 use Rattle.monitor_sums.specs.Kept.{Kept}
-use Rattle.monitor_sums.specs.Parts.{tallied}
+use Rattle.monitor_sums.specs.Counts.{tallied}
 use Rattle.monitor_sums.specs.Whole.{tally_at}
 use Rattle.monitor_sums.proofs.Putting.{place_in_own, room_own, room_all}
 use Rattle.monitor_sums.proofs.sums.Sums.block.Goals as goal

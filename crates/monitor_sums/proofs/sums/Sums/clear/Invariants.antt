@@ -1,7 +1,8 @@
 use Rattle.std.proofs.Common.{◌≡◌, ℕ, ◌<◌, ◌≤◌, cond}
 use Rattle.std.specs.Prelude.{◌&&◌, nat_le, nat_lt}
 use Rattle.omega_net.specs.Numbers.{components}
-use Rattle.monitor_sums.specs.Kept.{kept_at, nothing}
+use Rattle.monitor_sums.specs.Counts.{nothing}
+use Rattle.monitor_sums.specs.Kept.{kept_at}
 use Rattle.monitor_sums.proofs.sums.Sums.clear.Given as goal
 
 abbrev pub invariant-loop-cycle : goal.invariant-loop-cycle

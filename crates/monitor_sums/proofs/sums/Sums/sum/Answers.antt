@@ -1,5 +1,5 @@
 use Rattle.std.proofs.Common.{◌≡◌, ◌+◌, ◌∙◌, ap, sym, arith}
-use Rattle.monitor_sums.specs.Parts.{part}
+use Rattle.monitor_sums.specs.Counts.{part}
 use Rattle.monitor_sums.specs.Kept.{kept_at}
 use Rattle.monitor_sums.specs.Whole.{counted_before}
 use Rattle.monitor_sums.proofs.Over.{before_none, before_split}

@@ -1,7 +1,7 @@
 use Rattle.std.proofs.Common.{◌≡◌, ◌+◌, ◌*◌, ◌<◌, ◌∙◌, ap, sym, arith}
 use Rattle.std.specs.Prelude.{min}
 use Rattle.monitor_sums.specs.Limits.{blocks}
-use Rattle.monitor_sums.specs.Parts.{part}
+use Rattle.monitor_sums.specs.Counts.{part}
 use Rattle.monitor_sums.specs.Kept.{Kept, kept_at}
 use Rattle.monitor_sums.specs.Whole.{counted_before, block_end}
 use Rattle.monitor_sums.proofs.Over.{before_none, before_split}
