@@ -1,7 +1,7 @@
 -- How a combining switch prints.
 use Rattle.std.specs.Prelude.{ℕ, List, ◌++◌, Option, Some, codes, decimal, slice_index}
 use Rattle.std.specs.Fmt.{◌++?◌}
-use Rattle.word_ops.specs.Names.{op_text}
+use Rattle.word_ops.specs.Words.{op_text}
 use Rattle.omega_net.specs.Ports.{queue_at}
 use Rattle.omega_net.specs.Texts.{listed_text, tag_text, request_text, reply_text}
 use Rattle.comb_switch.specs.declared.waiting.Waiting.{Waiting}

@@ -2,7 +2,7 @@
 use Rattle.std.specs.Prelude.{ℕ, List, [], ◌∷◌, ◌++◌, Option, Some, codes, decimal}
 use Rattle.std.specs.Fmt.{◌++?◌}
 use Rattle.page_map.specs.declared.place.Place.{Place}
-use Rattle.word_ops.specs.Names.{op_text}
+use Rattle.word_ops.specs.Words.{op_text}
 use Rattle.omega_net.specs.declared.component.Net.{Net}
 use Rattle.omega_net.specs.declared.component.Net.TheVariants.{Low, Comb}
 use Rattle.omega_net.specs.declared.component.Component.{Component}

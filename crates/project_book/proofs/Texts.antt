@@ -2,7 +2,7 @@
 use Rattle.std.proofs.Common.{◌≡◌, ℕ, ◌^◌, ◌<◌, ◌≤◌, ◌==◌, Bool, true, false, not, cond, List, [], ◌∷◌, ◌++◌, filter, length, Some, codes, arith, rules, refl, ap, sym, ◌∙◌, lt-ltb}
 use Rattle.std.specs.Fmt.{decimal}
 use Rattle.std.specs.List.{list_all, slice_split}
-use Rattle.std.specs.Char.{is_ascii_digit}
+use Rattle.std.specs.Char.{is_ascii_digit, is_ascii_graphic}
 use Rattle.std.specs.Option.{option_map}
 use Rattle.std.proofs.lemmas.Bool.{and_parts, and_from, not-true, le-leb, eqb-true}
 use Rattle.std.proofs.lemmas.Bool.Decides.{nat_tests}
@@ -13,9 +13,9 @@ use mathlib.Core.List.{append_assoc}
 use Rattle.line_words.specs.Words.{is_separator, is_nonempty, words_of}
 use Rattle.line_words.specs.Numbers.{value_after, is_number, number_of}
 use Rattle.word_ops.specs.declared.kind.Kind.{Kind}
-use Rattle.word_ops.specs.declared.kind.Kind.TheVariants.{Load, Add, And, Or, Min, Max, Store, StoreIfZero}
 use Rattle.word_ops.specs.declared.op.Op.{Op}
-use Rattle.word_ops.specs.Names.{kind_name, kind_named}
+use Rattle.word_ops.specs.Words.{kind_name, kind_named}
+use Rattle.word_ops.proofs.Known.{known}
 use Rattle.omega_net.specs.declared.script.ScriptEntry.{ScriptEntry}
 use Rattle.omega_net.specs.declared.script.ScriptEntry.TheVariants.{Reference, Until, Fence, Idle}
 use Rattle.project_book.specs.Limits.{usual_tries}
@@ -55,25 +55,18 @@ first_word w rest h =
 last_word : (w : List ℕ) → IsWord w → words_of w ≡ w ∷ []
 last_word w h = ap (filter is_nonempty) (split_last w h.plain) ∙ kept w [] h.some
 
-word_kind : (kind : Kind) → IsWord (kind_name kind)
-word_kind Load = record { some = omega arith; plain = refl }
-word_kind Add = record { some = omega arith; plain = refl }
-word_kind And = record { some = omega arith; plain = refl }
-word_kind Or = record { some = omega arith; plain = refl }
-word_kind Min = record { some = omega arith; plain = refl }
-word_kind Max = record { some = omega arith; plain = refl }
-word_kind Store = record { some = omega arith; plain = refl }
-word_kind StoreIfZero = record { some = omega arith; plain = refl }
+-- what is seen is no separator
+plain_byte : (b : ℕ) → is_ascii_graphic b ≡ true → not (is_separator b) ≡ true
+plain_byte b e = grind (arith, nat_tests)
 
-name_read : (kind : Kind) → kind_named (kind_name kind) ≡ Some kind
-name_read Load = refl
-name_read Add = refl
-name_read And = refl
-name_read Or = refl
-name_read Min = refl
-name_read Max = refl
-name_read Store = refl
-name_read StoreIfZero = refl
+plain_seen : (w : List ℕ) → list_all is_ascii_graphic w ≡ true → is_plain w ≡ true
+plain_seen [] e = refl
+plain_seen (b ∷ w) e =
+    let parts = and_parts (is_ascii_graphic b) (list_all is_ascii_graphic w) e in
+    and_from (not (is_separator b)) (is_plain w) (plain_byte b parts.0) (plain_seen w parts.1)
+
+word_kind : (kind : Kind) → IsWord (kind_name kind)
+word_kind kind = record { some = (known kind).some; plain = plain_seen (kind_name kind) ((known kind).seen) }
 
 -- decimal digits
 own : IsNumeralModel (λ ds. list_all is_ascii_digit ds ≡ true) (value_after 0)
@@ -127,7 +120,7 @@ behind_read sync op a times hv ha ht =
     let last = reads_times 1 op.operand times hv ht in
     let address = first_word (decimal a) (decimal op.operand ++ times_text 1 times) (word_decimal a ha) in
     let kind = first_word (kind_name op.kind) (decimal a ++ 32 ∷ (decimal op.operand ++ times_text 1 times)) (word_kind op.kind) in
-    rw (kind, address, last.are) (reference_read sync op.kind a op.operand times (kind_name op.kind) (decimal a) (decimal op.operand) last.more (name_read op.kind) (number_decimal a ha) (number_decimal op.operand hv) last.read)
+    rw (kind, address, last.are) (reference_read sync op.kind a op.operand times (kind_name op.kind) (decimal a) (decimal op.operand) last.more ((known op.kind).named) (number_decimal a ha) (number_decimal op.operand hv) last.read)
 
 network_read : (sync : Bool) → network_named (network_name sync) ≡ Some sync
 network_read true = refl
@@ -149,7 +142,7 @@ until_read sync op a w times hv ha hw ht =
     let address = first_word (decimal a) (decimal op.operand ++ 32 ∷ (decimal w ++ times_text usual_tries times)) (word_decimal a ha) in
     let kind = first_word (kind_name op.kind) (decimal a ++ 32 ∷ (decimal op.operand ++ 32 ∷ (decimal w ++ times_text usual_tries times))) (word_kind op.kind) in
     let network = first_word (network_name sync) (kind_name op.kind ++ 32 ∷ (decimal a ++ 32 ∷ (decimal op.operand ++ 32 ∷ (decimal w ++ times_text usual_tries times)))) (word_network sync) in
-    rw (network, kind, address, operand, last.are) (until_reads sync op.kind a op.operand w times (network_name sync) (kind_name op.kind) (decimal a) (decimal op.operand) (decimal w) last.more (network_read sync) (name_read op.kind) (number_decimal a ha) (number_decimal op.operand hv) (number_decimal w hw) last.read)
+    rw (network, kind, address, operand, last.are) (until_reads sync op.kind a op.operand w times (network_name sync) (kind_name op.kind) (decimal a) (decimal op.operand) (decimal w) last.more (network_read sync) ((known op.kind).named) (number_decimal a ha) (number_decimal op.operand hv) (number_decimal w hw) last.read)
 
 regroup_until : (u n k a v w t : List ℕ) → (((((((((u ++ 32 ∷ []) ++ n) ++ 32 ∷ []) ++ k) ++ 32 ∷ []) ++ a) ++ 32 ∷ []) ++ v) ++ 32 ∷ []) ++ w ++ t ≡ u ++ 32 ∷ (n ++ 32 ∷ (k ++ 32 ∷ (a ++ 32 ∷ (v ++ 32 ∷ (w ++ t)))))
 regroup_until u n k a v w t = simp append_assoc

@@ -4,7 +4,7 @@ use Rattle.std.specs.Fmt.{decimal}
 use Rattle.std.specs.Option.{option_map}
 use Rattle.line_words.specs.Numbers.{number_of}
 use Rattle.project_book.specs.Limits.{usual_tries}
-use Rattle.word_ops.specs.Names.{kind_name, kind_named}
+use Rattle.word_ops.specs.Words.{kind_name, kind_named}
 use Rattle.omega_net.specs.declared.script.ScriptEntry.{ScriptEntry}
 use Rattle.omega_net.specs.declared.script.ScriptEntry.TheVariants.{Reference, Until, Fence, Idle}
 

@@ -4,7 +4,7 @@ use Rattle.std.specs.Option.{option_map}
 use Rattle.toml.specs.Data.{Data, Members, as_str, as_table}
 use Rattle.line_words.specs.Words.{words_of}
 use Rattle.line_words.specs.Numbers.{number_of}
-use Rattle.word_ops.specs.Names.{kind_named}
+use Rattle.word_ops.specs.Words.{kind_named}
 use Rattle.omega_net.specs.declared.script.ScriptEntry.{ScriptEntry}
 use Rattle.omega_net.specs.declared.script.ScriptEntry.TheVariants.{Reference}
 use Rattle.page_map.specs.Limits.{address_count}

@@ -2,6 +2,7 @@
 use Rattle.std.proofs.Common.{◌≡◌, ℕ, ◌+◌, ◌*◌, ◌/◌, ◌%◌, ◌^◌, ◌<◌, ◌≤◌, false, cond, List, [], ◌∷◌, refl, ap, ◌∙◌, Option, Some, None, is_some, arith, nat_eq, All}
 use Rattle.std.proofs.lemmas.List.Elements.{All-nil, All-cons, All-head, All-tail}
 use Rattle.arrayvec.specs.ArrayVec.{ArrayVec}
+use Rattle.word_ops.proofs.Known.{known}
 use Rattle.omega_net.specs.declared.message.Request.{Request}
 use Rattle.omega_net.specs.declared.message.Reply.{Reply}
 use Rattle.omega_net.specs.Wires.{net_number}
@@ -17,7 +18,7 @@ use Rattle.state_words.specs.Messages.{request_first, request_second, out_first,
 use Rattle.state_words.specs.Words.{one_if, queues_head, bytes, queues_words, option_words, proc_head, proc_body, module_head, module_body, low_head, low_body, comb_head, comb_body, length_of}
 use Rattle.state_words.specs.Fits.{IsRequest, IsReply, IsOutgoing, IsWaiting, AreQueues, IfThere, IsProc, IsModule, IsLow, IsComb}
 use Rattle.state_words.specs.Laws.{ProcsAreTold, ModulesAreTold, LowsAreTold, CombsAreTold, ProcsAreWords, ModulesAreWords, LowsAreWords, CombsAreWords}
-use Rattle.state_words.proofs.Telling.{IsHead, IsProcHead, kind_small, net_small, one_small}
+use Rattle.state_words.proofs.Telling.{IsHead, IsProcHead, net_small, one_small}
 use Rattle.state_words.proofs.Measuring.{proc_long, module_long, low_long, comb_long}
 use Rattle.state_words.proofs.Stating.{proc_with, module_with, low_with, comb_with, module_head_is, low_head_is, comb_head_is, proc_head_is}
 
@@ -48,10 +49,10 @@ request_first_fits : (r : Request) → IsRequest r → request_first r < 2 ^ 64
 request_first_fits r h = quarters_fit r.tag.proc r.place.«module» r.place.row r.op.operand h.tag.proc h.«module» h.row h.operand
 
 request_second_fits : (r : Request) → IsRequest r → request_second r < 2 ^ 64
-request_second_fits r h = omega (arith, h.tag.issue, kind_small r.op.kind)
+request_second_fits r h = omega (arith, h.tag.issue, (known r.op.kind).small)
 
 out_second_fits : (o : Outgoing) → IsOutgoing o → out_second o < 2 ^ 64
-out_second_fits o h = omega (arith, h.request.tag.issue, kind_small o.request.op.kind, net_small o.net)
+out_second_fits o h = omega (arith, h.request.tag.issue, (known o.request.op.kind).small, net_small o.net)
 
 reply_first_fits : (r : Reply) → IsReply r → reply_first r < 2 ^ 64
 reply_first_fits r h = halves_fit r.tag.issue r.word h.tag.issue h.word
@@ -63,7 +64,7 @@ wait_first_fits : (w : Waiting) → IsWaiting w → wait_first w < 2 ^ 64
 wait_first_fits w h = halves_fit w.first.issue w.op.operand h.first.issue h.operand
 
 wait_second_fits : (w : Waiting) → IsWaiting w → wait_second w < 2 ^ 64
-wait_second_fits w h = omega (arith, h.second.issue, h.first.proc, h.second.proc, kind_small w.op.kind)
+wait_second_fits w h = omega (arith, h.second.issue, h.first.proc, h.second.proc, (known w.op.kind).small)
 
 messages_fit : {T : Type 0} (first second : T → ℕ) (Is : T → Type 0) → ((m : T) → Is m → first m < 2 ^ 64) → ((m : T) → Is m → second m < 2 ^ 64)
     → (ms : List T) (rest : List ℕ) → All Is ms → All IsWord rest → All IsWord (message_words first second ms rest)

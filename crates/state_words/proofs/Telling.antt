@@ -1,8 +1,7 @@
 -- Fields are read out of the words that they were written in.
 use Rattle.std.proofs.Common.{◌≡◌, ℕ, ◌+◌, ◌*◌, ◌/◌, ◌%◌, ◌^◌, ◌<◌, ◌≤◌, min, Bool, true, false, refl, ap, ◌∙◌, arith, nat_eq}
-use Rattle.word_ops.specs.declared.kind.Kind.{Kind}
-use Rattle.word_ops.specs.declared.kind.Kind.TheVariants.{Load, Add, And, Or, Min, Max, Store, StoreIfZero}
-use Rattle.word_ops.specs.Words.{kind_number}
+use Rattle.word_ops.specs.Words.{kind_bits, kind_number}
+use Rattle.word_ops.proofs.Known.{known}
 use Rattle.omega_net.specs.declared.component.Net.{Net}
 use Rattle.omega_net.specs.declared.component.Net.TheVariants.{Low, Comb}
 use Rattle.omega_net.specs.declared.message.Request.{Request}
@@ -11,30 +10,10 @@ use Rattle.omega_net.specs.Wires.{net_number}
 use Rattle.omega_net.specs.Limits.{queue_places}
 use Rattle.ref_proc.specs.declared.state.Outgoing.{Outgoing}
 use Rattle.comb_switch.specs.declared.waiting.Waiting.{Waiting}
-use Rattle.state_words.specs.Messages.{request_first, request_second, request_from, out_first, out_second, out_from, reply_first, reply_second, reply_from, wait_first, wait_second, wait_from, kind_from, net_from}
+use Rattle.state_words.specs.Messages.{request_first, request_second, request_from, out_first, out_second, out_from, reply_first, reply_second, reply_from, wait_first, wait_second, wait_from, net_from}
 use Rattle.state_words.specs.Words.{one_if, queues_head, bytes}
 use Rattle.state_words.specs.Reading.{count_in, mark_in}
 use Rattle.state_words.specs.Fits.{IsRequest, IsReply, IsOutgoing, IsWaiting}
-
-pub kind_back : (k : Kind) → kind_from (kind_number k) ≡ k
-kind_back Load = refl
-kind_back Add = refl
-kind_back And = refl
-kind_back Or = refl
-kind_back Min = refl
-kind_back Max = refl
-kind_back Store = refl
-kind_back StoreIfZero = refl
-
-pub kind_small : (k : Kind) → kind_number k < 8
-kind_small Load = omega arith
-kind_small Add = omega arith
-kind_small And = omega arith
-kind_small Or = omega arith
-kind_small Min = omega arith
-kind_small Max = omega arith
-kind_small Store = omega arith
-kind_small StoreIfZero = omega arith
 
 pub net_back : (n : Net) → net_from (net_number n) ≡ n
 net_back Low = refl
@@ -72,13 +51,13 @@ half_b : (a b : ℕ) → a < 2 ^ 32 → (a + 2 ^ 32 * b) / 2 ^ 32 ≡ b
 half_b a b h = omega (arith, h)
 
 -- those of the second word of a request on its way out
-second_a : (a k n : ℕ) → a < 2 ^ 32 → (a + 2 ^ 32 * k + 2 ^ 35 * n) % 2 ^ 32 ≡ a
+second_a : (a k n : ℕ) → a < 2 ^ 32 → (a + 2 ^ 32 * k + 2 ^ (32 + kind_bits) * n) % 2 ^ 32 ≡ a
 second_a a k n h = omega (arith, h)
 
-second_b : (a k n : ℕ) → a < 2 ^ 32 → k < 8 → (a + 2 ^ 32 * k + 2 ^ 35 * n) / 2 ^ 32 % 2 ^ 3 ≡ k
+second_b : (a k n : ℕ) → a < 2 ^ 32 → k < 2 ^ kind_bits → (a + 2 ^ 32 * k + 2 ^ (32 + kind_bits) * n) / 2 ^ 32 % 2 ^ kind_bits ≡ k
 second_b a k n h few = omega (arith, h, few)
 
-second_c : (a k n : ℕ) → a < 2 ^ 32 → k < 8 → n < 2 → (a + 2 ^ 32 * k + 2 ^ 35 * n) / 2 ^ 35 % 2 ≡ n
+second_c : (a k n : ℕ) → a < 2 ^ 32 → k < 2 ^ kind_bits → n < 2 → (a + 2 ^ 32 * k + 2 ^ (32 + kind_bits) * n) / 2 ^ (32 + kind_bits) % 2 ≡ n
 second_c a k n h few one = omega (arith, h, few, one)
 
 -- those of a wait entry's
@@ -91,11 +70,11 @@ fourth_b a b c k h hb = omega (arith, h, hb)
 fourth_c : (a b c k : ℕ) → a < 2 ^ 32 → b < 2 ^ 8 → c < 2 ^ 8 → (a + 2 ^ 32 * b + 2 ^ 40 * c + 2 ^ 48 * k) / 2 ^ 40 % 2 ^ 8 ≡ c
 fourth_c a b c k h hb hc = omega (arith, h, hb, hc)
 
-fourth_d : (a b c k : ℕ) → a < 2 ^ 32 → b < 2 ^ 8 → c < 2 ^ 8 → k < 8 → (a + 2 ^ 32 * b + 2 ^ 40 * c + 2 ^ 48 * k) / 2 ^ 48 % 2 ^ 3 ≡ k
+fourth_d : (a b c k : ℕ) → a < 2 ^ 32 → b < 2 ^ 8 → c < 2 ^ 8 → k < 2 ^ kind_bits → (a + 2 ^ 32 * b + 2 ^ 40 * c + 2 ^ 48 * k) / 2 ^ 48 % 2 ^ kind_bits ≡ k
 fourth_d a b c k h hb hc few = omega (arith, h, hb, hc, few)
 
 -- messages
-with_top : (r : Request) (n : ℕ) → IsRequest r → request_from (request_first r) (request_second r + 2 ^ 35 * n) ≡ r
+with_top : (r : Request) (n : ℕ) → IsRequest r → request_from (request_first r) (request_second r + 2 ^ (32 + kind_bits) * n) ≡ r
 with_top r n h =
     let p = r.place in
     rw (
@@ -104,21 +83,21 @@ with_top r n h =
       quarter_c r.tag.proc p.«module» p.row r.op.operand h.tag.proc h.«module» h.row,
       quarter_d r.tag.proc p.«module» p.row r.op.operand h.tag.proc h.«module» h.row,
       second_a r.tag.issue (kind_number r.op.kind) n h.tag.issue,
-      second_b r.tag.issue (kind_number r.op.kind) n h.tag.issue (kind_small r.op.kind),
-      kind_back r.op.kind,
+      second_b r.tag.issue (kind_number r.op.kind) n h.tag.issue ((known r.op.kind).small),
+      (known r.op.kind).numbered,
     ) refl
 
 pub request_back : (r : Request) → IsRequest r → request_from (request_first r) (request_second r) ≡ r
 request_back r h = ap (request_from (request_first r)) (plain (request_second r)) ∙ with_top r 0 h
   where
-    plain : (n : ℕ) → n ≡ n + 2 ^ 35 * 0
+    plain : (n : ℕ) → n ≡ n + 2 ^ (32 + kind_bits) * 0
     plain n = omega arith
 
 pub out_back : (o : Outgoing) → IsOutgoing o → out_from (out_first o) (out_second o) ≡ o
 out_back o h =
     let r = o.request in
     rw (
-      second_c r.tag.issue (kind_number r.op.kind) (net_number o.net) h.request.tag.issue (kind_small r.op.kind) (net_small o.net),
+      second_c r.tag.issue (kind_number r.op.kind) (net_number o.net) h.request.tag.issue ((known r.op.kind).small) (net_small o.net),
       net_back o.net,
       with_top r (net_number o.net) h.request,
     ) refl
@@ -138,8 +117,8 @@ wait_back w h =
       fourth_a w.second.issue w.first.proc w.second.proc k h.second.issue,
       fourth_b w.second.issue w.first.proc w.second.proc k h.second.issue h.first.proc,
       fourth_c w.second.issue w.first.proc w.second.proc k h.second.issue h.first.proc h.second.proc,
-      fourth_d w.second.issue w.first.proc w.second.proc k h.second.issue h.first.proc h.second.proc (kind_small w.op.kind),
-      kind_back w.op.kind,
+      fourth_d w.second.issue w.first.proc w.second.proc k h.second.issue h.first.proc h.second.proc ((known w.op.kind).small),
+      (known w.op.kind).numbered,
     ) refl
 
 -- the fields of a head with lengths

@@ -1,9 +1,7 @@
 -- The two words of a message, and the message that two words are. A field that begins at bit a is 2 ^ a times its number; so of a word w
 -- it is w / 2 ^ a % 2 ^ b, where it has b bits.
 use Rattle.std.specs.Prelude.{ℕ, ◌+◌, ◌*◌, ◌/◌, ◌%◌, ◌^◌, ◌==◌, if◌then◌else◌, List, [], ◌∷◌}
-use Rattle.word_ops.specs.declared.kind.Kind.{Kind}
-use Rattle.word_ops.specs.declared.kind.Kind.TheVariants.{Load, Add, And, Or, Min, Max, Store, StoreIfZero}
-use Rattle.word_ops.specs.Words.{kind_number}
+use Rattle.word_ops.specs.Words.{kind_bits, kind_number, kind_of_number}
 use Rattle.omega_net.specs.declared.component.Net.{Net}
 use Rattle.omega_net.specs.declared.component.Net.TheVariants.{Low, Comb}
 use Rattle.omega_net.specs.declared.message.Request.{Request}
@@ -24,7 +22,7 @@ abbrev pub out_first : Outgoing → ℕ
 out_first o = request_first o.request
 
 abbrev pub out_second : Outgoing → ℕ
-out_second o = request_second o.request + 2 ^ 35 * net_number o.net
+out_second o = request_second o.request + 2 ^ (32 + kind_bits) * net_number o.net
 
 -- a reply: issue and word; then processor
 abbrev pub reply_first : Reply → ℕ
@@ -45,12 +43,7 @@ abbrev pub message_words : {T : Type 0} → (T → ℕ) → (T → ℕ) → List
 message_words first second [] rest = rest
 message_words first second (m ∷ ms) rest = first m ∷ second m ∷ message_words first second ms rest
 
--- the kind of a number, and the network
-abbrev pub kind_from : ℕ → Kind
-kind_from n =
-    if n == 0 then Load else if n == 1 then Add else if n == 2 then And else if n == 3 then Or
-    else if n == 4 then Min else if n == 5 then Max else if n == 6 then Store else StoreIfZero
-
+-- the network of a number
 abbrev pub net_from : ℕ → Net
 net_from n = if n == 0 then Low else Comb
 
@@ -59,11 +52,11 @@ abbrev pub request_from : ℕ → ℕ → Request
 request_from a b = record {
   tag = record { proc = a % 2 ^ 8; issue = b % 2 ^ 32 };
   place = record { «module» = a / 2 ^ 8 % 2 ^ 8; row = a / 2 ^ 16 % 2 ^ 16 };
-  op = record { kind = kind_from (b / 2 ^ 32 % 2 ^ 3); operand = a / 2 ^ 32 };
+  op = record { kind = kind_of_number (b / 2 ^ 32 % 2 ^ kind_bits); operand = a / 2 ^ 32 };
 }
 
 abbrev pub out_from : ℕ → ℕ → Outgoing
-out_from a b = record { net = net_from (b / 2 ^ 35 % 2); request = request_from a b }
+out_from a b = record { net = net_from (b / 2 ^ (32 + kind_bits) % 2); request = request_from a b }
 
 abbrev pub reply_from : ℕ → ℕ → Reply
 reply_from a b = record { tag = record { proc = b % 2 ^ 8; issue = a % 2 ^ 32 }; word = a / 2 ^ 32 }
@@ -71,6 +64,6 @@ reply_from a b = record { tag = record { proc = b % 2 ^ 8; issue = a % 2 ^ 32 };
 abbrev pub wait_from : ℕ → ℕ → Waiting
 wait_from a b = record {
   first = record { proc = b / 2 ^ 32 % 2 ^ 8; issue = a % 2 ^ 32 };
-  op = record { kind = kind_from (b / 2 ^ 48 % 2 ^ 3); operand = a / 2 ^ 32 };
+  op = record { kind = kind_of_number (b / 2 ^ 48 % 2 ^ kind_bits); operand = a / 2 ^ 32 };
   second = record { proc = b / 2 ^ 40 % 2 ^ 8; issue = b % 2 ^ 32 };
 }

@@ -1,11 +1,9 @@
 //! The fields of a word.
 ghost use Rattle.std.specs.Prelude.{◌≡◌, ◌<◌, ◌/◌, ◌%◌, ◌^◌};
-ghost use Rattle.word_ops.specs.Words.{kind_number};
 ghost use Rattle.omega_net.specs.Wires.{net_number};
-ghost use Rattle.state_words.specs.Messages.{kind_from, net_from};
+ghost use Rattle.state_words.specs.Messages.{net_from};
 
 use omega_net::Net;
-use word_ops::Kind;
 
 /// The lowest 8 bits.
 pub(crate) fn byte(word: u64) -> u8
@@ -33,38 +31,6 @@ pub(crate) fn high(word: u64) -> u32
     ensures { result ≡ word / 2 ^ 32 }
 {
     (word >> 32) as u32
-}
-
-/// The number of a kind.
-pub(crate) fn kind_number(kind: Kind) -> u64
-    ensures { result ≡ kind_number kind }
-{
-    match kind {
-        Kind::Load => 0,
-        Kind::Add => 1,
-        Kind::And => 2,
-        Kind::Or => 3,
-        Kind::Min => 4,
-        Kind::Max => 5,
-        Kind::Store => 6,
-        Kind::StoreIfZero => 7,
-    }
-}
-
-/// The kind of a number.
-pub(crate) fn kind_from(number: u64) -> Kind
-    ensures { result ≡ kind_from number }
-{
-    match number {
-        0 => Kind::Load,
-        1 => Kind::Add,
-        2 => Kind::And,
-        3 => Kind::Or,
-        4 => Kind::Min,
-        5 => Kind::Max,
-        6 => Kind::Store,
-        _ => Kind::StoreIfZero,
-    }
 }
 
 /// The number of a network.

@@ -3,13 +3,13 @@ ghost use Rattle.std.specs.Prelude.{◌≡◌, ℕ};
 ghost use Rattle.state_words.specs.Fits.{IsRequest, IsOutgoing, IsReply, IsWaiting};
 ghost use Rattle.state_words.specs.Messages.{request_first, request_second, request_from, out_first, out_second, out_from, reply_first, reply_second, reply_from, wait_first, wait_second, wait_from};
 
-use crate::fields::{byte, high, kind_from, kind_number, low, net_from, net_number, short};
+use crate::fields::{byte, high, low, net_from, net_number, short};
 use crate::fits::{is_byte, is_short, is_tag, is_word};
 use comb_switch::Waiting;
 use omega_net::{Reply, Request, Tag};
 use page_map::Place;
 use ref_proc::Outgoing;
-use word_ops::Op;
+use word_ops::{KIND_BITS, Kind, Op};
 
 /// A message that two words tell: where in them its numbers stand is said in `specs/Messages.antt`.
 pub trait TwoWords: Copy {
@@ -58,7 +58,7 @@ impl TwoWords for Request {
     }
 
     fn second(&self) -> u64 {
-        self.tag.issue as u64 + (kind_number(self.op.kind) << 32)
+        self.tag.issue as u64 + (self.op.kind.number() << 32)
     }
 
     fn from_words(word: u64, next: u64) -> Request {
@@ -72,7 +72,7 @@ impl TwoWords for Request {
                 row: short(word >> 16),
             },
             op: Op {
-                kind: kind_from((next >> 32) % 8),
+                kind: Kind::from_number((next >> 32) % (1 << KIND_BITS)),
                 operand: high(word),
             },
         }
@@ -137,13 +137,13 @@ impl TwoWords for Outgoing {
     fn second(&self) -> u64 {
         let request = self.request;
         request.tag.issue as u64
-            + (kind_number(request.op.kind) << 32)
-            + (net_number(self.net) << 35)
+            + (request.op.kind.number() << 32)
+            + (net_number(self.net) << (32 + KIND_BITS))
     }
 
     fn from_words(word: u64, next: u64) -> Outgoing {
         Outgoing {
-            net: net_from((next >> 35) % 2),
+            net: net_from((next >> (32 + KIND_BITS)) % 2),
             request: Request::from_words(word, next),
         }
     }
@@ -171,7 +171,7 @@ impl TwoWords for Waiting {
         second.issue as u64
             + ((first.proc as u64) << 32)
             + ((second.proc as u64) << 40)
-            + (kind_number(op.kind) << 48)
+            + (op.kind.number() << 48)
     }
 
     fn from_words(word: u64, next: u64) -> Waiting {
@@ -181,7 +181,7 @@ impl TwoWords for Waiting {
                 issue: low(word),
             },
             op: Op {
-                kind: kind_from((next >> 48) % 8),
+                kind: Kind::from_number((next >> 48) % (1 << KIND_BITS)),
                 operand: high(word),
             },
             second: Tag {

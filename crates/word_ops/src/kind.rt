@@ -1,9 +1,28 @@
-//! The kinds of fetch-and-op.
-ghost use Rattle.std.specs.Prelude.{◌≡◌, Some, IfSome, bytes_eq};
+//! The kinds of fetch-and-op: all that is known of each stands here, and only here.
+ghost use Rattle.std.specs.Prelude.{◌≡◌, ◌<◌, ◌^◌, Some, IfSome, bytes_eq};
 ghost use Rattle.word_ops.specs.declared.kind.Kind.{Kind};
-ghost use Rattle.word_ops.specs.Names.{kind_name, kind_named};
+ghost use Rattle.word_ops.specs.Words.{both_of, kind_bits, kind_name, kind_named, kind_number, kind_of_number, left_by};
 
 use std::fmt;
+
+/// How many bits a kind's number has.
+pub const KIND_BITS: u32 = 3;
+
+/// A text that tells the names of all kinds: what stands before these, and what behind.
+#[macro_export]
+macro_rules! kinds_told {
+    ($before:literal, $behind:literal) => {
+        concat!($before, "load, add, and, or, min, max, store or store-if-zero", $behind)
+    };
+}
+
+/// A text with the names of all kinds, a space before each: what stands before these, and what behind.
+#[macro_export]
+macro_rules! kinds_listed {
+    ($before:literal, $behind:literal) => {
+        concat!($before, " load add and or min max store store-if-zero", $behind)
+    };
+}
 
 /// What a request does to a word, with its operand. It prints as its name.
 #[derive(Clone, Copy, PartialEq, Eq, Debug, Default)]
@@ -56,6 +75,76 @@ impl Kind {
         }
     }
 
+    /// The kind's number, of [`KIND_BITS`] bits.
+    #[inline]
+    pub fn number(self) -> u64
+        ensures value { result ≡ kind_number self }
+        ensures small { result < 2 ^ kind_bits }
+        ensures read { kind_of_number (kind_number self) ≡ self }
+    {
+        match self {
+            Kind::Load => 0,
+            Kind::Add => 1,
+            Kind::And => 2,
+            Kind::Or => 3,
+            Kind::Min => 4,
+            Kind::Max => 5,
+            Kind::Store => 6,
+            Kind::StoreIfZero => 7,
+        }
+    }
+
+    /// The kind of a number; of a number that no kind has, the last kind.
+    #[inline]
+    pub fn from_number(number: u64) -> Self
+        ensures { result ≡ kind_of_number number }
+    {
+        match number {
+            0 => Kind::Load,
+            1 => Kind::Add,
+            2 => Kind::And,
+            3 => Kind::Or,
+            4 => Kind::Min,
+            5 => Kind::Max,
+            6 => Kind::Store,
+            _ => Kind::StoreIfZero,
+        }
+    }
+
+    /// The word that the kind leaves, with its operand, where `word` stood.
+    #[inline]
+    pub(crate) fn left(self, operand: u32, word: u32) -> u32
+        ensures { result ≡ left_by self operand word }
+    {
+        match self {
+            Kind::Load => word,
+            Kind::Add => word.wrapping_add(operand),
+            Kind::And => word & operand,
+            Kind::Or => word | operand,
+            Kind::Min => word.min(operand),
+            Kind::Max => word.max(operand),
+            Kind::Store => operand,
+            Kind::StoreIfZero => { if word == 0 { operand } else { word } }
+        }
+    }
+
+    /// The operand that does `first` and then `next`.
+    #[inline]
+    pub(crate) fn both(self, first: u32, next: u32) -> u32
+        ensures { result ≡ both_of self first next }
+    {
+        match self {
+            Kind::Load => first,
+            Kind::Add => first.wrapping_add(next),
+            Kind::And => first & next,
+            Kind::Or => first | next,
+            Kind::Min => first.min(next),
+            Kind::Max => first.max(next),
+            Kind::Store => next,
+            Kind::StoreIfZero => { if first == 0 { next } else { first } }
+        }
+    }
+
     fn has_name(self, word: &[u8]) -> bool
         ensures { result ≡ bytes_eq (kind_name self) word.now }
     {
@@ -79,3 +168,8 @@ impl fmt::Display for Kind {
         f.write_str(self.name())
     }
 }
+
+/// The constant is the number that contracts speak of.
+pub fn constants_are_limits()
+    ensures bits { KIND_BITS ≡ kind_bits }
+{}

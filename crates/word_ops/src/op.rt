@@ -1,7 +1,6 @@
 //! Fetch-and-op requests.
 ghost use Rattle.std.specs.Prelude.{◌≡◌, ◌≢◌, ◌↔◌, ℕ, Some, IsNone, IfSome};
-ghost use Rattle.word_ops.specs.Names.{op_text};
-ghost use Rattle.word_ops.specs.Words.{word_after, both_of, then_op};
+ghost use Rattle.word_ops.specs.Words.{op_text, word_after, then_op};
 
 use crate::Kind;
 use std::fmt;
@@ -18,16 +17,7 @@ impl Op {
     pub fn apply(self, word: u32) -> u32
         ensures { result ≡ word_after self word }
     {
-        match self.kind {
-            Kind::Load => word,
-            Kind::Add => word.wrapping_add(self.operand),
-            Kind::And => word & self.operand,
-            Kind::Or => word | self.operand,
-            Kind::Min => word.min(self.operand),
-            Kind::Max => word.max(self.operand),
-            Kind::Store => self.operand,
-            Kind::StoreIfZero => { if word == 0 { self.operand } else { word } }
-        }
+        self.kind.left(self.operand, word)
     }
 
     /// The one operation that does this one and then the next; None exactly where their kinds
@@ -40,27 +30,11 @@ impl Op {
         if self.kind == next.kind {
             Some(Op {
                 kind: self.kind,
-                operand: both(self.kind, self.operand, next.operand),
+                operand: self.kind.both(self.operand, next.operand),
             })
         } else {
             None
         }
-    }
-}
-
-/// The operand that does `first` and then `next`.
-fn both(kind: Kind, first: u32, next: u32) -> u32
-    ensures { result ≡ both_of kind first next }
-{
-    match kind {
-        Kind::Load => first,
-        Kind::Add => first.wrapping_add(next),
-        Kind::And => first & next,
-        Kind::Or => first | next,
-        Kind::Min => first.min(next),
-        Kind::Max => first.max(next),
-        Kind::Store => next,
-        Kind::StoreIfZero => { if first == 0 { next } else { first } }
     }
 }
 

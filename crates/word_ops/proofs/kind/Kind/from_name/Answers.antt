@@ -2,8 +2,8 @@ use Rattle.std.proofs.Common.{rules, tests, ◌∙◌, sym, ap}
 use Rattle.std.specs.Prelude.{bytes_eq}
 use Rattle.std.proofs.lemmas.Iterator.{YieldsList-from_slice}
 use Rattle.std.proofs.lemmas.Iterator.Search.{find_from_yields_List}
-use Rattle.word_ops.specs.Names.{kind_name, kind_named, kinds}
-use Rattle.word_ops.proofs.Named.{name_read}
+use Rattle.word_ops.specs.Words.{kind_name, kind_named, kinds}
+use Rattle.word_ops.proofs.Known.{known}
 use Rattle.word_ops.proofs.kind.Kind.from_name.Goals as goal
 
 pub returns-clause-kind : goal.returns-clause-kind
@@ -12,4 +12,4 @@ returns-clause-kind c =
     c.copied.ensures ∙ found
 
 pub returns-clause-read : goal.returns-clause-read
-returns-clause-read c = λ kind named. returns-clause-kind c ∙ (ap kind_named (sym named) ∙ name_read kind)
+returns-clause-read c = λ kind named. returns-clause-kind c ∙ (ap kind_named (sym named) ∙ (known kind).named)

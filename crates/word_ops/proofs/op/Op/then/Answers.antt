@@ -1,6 +1,6 @@
 use Rattle.std.proofs.Common.{rules, ◌≡◌, ◌∙◌, ap}
 use Rattle.word_ops.specs.Words.{left_by}
-use Rattle.word_ops.proofs.Composed.{composed}
+use Rattle.word_ops.proofs.Known.{composed}
 use Rattle.word_ops.proofs.op.Op.then.Goals as goal
 
 pub returns-then-eq-clause-both : goal.returns-then-eq-clause-both
