@@ -6,6 +6,7 @@ ghost use Rattle.command_line.specs.Arguments.{hotspot, file_in, file_rule, IsNu
 
 use clap::{Arg, ArgAction, Command, Error, value_parser};
 use std::alloc::{AllocError, Global};
+use word_ops::kinds_told;
 
 /// What the program is told by its words.
 #[derive(Clone, Copy, PartialEq, Eq, Debug)]
@@ -26,7 +27,8 @@ Queries:  reply, state, memory, counter, profile, tree, level, bound, place, ord
 `--help` lists them with their arguments, and the numbers of refusals.";
 
 /// The lines under the options in the whole help.
-const HELP: &str = "\
+const HELP: &str = kinds_told!(
+    "\
 One command a line is read from standard input, and one line is written for each to standard output.
 
 Edits, answered `ok V` with the new version V, or `refused N`:
@@ -41,7 +43,8 @@ Edits, answered `ok V` with the new version V, or `refused N`:
   horizon H                 the last cycle that is simulated
 An ENTRY is `sync KIND A V [T]` or `plain KIND A V [T]` (a reference over the combining or the low network, T times),
 `until sync KIND A V W [T]` or `until plain KIND A V W [T]` (again until a reply has the word W, T times at most),
-`fence` or `idle T`; KIND is load, add, and, or, min, max, store or store-if-zero.
+`fence` or `idle T`; KIND is ",
+    ".
 
 Queries, answered `ok V BODY` by the project as it then stands, or `bad N`:
   reply P I                 when P received the reply to its reference I, and which word
@@ -78,7 +81,8 @@ A project file that is refused ends the program with status 4, `hotspot: project
 Of format 3 a file has up to 67,108,864 bytes, a script up to 4,096 entries, and a horizon is up to 20,000.
 
 Status: 0 the input ended; 2 the command line; 3 FILE can't be read; 4 the project; 5 a fault of reading, writing, memory
-or clock; 6 no memory at the start. docs/COMMANDS.md says more of commands, docs/PROJECT_FILE.md of project files.";
+or clock; 6 no memory at the start. docs/COMMANDS.md says more of commands, docs/PROJECT_FILE.md of project files."
+);
 
 fn file_argument<'a>(alloc: Global) -> Arg<'a>
     ensures rule { rule_of result ≡ file_rule }

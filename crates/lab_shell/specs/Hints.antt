@@ -1,11 +1,12 @@
 -- The word that somebody may have meant.
-use Rattle.std.specs.Prelude.{ℕ, ◌+◌, ◌/◌, List, [], ◌∷◌, Option, None, Some, min, length, nat_lt, nat_eq, bytes_eq, codes, if◌then◌else◌}
+use Rattle.std.specs.Prelude.{ℕ, ◌+◌, ◌/◌, List, [], ◌∷◌, ◌++◌, Option, None, Some, min, length, nat_lt, nat_eq, bytes_eq, codes, if◌then◌else◌}
 use Rattle.strsim.specs.Edits.{levenshtein_row}
 use Rattle.line_words.specs.Words.{words_of}
+use Rattle.word_ops.specs.Words.{kinds, names_of}
 
 -- the words of commands, those of the shell first
 unfoldable pub names_text : List ℕ
-names_text = codes "quit help show script save undo latency done trace full busy series entry cut word page depth wait combine window horizon reply state memory counter profile tree level bound place order low-forward low-reverse comb-forward comb-reverse module on off sync plain until fence idle load add and or min max store store-if-zero issued answered served combined waiting all low comb --processor --network --address --page --hot --cold --from --to --of --bin queue stage"
+names_text = codes "quit help show script save undo latency done trace full busy series entry cut word page depth wait combine window horizon reply state memory counter profile tree level bound place order low-forward low-reverse comb-forward comb-reverse module on off sync plain until fence idle" ++ names_of kinds ++ codes " issued answered served combined waiting all low comb --processor --network --address --page --hot --cold --from --to --of --bin queue stage"
 
 -- how many letters of a word are wrong, missing or too many beside a name
 abbrev pub slips : List ℕ → List ℕ → ℕ

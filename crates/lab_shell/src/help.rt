@@ -1,5 +1,7 @@
 //! What `help` says.
 
+use word_ops::kinds_told;
+
 /// All commands.
 pub const HELP: &str = "\
 Edits:
@@ -41,12 +43,14 @@ fn edit_usage(word: &[u8]) -> Option<&'static str> {
         return None;
     };
     Some(match word {
-        "entry" => "\
+        "entry" => kinds_told!(
+            "\
 entry P I ENTRY: replaces entry I of the script of processor P, or appends where I is its length
 entry A..B I ENTRY: does so for each of the processors A to B, at most 64 of them
 an ENTRY is sync KIND A V [T], plain KIND A V [T], until sync KIND A V W [T], until plain KIND A V W [T], fence, or idle T
-KIND is load, add, and, or, min, max, store or store-if-zero; A an address, V an operand, W a word, T how many times
-",
+KIND is ",
+            "; A an address, V an operand, W a word, T how many times\n"
+        ),
         "cut" => "\
 cut P L: keeps the first L entries of the script of processor P
 cut A..B L: does so for each of the processors A to B, at most 64 of them

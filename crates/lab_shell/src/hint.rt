@@ -6,10 +6,13 @@ ghost use Rattle.lab_shell.specs.Hints.{names_text, nearest, nearest_from, other
 use line_words::split_word;
 use std::alloc::{AllocError, Global};
 use strsim::generic_levenshtein;
+use word_ops::kinds_listed;
 
 /// The words of commands, those of the shell first.
-const NAMES: &str =
-    "quit help show script save undo latency done trace full busy series entry cut word page depth wait combine window horizon reply state memory counter profile tree level bound place order low-forward low-reverse comb-forward comb-reverse module on off sync plain until fence idle load add and or min max store store-if-zero issued answered served combined waiting all low comb --processor --network --address --page --hot --cold --from --to --of --bin queue stage";
+const NAMES: &str = kinds_listed!(
+    "quit help show script save undo latency done trace full busy series entry cut word page depth wait combine window horizon reply state memory counter profile tree level bound place order low-forward low-reverse comb-forward comb-reverse module on off sync plain until fence idle",
+    " issued answered served combined waiting all low comb --processor --network --address --page --hot --cold --from --to --of --bin queue stage"
+);
 
 /// Slips from which on a word is nobody's slip.
 fn too_many(word: &[u8]) -> usize

@@ -8,7 +8,7 @@
 //! (`specs/Json.antt`), and everybody else the bytes of `bench_shell`; and whether the first refusal ends the session.
 //!
 //! It stands on `bench_shell` for answers, on `bench_core` for the bench, on `edit_undo` for what takes edits back, on `commands`
-//! and `line_words` for commands and words, and on `strsim` for slips.
+//! and `line_words` for commands and words, on `word_ops` for the names of kinds, and on `strsim` for slips.
 //!
 //! Promise: what was written is the prompt and the answer of each line that was read, in turn, up to the line that ends the
 //! session (`specs/Talks.antt`); where no line is a request or has a range and the voice is `Plain`, it is exactly `output`

@@ -230,21 +230,6 @@ impl<'a> Entry<'a> {
     }
 }
 
-/// The names of the operations.
-pub(crate) fn operation_names() -> [&'static str; 8] {
-    let [a, b, c, d, e, f, g, h] = Kind::ALL;
-    [
-        a.name(),
-        b.name(),
-        c.name(),
-        d.name(),
-        e.name(),
-        f.name(),
-        g.name(),
-        h.name(),
-    ]
-}
-
 /// A number of an entry that is outside its limits. It prints as `the address 70000 is not 0 to 65535`.
 #[derive(Clone, Copy)]
 pub(crate) struct Outside {

@@ -3,7 +3,7 @@ ghost use Rattle.std.specs.Prelude.{◌≡◌, ◌≤◌, ◌^◌, IfOk, length}
 ghost use Rattle.page_map.specs.Limits.{max_k, address_count};
 
 use crate::depths::KEYS as DEPTH_KEYS;
-use crate::entry_fault::{form_fault, limit_fault, operation_names, step_fault};
+use crate::entry_fault::{form_fault, limit_fault, step_fault};
 use crate::expanding::{REPEAT_KEYS, read_stepped};
 use crate::fault::ProjectFault;
 use crate::fields::{find, is_among};
@@ -26,6 +26,7 @@ use project_book::{
 use std::alloc::{AllocError, Global};
 use std::fmt;
 use toml::{Table, Value, table_from_str};
+use word_ops::Kind;
 
 /// How many characters of a file's own text are shown.
 const SHOWN: usize = 60;
@@ -851,7 +852,7 @@ fn text_checked(at: At, entry: EntryAt, item: &Value, format: FileFormat) -> Res
         },
         Some(_) => Err(at.entry_fault(entry, text, "only format 3 has a step")),
         None => {
-            let names = operation_names();
+            let names = Kind::ALL.map(|kind| kind.name());
             let fault = form_fault(at.alloc, text, format.has_short_forms(), &names)?;
             Err(at.entry_fault(entry, text, fault))
         }
