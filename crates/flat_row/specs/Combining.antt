@@ -5,7 +5,7 @@ use Rattle.omega_net.specs.declared.message.Request.{Request}
 use Rattle.omega_net.specs.declared.message.Reply.{Reply}
 use Rattle.omega_net.specs.Wires.{bit}
 use Rattle.omega_net.specs.Queues.{head, without_head}
-use Rattle.omega_net.specs.Ports.{empty}
+use Rattle.omega_net.specs.Ports.{empty, queue_at}
 use Rattle.comb_switch.specs.declared.waiting.Waiting.{Waiting}
 use Rattle.comb_switch.specs.declared.state.CombState.{CombState}
 use Rattle.flat_row.specs.Labels.{port}
@@ -37,6 +37,22 @@ cleared w = record w { once = 0; twice = 0 }
 -- the same buffers, but for that of one switch
 abbrev pub with_wait : Buffers → ℕ → ArrayVec Waiting → Buffers
 with_wait w x new = record w { entries = slice_set w.entries x new }
+
+-- label x is that of port 0 of a switch, at a stage that decides by bit b
+pub record IsFirstPort (b x : ℕ) : Type 0 where
+  pub by : b < 6
+  pub there : x < 64
+  pub first : bit b x ≡ 0
+
+-- the queues at the ports of that switch are there, and its wait buffer
+pub record HasPlaces {T : Type 0} (b x : ℕ) (level : Queues T) (waits : Buffers) : Type 0 where
+  pub ports : (i : ℕ) → i < 2 → port b i x < length level.queues
+  pub entries : x < length waits.entries
+
+-- a request waits at index i of the queue at output o of that switch
+pub record IsQueuedAt (b o x i : ℕ) (level : Queues Request) : Type 0 where
+  pub output : o < 2
+  pub index : i < length (queue_at level.queues (port b o x)).items
 
 -- at most the queues at these ports are others, and the buffer and the count of that switch
 pub record OnlyAt {T : Type 0} (b x : ℕ) (old new : ℕ → ArrayVec T) (waits next : Buffers) : Type 0 where

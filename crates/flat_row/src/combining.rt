@@ -1,13 +1,12 @@
 //! Requests that combine at the switches of a stage, and replies that split there.
 ghost use Rattle.std.specs.Prelude.{◌≡◌, ℕ, ◌+◌, ◌<◌, if◌then◌else◌, length, position, IfSome, Some, None};
 ghost use Rattle.omega_net.specs.Ports.{queue_at, same_tag};
-ghost use Rattle.omega_net.specs.Wires.{bit};
 ghost use Rattle.std.specs.List.{list_any};
 ghost use Rattle.word_ops.specs.Words.{then_op};
 ghost use Rattle.comb_switch.specs.CombSwitch.{youngest_for, combines, last_in, combined_in, meets, arrives, sent_back, splits, returns_to};
 ghost use Rattle.flat_row.specs.Labels.{port};
 ghost use Rattle.flat_row.specs.Row.{combined_of, wait_of};
-ghost use Rattle.flat_row.specs.Combining.{meeting, splitting, OnlyAt, SameLevel};
+ghost use Rattle.flat_row.specs.Combining.{HasPlaces, IsFirstPort, IsQueuedAt, meeting, splitting, OnlyAt, SameLevel};
 
 use crate::level::Level;
 use crate::moving::port_of;
@@ -26,11 +25,8 @@ pub(crate) fn arrives(
     x: u32,
     request: Request,
 )
-    requires by { settings.now.bit < 6 }
-    requires there { x < 64 }
-    requires first { bit settings.now.bit x ≡ 0 }
-    requires ports { (i : ℕ) → i < 2 → port settings.now.bit i x < length level.old.queues }
-    requires entries { x < length waits.old.entries }
+    requires port { IsFirstPort settings.now.bit x }
+    requires places { HasPlaces settings.now.bit x level.old waits.old }
     requires few { combined_of waits.old x < 2 }
     ensures shape { SameLevel level.old level.new }
     ensures met { meeting settings.now.bit (queue_at level.new.queues) waits.new x ≡ arrives settings.now (Some request) (meeting settings.now.bit (queue_at level.old.queues) waits.old x) }
@@ -55,13 +51,9 @@ fn meets(
     index: usize,
     request: Request,
 )
-    requires by { settings.now.bit < 6 }
-    requires there { x < 64 }
-    requires first { bit settings.now.bit x ≡ 0 }
-    requires output { output < 2 }
-    requires ports { (i : ℕ) → i < 2 → port settings.now.bit i x < length level.old.queues }
-    requires entries { x < length waits.old.entries }
-    requires index { index < length (queue_at level.old.queues (port settings.now.bit output x)).items }
+    requires port { IsFirstPort settings.now.bit x }
+    requires places { HasPlaces settings.now.bit x level.old waits.old }
+    requires at { IsQueuedAt settings.now.bit output x index level.old }
     requires few { combined_of waits.old x < 2 }
     ensures shape { SameLevel level.old level.new }
     ensures met { meeting settings.now.bit (queue_at level.new.queues) waits.new x ≡ meets settings.now request output (Some index) (meeting settings.now.bit (queue_at level.old.queues) waits.old x) }
@@ -87,9 +79,7 @@ fn last_in(
     output: u8,
     request: Request,
 )
-    requires by { settings.now.bit < 6 }
-    requires there { x < 64 }
-    requires first { bit settings.now.bit x ≡ 0 }
+    requires port { IsFirstPort settings.now.bit x }
     requires output { output < 2 }
     requires ports { (i : ℕ) → i < 2 → port settings.now.bit i x < length level.old.queues }
     ensures shape { SameLevel level.old level.new }
@@ -113,13 +103,9 @@ fn combined_in(
     op: Op,
     request: Request,
 )
-    requires by { settings.now.bit < 6 }
-    requires there { x < 64 }
-    requires first { bit settings.now.bit x ≡ 0 }
-    requires output { output < 2 }
-    requires ports { (i : ℕ) → i < 2 → port settings.now.bit i x < length level.old.queues }
-    requires entries { x < length waits.old.entries }
-    requires index { index < length (queue_at level.old.queues (port settings.now.bit output x)).items }
+    requires port { IsFirstPort settings.now.bit x }
+    requires places { HasPlaces settings.now.bit x level.old waits.old }
+    requires at { IsQueuedAt settings.now.bit output x index level.old }
     requires does_both { Some op ≡ then_op queued.op request.op }
     requires few { combined_of waits.old x < 2 }
     ensures shape { SameLevel level.old level.new }
@@ -190,11 +176,8 @@ pub(crate) fn returns_to(
     x: u32,
     reply: Reply,
 )
-    requires by { settings.now.bit < 6 }
-    requires there { x < 64 }
-    requires first { bit settings.now.bit x ≡ 0 }
-    requires ports { (i : ℕ) → i < 2 → port settings.now.bit i x < length level.old.queues }
-    requires entries { x < length waits.old.entries }
+    requires port { IsFirstPort settings.now.bit x }
+    requires places { HasPlaces settings.now.bit x level.old waits.old }
     ensures shape { SameLevel level.old level.new }
     ensures met { splitting settings.now.bit (queue_at level.new.queues) waits.new x ≡ returns_to settings.now (Some reply) (splitting settings.now.bit (queue_at level.old.queues) waits.old x) }
     ensures only { OnlyAt settings.now.bit x (queue_at level.old.queues) (queue_at level.new.queues) waits.old waits.new }
@@ -215,11 +198,8 @@ fn splits(
     index: usize,
     reply: Reply,
 )
-    requires by { settings.now.bit < 6 }
-    requires there { x < 64 }
-    requires first { bit settings.now.bit x ≡ 0 }
-    requires ports { (i : ℕ) → i < 2 → port settings.now.bit i x < length level.old.queues }
-    requires entries { x < length waits.old.entries }
+    requires port { IsFirstPort settings.now.bit x }
+    requires places { HasPlaces settings.now.bit x level.old waits.old }
     requires index { index < length (wait_of waits.old x).items }
     ensures shape { SameLevel level.old level.new }
     ensures met { splitting settings.now.bit (queue_at level.new.queues) waits.new x ≡ splits settings.now reply (Some index) (splitting settings.now.bit (queue_at level.old.queues) waits.old x) }
@@ -241,9 +221,7 @@ fn splits(
 /// A reply goes last into the queue of its processor.
 #[inline(always)]
 fn sent_back(level: &mut Level<Reply>, waits: &Waits, settings: &CombSettings, x: u32, reply: Reply)
-    requires by { settings.now.bit < 6 }
-    requires there { x < 64 }
-    requires first { bit settings.now.bit x ≡ 0 }
+    requires port { IsFirstPort settings.now.bit x }
     requires ports { (i : ℕ) → i < 2 → port settings.now.bit i x < length level.old.queues }
     ensures shape { SameLevel level.old level.new }
     ensures met { splitting settings.now.bit (queue_at level.new.queues) waits.now x ≡ sent_back settings.now reply (splitting settings.now.bit (queue_at level.old.queues) waits.now x) }

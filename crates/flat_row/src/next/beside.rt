@@ -2,11 +2,9 @@
 ghost use Rattle.std.specs.Prelude.{◌≡◌, ◌≢◌, ◌+◌, ◌<◌, ◌≤◌, ◌^◌, ◌++◌, length, OnOk, OnErr, IfOk};
 ghost use Rattle.omega_net.specs.Limits.{queue_places};
 ghost use Rattle.omega_net.specs.Ports.{message_at, queue_at};
-ghost use Rattle.omega_net.specs.Wires.{bit};
 ghost use Rattle.comb_switch.specs.CombSwitch.{arrives, returns_to};
 ghost use Rattle.state_words.specs.Fits.{IsQueue, IsReply, IsRequest, IsWaiting};
-ghost use Rattle.flat_row.specs.Combining.{meeting, splitting};
-ghost use Rattle.flat_row.specs.Labels.{port};
+ghost use Rattle.flat_row.specs.Combining.{IsFirstPort, meeting, splitting};
 ghost use Rattle.flat_row.specs.Next.{nothing_aside, plain_rule};
 ghost use Rattle.flat_row.specs.Parts.{parts_words};
 ghost use Rattle.flat_row.specs.Row.{combined_of, wait_of};
@@ -113,9 +111,7 @@ impl Beside {
 
     /// Requests arrive at the switch of label x, that of input 0 first.
     pub(crate) fn meet(&mut self, settings: &CombSettings, x: u32, requests: &[Option<Request>; 2])
-        requires by { settings.now.bit < 6 }
-        requires there { x < 64 }
-        requires first { bit settings.now.bit x ≡ 0 }
+        requires port { IsFirstPort settings.now.bit x }
         requires none { combined_of self.old.waits x ≡ 0 }
         ensures met { meeting settings.now.bit (queue_at self.new.requests.queues) self.new.waits x ≡ arrives settings.now (message_at requests.now 1) (arrives settings.now (message_at requests.now 0) (meeting settings.now.bit (queue_at self.old.requests.queues) self.old.waits x)) }
         ensures replies { self.new.replies ≡ self.old.replies }
@@ -138,9 +134,7 @@ impl Beside {
 
     /// Replies return to the switch of label x, that of output 0 first.
     pub(crate) fn split(&mut self, settings: &CombSettings, x: u32, replies: &[Option<Reply>; 2])
-        requires by { settings.now.bit < 6 }
-        requires there { x < 64 }
-        requires first { bit settings.now.bit x ≡ 0 }
+        requires { IsFirstPort settings.now.bit x }
         ensures split { splitting settings.now.bit (queue_at self.new.replies.queues) self.new.waits x ≡ returns_to settings.now (message_at replies.now 1) (returns_to settings.now (message_at replies.now 0) (splitting settings.now.bit (queue_at self.old.replies.queues) self.old.waits x)) }
         ensures requests { self.new.requests ≡ self.old.requests }
     {
@@ -219,9 +213,7 @@ fn arrive(
     x: u32,
     request: Option<Request>,
 )
-    requires by { settings.now.bit < 6 }
-    requires there { x < 64 }
-    requires first { bit settings.now.bit x ≡ 0 }
+    requires port { IsFirstPort settings.now.bit x }
     requires all { length level.old.queues ≡ 64 }
     requires entries { length waits.old.entries ≡ 64 }
     requires few { combined_of waits.old x < 2 }
@@ -244,9 +236,7 @@ fn return_one(
     x: u32,
     reply: Option<Reply>,
 )
-    requires by { settings.now.bit < 6 }
-    requires there { x < 64 }
-    requires first { bit settings.now.bit x ≡ 0 }
+    requires port { IsFirstPort settings.now.bit x }
     requires all { length level.old.queues ≡ 64 }
     requires entries { length waits.old.entries ≡ 64 }
     ensures all { length level.new.queues ≡ 64 }

@@ -20,20 +20,20 @@ take-reply-requires-clause-there c = subst (λ v. c.args.y < length v.queues) (s
 pub take-reply-requires-clause-some : goal.take-reply-requires-clause-some
 take-reply-requires-clause-some c = subst (λ v. IsSome (head (queue_at v.queues c.args.y))) (sym (level_found c.args.levels.now.items c.args.crossing.now.from c.index_mut-before.result.now c.index_mut-before.ensures.value c.requires.from)) c.requires.some
 
-pub returns_to-requires-clause-by : goal.returns_to-requires-clause-by
-returns_to-requires-clause-by c = c.requires.can.by
+pub returns_to-requires-clause-port : goal.returns_to-requires-clause-port
+returns_to-requires-clause-port c =
+    record {
+      by = c.requires.can.by;
+      there = subst (λ n. n < 64) (sym c.port_of-x.ensures) (port_small c.args.crossing.now.settings.bit c.args.y 0 c.requires.can.by c.requires.there (omega arith));
+      first = ap (bit c.args.crossing.now.settings.bit) c.port_of-x.ensures ∙ port_bit c.args.crossing.now.settings.bit c.args.y 0 c.requires.can.by c.requires.there (omega arith);
+    }
 
-pub returns_to-requires-clause-there : goal.returns_to-requires-clause-there
-returns_to-requires-clause-there c = subst (λ n. n < 64) (sym c.port_of-x.ensures) (port_small c.args.crossing.now.settings.bit c.args.y 0 c.requires.can.by c.requires.there (omega arith))
-
-pub returns_to-requires-clause-first : goal.returns_to-requires-clause-first
-returns_to-requires-clause-first c = ap (bit c.args.crossing.now.settings.bit) c.port_of-x.ensures ∙ port_bit c.args.crossing.now.settings.bit c.args.y 0 c.requires.can.by c.requires.there (omega arith)
-
-pub returns_to-requires-clause-ports : goal.returns_to-requires-clause-ports
-returns_to-requires-clause-ports c = λ i h. subst (λ n. port c.args.crossing.now.settings.bit i n < length c.index_mut-behind.result.now.queues) (sym c.port_of-x.ensures) (subst (λ v. port c.args.crossing.now.settings.bit i (port c.args.crossing.now.settings.bit 0 c.args.y) < length v.queues) (sym (found_behind c.args.levels.now.items c.args.crossing.now.from c.args.crossing.now.to c.index_mut-before.result.now c.take-reply.new.self c.index_mut-behind.result.now c.index_mut-behind.result.now c.requires.from c.requires.to c.requires.can.apart c.index_mut-before.ensures.value c.index_mut-behind.ensures.value)) (ports_there c.args.crossing.now.settings.bit c.args.crossing.now.from c.args.crossing.now.to c.args.levels.now.items c.args.waits.now c.requires.can c.args.y c.requires.there c.requires.some i h))
-
-pub returns_to-requires-clause-entries : goal.returns_to-requires-clause-entries
-returns_to-requires-clause-entries c = subst (λ n. n < length c.args.waits.now.entries) (sym c.port_of-x.ensures) (entry_there c.args.crossing.now.settings.bit c.args.crossing.now.from c.args.crossing.now.to c.args.levels.now.items c.args.waits.now c.requires.can c.args.y c.requires.there c.requires.some)
+pub returns_to-requires-clause-places : goal.returns_to-requires-clause-places
+returns_to-requires-clause-places c =
+    record {
+      ports = λ i h. subst (λ n. port c.args.crossing.now.settings.bit i n < length c.index_mut-behind.result.now.queues) (sym c.port_of-x.ensures) (subst (λ v. port c.args.crossing.now.settings.bit i (port c.args.crossing.now.settings.bit 0 c.args.y) < length v.queues) (sym (found_behind c.args.levels.now.items c.args.crossing.now.from c.args.crossing.now.to c.index_mut-before.result.now c.take-reply.new.self c.index_mut-behind.result.now c.index_mut-behind.result.now c.requires.from c.requires.to c.requires.can.apart c.index_mut-before.ensures.value c.index_mut-behind.ensures.value)) (ports_there c.args.crossing.now.settings.bit c.args.crossing.now.from c.args.crossing.now.to c.args.levels.now.items c.args.waits.now c.requires.can c.args.y c.requires.there c.requires.some i h));
+      entries = subst (λ n. n < length c.args.waits.now.entries) (sym c.port_of-x.ensures) (entry_there c.args.crossing.now.settings.bit c.args.crossing.now.from c.args.crossing.now.to c.args.levels.now.items c.args.waits.now c.requires.can c.args.y c.requires.there c.requires.some);
+    }
 
 pub returns : goal.returns
 returns c =

@@ -3,5 +3,9 @@ use Rattle.flat_row.specs.Labels.{port}
 use Rattle.flat_row.proofs.Carrying.{port_small}
 use Rattle.flat_row.proofs.next.beside.return_one.Goals as goal
 
-pub returns_to-requires-clause-ports : goal.returns_to-requires-clause-ports
-returns_to-requires-clause-ports c = λ i h. subst (λ n. port c.args.settings.now.bit i c.args.x < n) (sym c.requires.all) (port_small c.args.settings.now.bit c.args.x i c.requires.by c.requires.there h)
+pub returns_to-requires-clause-places : goal.returns_to-requires-clause-places
+returns_to-requires-clause-places c =
+    record {
+      ports = λ i h. subst (λ n. port c.args.settings.now.bit i c.args.x < n) (sym c.requires.all) (port_small c.args.settings.now.bit c.args.x i c.requires.port.by c.requires.port.there h);
+      entries = subst (λ n. c.args.x < n) (sym c.requires.entries) c.requires.port.there;
+    }

@@ -47,35 +47,33 @@ waiting_at-requires-clause-stage c = omega (arith, c.requires.of.size, c.require
 pub waiting_at-requires-clause-label : goal.waiting_at-requires-clause-label
 waiting_at-requires-clause-label c = subst (λ (r : Arrays). c.ports-x.result.0 < lines r.k) c.self.view_is c.ports-x.ensures.within.0
 
-pub meet-requires-clause-by : goal.meet-requires-clause-by
-meet-requires-clause-by c =
-    let size : c.self.inside.shape ≡ c.args.project.now.k = ap (λ (r : Arrays). r.k) c.self.view_is ∙ c.requires.of.size in
-    omega (arith, c.self.invariant.small, size, ap (λ (f : CombSettings). f.bit) c.comb_settings-settings.ensures, c.requires.stage)
-
-pub meet-requires-clause-first : goal.meet-requires-clause-first
-meet-requires-clause-first c =
+pub meet-requires-clause-port : goal.meet-requires-clause-port
+meet-requires-clause-port c =
     let P = c.args.project.now in
     let size : c.self.inside.shape ≡ P.k = ap (λ (r : Arrays). r.k) c.self.view_is ∙ c.requires.of.size in
     let few : P.k ≤ 6 = omega (arith, c.self.invariant.small, size) in
     let at = comb_ports P few c.args.stage c.args.index c.requires.stage c.requires.index c.comb_settings-settings.result.bit c.ports-x.result.0 c.ports-x.result.1
     (ap (λ (f : CombSettings). f.bit) c.comb_settings-settings.ensures)
     (c.ports-x.ensures.first ∙ ap (λ k. port_label k c.args.stage c.args.index 0) size) (c.ports-x.ensures.second ∙ ap (λ k. port_label k c.args.stage c.args.index 1) size) in
-    at.1.0
+    record {
+      by = omega (arith, c.self.invariant.small, size, ap (λ (f : CombSettings). f.bit) c.comb_settings-settings.ensures, c.requires.stage);
+      there = c.ports-x.ensures.small.0;
+      first = at.1.0;
+    }
 
-pub split-requires-clause-by : goal.split-requires-clause-by
-split-requires-clause-by c =
-    let size : c.self.inside.shape ≡ c.args.project.now.k = ap (λ (r : Arrays). r.k) c.self.view_is ∙ c.requires.of.size in
-    omega (arith, c.self.invariant.small, size, ap (λ (f : CombSettings). f.bit) c.comb_settings-settings.ensures, c.requires.stage)
-
-pub split-requires-clause-first : goal.split-requires-clause-first
-split-requires-clause-first c =
+pub split-requires : goal.split-requires
+split-requires c =
     let P = c.args.project.now in
     let size : c.self.inside.shape ≡ P.k = ap (λ (r : Arrays). r.k) c.self.view_is ∙ c.requires.of.size in
     let few : P.k ≤ 6 = omega (arith, c.self.invariant.small, size) in
     let at = comb_ports P few c.args.stage c.args.index c.requires.stage c.requires.index c.comb_settings-settings.result.bit c.ports-x.result.0 c.ports-x.result.1
     (ap (λ (f : CombSettings). f.bit) c.comb_settings-settings.ensures)
     (c.ports-x.ensures.first ∙ ap (λ k. port_label k c.args.stage c.args.index 0) size) (c.ports-x.ensures.second ∙ ap (λ k. port_label k c.args.stage c.args.index 1) size) in
-    at.1.0
+    record {
+      by = omega (arith, c.self.invariant.small, size, ap (λ (f : CombSettings). f.bit) c.comb_settings-settings.ensures, c.requires.stage);
+      there = c.ports-x.ensures.small.0;
+      first = at.1.0;
+    }
 
 pub returns-clause-ok : goal.returns-clause-ok
 returns-clause-ok c =
