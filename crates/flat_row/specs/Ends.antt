@@ -1,5 +1,5 @@
 -- What modules and processors do in a cycle, by label.
-use Rattle.std.specs.Prelude.{◌≡◌, ℕ, ◌<◌, ◌≤◌, ◌+◌, true, false, if◌then◌else◌, List, [], ◌∷◌, length, Option, None, Some, slice_index_or}
+use Rattle.std.specs.Prelude.{◌≡◌, ◌≢◌, ℕ, ◌<◌, ◌≤◌, ◌+◌, true, false, if◌then◌else◌, List, [], ◌∷◌, length, Option, None, Some, slice_index_or}
 use Rattle.omega_net.specs.declared.message.Request.{Request}
 use Rattle.omega_net.specs.declared.message.Reply.{Reply}
 use Rattle.omega_net.specs.Queues.{head, without_head, joined}
@@ -14,6 +14,7 @@ use Rattle.project_book.specs.Project.{Project}
 use Rattle.flat_row.specs.Masks.{has}
 use Rattle.flat_row.specs.Queues.{Queues}
 use Rattle.flat_row.specs.Row.{out_from, Rests}
+use Rattle.flat_row.specs.Combining.{SameLevel}
 use Rattle.flat_row.specs.declared.acting.Replies.{Replies}
 use Rattle.flat_row.specs.Rows.{if_leaves}
 
@@ -78,3 +79,28 @@ ShowsOne low comb p = length (queue_at low.queues p).items + length (queue_at co
 pub record HasIssued (before : Option Outgoing) (s : ProcState) : Type 0 where
   pub still : s.sent ≡ false → s.out ≡ before
   pub issued : s.sent ≡ true → (before ≡ None) × ((o : Outgoing) × (s.out ≡ Some o))
+
+-- so many processors are there, and on both networks the queues of what they show
+pub record HasProcs (n : ℕ) (procs : List ProcState) (low comb : Queues Request) : Type 0 where
+  pub many : length procs ≡ n
+  pub low_many : length low.queues ≡ n
+  pub comb_many : length comb.queues ≡ n
+
+-- as many processors as before, and as many queues of what they show, by the same rules
+pub record SameProcs (procs next : List ProcState) (low low_new comb comb_new : Queues Request) : Type 0 where
+  pub many : length next ≡ length procs
+  pub low_same : SameLevel low low_new
+  pub comb_same : SameLevel comb comb_new
+
+-- at most what one processor shows is something else than before
+pub record OnlyShown (p : ℕ) (low low_new comb comb_new : Queues Request) : Type 0 where
+  pub low_same : SameLevel low low_new
+  pub comb_same : SameLevel comb comb_new
+  pub low_others : (q : ℕ) → q ≢ p → queue_at low_new.queues q ≡ queue_at low.queues q
+  pub comb_others : (q : ℕ) → q ≢ p → queue_at comb_new.queues q ≡ queue_at comb.queues q
+
+-- at most one processor, with what it shows, is another than before
+pub record OnlyProc (p : ℕ) (procs next : List ProcState) (low low_new comb comb_new : Queues Request) : Type 0 where
+  pub many : length next ≡ length procs
+  pub others : (q : ℕ) → q ≢ p → proc_at next q ≡ proc_at procs q
+  pub shown : OnlyShown p low low_new comb comb_new

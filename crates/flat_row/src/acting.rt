@@ -1,5 +1,5 @@
 //! What processors do in a cycle.
-ghost use Rattle.std.specs.Prelude.{◌≡◌, ◌≢◌, ℕ, ◌<◌, if◌then◌else◌, length, IsSome, IfSome, Some, true, false, None};
+ghost use Rattle.std.specs.Prelude.{◌≡◌, ℕ, ◌<◌, if◌then◌else◌, length, IsSome, IfSome, Some, true, false, None};
 ghost use Rattle.omega_net.specs.Numbers.{lines};
 ghost use Rattle.omega_net.specs.Ports.{queue_at, message_at};
 ghost use Rattle.omega_net.specs.Queues.{head};
@@ -8,7 +8,7 @@ ghost use Rattle.project_book.specs.Project.{place_for};
 ghost use Rattle.project_book.specs.Scripts.{IsEntry};
 ghost use Rattle.flat_row.specs.Masks.{has};
 ghost use Rattle.flat_row.specs.Combining.{SameLevel};
-ghost use Rattle.flat_row.specs.Ends.{AllReceived, HasIssued, Stays, got_at, shown_with, acted, ShowsOne, proc_at};
+ghost use Rattle.flat_row.specs.Ends.{AllReceived, HasIssued, HasProcs, OnlyProc, OnlyShown, SameProcs, Stays, got_at, shown_with, acted, ShowsOne};
 ghost use Rattle.flat_row.specs.Row.{out_from, Rests};
 
 use crate::bits::{has, not_in};
@@ -74,14 +74,10 @@ pub(crate) fn act_all(
     comb_got: &Replies,
     active: u64,
 ) -> u64
-    requires procs { length procs.old.items ≡ lines project.now.k }
-    requires low { length low.old.queues ≡ lines project.now.k }
-    requires comb { length comb.old.queues ≡ lines project.now.k }
+    requires procs { HasProcs (lines project.now.k) procs.old.items low.old comb.old }
     requires one { (p : ℕ) → ShowsOne low.old comb.old p }
     requires others { (p : ℕ) → p < lines project.now.k → has active p ≡ false → Stays project.now low_got.now comb_got.now (shown_with procs.old.items low.old comb.old p) p }
-    ensures many { length procs.new.items ≡ length procs.old.items }
-    ensures low { SameLevel low.old low.new }
-    ensures comb { SameLevel comb.old comb.new }
+    ensures same { SameProcs procs.old.items procs.new.items low.old low.new comb.old comb.new }
     ensures one { (p : ℕ) → ShowsOne low.new comb.new p }
     ensures acted { (p : ℕ) → p < lines project.now.k → shown_with procs.new.items low.new comb.new p ≡ acted project.now p (got_at low_got.now p) (got_at comb_got.now p) (shown_with procs.old.items low.old comb.old p) }
     ensures stay { (p : ℕ) → p < lines project.now.k → has result p ≡ true → shown_with procs.new.items low.new comb.new p ≡ shown_with procs.old.items low.old comb.old p }
@@ -115,20 +111,13 @@ fn act(
     replies: [Option<Reply>; 2],
 ) -> bool
     requires there { p < lines project.now.k }
-    requires procs { length procs.old.items ≡ lines project.now.k }
-    requires low { length low.old.queues ≡ lines project.now.k }
-    requires comb { length comb.old.queues ≡ lines project.now.k }
+    requires procs { HasProcs (lines project.now.k) procs.old.items low.old comb.old }
     requires one { ShowsOne low.old comb.old p }
-    ensures many { length procs.new.items ≡ length procs.old.items }
-    ensures low { SameLevel low.old low.new }
-    ensures comb { SameLevel comb.old comb.new }
+    ensures only { OnlyProc p procs.old.items procs.new.items low.old low.new comb.old comb.new }
     ensures one { ShowsOne low.new comb.new p }
     ensures acted { shown_with procs.new.items low.new comb.new p ≡ acted project.now p (message_at replies 0) (message_at replies 1) (shown_with procs.old.items low.old comb.old p) }
     ensures stay { result ≡ true → shown_with procs.new.items low.new comb.new p ≡ shown_with procs.old.items low.old comb.old p }
     ensures rest { result ≡ true → Rests project.now p (shown_with procs.new.items low.new comb.new p) }
-    ensures others { (q : ℕ) → q ≢ p → proc_at procs.new.items q ≡ proc_at procs.old.items q }
-    ensures low_others { (q : ℕ) → q ≢ p → queue_at low.new.queues q ≡ queue_at low.old.queues q }
-    ensures comb_others { (q : ℕ) → q ≢ p → queue_at comb.new.queues q ≡ queue_at comb.old.queues q }
 {
     let own = ProcState {
         out: shown(low, comb, p),
@@ -179,12 +168,9 @@ fn show(low: &mut Level<Request>, comb: &mut Level<Request>, p: u32, next: &Proc
     requires comb { p < length comb.old.queues }
     requires one { ShowsOne low.old comb.old p }
     requires issued { HasIssued (out_from (head (queue_at low.old.queues p)) (head (queue_at comb.old.queues p))) next.now }
-    ensures low { SameLevel low.old low.new }
-    ensures comb { SameLevel comb.old comb.new }
+    ensures only { OnlyShown p low.old low.new comb.old comb.new }
     ensures one { ShowsOne low.new comb.new p }
     ensures shown { out_from (head (queue_at low.new.queues p)) (head (queue_at comb.new.queues p)) ≡ next.now.out }
-    ensures low_others { (q : ℕ) → q ≢ p → queue_at low.new.queues q ≡ queue_at low.old.queues q }
-    ensures comb_others { (q : ℕ) → q ≢ p → queue_at comb.new.queues q ≡ queue_at comb.old.queues q }
 {
     match issued(next) {
         Some(outgoing) => give(low, comb, p, next, outgoing),
@@ -204,12 +190,9 @@ fn give(
     requires comb { p < length comb.old.queues }
     requires issued { HasIssued (out_from (head (queue_at low.old.queues p)) (head (queue_at comb.old.queues p))) next.now }
     requires outgoing { Some outgoing ≡ (if next.now.sent then next.now.out else None) }
-    ensures low { SameLevel low.old low.new }
-    ensures comb { SameLevel comb.old comb.new }
+    ensures only { OnlyShown p low.old low.new comb.old comb.new }
     ensures one { ShowsOne low.new comb.new p }
     ensures shown { out_from (head (queue_at low.new.queues p)) (head (queue_at comb.new.queues p)) ≡ next.now.out }
-    ensures low_others { (q : ℕ) → q ≢ p → queue_at low.new.queues q ≡ queue_at low.old.queues q }
-    ensures comb_others { (q : ℕ) → q ≢ p → queue_at comb.new.queues q ≡ queue_at comb.old.queues q }
 {
     let _ = next;
     match outgoing.net {

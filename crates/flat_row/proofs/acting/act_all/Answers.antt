@@ -24,13 +24,12 @@ act-stays-requires-clause-there c =
     omega (arith, c.if-p-lines.true, size)
 
 pub act-stays-requires-clause-procs : goal.act-stays-requires-clause-procs
-act-stays-requires-clause-procs c = c.loop-p.invariant.partly.many ∙ c.requires.procs
-
-pub act-stays-requires-clause-low : goal.act-stays-requires-clause-low
-act-stays-requires-clause-low c = c.loop-p.invariant.partly.low_same.many ∙ c.requires.low
-
-pub act-stays-requires-clause-comb : goal.act-stays-requires-clause-comb
-act-stays-requires-clause-comb c = c.loop-p.invariant.partly.comb_same.many ∙ c.requires.comb
+act-stays-requires-clause-procs c =
+    record {
+      many = c.loop-p.invariant.partly.many ∙ c.requires.procs.many;
+      low_many = c.loop-p.invariant.partly.low_same.many ∙ c.requires.procs.low_many;
+      comb_many = c.loop-p.invariant.partly.comb_same.many ∙ c.requires.procs.comb_many;
+    }
 
 pub act-stays-requires-clause-one : goal.act-stays-requires-clause-one
 act-stays-requires-clause-one c = c.loop-p.invariant.partly.one c.in-Some.p
@@ -53,11 +52,11 @@ loop-p-preserved c = record {
         c.loop-p.next c.loop-p.rests c.loop-p.procs.items c.loop-p.low c.loop-p.comb c.loop-p.invariant.partly
         c.in-Some.p c.in-Some.ensures.there.1 c.in-Some.ensures.there.0 c.in-Some.ensures.passed
         w.act-stays.new.procs.items w.act-stays.new.low w.act-stays.new.comb w.with_mark-rests.result w.act-stays.result
-        w.act-stays.ensures.many w.act-stays.ensures.low w.act-stays.ensures.comb w.act-stays.ensures.one
+        w.act-stays.ensures.only.many w.act-stays.ensures.only.shown.low_same w.act-stays.ensures.only.shown.comb_same w.act-stays.ensures.one
         (w.act-stays.ensures.acted
         ∙ ap (λ y. acted c.args.project.now c.in-Some.p y w.of-then-p-lines.result (shown_with c.loop-p.procs.items c.loop-p.low c.loop-p.comb c.in-Some.p)) w.of.ensures
         ∙ ap (λ y. acted c.args.project.now c.in-Some.p (got_at c.args.low_got.now c.in-Some.p) y (shown_with c.loop-p.procs.items c.loop-p.low c.loop-p.comb c.in-Some.p)) w.of-then-p-lines.ensures)
-        w.act-stays.ensures.stay w.act-stays.ensures.rest w.act-stays.ensures.others w.act-stays.ensures.low_others w.act-stays.ensures.comb_others w.with_mark-rests.ensures)
+        w.act-stays.ensures.stay w.act-stays.ensures.rest w.act-stays.ensures.only.others w.act-stays.ensures.only.shown.low_others w.act-stays.ensures.only.shown.comb_others w.with_mark-rests.ensures)
     | else-p-lines w ↦ rw (w.procs-is, w.low-is, w.comb-is, w.rests-is)
         (none_there c.args.project.now c.args.low_got.now c.args.comb_got.now c.args.active c.args.procs.now.items c.args.low.now c.args.comb.now c.requires.others
         c.loop-p.next c.loop-p.rests c.loop-p.procs.items c.loop-p.low c.loop-p.comb c.loop-p.invariant.partly
@@ -66,14 +65,8 @@ loop-p-preserved c = record {
   ];
 }
 
-pub returns-clause-many : goal.returns-clause-many
-returns-clause-many c = c.loop-p.invariant.partly.many
-
-pub returns-clause-low : goal.returns-clause-low
-returns-clause-low c = c.loop-p.invariant.partly.low_same
-
-pub returns-clause-comb : goal.returns-clause-comb
-returns-clause-comb c = c.loop-p.invariant.partly.comb_same
+pub returns-clause-same : goal.returns-clause-same
+returns-clause-same c = record { many = c.loop-p.invariant.partly.many; low_same = c.loop-p.invariant.partly.low_same; comb_same = c.loop-p.invariant.partly.comb_same }
 
 pub returns-clause-one : goal.returns-clause-one
 returns-clause-one c = c.loop-p.invariant.partly.one

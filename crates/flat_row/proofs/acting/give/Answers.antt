@@ -5,11 +5,14 @@ use Rattle.flat_row.proofs.Ending.{same_level, changed_same, changed_here, chang
 use Rattle.flat_row.proofs.Processing.{shows_low, shows_comb, one_low, one_comb}
 use Rattle.flat_row.proofs.acting.give.Goals as goal
 
-pub returns-in-Low-clause-low : goal.returns-in-Low-clause-low
-returns-in-Low-clause-low c = changed_same c.args.low.now c.give.new.self c.args.p (joined (queue_at c.args.low.now.queues c.args.p) (Some c.args.outgoing.request)) c.give.ensures
-
-pub returns-in-Low-clause-comb : goal.returns-in-Low-clause-comb
-returns-in-Low-clause-comb c = same_level c.args.comb.now
+pub returns-in-Low-clause-only : goal.returns-in-Low-clause-only
+returns-in-Low-clause-only c =
+    record {
+      low_same = changed_same c.args.low.now c.give.new.self c.args.p (joined (queue_at c.args.low.now.queues c.args.p) (Some c.args.outgoing.request)) c.give.ensures;
+      comb_same = same_level c.args.comb.now;
+      low_others = λ q ne. changed_other c.args.low.now c.give.new.self c.args.p (joined (queue_at c.args.low.now.queues c.args.p) (Some c.args.outgoing.request)) c.give.ensures q ne;
+      comb_others = λ q ne. refl;
+    }
 
 pub returns-in-Low-clause-one : goal.returns-in-Low-clause-one
 returns-in-Low-clause-one c = one_low (queue_at c.args.low.now.queues c.args.p) (queue_at c.args.comb.now.queues c.args.p) (queue_at c.give.new.self.queues c.args.p) (queue_at c.args.comb.now.queues c.args.p) c.args.next.now c.args.outgoing c.requires.issued c.requires.outgoing (changed_here c.args.low.now c.give.new.self c.args.p (joined (queue_at c.args.low.now.queues c.args.p) (Some c.args.outgoing.request)) c.give.ensures c.requires.low) refl
@@ -17,26 +20,17 @@ returns-in-Low-clause-one c = one_low (queue_at c.args.low.now.queues c.args.p) 
 pub returns-in-Low-clause-shown : goal.returns-in-Low-clause-shown
 returns-in-Low-clause-shown c = shows_low (queue_at c.args.low.now.queues c.args.p) (queue_at c.args.comb.now.queues c.args.p) (queue_at c.give.new.self.queues c.args.p) (queue_at c.args.comb.now.queues c.args.p) c.args.next.now c.args.outgoing c.requires.issued c.requires.outgoing c.in-Low.is (changed_here c.args.low.now c.give.new.self c.args.p (joined (queue_at c.args.low.now.queues c.args.p) (Some c.args.outgoing.request)) c.give.ensures c.requires.low) refl
 
-pub returns-in-Low-clause-low_others : goal.returns-in-Low-clause-low_others
-returns-in-Low-clause-low_others c = λ q ne. changed_other c.args.low.now c.give.new.self c.args.p (joined (queue_at c.args.low.now.queues c.args.p) (Some c.args.outgoing.request)) c.give.ensures q ne
-
-pub returns-in-Low-clause-comb_others : goal.returns-in-Low-clause-comb_others
-returns-in-Low-clause-comb_others c = λ q ne. refl
-
-pub returns-in-Comb-clause-low : goal.returns-in-Comb-clause-low
-returns-in-Comb-clause-low c = same_level c.args.low.now
-
-pub returns-in-Comb-clause-comb : goal.returns-in-Comb-clause-comb
-returns-in-Comb-clause-comb c = changed_same c.args.comb.now c.give-in-Comb.new.self c.args.p (joined (queue_at c.args.comb.now.queues c.args.p) (Some c.args.outgoing.request)) c.give-in-Comb.ensures
+pub returns-in-Comb-clause-only : goal.returns-in-Comb-clause-only
+returns-in-Comb-clause-only c =
+    record {
+      low_same = same_level c.args.low.now;
+      comb_same = changed_same c.args.comb.now c.give-in-Comb.new.self c.args.p (joined (queue_at c.args.comb.now.queues c.args.p) (Some c.args.outgoing.request)) c.give-in-Comb.ensures;
+      low_others = λ q ne. refl;
+      comb_others = λ q ne. changed_other c.args.comb.now c.give-in-Comb.new.self c.args.p (joined (queue_at c.args.comb.now.queues c.args.p) (Some c.args.outgoing.request)) c.give-in-Comb.ensures q ne;
+    }
 
 pub returns-in-Comb-clause-one : goal.returns-in-Comb-clause-one
 returns-in-Comb-clause-one c = one_comb (queue_at c.args.low.now.queues c.args.p) (queue_at c.args.comb.now.queues c.args.p) (queue_at c.args.low.now.queues c.args.p) (queue_at c.give-in-Comb.new.self.queues c.args.p) c.args.next.now c.args.outgoing c.requires.issued c.requires.outgoing refl (changed_here c.args.comb.now c.give-in-Comb.new.self c.args.p (joined (queue_at c.args.comb.now.queues c.args.p) (Some c.args.outgoing.request)) c.give-in-Comb.ensures c.requires.comb)
 
 pub returns-in-Comb-clause-shown : goal.returns-in-Comb-clause-shown
 returns-in-Comb-clause-shown c = shows_comb (queue_at c.args.low.now.queues c.args.p) (queue_at c.args.comb.now.queues c.args.p) (queue_at c.args.low.now.queues c.args.p) (queue_at c.give-in-Comb.new.self.queues c.args.p) c.args.next.now c.args.outgoing c.requires.issued c.requires.outgoing c.in-Comb.is refl (changed_here c.args.comb.now c.give-in-Comb.new.self c.args.p (joined (queue_at c.args.comb.now.queues c.args.p) (Some c.args.outgoing.request)) c.give-in-Comb.ensures c.requires.comb)
-
-pub returns-in-Comb-clause-low_others : goal.returns-in-Comb-clause-low_others
-returns-in-Comb-clause-low_others c = λ q ne. refl
-
-pub returns-in-Comb-clause-comb_others : goal.returns-in-Comb-clause-comb_others
-returns-in-Comb-clause-comb_others c = λ q ne. changed_other c.args.comb.now c.give-in-Comb.new.self c.args.p (joined (queue_at c.args.comb.now.queues c.args.p) (Some c.args.outgoing.request)) c.give-in-Comb.ensures q ne
