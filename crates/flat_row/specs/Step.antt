@@ -1,7 +1,8 @@
 -- What the parts of a step leave of a network.
-use Rattle.std.specs.Prelude.{◌≡◌, ℕ, suc, ◌-◌, ◌<◌, true, if◌then◌else◌, List, length, None, Some}
+use Rattle.std.specs.Prelude.{◌≡◌, ℕ, suc, ◌+◌, ◌-◌, ◌<◌, ◌≤◌, true, if◌then◌else◌, List, length, None, Some, IsSome}
 use Rattle.omega_net.specs.declared.component.Net.{Net}
 use Rattle.omega_net.specs.declared.component.Net.TheVariants.{Low as LowNet, Comb as CombNet}
+use Rattle.omega_net.specs.declared.message.Request.{Request}
 use Rattle.omega_net.specs.declared.message.Reply.{Reply}
 use Rattle.omega_net.specs.Numbers.{lines}
 use Rattle.omega_net.specs.Wires.{bit}
@@ -13,7 +14,8 @@ use Rattle.ref_proc.specs.RefProc.{net_for}
 use Rattle.project_book.specs.Project.{Project, depth_of}
 use Rattle.project_book.specs.declared.edit.Depths.TheVariants.{ModuleQueue}
 use Rattle.flat_row.specs.Masks.{has}
-use Rattle.flat_row.specs.Row.{Network, Buffers, Arrays, Rests, level_at, queue_of, module_of}
+use Rattle.flat_row.specs.Queues.{Queues}
+use Rattle.flat_row.specs.Row.{Network, Buffers, Arrays, HasLevels, Rests, level_at, queue_of, module_of}
 use Rattle.flat_row.specs.Rows.{if_leaves}
 use Rattle.flat_row.specs.Moving.{SameShape, left_back}
 use Rattle.flat_row.specs.Combining.{splitting}
@@ -30,6 +32,12 @@ pub record Serves (P : Project) (R : Arrays) (low comb next : ℕ) : Type 0 wher
   pub turn_so : (m : ℕ) → m < lines P.k → net_for (has next m) ≡ turn_from (net_for (has R.module_turns m)) (served_net (module_of R m) (depth_of P ModuleQueue))
   pub low_waits : WaitForth R LowNet (suc P.k) low
   pub comb_waits : WaitForth R CombNet (suc P.k) comb
+
+-- modules can serve the heads of a network's requests: all levels and all modules are there, and where one is to serve, a request waits
+pub record CanServe (k modules : ℕ) (requests : List (Queues Request)) (words : List (List Stored)) : Type 0 where
+  pub levels : HasLevels (k + 2) (lines k) requests
+  pub some : (m : ℕ) → m < 64 → has modules m ≡ true → IsSome (head (queue_of requests (suc k) m))
+  pub there : lines k ≤ length words
 
 -- nothing but a network's level of requests at the modules is another one
 pub record OnlyModules (k : ℕ) (old new : Network) : Type 0 where

@@ -1,5 +1,5 @@
 //! One network in a step.
-ghost use Rattle.std.specs.Prelude.{◌≡◌, ℕ, suc, ◌+◌, ◌<◌, ◌≤◌, length, IsSome, true, false, IfOk, OnOk};
+ghost use Rattle.std.specs.Prelude.{◌≡◌, ℕ, suc, ◌+◌, ◌<◌, length, IsSome, true, false, IfOk, OnOk};
 ghost use Rattle.omega_net.specs.Numbers.{lines};
 ghost use Rattle.omega_net.specs.Queues.{head};
 ghost use Rattle.flat_row.specs.Masks.{has};
@@ -7,7 +7,7 @@ ghost use Rattle.flat_row.specs.Row.{HasLevels, level_at, queue_of};
 ghost use Rattle.flat_row.specs.Moving.{AllWait, AllWaitBack, forth_after, back_after};
 ghost use Rattle.flat_row.specs.Stages.{HasBuffers, CombForth, CombBack};
 ghost use Rattle.flat_row.specs.Ends.{AllServed, Wrote, ShowsOne, Stays, shown_with};
-ghost use Rattle.flat_row.specs.Step.{OnlyModules, NetReceived, NetAnswered, OnlyRequests, OnlyReplies, BothActed, BothServed, Departed, Returned, CombsReturned};
+ghost use Rattle.flat_row.specs.Step.{CanServe, OnlyModules, NetReceived, NetAnswered, OnlyRequests, OnlyReplies, BothActed, BothServed, Departed, Returned, CombsReturned};
 
 use crate::acting::{Replies, act_all, receive};
 use crate::bits::{are_empty, either};
@@ -37,9 +37,7 @@ impl Side {
         modules: u64,
         answers: &mut [Reply; 64],
     ) -> Result<u64, NoMemory>
-        requires levels { HasLevels (shape + 2) (lines shape) self.old.requests }
-        requires some { (m : ℕ) → m < 64 → has modules m ≡ true → IsSome (head (queue_of self.old.requests (suc shape) m)) }
-        requires there { lines shape ≤ length words.old.items }
+        requires { CanServe shape modules self.old.requests words.old.items }
         ensures only { OnlyModules shape self.old self.new }
         ensures many { length words.new.items ≡ length words.old.items }
         ensures served { OnOk result (AllServed modules (level_at self.old.requests (suc shape)) (level_at self.new.requests (suc shape)) words.old.items words.new.items answers.new) }
@@ -236,11 +234,8 @@ pub(crate) fn serve_both(
     low_answers: &mut [Reply; 64],
     comb_answers: &mut [Reply; 64],
 ) -> Result<u64, NoMemory>
-    requires low { HasLevels (shape + 2) (lines shape) low.old.requests }
-    requires comb { HasLevels (shape + 2) (lines shape) comb.old.requests }
-    requires low_some { (m : ℕ) → m < 64 → has served.now.low m ≡ true → IsSome (head (queue_of low.old.requests (suc shape) m)) }
-    requires comb_some { (m : ℕ) → m < 64 → has served.now.comb m ≡ true → IsSome (head (queue_of comb.old.requests (suc shape) m)) }
-    requires there { lines shape ≤ length words.old.items }
+    requires low { CanServe shape served.now.low low.old.requests words.old.items }
+    requires comb { CanServe shape served.now.comb comb.old.requests words.old.items }
     requires apart { (m : ℕ) → m < 64 → has served.now.low m ≡ true → has served.now.comb m ≡ true → ⊥ }
     ensures low { OnlyModules shape low.old low.new }
     ensures comb { OnlyModules shape comb.old comb.new }

@@ -13,8 +13,8 @@ returns-in_err-low_wrote-clause-comb c = only_same c.args.shape c.args.comb.now
 pub returns-in_err-low_wrote-clause-many : goal.returns-in_err-low_wrote-clause-many
 returns-in_err-low_wrote-clause-many c = c.in_err-low_wrote.ensures.many
 
-pub serve-requires-2-clause-there : goal.serve-requires-2-clause-there
-serve-requires-2-clause-there c = subst (λ n. lines c.args.shape ≤ n) (sym c.in_ok-low_wrote.ensures.many) c.requires.there
+pub serve-requires-2 : goal.serve-requires-2
+serve-requires-2 c = record { levels = c.requires.comb.levels; some = c.requires.comb.some; there = subst (λ n. lines c.args.shape ≤ n) (sym c.in_ok-low_wrote.ensures.many) c.requires.comb.there }
 
 pub returns-in_err-comb_wrote-clause-low : goal.returns-in_err-comb_wrote-clause-low
 returns-in_err-comb_wrote-clause-low c = c.in_ok-low_wrote.ensures.only

@@ -10,19 +10,20 @@ use Rattle.flat_row.proofs.Stepped.{need_low, need_comb, need_words, low_wide, c
 use Rattle.flat_row.proofs.row.Row.move_on.Goals as goal
 
 pub serve_both-requires-clause-low : goal.serve_both-requires-clause-low
-serve_both-requires-clause-low c = c.self.invariant.low.requests
+serve_both-requires-clause-low c =
+    record {
+      levels = c.self.invariant.low.requests;
+      some = need_low c.args.project.now c.is_project.ensures.project (record { k = c.self.inside.shape; low = c.self.inside.low; comb = c.self.inside.comb; buffers = c.self.inside.waits.items; procs = c.self.inside.procs.items; words = c.self.inside.words.items; module_turns = c.self.inside.module_turns; served = c.self.inside.served; rests = c.self.inside.rests }) c.self.invariant (subst (λ (r : Arrays). IsRowOf c.args.project.now r) (sym c.self.view_is) c.requires) c.serving-served.result c.plan-low.result c.plan-comb.result (subst (λ (r : Arrays). Serves c.args.project.now r c.serving-served.result.low c.serving-served.result.comb c.serving-served.result.turn) (sym c.self.view_is) c.serving-served.ensures) (subst (λ (r : Arrays). IsPlan c.args.project.now r LowNet c.plan-low.result) (sym c.self.view_is) c.plan-low.ensures) (subst (λ (r : Arrays). IsPlan c.args.project.now r CombNet c.plan-comb.result) (sym c.self.view_is) c.plan-comb.ensures);
+      there = need_words c.args.project.now c.is_project.ensures.project (record { k = c.self.inside.shape; low = c.self.inside.low; comb = c.self.inside.comb; buffers = c.self.inside.waits.items; procs = c.self.inside.procs.items; words = c.self.inside.words.items; module_turns = c.self.inside.module_turns; served = c.self.inside.served; rests = c.self.inside.rests }) c.self.invariant (subst (λ (r : Arrays). IsRowOf c.args.project.now r) (sym c.self.view_is) c.requires) c.serving-served.result c.plan-low.result c.plan-comb.result (subst (λ (r : Arrays). Serves c.args.project.now r c.serving-served.result.low c.serving-served.result.comb c.serving-served.result.turn) (sym c.self.view_is) c.serving-served.ensures) (subst (λ (r : Arrays). IsPlan c.args.project.now r LowNet c.plan-low.result) (sym c.self.view_is) c.plan-low.ensures) (subst (λ (r : Arrays). IsPlan c.args.project.now r CombNet c.plan-comb.result) (sym c.self.view_is) c.plan-comb.ensures);
+    }
 
 pub serve_both-requires-clause-comb : goal.serve_both-requires-clause-comb
-serve_both-requires-clause-comb c = c.self.invariant.comb.requests
-
-pub serve_both-requires-clause-low_some : goal.serve_both-requires-clause-low_some
-serve_both-requires-clause-low_some c = need_low c.args.project.now c.is_project.ensures.project (record { k = c.self.inside.shape; low = c.self.inside.low; comb = c.self.inside.comb; buffers = c.self.inside.waits.items; procs = c.self.inside.procs.items; words = c.self.inside.words.items; module_turns = c.self.inside.module_turns; served = c.self.inside.served; rests = c.self.inside.rests }) c.self.invariant (subst (λ (r : Arrays). IsRowOf c.args.project.now r) (sym c.self.view_is) c.requires) c.serving-served.result c.plan-low.result c.plan-comb.result (subst (λ (r : Arrays). Serves c.args.project.now r c.serving-served.result.low c.serving-served.result.comb c.serving-served.result.turn) (sym c.self.view_is) c.serving-served.ensures) (subst (λ (r : Arrays). IsPlan c.args.project.now r LowNet c.plan-low.result) (sym c.self.view_is) c.plan-low.ensures) (subst (λ (r : Arrays). IsPlan c.args.project.now r CombNet c.plan-comb.result) (sym c.self.view_is) c.plan-comb.ensures)
-
-pub serve_both-requires-clause-comb_some : goal.serve_both-requires-clause-comb_some
-serve_both-requires-clause-comb_some c = need_comb c.args.project.now c.is_project.ensures.project (record { k = c.self.inside.shape; low = c.self.inside.low; comb = c.self.inside.comb; buffers = c.self.inside.waits.items; procs = c.self.inside.procs.items; words = c.self.inside.words.items; module_turns = c.self.inside.module_turns; served = c.self.inside.served; rests = c.self.inside.rests }) c.self.invariant (subst (λ (r : Arrays). IsRowOf c.args.project.now r) (sym c.self.view_is) c.requires) c.serving-served.result c.plan-low.result c.plan-comb.result (subst (λ (r : Arrays). Serves c.args.project.now r c.serving-served.result.low c.serving-served.result.comb c.serving-served.result.turn) (sym c.self.view_is) c.serving-served.ensures) (subst (λ (r : Arrays). IsPlan c.args.project.now r LowNet c.plan-low.result) (sym c.self.view_is) c.plan-low.ensures) (subst (λ (r : Arrays). IsPlan c.args.project.now r CombNet c.plan-comb.result) (sym c.self.view_is) c.plan-comb.ensures)
-
-pub serve_both-requires-clause-there : goal.serve_both-requires-clause-there
-serve_both-requires-clause-there c = need_words c.args.project.now c.is_project.ensures.project (record { k = c.self.inside.shape; low = c.self.inside.low; comb = c.self.inside.comb; buffers = c.self.inside.waits.items; procs = c.self.inside.procs.items; words = c.self.inside.words.items; module_turns = c.self.inside.module_turns; served = c.self.inside.served; rests = c.self.inside.rests }) c.self.invariant (subst (λ (r : Arrays). IsRowOf c.args.project.now r) (sym c.self.view_is) c.requires) c.serving-served.result c.plan-low.result c.plan-comb.result (subst (λ (r : Arrays). Serves c.args.project.now r c.serving-served.result.low c.serving-served.result.comb c.serving-served.result.turn) (sym c.self.view_is) c.serving-served.ensures) (subst (λ (r : Arrays). IsPlan c.args.project.now r LowNet c.plan-low.result) (sym c.self.view_is) c.plan-low.ensures) (subst (λ (r : Arrays). IsPlan c.args.project.now r CombNet c.plan-comb.result) (sym c.self.view_is) c.plan-comb.ensures)
+serve_both-requires-clause-comb c =
+    record {
+      levels = c.self.invariant.comb.requests;
+      some = need_comb c.args.project.now c.is_project.ensures.project (record { k = c.self.inside.shape; low = c.self.inside.low; comb = c.self.inside.comb; buffers = c.self.inside.waits.items; procs = c.self.inside.procs.items; words = c.self.inside.words.items; module_turns = c.self.inside.module_turns; served = c.self.inside.served; rests = c.self.inside.rests }) c.self.invariant (subst (λ (r : Arrays). IsRowOf c.args.project.now r) (sym c.self.view_is) c.requires) c.serving-served.result c.plan-low.result c.plan-comb.result (subst (λ (r : Arrays). Serves c.args.project.now r c.serving-served.result.low c.serving-served.result.comb c.serving-served.result.turn) (sym c.self.view_is) c.serving-served.ensures) (subst (λ (r : Arrays). IsPlan c.args.project.now r LowNet c.plan-low.result) (sym c.self.view_is) c.plan-low.ensures) (subst (λ (r : Arrays). IsPlan c.args.project.now r CombNet c.plan-comb.result) (sym c.self.view_is) c.plan-comb.ensures);
+      there = need_words c.args.project.now c.is_project.ensures.project (record { k = c.self.inside.shape; low = c.self.inside.low; comb = c.self.inside.comb; buffers = c.self.inside.waits.items; procs = c.self.inside.procs.items; words = c.self.inside.words.items; module_turns = c.self.inside.module_turns; served = c.self.inside.served; rests = c.self.inside.rests }) c.self.invariant (subst (λ (r : Arrays). IsRowOf c.args.project.now r) (sym c.self.view_is) c.requires) c.serving-served.result c.plan-low.result c.plan-comb.result (subst (λ (r : Arrays). Serves c.args.project.now r c.serving-served.result.low c.serving-served.result.comb c.serving-served.result.turn) (sym c.self.view_is) c.serving-served.ensures) (subst (λ (r : Arrays). IsPlan c.args.project.now r LowNet c.plan-low.result) (sym c.self.view_is) c.plan-low.ensures) (subst (λ (r : Arrays). IsPlan c.args.project.now r CombNet c.plan-comb.result) (sym c.self.view_is) c.plan-comb.ensures);
+    }
 
 pub serve_both-requires-clause-apart : goal.serve_both-requires-clause-apart
 serve_both-requires-clause-apart c = serve_apart c.args.project.now c.is_project.ensures.project (record { k = c.self.inside.shape; low = c.self.inside.low; comb = c.self.inside.comb; buffers = c.self.inside.waits.items; procs = c.self.inside.procs.items; words = c.self.inside.words.items; module_turns = c.self.inside.module_turns; served = c.self.inside.served; rests = c.self.inside.rests }) c.self.invariant (subst (λ (r : Arrays). IsRowOf c.args.project.now r) (sym c.self.view_is) c.requires) c.serving-served.result c.plan-low.result c.plan-comb.result (subst (λ (r : Arrays). Serves c.args.project.now r c.serving-served.result.low c.serving-served.result.comb c.serving-served.result.turn) (sym c.self.view_is) c.serving-served.ensures) (subst (λ (r : Arrays). IsPlan c.args.project.now r LowNet c.plan-low.result) (sym c.self.view_is) c.plan-low.ensures) (subst (λ (r : Arrays). IsPlan c.args.project.now r CombNet c.plan-comb.result) (sym c.self.view_is) c.plan-comb.ensures)
