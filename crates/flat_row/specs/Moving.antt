@@ -1,5 +1,5 @@
 -- What levels hold when heads have moved from one to another.
-use Rattle.std.specs.Prelude.{◌≡◌, ℕ, zero, suc, ◌-◌, ◌<◌, ◌≤◌, ◌==◌, ◌&&◌, nat_lt, Bool, true, if◌then◌else◌, List, length, Option, None, Some, IsSome, slice_index_or}
+use Rattle.std.specs.Prelude.{◌≡◌, ◌≢◌, ℕ, zero, suc, ◌-◌, ◌<◌, ◌≤◌, ◌==◌, ◌&&◌, nat_lt, Bool, true, if◌then◌else◌, List, length, Option, None, Some, IsSome, slice_index_or}
 use Rattle.arrayvec.specs.ArrayVec.{ArrayVec}
 use Rattle.omega_net.specs.Wires.{bit}
 use Rattle.omega_net.specs.Queues.{head, without_head, joined}
@@ -14,6 +14,17 @@ pub record SameShape {T : Type 0} (old new : List (Queues T)) : Type 0 where
   pub many : length new ≡ length old
   pub queues : (l : ℕ) → length (level_at new l).queues ≡ length (level_at old l).queues
   pub rules : (l : ℕ) → (level_at new l).rule ≡ (level_at old l).rule
+
+-- messages can move from a level to another one: both are there
+pub record CanMove {T : Type 0} (from to : ℕ) (levels : List (Queues T)) : Type 0 where
+  pub source : from < length levels
+  pub target : to < length levels
+  pub apart : from ≢ to
+
+-- a message waits at label x of a level
+pub record HasMessage {T : Type 0} (l x : ℕ) (levels : List (Queues T)) : Type 0 where
+  pub queue : x < length (level_at levels l).queues
+  pub some : IsSome (head (queue_of levels l x))
 
 -- the label of the queue to which a message goes from label x, at a stage that decides by bit b
 abbrev pub label_to : {T : Type 0} → (T → ℕ) → ℕ → ℕ → Option T → ℕ

@@ -1,5 +1,5 @@
 //! Messages that move from one level to another.
-ghost use Rattle.std.specs.Prelude.{◌≡◌, ◌≢◌, ℕ, ◌+◌, ◌<◌, ◌≤◌, length, IsSome, true, false, unwrap_or, IfSome, suc};
+ghost use Rattle.std.specs.Prelude.{◌≡◌, ℕ, ◌+◌, ◌<◌, ◌≤◌, length, IsSome, true, false, unwrap_or, IfSome, suc};
 ghost use Rattle.std.specs.Mem.{FitsInMemory};
 ghost use Rattle.flat_row.specs.contracts.queue.Places.{the_row};
 ghost use Rattle.omega_net.specs.Numbers.{lines};
@@ -8,7 +8,7 @@ ghost use Rattle.omega_net.specs.Wires.{bit};
 ghost use Rattle.flat_row.specs.Masks.{has};
 ghost use Rattle.flat_row.specs.Labels.{port};
 ghost use Rattle.flat_row.specs.Row.{HasLevels, level_at, queue_of};
-ghost use Rattle.flat_row.specs.Moving.{SameShape, AllWait, AllWaitBack, passed, passed_straight, moved, moved_straight, forth_after, back_after};
+ghost use Rattle.flat_row.specs.Moving.{CanMove, HasMessage, SameShape, AllWait, AllWaitBack, passed, passed_straight, moved, moved_straight, forth_after, back_after};
 
 use crate::level::Level;
 use crate::marks::Routed;
@@ -44,14 +44,11 @@ pub(crate) fn port_of(by: u32, x: u32, bit: u8) -> u32
 
 /// Moves the head of one queue of a level to the queue of another level that it asks for.
 fn pass<T: Routed>(levels: &mut Vec<Level<T>>, from: usize, to: usize, by: u32, x: u32)
-    requires from { from < length levels.old.items }
-    requires to { to < length levels.old.items }
-    requires apart { from ≢ to }
+    requires can { CanMove from to levels.old.items }
     requires by { by < 6 }
     requires there { x < 64 }
-    requires queues { x < length (level_at levels.old.items from).queues }
+    requires message { HasMessage from x levels.old.items }
     requires ports { (i : ℕ) → i < 2 → port by i x < length (level_at levels.old.items to).queues }
-    requires some { IsSome (head (queue_of levels.old.items from x)) }
     requires fits { FitsInMemory (the_row T.row) }
     ensures shape { SameShape levels.old.items levels.new.items }
     ensures queues { (l z : ℕ) → queue_of levels.new.items l z ≡ passed T.route by from to x levels.old.items l z }
@@ -71,9 +68,7 @@ pub(crate) fn move_heads<T: Routed>(
     by: u32,
     leave: u64,
 )
-    requires from { from < length levels.old.items }
-    requires to { to < length levels.old.items }
-    requires apart { from ≢ to }
+    requires can { CanMove from to levels.old.items }
     requires by { by < 6 }
     requires some { (x : ℕ) → x < 64 → has leave x ≡ true → IsSome (head (queue_of levels.old.items from x)) }
     requires ports { (x i : ℕ) → x < length (level_at levels.old.items from).queues → i < 2 → port by i x < length (level_at levels.old.items to).queues }
@@ -90,12 +85,9 @@ pub(crate) fn move_heads<T: Routed>(
 
 /// Moves the head of one queue of a level to the queue of the same label in another level.
 fn pass_straight<T: Routed>(levels: &mut Vec<Level<T>>, from: usize, to: usize, x: u32)
-    requires from { from < length levels.old.items }
-    requires to { to < length levels.old.items }
-    requires apart { from ≢ to }
-    requires queues { x < length (level_at levels.old.items from).queues }
+    requires can { CanMove from to levels.old.items }
+    requires message { HasMessage from x levels.old.items }
     requires there { x < length (level_at levels.old.items to).queues }
-    requires some { IsSome (head (queue_of levels.old.items from x)) }
     requires fits { FitsInMemory (the_row T.row) }
     ensures shape { SameShape levels.old.items levels.new.items }
     ensures queues { (l z : ℕ) → queue_of levels.new.items l z ≡ passed_straight from to x levels.old.items l z }
@@ -113,9 +105,7 @@ pub(crate) fn move_straight<T: Routed>(
     to: usize,
     leave: u64,
 )
-    requires from { from < length levels.old.items }
-    requires to { to < length levels.old.items }
-    requires apart { from ≢ to }
+    requires can { CanMove from to levels.old.items }
     requires some { (x : ℕ) → x < 64 → has leave x ≡ true → IsSome (head (queue_of levels.old.items from x)) }
     requires there { length (level_at levels.old.items from).queues ≤ length (level_at levels.old.items to).queues }
     requires fits { FitsInMemory (the_row T.row) }

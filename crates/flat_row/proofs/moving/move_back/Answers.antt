@@ -11,14 +11,13 @@ loop-stage-init g c = record {
   queues = λ m z within small. none_back g.T.Routed.route c.args.shape c.args.leave.now c.args.levels.now.items m z;
 }
 
-pub move_heads-requires-clause-from : goal.move_heads-requires-clause-from
-move_heads-requires-clause-from g c = omega (arith, c.loop-stage.invariant.shape.many, c.requires.levels.many, c.k-stage-end.ensures.value, c.loop-stage-test.true)
-
-pub move_heads-requires-clause-to : goal.move_heads-requires-clause-to
-move_heads-requires-clause-to g c = omega (arith, c.loop-stage.invariant.shape.many, c.requires.levels.many, c.k-stage-end.ensures.value, c.loop-stage-test.true)
-
-pub move_heads-requires-clause-apart : goal.move_heads-requires-clause-apart
-move_heads-requires-clause-apart g c = λ e. omega (arith, e)
+pub move_heads-requires-clause-can : goal.move_heads-requires-clause-can
+move_heads-requires-clause-can g c =
+    record {
+      source = omega (arith, c.loop-stage.invariant.shape.many, c.requires.levels.many, c.k-stage-end.ensures.value, c.loop-stage-test.true);
+      target = omega (arith, c.loop-stage.invariant.shape.many, c.requires.levels.many, c.k-stage-end.ensures.value, c.loop-stage-test.true);
+      apart = λ e. omega (arith, e);
+    }
 
 pub move_heads-requires-clause-by : goal.move_heads-requires-clause-by
 move_heads-requires-clause-by g c = omega (arith, c.deciding_bit-by.ensures, c.k-stage-end.ensures.value, c.k-stage-end.ensures.within, c.loop-stage-test.true)

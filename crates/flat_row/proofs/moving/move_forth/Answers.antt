@@ -10,14 +10,13 @@ use Rattle.flat_row.proofs.Passing.{shape_twice}
 use Rattle.flat_row.proofs.Staying.{port_stays}
 use Rattle.flat_row.proofs.moving.move_forth.Goals as goal
 
-pub move_straight-requires-clause-from : goal.move_straight-requires-clause-from
-move_straight-requires-clause-from g c = omega (arith, c.requires.levels.many, c.k-k.ensures.value)
-
-pub move_straight-requires-clause-to : goal.move_straight-requires-clause-to
-move_straight-requires-clause-to g c = omega (arith, c.requires.levels.many, c.k-k.ensures.value)
-
-pub move_straight-requires-clause-apart : goal.move_straight-requires-clause-apart
-move_straight-requires-clause-apart g c = λ e. omega (arith, e)
+pub move_straight-requires-clause-can : goal.move_straight-requires-clause-can
+move_straight-requires-clause-can g c =
+    record {
+      source = omega (arith, c.requires.levels.many, c.k-k.ensures.value);
+      target = omega (arith, c.requires.levels.many, c.k-k.ensures.value);
+      apart = λ e. omega (arith, e);
+    }
 
 pub move_straight-requires-clause-some : goal.move_straight-requires-clause-some
 move_straight-requires-clause-some g c = λ x small has_it.
@@ -41,14 +40,13 @@ loop-done-init g c = record {
       ∙ ap (λ n. partly g.T.Routed.route c.args.shape c.args.leave.now c.args.enter c.args.levels.now.items n m z) e;
 }
 
-pub move_heads-requires-clause-from : goal.move_heads-requires-clause-from
-move_heads-requires-clause-from g c = omega (arith, c.loop-done.invariant.shape.many, c.requires.levels.many, c.k-k.ensures.value, c.loop-done-test.true)
-
-pub move_heads-requires-clause-to : goal.move_heads-requires-clause-to
-move_heads-requires-clause-to g c = omega (arith, c.loop-done.invariant.shape.many, c.requires.levels.many, c.k-k.ensures.value, c.loop-done-test.true)
-
-pub move_heads-requires-clause-apart : goal.move_heads-requires-clause-apart
-move_heads-requires-clause-apart g c = λ e. omega (arith, e)
+pub move_heads-requires-clause-can : goal.move_heads-requires-clause-can
+move_heads-requires-clause-can g c =
+    record {
+      source = omega (arith, c.loop-done.invariant.shape.many, c.requires.levels.many, c.k-k.ensures.value, c.loop-done-test.true);
+      target = omega (arith, c.loop-done.invariant.shape.many, c.requires.levels.many, c.k-k.ensures.value, c.loop-done-test.true);
+      apart = λ e. omega (arith, e);
+    }
 
 pub move_heads-requires-clause-by : goal.move_heads-requires-clause-by
 move_heads-requires-clause-by g c = omega (arith, c.deciding_bit-by.ensures, c.k-k.ensures.value, c.k-k.ensures.within, c.loop-done-test.true)

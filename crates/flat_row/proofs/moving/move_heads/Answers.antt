@@ -14,27 +14,27 @@ loop-x-init g c = record {
   queues = λ m z small. none_moved g.T.Routed.route c.args.by c.args.from c.args.to c.args.levels.now.items c.args.leave m z;
 }
 
-pub pass-requires-clause-from : goal.pass-requires-clause-from
-pass-requires-clause-from g c = subst (λ n. c.args.from < n) (sym c.loop-x.invariant.shape.many) c.requires.from
-
-pub pass-requires-clause-to : goal.pass-requires-clause-to
-pass-requires-clause-to g c = subst (λ n. c.args.to < n) (sym c.loop-x.invariant.shape.many) c.requires.to
+pub pass-requires-clause-can : goal.pass-requires-clause-can
+pass-requires-clause-can g c =
+    record {
+      source = subst (λ n. c.args.from < n) (sym c.loop-x.invariant.shape.many) c.requires.can.source;
+      target = subst (λ n. c.args.to < n) (sym c.loop-x.invariant.shape.many) c.requires.can.target;
+      apart = c.requires.can.apart;
+    }
 
 pub pass-requires-clause-there : goal.pass-requires-clause-there
 pass-requires-clause-there g c = c.in-Some.ensures.there.1
 
-pub pass-requires-clause-some : goal.pass-requires-clause-some
-pass-requires-clause-some g c =
+pub pass-requires-clause-message : goal.pass-requires-clause-message
+pass-requires-clause-message g c =
     let f = c.in-Some.ensures.there in
     let x = c.in-Some.x in
+    let some = c.requires.some x f.1 f.2 in
     let same = head_still g.T.Routed.route c.args.by c.args.from c.args.to c.args.levels.now.items c.loop-x.levels.items c.args.leave c.loop-x.next x f.1 f.0 c.loop-x.invariant.queues in
-    subst (λ q. IsSome (head q)) (sym same) (c.requires.some x f.1 f.2)
-
-pub pass-requires-clause-queues : goal.pass-requires-clause-queues
-pass-requires-clause-queues g c =
-    let f = c.in-Some.ensures.there in
-    let x = c.in-Some.x in
-    subst (λ n. x < n) (sym (c.loop-x.invariant.shape.queues c.args.from)) (level_within c.args.levels.now.items c.args.from x (c.requires.some x f.1 f.2))
+    record {
+      queue = subst (λ n. x < n) (sym (c.loop-x.invariant.shape.queues c.args.from)) (level_within c.args.levels.now.items c.args.from x some);
+      some = subst (λ q. IsSome (head q)) (sym same) some;
+    }
 
 pub pass-requires-clause-ports : goal.pass-requires-clause-ports
 pass-requires-clause-ports g c = λ i h.
@@ -57,7 +57,7 @@ loop-x-preserved g c =
       shape = shape_twice levels c.loop-x.levels.items c.pass.new.levels.items inv.shape c.pass.ensures.shape;
       queues = λ l z small.
           c.pass.ensures.queues l z
-          ∙ one_more g.T.Routed.route c.args.by c.args.from c.args.to levels c.args.leave c.loop-x.next x c.requires.by c.requires.apart f.1 f.0 c.in-Some.ensures.passed f.2 m.0 m.1 c.loop-x.levels.items inv.queues l z small;
+          ∙ one_more g.T.Routed.route c.args.by c.args.from c.args.to levels c.args.leave c.loop-x.next x c.requires.by c.requires.can.apart f.1 f.0 c.in-Some.ensures.passed f.2 m.0 m.1 c.loop-x.levels.items inv.queues l z small;
     }
 
 pub returns-clause-shape : goal.returns-clause-shape

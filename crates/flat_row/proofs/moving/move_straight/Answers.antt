@@ -13,24 +13,24 @@ loop-x-init g c = record {
   queues = λ m z small. none_straight c.args.from c.args.to c.args.levels.now.items c.args.leave m z;
 }
 
-pub pass_straight-requires-clause-from : goal.pass_straight-requires-clause-from
-pass_straight-requires-clause-from g c = subst (λ n. c.args.from < n) (sym c.loop-x.invariant.shape.many) c.requires.from
+pub pass_straight-requires-clause-can : goal.pass_straight-requires-clause-can
+pass_straight-requires-clause-can g c =
+    record {
+      source = subst (λ n. c.args.from < n) (sym c.loop-x.invariant.shape.many) c.requires.can.source;
+      target = subst (λ n. c.args.to < n) (sym c.loop-x.invariant.shape.many) c.requires.can.target;
+      apart = c.requires.can.apart;
+    }
 
-pub pass_straight-requires-clause-to : goal.pass_straight-requires-clause-to
-pass_straight-requires-clause-to g c = subst (λ n. c.args.to < n) (sym c.loop-x.invariant.shape.many) c.requires.to
-
-pub pass_straight-requires-clause-some : goal.pass_straight-requires-clause-some
-pass_straight-requires-clause-some g c =
+pub pass_straight-requires-clause-message : goal.pass_straight-requires-clause-message
+pass_straight-requires-clause-message g c =
     let f = c.in-Some.ensures.there in
     let x = c.in-Some.x in
+    let some = c.requires.some x f.1 f.2 in
     let same = straight_still_there c.args.from c.args.to c.args.levels.now.items c.loop-x.levels.items c.args.leave c.loop-x.next x f.1 f.0 c.loop-x.invariant.queues in
-    subst (λ q. IsSome (head q)) (sym same) (c.requires.some x f.1 f.2)
-
-pub pass_straight-requires-clause-queues : goal.pass_straight-requires-clause-queues
-pass_straight-requires-clause-queues g c =
-    let f = c.in-Some.ensures.there in
-    let x = c.in-Some.x in
-    subst (λ n. x < n) (sym (c.loop-x.invariant.shape.queues c.args.from)) (level_within c.args.levels.now.items c.args.from x (c.requires.some x f.1 f.2))
+    record {
+      queue = subst (λ n. x < n) (sym (c.loop-x.invariant.shape.queues c.args.from)) (level_within c.args.levels.now.items c.args.from x some);
+      some = subst (λ q. IsSome (head q)) (sym same) some;
+    }
 
 pub pass_straight-requires-clause-there : goal.pass_straight-requires-clause-there
 pass_straight-requires-clause-there g c =
@@ -54,7 +54,7 @@ loop-x-preserved g c =
       shape = shape_twice levels c.loop-x.levels.items c.pass_straight.new.levels.items inv.shape c.pass_straight.ensures.shape;
       queues = λ l z small.
           c.pass_straight.ensures.queues l z
-          ∙ one_straight c.args.from c.args.to levels c.args.leave c.loop-x.next x c.requires.apart f.1 f.0 c.in-Some.ensures.passed f.2 c.loop-x.levels.items inv.queues l z small;
+          ∙ one_straight c.args.from c.args.to levels c.args.leave c.loop-x.next x c.requires.can.apart f.1 f.0 c.in-Some.ensures.passed f.2 c.loop-x.levels.items inv.queues l z small;
     }
 
 pub returns-clause-shape : goal.returns-clause-shape

@@ -8,14 +8,13 @@ use Rattle.omega_net.specs.Numbers.{lines}
 use Rattle.flat_row.proofs.Staging.{PartlyForth, entered_so, enter_some, stage_some, stage_more, stage_small, from_done, to_done, all_forth_met, levels_still, buffers_still}
 use Rattle.flat_row.proofs.stages.combs_forth.Goals as goal
 
-pub move_straight-requires-clause-from : goal.move_straight-requires-clause-from
-move_straight-requires-clause-from c = omega (arith, c.requires.levels.many, c.k-k.ensures.k)
-
-pub move_straight-requires-clause-to : goal.move_straight-requires-clause-to
-move_straight-requires-clause-to c = omega (arith, c.requires.levels.many, c.k-k.ensures.k)
-
-pub move_straight-requires-clause-apart : goal.move_straight-requires-clause-apart
-move_straight-requires-clause-apart c = λ e. omega (arith, e)
+pub move_straight-requires-clause-can : goal.move_straight-requires-clause-can
+move_straight-requires-clause-can c =
+    record {
+      source = omega (arith, c.requires.levels.many, c.k-k.ensures.k);
+      target = omega (arith, c.requires.levels.many, c.k-k.ensures.k);
+      apart = λ e. omega (arith, e);
+    }
 
 pub move_straight-requires-clause-some : goal.move_straight-requires-clause-some
 move_straight-requires-clause-some c = λ x small has_it.
