@@ -1,5 +1,5 @@
 -- What changes where the state of a component is put into the row.
-use Rattle.std.specs.Prelude.{◌≡◌, ℕ, suc, ◌/◌, ◌^◌, ◌<◌, ◌≤◌, ◌==◌, ◌&&◌, if◌then◌else◌, List, [], ◌∷◌, length, Some, slice_index}
+use Rattle.std.specs.Prelude.{◌≡◌, ◌≢◌, ℕ, suc, ◌/◌, ◌^◌, ◌<◌, ◌≤◌, ◌==◌, ◌&&◌, if◌then◌else◌, List, [], ◌∷◌, length, Some, slice_index}
 use Rattle.arrayvec.specs.ArrayVec.{ArrayVec}
 use Rattle.omega_net.specs.declared.component.Net.TheVariants.{Low as LowNet, Comb as CombNet}
 use Rattle.omega_net.specs.declared.component.Component.{Component}
@@ -13,7 +13,7 @@ use Rattle.project_book.specs.Project.{Project}
 use Rattle.state_words.specs.Messages.{request_from, reply_from}
 use Rattle.state_words.specs.Reading.{count_in, queues_from, after_requests}
 use Rattle.flat_row.specs.Queues.{Queues}
-use Rattle.flat_row.specs.Row.{Network, Arrays, IsRowOf, queue_of, turn_of, state_of}
+use Rattle.flat_row.specs.Row.{Network, Arrays, IsRowOf, level_at, queue_of, turn_of, state_of}
 use Rattle.flat_row.specs.Moving.{SameShape}
 
 -- the queues of levels, where that of a level at a label is another one
@@ -51,6 +51,16 @@ pub record TurnsPut (at x y a b : ℕ) (old new : List ℕ) : Type 0 where
   pub first : a < 2 → turn_of new at x ≡ a
   pub second : b < 2 → turn_of new at y ≡ b
   pub others : (s z : ℕ) → z < 64 → Apart at x y s z → turn_of new s z ≡ turn_of old s z
+
+-- the queues at labels x and y, the ports of a switch, are there: those of requests behind stage s, those of replies before it
+pub record HasPorts (s x y : ℕ) (n : Network) : Type 0 where
+  pub stage : s < 6
+  pub requests : suc s < length n.requests
+  pub replies : s < length n.replies
+  pub first : (x < length (level_at n.requests (suc s)).queues) × (x < length (level_at n.replies s).queues)
+  pub second : (y < length (level_at n.requests (suc s)).queues) × (y < length (level_at n.replies s).queues)
+  pub small : (x < 64) × (y < 64)
+  pub apart : x ≢ y
 
 -- a network in which the queues at the ports of a switch are those that a head and the words after it say
 pub record PortsPut (s x y h : ℕ) (ws : List ℕ) (old new : Network) : Type 0 where

@@ -1,5 +1,5 @@
 //! A component's state put into the row, out of its words. Nothing here takes memory but where a module gets other words of memory.
-ghost use Rattle.std.specs.Prelude.{◌≡◌, ◌≢◌, ℕ, suc, ◌+◌, ◌<◌, ◌≤◌, ◌/◌, ◌%◌, ◌^◌, length, Option, Some, OnOk, OnErr, IfOk, option_to_list, slice_set};
+ghost use Rattle.std.specs.Prelude.{◌≡◌, ◌≢◌, ℕ, ◌+◌, ◌<◌, ◌≤◌, ◌/◌, ◌%◌, ◌^◌, length, Option, Some, OnOk, OnErr, IfOk, option_to_list, slice_set};
 ghost use Rattle.std.specs.Mem.{FitsInMemory};
 ghost use Rattle.flat_row.specs.contracts.queue.Places.{the_row};
 ghost use Rattle.omega_net.specs.Limits.{queue_places};
@@ -14,7 +14,7 @@ ghost use Rattle.ref_proc.specs.RefProc.{out_on};
 ghost use Rattle.state_words.specs.Messages.{request_from, reply_from, wait_from};
 ghost use Rattle.state_words.specs.Reading.{after, after_replies, queue_from, count_in, proc_from, module_from, low_from, comb_from};
 ghost use Rattle.machine_cells.specs.Words.{IsState, words_of, memory_of, with_memory};
-ghost use Rattle.flat_row.specs.Loading.{AreBits, CanHold, OnlyState, PortsPut, RepliesPut, RequestsPut, TurnPut, TurnsPut, with_at};
+ghost use Rattle.flat_row.specs.Loading.{AreBits, CanHold, HasPorts, OnlyState, PortsPut, RepliesPut, RequestsPut, TurnPut, TurnsPut, with_at};
 ghost use Rattle.flat_row.specs.Moving.{SameShape};
 ghost use Rattle.flat_row.specs.Row.{IsRowOf, combined_of, level_at, module_of, proc_of, queue_of, state_of, states_of};
 
@@ -194,12 +194,7 @@ impl Side {
         head: u64,
         words: &'a [u64],
     ) -> &'a [u64]
-        requires stage { stage < 6 }
-        requires requests { suc stage < length self.old.requests }
-        requires replies { stage < length self.old.replies }
-        requires first { (x < length (level_at self.old.requests (suc stage)).queues) × (x < length (level_at self.old.replies stage).queues) }
-        requires second { (y < length (level_at self.old.requests (suc stage)).queues) × (y < length (level_at self.old.replies stage).queues) }
-        requires apart { x ≢ y }
+        requires { HasPorts stage x y self.old }
         ensures put { PortsPut stage x y head words.now self.old self.new }
         ensures turns { self.new.turns ≡ self.old.turns }
         ensures back_turns { self.new.back_turns ≡ self.old.back_turns }
@@ -213,13 +208,7 @@ impl Side {
 
     /// Puts a low switch.
     fn put_low(&mut self, stage: usize, x: u32, y: u32, head: u64, words: &[u64])
-        requires stage { stage < 6 }
-        requires requests { suc stage < length self.old.requests }
-        requires replies { stage < length self.old.replies }
-        requires first { (x < length (level_at self.old.requests (suc stage)).queues) × (x < length (level_at self.old.replies stage).queues) }
-        requires second { (y < length (level_at self.old.requests (suc stage)).queues) × (y < length (level_at self.old.replies stage).queues) }
-        requires small { (x < 64) × (y < 64) }
-        requires apart { x ≢ y }
+        requires { HasPorts stage x y self.old }
         ensures put { PortsPut stage x y head words.now self.old self.new }
         ensures turns { TurnsPut stage x y (head / 2 ^ 27 % 2 ^ 8) (head / 2 ^ 35 % 2 ^ 8) self.old.turns self.new.turns }
         ensures back_turns { TurnsPut stage x y (head / 2 ^ 43 % 2 ^ 8) (head / 2 ^ 51 % 2 ^ 8) self.old.back_turns self.new.back_turns }
@@ -250,13 +239,7 @@ impl Side {
         head: u64,
         words: &'a [u64],
     ) -> &'a [u64]
-        requires stage { stage < 6 }
-        requires requests { suc stage < length self.old.requests }
-        requires replies { stage < length self.old.replies }
-        requires first { (x < length (level_at self.old.requests (suc stage)).queues) × (x < length (level_at self.old.replies stage).queues) }
-        requires second { (y < length (level_at self.old.requests (suc stage)).queues) × (y < length (level_at self.old.replies stage).queues) }
-        requires small { (x < 64) × (y < 64) }
-        requires apart { x ≢ y }
+        requires { HasPorts stage x y self.old }
         ensures put { PortsPut stage x y head words.now self.old self.new }
         ensures turns { TurnsPut stage x y (head / 2 ^ 27 % 2 ^ 8) (head / 2 ^ 35 % 2 ^ 8) self.old.turns self.new.turns }
         ensures back_turns { TurnPut stage x (head / 2 ^ 43 % 2 ^ 8) self.old.back_turns self.new.back_turns }
