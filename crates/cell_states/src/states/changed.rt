@@ -1,8 +1,9 @@
 //! Other states for all components that change.
 ghost use Rattle.std.specs.Prelude.{◌≡◌, ℕ, ◌-◌, ◌<◌, ◌≤◌, OnOk, OnErr, length, true, false, None, slice_index_or};
-ghost use Rattle.change_lists.specs.Changes.{changes_at, held_at as memory_at};
+ghost use Rattle.change_lists.specs.Changes.{held_at as memory_at};
 ghost use Rattle.cell_states.specs.Filling.{is_awake};
-ghost use Rattle.cell_states.specs.Kept.{AreRepeated};
+ghost use Rattle.cell_states.specs.Kept.{IsOtherMemory, AreRepeated};
+ghost use Rattle.cell_states.specs.Readied.{AreEach};
 ghost use Rattle.cell_states.specs.Ready.{value_in, IsReady};
 
 use super::memory::{Change, put_memory};
@@ -71,10 +72,8 @@ fn put_ready<M: Drop>(
     requires component { cell.component < length memories.old }
     requires there { cell.component < length ready.old.items }
     requires ready { IsReady memories.old cell.component cell.cycle (slice_index_or ready.old.items cell.component None) }
-    ensures width { length memories.new ≡ length memories.old }
     ensures here { memory_at memories.new cell.component cell.cycle ≡ value_in memories.old cell.component cell.cycle (slice_index_or ready.old.items cell.component None) }
-    ensures others { (c : ℕ) → (c ≡ cell.component → ⊥) → changes_at memories.new c ≡ changes_at memories.old c }
-    ensures cycles { (t : ℕ) → t < end → (t ≡ cell.cycle → ⊥) → memory_at memories.new cell.component t ≡ memory_at memories.old cell.component t }
+    ensures other { IsOtherMemory memories.old memories.new cell.cycle cell.component end }
     ensures len { length ready.new.items ≡ length ready.old.items }
     ensures other_ready { (c : ℕ) → (c ≡ cell.component → ⊥) → slice_index_or ready.new.items c None ≡ slice_index_or ready.old.items c None }
 {
@@ -91,8 +90,7 @@ pub(super) fn put_memories<M: Drop>(
     end: u32,
 )
     requires within { cycle < end }
-    requires memories { length memories.old ≡ length changes.now }
-    requires len { length ready.old.items ≡ length changes.now }
+    requires each { AreEach (length changes.now) memories.old ready.old.items changes.now }
     requires ready { (c : ℕ) → is_awake changes.now c ≡ true → IsReady memories.old c cycle (slice_index_or ready.old.items c None) }
     ensures width { length memories.new ≡ length memories.old }
     ensures len { length ready.new.items ≡ length ready.old.items }

@@ -1,6 +1,7 @@
 //! What of a cell's state isn't in its words.
 ghost use Rattle.std.specs.Prelude.{◌≡◌, ℕ, ◌+◌, ◌-◌, ◌<◌, ◌≤◌, ◌↔◌, IsTrue, IfOk, length, option_map, true, false, None, slice_index_or};
 ghost use Rattle.change_lists.specs.Changes.{changes_at, list_at, held_at as memory_at, held_before};
+ghost use Rattle.cell_states.specs.Kept.{IsOtherMemory};
 ghost use Rattle.cell_states.specs.Ready.{value_in, IsReady};
 
 use crate::Cell;
@@ -99,10 +100,8 @@ pub(super) fn put_memory<M: Drop>(
     requires component { cell.component < length memories.old }
     requires within { cell.cycle < end }
     requires ready { IsReady memories.old cell.component cell.cycle change }
-    ensures width { length memories.new ≡ length memories.old }
     ensures here { memory_at memories.new cell.component cell.cycle ≡ value_in memories.old cell.component cell.cycle change }
-    ensures others { (c : ℕ) → (c ≡ cell.component → ⊥) → changes_at memories.new c ≡ changes_at memories.old c }
-    ensures cycles { (t : ℕ) → t < end → (t ≡ cell.cycle → ⊥) → memory_at memories.new cell.component t ≡ memory_at memories.old cell.component t }
+    ensures other { IsOtherMemory memories.old memories.new cell.cycle cell.component end }
 {
     match change {
         Some(change) => {

@@ -3,6 +3,7 @@ ghost use Rattle.std.specs.Prelude.{◌≡◌, ℕ, ◌-◌, ◌<◌, OnOk, OnEr
 ghost use Rattle.change_rows.specs.Rows.{overlaid, words_at};
 ghost use Rattle.change_lists.specs.Changes.{list_at, held_at as memory_at};
 ghost use Rattle.grid_law.specs.Codec.{IsTold};
+ghost use Rattle.cell_states.specs.Kept.{IsThere, IsOtherMemory};
 
 use super::memory::{put_memory, ready_memory};
 use crate::Cell;
@@ -19,8 +20,7 @@ fn put_words(
     cell: Cell,
     words: &[u64],
 ) -> Result<(), NoMemory>
-    requires cycle { cell.cycle < length rows.old.rows }
-    requires component { cell.component < rows.old.width }
+    requires there { IsThere rows.old cell.cycle cell.component }
     ensures { MatchResult result
         (λ _. rows.new ≡ record { width = rows.old.width; rows = slice_set rows.old.rows cell.cycle (overlaid (slice_index_or rows.old.rows cell.cycle []) (record { component = cell.component; words = words.now } ∷ [])) })
         (λ _. rows.new ≡ rows.old) }
@@ -43,8 +43,7 @@ fn repeat_words(
     draft: &mut Draft,
     cell: Cell,
 ) -> Result<(), NoMemory>
-    requires cycle { cell.cycle < length rows.old.rows }
-    requires component { cell.component < rows.old.width }
+    requires there { IsThere rows.old cell.cycle cell.component }
     requires later { 0 < cell.cycle }
     ensures { MatchResult result
         (λ _. rows.new ≡ record { width = rows.old.width; rows = slice_set rows.old.rows cell.cycle (overlaid (slice_index_or rows.old.rows cell.cycle []) (record { component = cell.component; words = words_at rows.old.rows (cell.cycle - 1) cell.component } ∷ [])) })
@@ -70,17 +69,14 @@ pub(super) fn put_state<G: Grid>(
     cell: Cell,
     state: &G::State,
 ) -> Result<(), NoMemory>
-    requires cycle { cell.cycle < length rows.old.rows }
-    requires component { cell.component < rows.old.width }
+    requires there { IsThere rows.old cell.cycle cell.component }
     requires memories { cell.component < length memories.old }
     ensures told { IsTold G.codec state.now }
     ensures rows { MatchResult result
         (λ _. rows.new ≡ record { width = rows.old.width; rows = slice_set rows.old.rows cell.cycle (overlaid (slice_index_or rows.old.rows cell.cycle []) (record { component = cell.component; words = G.codec.words state.now } ∷ [])) })
         (λ _. rows.new ≡ rows.old) }
-    ensures width { length memories.new ≡ length memories.old }
     ensures here { OnOk result (memory_at memories.new cell.component cell.cycle ≡ G.codec.memory state.now) }
-    ensures others { (c : ℕ) → (c ≡ cell.component → ⊥) → list_at memories.new c ≡ list_at memories.old c }
-    ensures cycles { (t : ℕ) → t < length rows.old.rows → (t ≡ cell.cycle → ⊥) → memory_at memories.new cell.component t ≡ memory_at memories.old cell.component t }
+    ensures other { IsOtherMemory memories.old memories.new cell.cycle cell.component (length rows.old.rows) }
     ensures err { OnErr result ((c : ℕ) → list_at memories.new c ≡ list_at memories.old c) }
 {
     let alloc = *buffer.allocator();
@@ -102,17 +98,14 @@ pub(super) fn repeat_state<M: Drop>(
     draft: &mut Draft,
     cell: Cell,
 ) -> Result<(), NoMemory>
-    requires cycle { cell.cycle < length rows.old.rows }
-    requires component { cell.component < rows.old.width }
+    requires there { IsThere rows.old cell.cycle cell.component }
     requires later { 0 < cell.cycle }
     requires memories { cell.component < length memories.old }
     ensures rows { MatchResult result
         (λ _. rows.new ≡ record { width = rows.old.width; rows = slice_set rows.old.rows cell.cycle (overlaid (slice_index_or rows.old.rows cell.cycle []) (record { component = cell.component; words = words_at rows.old.rows (cell.cycle - 1) cell.component } ∷ [])) })
         (λ _. rows.new ≡ rows.old) }
-    ensures width { length memories.new ≡ length memories.old }
     ensures here { OnOk result (memory_at memories.new cell.component cell.cycle ≡ memory_at memories.old cell.component (cell.cycle - 1)) }
-    ensures others { (c : ℕ) → (c ≡ cell.component → ⊥) → list_at memories.new c ≡ list_at memories.old c }
-    ensures cycles { (t : ℕ) → t < length rows.old.rows → (t ≡ cell.cycle → ⊥) → memory_at memories.new cell.component t ≡ memory_at memories.old cell.component t }
+    ensures other { IsOtherMemory memories.old memories.new cell.cycle cell.component (length rows.old.rows) }
     ensures err { OnErr result ((c : ℕ) → list_at memories.new c ≡ list_at memories.old c) }
 {
     let end = rows.len();

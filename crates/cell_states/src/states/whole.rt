@@ -4,6 +4,7 @@ ghost use Rattle.grid_law.specs.Codec.{IsTold};
 ghost use Rattle.change_rows.specs.Rows.{words_at};
 ghost use Rattle.change_lists.specs.Changes.{list_at, changes_at, held_at as memory_at};
 ghost use Rattle.cell_states.specs.Filling.{is_awake};
+ghost use Rattle.cell_states.specs.Kept.{IsLaterCycle, IsOtherMemory, AreAsMany};
 ghost use Rattle.cell_states.specs.Put.{IsSetAt};
 ghost use Rattle.cell_states.specs.PutCodes.{AreWordsPut, AreReworded, AreCodesPut};
 ghost use Rattle.cell_states.specs.Readied.{AreEach, AreAllEach, IsReadied, KeepsOthers};
@@ -114,13 +115,10 @@ fn ready_all<G: Grid, M: WholeRow<G>>(
 
 /// A cell has the memory of the one before it: whether it had another one.
 fn carry<G: Grid>(memories: &mut Lists<G::Memory>, cell: Cell, end: u32) -> bool
-    requires later { 0 < cell.cycle }
-    requires within { cell.cycle < end }
+    requires cycle { IsLaterCycle cell.cycle end }
     requires component { cell.component < length memories.old }
-    ensures width { length memories.new ≡ length memories.old }
     ensures here { memory_at memories.new cell.component cell.cycle ≡ memory_at memories.old cell.component (cell.cycle - 1) }
-    ensures others { (c : ℕ) → (c ≡ cell.component → ⊥) → changes_at memories.new c ≡ changes_at memories.old c }
-    ensures cycles { (t : ℕ) → t < end → (t ≡ cell.cycle → ⊥) → memory_at memories.new cell.component t ≡ memory_at memories.old cell.component t }
+    ensures other { IsOtherMemory memories.old memories.new cell.cycle cell.component end }
     ensures told { (result ≡ false) ↔ (memory_at memories.old cell.component cell.cycle ≡ memory_at memories.old cell.component (cell.cycle - 1)) }
 {
     let (t, c) = (cell.cycle, cell.component);
@@ -142,12 +140,10 @@ fn carry_cell<G: Grid>(
     cell: Cell,
     end: u32,
 )
-    requires later { 0 < cell.cycle }
-    requires within { cell.cycle < end }
+    requires cycle { IsLaterCycle cell.cycle end }
     requires component { cell.component < length memories.old }
     requires changes { length changes.old ≡ length memories.old }
-    ensures width { length memories.new ≡ length memories.old }
-    ensures changes { length changes.new ≡ length changes.old }
+    ensures many { AreAsMany memories.old memories.new changes.old changes.new }
     ensures here { is_awake set.now cell.component ≡ true → memory_at memories.new cell.component cell.cycle ≡ memory_at memories.old cell.component (cell.cycle - 1) }
     ensures marked { is_awake set.now cell.component ≡ true → is_awake changes.old cell.component ≡ false → (is_awake changes.new cell.component ≡ false) ↔ (memory_at memories.old cell.component cell.cycle ≡ memory_at memories.old cell.component (cell.cycle - 1)) }
     ensures cycles { (t : ℕ) → t < end → (t ≡ cell.cycle → ⊥) → memory_at memories.new cell.component t ≡ memory_at memories.old cell.component t }
@@ -166,12 +162,10 @@ fn carry_all<G: Grid>(
     cycle: u32,
     end: u32,
 )
-    requires later { 0 < cycle }
-    requires within { cycle < end }
+    requires cycle { IsLaterCycle cycle end }
     requires changes { length changes.old ≡ length memories.old }
     requires unmarked { (c : ℕ) → is_awake set.now c ≡ true → is_awake changes.old c ≡ false }
-    ensures width { length memories.new ≡ length memories.old }
-    ensures changes { length changes.new ≡ length changes.old }
+    ensures many { AreAsMany memories.old memories.new changes.old changes.new }
     ensures here { (c : ℕ) → is_awake set.now c ≡ true → memory_at memories.new c cycle ≡ memory_at memories.old c (cycle - 1) }
     ensures marked { (c : ℕ) → is_awake set.now c ≡ true → (is_awake changes.new c ≡ false) ↔ (memory_at memories.old c cycle ≡ memory_at memories.old c (cycle - 1)) }
     ensures cycles { (c t : ℕ) → t < end → (t ≡ cycle → ⊥) → memory_at memories.new c t ≡ memory_at memories.old c t }

@@ -5,17 +5,22 @@ use Rattle.cell_states.proofs.Codes.{put_is}
 use Rattle.cell_states.proofs.Coded.{seen_width, seen_cycles, memory_along, coded_err, states_err, coded_put, other_seen}
 use Rattle.cell_states.proofs.states.States.put.Goals as goal
 
-pub put_state-requires-clause-cycle : goal.put_state-requires-clause-cycle
-put_state-requires-clause-cycle g c =
+pub put_state-requires-clause-there : goal.put_state-requires-clause-there
+put_state-requires-clause-there g c =
     let i = c.self.inside in
-    omega (arith, c.requires.cycle, seen_cycles g.G.Grid.codec i.words i.memories c.args.self.now c.self.view_is)
+    let C = g.G.Grid.codec in
+    let s = c.args.self.now in
+    record {
+      cycle = omega (arith, c.requires.cycle, seen_cycles C i.words i.memories s c.self.view_is);
+      component = omega (arith, c.requires.component, seen_width C i.words i.memories s c.self.view_is);
+    }
 
 pub invariant_of-self : goal.invariant_of-self
 invariant_of-self g c =
     let i = c.self.inside in
     let C = g.G.Grid.codec in
     let e = c.in-Err.ensures in (
-      coded_err C i.words c.put_state.new.rows i.memories c.put_state.new.memories c.self.invariant.0 e.rows (λ d u. memory_along C i.memories c.put_state.new.memories d u (e.err d)) c.put_state.ensures.width,
+      coded_err C i.words c.put_state.new.rows i.memories c.put_state.new.memories c.self.invariant.0 e.rows (λ d u. memory_along C i.memories c.put_state.new.memories d u (e.err d)) c.put_state.ensures.other.width,
       c.self.invariant.1 ∙ sym (ap (λ (w : Table). w.width) e.rows),
       subst (λ n. IsWide n c.self.inside.sets) (sym (ap (λ (w : Table). w.width) e.rows)) c.self.invariant.2,
     )
@@ -41,7 +46,7 @@ invariant_of-self-2 g c =
     let m = C.memory x in
     let p = put_is C g.G.Grid.codec_laws ws m x c.put_state.ensures.told (record { words_are = refl; memory_is = refl }) in
     let code = p.1 in (
-      coded_put C i.words c.put_state.new.rows i.memories c.put_state.new.memories c.self.invariant.0 t d there inside ws m code c.in-Ok.ensures.rows c.in-Ok.ensures.here c.put_state.ensures.others c.put_state.ensures.cycles c.put_state.ensures.width,
+      coded_put C i.words c.put_state.new.rows i.memories c.put_state.new.memories c.self.invariant.0 t d there inside ws m code c.in-Ok.ensures.rows c.in-Ok.ensures.here (λ e n. ap (λ x. x.begun) (c.put_state.ensures.other.others e n)) c.put_state.ensures.other.cycles c.put_state.ensures.other.width,
       c.self.invariant.1 ∙ sym (ap (λ (w : Table). w.width) c.in-Ok.ensures.rows),
       subst (λ n. IsWide n c.self.inside.sets) (sym (ap (λ (w : Table). w.width) c.in-Ok.ensures.rows)) c.self.invariant.2,
     )
@@ -60,4 +65,4 @@ returns-clause-ok g c =
     let m = C.memory x in
     let p = put_is C g.G.Grid.codec_laws ws m x c.put_state.ensures.told (record { words_are = refl; memory_is = refl }) in
     let code = p.1 in
-    other_seen C i.words c.put_state.new.rows i.memories c.put_state.new.memories c.self.invariant.0 t d there inside ws m code c.in-Ok.ensures.rows c.in-Ok.ensures.here c.put_state.ensures.others c.put_state.ensures.cycles s c.self.view_is (Some x) p.0
+    other_seen C i.words c.put_state.new.rows i.memories c.put_state.new.memories c.self.invariant.0 t d there inside ws m code c.in-Ok.ensures.rows c.in-Ok.ensures.here (λ e n. ap (λ x. x.begun) (c.put_state.ensures.other.others e n)) c.put_state.ensures.other.cycles s c.self.view_is (Some x) p.0

@@ -25,16 +25,16 @@ loop-component-preserved g c =
     let m0 = c.args.memories.now in
     let m1 = c.put_ready.new.memories in
     let r0 = c.args.ready.now.items in
-    let at = λ (d : ℕ) (u : ℕ) (n : d ≡ cur → ⊥). ap (λ (x : Changes g.row.M.Denot). standing x.begun u None) (e.others d n) in
+    let at = λ (d : ℕ) (u : ℕ) (n : d ≡ cur → ⊥). ap (λ (x : Changes g.row.M.Denot). standing x.begun u None) (e.other.others d n) in
     record {
       within = omega (arith, found.1);
-      width = e.width ∙ inv.width;
+      width = e.other.width ∙ inv.width;
       len = e.len ∙ inv.len;
       put = λ d. at_or_other (λ d. d < cur + 1 → is_awake c.args.changes.now d ≡ true → memory_at m1 d t ≡ value_in m0 d t (slice_index_or r0 d None)) cur d (λ h a. e.here ∙ value_along m0 c.loop-component.memories cur t _ _ (inv.rest cur found.0.0) (inv.left cur found.0.0)) (λ n h a. at d t n ∙ inv.put d (below c.loop-component.next cur d c.args.changes.now n h a found.0.2) a);
-      cycles = λ d u. at_or_other (λ d. u < c.args.end → (u ≡ t → ⊥) → memory_at m1 d u ≡ memory_at m0 d u) cur d (λ h k. e.cycles u h k ∙ inv.cycles cur u h k) (λ n h k. at d u n ∙ inv.cycles d u h k);
-      rest = λ d h. e.others d (λ p. absurd (omega (arith, h, p))) ∙ inv.rest d (omega (arith, h, found.0.0));
+      cycles = λ d u. at_or_other (λ d. u < c.args.end → (u ≡ t → ⊥) → memory_at m1 d u ≡ memory_at m0 d u) cur d (λ h k. e.other.cycles u h k ∙ inv.cycles cur u h k) (λ n h k. at d u n ∙ inv.cycles d u h k);
+      rest = λ d h. e.other.others d (λ p. absurd (omega (arith, h, p))) ∙ inv.rest d (omega (arith, h, found.0.0));
       left = λ d h. e.other_ready d (λ p. absurd (omega (arith, h, p))) ∙ inv.left d (omega (arith, h, found.0.0));
-      others = λ d a. e.others d (λ p. absurd (true≢false (sym found.0.1 ∙ ap (is_awake c.args.changes.now) (sym p) ∙ a))) ∙ inv.others d a;
+      others = λ d a. e.other.others d (λ p. absurd (true≢false (sym found.0.1 ∙ ap (is_awake c.args.changes.now) (sym p) ∙ a))) ∙ inv.others d a;
     }
 
 pub returns-clause-put : goal.returns-clause-put

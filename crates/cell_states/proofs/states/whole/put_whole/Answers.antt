@@ -18,11 +18,8 @@ ready_all-requires-clause-components g c = c.find_sets.ensures.wide.written ∙ 
 pub put_words-requires-clause-still : goal.put_words-requires-clause-still
 put_words-requires-clause-still g c = λ d a n. c.requires.still d a (not-false _ (sym (c.find_sets.ensures.moved d (awake_within c.args.set.now d a)) ∙ n))
 
-pub put_memories-requires-clause-memories : goal.put_memories-requires-clause-memories
-put_memories-requires-clause-memories g c = let e = c.ready_all.ensures.each in e.lists ∙ sym e.marked
-
-pub put_memories-requires-clause-len : goal.put_memories-requires-clause-len
-put_memories-requires-clause-len g c = let e = c.ready_all.ensures.each in e.places ∙ sym e.marked
+pub put_memories-requires-clause-each : goal.put_memories-requires-clause-each
+put_memories-requires-clause-each g c = let e = c.ready_all.ensures.each in record { lists = e.lists ∙ sym e.marked; places = e.places ∙ sym e.marked; marked = refl }
 
 pub put_memories-requires-clause-ready : goal.put_memories-requires-clause-ready
 put_memories-requires-clause-ready g c = λ d a.
@@ -46,7 +43,7 @@ add_words-requires g c = omega (arith, c.in-Ok-put_words.ensures.reworded.room, 
 
 pub add-requires : goal.add-requires
 add-requires g c =
-    long_of c.args.worded.now c.clear_all.new.self c.add_words.new.self c.as_slice.result.now c.clear_all.ensures c.add_words.ensures ∙ c.requires.each.other ∙ sym c.ready_all.ensures.each.marked ∙ sym c.carry_all.ensures.changes
+    long_of c.args.worded.now c.clear_all.new.self c.add_words.new.self c.as_slice.result.now c.clear_all.ensures c.add_words.ensures ∙ c.requires.each.other ∙ sym c.ready_all.ensures.each.marked ∙ sym c.carry_all.ensures.many.marked
 
 pub returns-clause-each : goal.returns-clause-each
 returns-clause-each g c =
@@ -54,9 +51,9 @@ returns-clause-each g c =
     let put = c.put_memories.ensures in
     record {
       each = record {
-        lists = c.carry_all.ensures.width ∙ put.width ∙ e.lists;
+        lists = c.carry_all.ensures.many.lists ∙ put.width ∙ e.lists;
         places = put.len ∙ e.places;
-        marked = long_union c.carry_all.new.changes c.add_words.new.self c.add.new.self c.add.ensures ∙ c.carry_all.ensures.changes ∙ e.marked;
+        marked = long_union c.carry_all.new.changes c.add_words.new.self c.add.new.self c.add.ensures ∙ c.carry_all.ensures.many.marked ∙ e.marked;
       };
       other = long_of c.args.worded.now c.clear_all.new.self c.add_words.new.self c.as_slice.result.now c.clear_all.ensures c.add_words.ensures ∙ c.requires.each.other;
     }
@@ -87,7 +84,7 @@ returns-clause-put g c =
     let marks3 = c.add.new.self in
     let long : length worded1 ≡ length worded = long_of worded c.clear_all.new.self worded1 c.as_slice.result.now c.clear_all.ensures c.add_words.ensures in
     let wide : length worded ≡ length set = c.requires.each.other ∙ sym c.requires.at.components in
-    let wide2 : length marks2 ≡ length set = carried.changes ∙ each.marked ∙ sym c.requires.at.components in
+    let wide2 : length marks2 ≡ length set = carried.many.marked ∙ each.marked ∙ sym c.requires.at.components in
     let bit = λ (d : ℕ) (h : d < length worded). marks_of worded c.clear_all.new.self worded1 c.as_slice.result.now c.clear_all.ensures c.add_words.ensures d h ∙ ap (λ (ws : List ℕ). is_in ws d) c.as_slice.ensures.value in
     let same = λ (d u : ℕ). memory_same m0 m1 d u (c.ready_all.ensures.same d) in
     let out = λ (d : ℕ) (a : is_awake set d ≡ false). is_out set written unwritten has e.wide.written e.wide.unwritten e.written e.unwritten d a in
