@@ -5,8 +5,13 @@ use Rattle.change_rows.specs.Cells.{Held, found, end_of}
 use Rattle.change_lists.specs.Changes.{Changes}
 use Rattle.cell_states.specs.Filling.{is_awake}
 use Rattle.cell_states.specs.NextWords.{IsDrafted}
-use Rattle.cell_states.specs.Readied.{AreEach, IsReadied}
+use Rattle.cell_states.specs.Readied.{AreEach, IsReadied, KeepsOthers}
 use Rattle.cell_states.specs.declared.states.memory.Change.{Change}
+
+-- of the draft, the memories and what is ready only that of one component may be other than it was
+pub record FindsOne {Memory : Type 0} (c : ℕ) (draft draft1 : List Held) (memories memories1 : List (Changes Memory)) (ready ready1 : List (Option (Change Memory))) (marks marks1 : List Bool) : Type 0 where
+  pub words : (d : ℕ) → (d ≡ c → ⊥) → found draft1 d ≡ found draft d
+  pub others : KeepsOthers c memories memories1 ready ready1 marks marks1
 
 -- something was found of the first n of so many components alone
 pub record IsFoundTo {Memory : Type 0} (count : ℕ) (draft : List Held) (memories : List (Changes Memory)) (ready : List (Option (Change Memory))) (marks : List Bool) (n : ℕ) : Type 0 where

@@ -15,3 +15,8 @@ module _ {State Slots Slot : Type 0} (R : Rules State Slots Slot) where
   -- for each component, the list has its near ones
   abbrev pub AreNear : Slots → List (List ℕ) → Type 0
   AreNear s lists = (c : ℕ) → c < R.components s → near_at lists c ≡ R.near s c
+
+  -- a component, and those near it
+  pub record IsNearOne (s : Slots) (c : ℕ) (near : List ℕ) : Type 0 where
+    pub there : c < R.components s
+    pub list : near ≡ R.near s c

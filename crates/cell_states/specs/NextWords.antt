@@ -6,6 +6,7 @@ use Rattle.grid_law.specs.Run.{run}
 use Rattle.change_rows.specs.Cells.{Held, found}
 use Rattle.change_rows.specs.Rows.{words_at}
 use Rattle.change_lists.specs.Changes.{Changes, held_at as memory_at}
+use Rattle.cell_states.specs.Near.{AreNear}
 use Rattle.cell_states.specs.declared.near.Near.{Near}
 
 module _ {State Memory : Type 0} (C : Codec State Memory) where
@@ -19,6 +20,11 @@ module _ {State Slots Slot Memory : Type 0} (R : Rules State Slots Slot) (C : Co
   -- the same of all components near one
   abbrev pub IsNear : (ℕ → State) → (ℕ → State) → Slots → ℕ → Type 0
   IsNear state xs s c = All (IsOfWords C state xs) (R.near s c)
+
+  -- the words of a cell are those of the run, which they tell
+  pub record HasRunWords (s : Slots) (rows : List (List (List ℕ))) (t c : ℕ) : Type 0 where
+    pub told : IsTold C (run R s t c)
+    pub words : words_at rows t c ≡ C.words (run R s t c)
 
   -- the words and the memories of a cycle are those of the run, which they tell
   pub record HoldsRunAt (s : Slots) (rows : List (List (List ℕ))) (memories : List (Changes Memory)) (t : ℕ) : Type 0 where
@@ -43,3 +49,8 @@ module _ {State Slots Slot Memory : Type 0} (R : Rules State Slots Slot) (C : Co
     pub stands_so : stands near.row s
     pub each : length near.at.items ≡ R.components s
     pub words : (d t : ℕ) → d < R.components s → slice_index_or near.at.items d 0 ≡ suc t → IsOfWords C (state near.row) (run R s t) d
+
+  -- a row holds words of the run, and lists tell which components are near each
+  pub record HoldsNear (s : Slots) (row : Near Whole) (lists : List (List ℕ)) : Type 0 where
+    pub held : HoldsWords s row
+    pub near : AreNear R s lists

@@ -7,10 +7,10 @@ ghost use Rattle.change_rows.specs.Rows.{words_at};
 ghost use Rattle.change_rows.specs.Cells.{end_of, found};
 ghost use Rattle.change_lists.specs.Changes.{list_at, held_at as memory_at};
 ghost use Rattle.cell_states.specs.Filling.{is_awake};
-ghost use Rattle.cell_states.specs.Found.{IsFoundTo, IsFound, AreFound};
+ghost use Rattle.cell_states.specs.Found.{FindsOne, IsFoundTo, IsFound, AreFound};
 ghost use Rattle.cell_states.specs.Kept.{AreSameCells};
-ghost use Rattle.cell_states.specs.Near.{AreNear};
-ghost use Rattle.cell_states.specs.NextWords.{HoldsRunBefore, HoldsWords, IsDrafted, IsOfWords};
+ghost use Rattle.cell_states.specs.Near.{IsNearOne};
+ghost use Rattle.cell_states.specs.NextWords.{HasRunWords, HoldsRunBefore, HoldsWords, HoldsNear, IsDrafted, IsOfWords};
 ghost use Rattle.cell_states.specs.Put.{IsSetAt};
 ghost use Rattle.cell_states.specs.PutCodes.{AreCodesPut};
 ghost use Rattle.cell_states.specs.Readied.{AreEach, AreAllEach, IsReadied, KeepsOthers};
@@ -59,8 +59,7 @@ fn load_words<G: Grid, M: WholeRow<G>>(
     requires held { HoldsWords G.rules G.codec M.stands M.state slots.now held.old }
     requires there { cell.component < G.rules.components slots.now }
     requires fits { cell.cycle + 1 < 2 ^ 32 }
-    requires told { IsTold G.codec (run G.rules slots.now cell.cycle cell.component) }
-    requires words { words_at rows.now.rows cell.cycle cell.component ≡ G.codec.words (run G.rules slots.now cell.cycle cell.component) }
+    requires run { HasRunWords G.rules G.codec slots.now rows.now.rows cell.cycle cell.component }
     ensures held { HoldsWords G.rules G.codec M.stands M.state slots.now held.new }
     ensures loaded { result ≡ true → slice_index_or held.new.at.items cell.component 0 ≡ cell.cycle + 1 }
     ensures others { (d : ℕ) → (d ≡ cell.component → ⊥) → slice_index_or held.new.at.items d 0 ≡ slice_index_or held.old.at.items d 0 }
@@ -86,8 +85,7 @@ fn hold_words<G: Grid, M: WholeRow<G>>(
     requires held { HoldsWords G.rules G.codec M.stands M.state slots.now held.old }
     requires there { cell.component < G.rules.components slots.now }
     requires fits { cell.cycle + 1 < 2 ^ 32 }
-    requires told { IsTold G.codec (run G.rules slots.now cell.cycle cell.component) }
-    requires words { words_at rows.now.rows cell.cycle cell.component ≡ G.codec.words (run G.rules slots.now cell.cycle cell.component) }
+    requires run { HasRunWords G.rules G.codec slots.now rows.now.rows cell.cycle cell.component }
     requires earlier { 0 < cell.cycle → words_at rows.now.rows (cell.cycle - 1) cell.component ≡ G.codec.words (run G.rules slots.now (cell.cycle - 1) cell.component) }
     ensures held { HoldsWords G.rules G.codec M.stands M.state slots.now held.new }
     ensures loaded { result ≡ true → slice_index_or held.new.at.items cell.component 0 ≡ cell.cycle + 1 }
@@ -210,14 +208,12 @@ fn find_step<G: Grid, M: WholeRow<G>>(
     cell: Cell,
 ) -> Result<(), NoMemory>
     requires run { HoldsRunBefore G.rules G.codec slots.now rows.now.rows memories.old cell.cycle }
-    requires there { cell.component < G.rules.components slots.now }
+    requires near { IsNearOne G.rules slots.now cell.component near.now }
     requires so_far { IsFoundTo (G.rules.components slots.now) draft.old memories.old ready.old.items changes.old cell.component }
     requires held { HoldsWords G.rules G.codec M.stands M.state slots.now held.old }
-    requires near { near.now ≡ G.rules.near slots.now cell.component }
     ensures so_far { IsFoundTo (G.rules.components slots.now) draft.new memories.new ready.new.items changes.new (cell.component + 1) }
     ensures held { HoldsWords G.rules G.codec M.stands M.state slots.now held.new }
-    ensures other_words { (c : ℕ) → (c ≡ cell.component → ⊥) → found draft.new c ≡ found draft.old c }
-    ensures others { KeepsOthers cell.component memories.old memories.new ready.old.items ready.new.items changes.old changes.new }
+    ensures one { FindsOne cell.component draft.old draft.new memories.old memories.new ready.old.items ready.new.items changes.old changes.new }
     ensures found { OnOk result (IsFound G.codec rows.now.rows draft.new memories.new ready.new.items changes.new cell.cycle cell.component (run G.rules slots.now cell.cycle cell.component)) }
 {
     let (t, c) = (cell.cycle, cell.component);
@@ -246,14 +242,12 @@ fn find_one<G: Grid, M: WholeRow<G>>(
     cell: Cell,
 ) -> Result<(), NoMemory>
     requires run { HoldsRunBefore G.rules G.codec slots.now rows.now.rows memories.old cell.cycle }
-    requires there { cell.component < G.rules.components slots.now }
+    requires near { IsNearOne G.rules slots.now cell.component near.now }
     requires so_far { IsFoundTo (G.rules.components slots.now) draft.old memories.old ready.old.items changes.old cell.component }
     requires held { HoldsWords G.rules G.codec M.stands M.state slots.now held.old }
-    requires near { near.now ≡ G.rules.near slots.now cell.component }
     ensures so_far { IsFoundTo (G.rules.components slots.now) draft.new memories.new ready.new.items changes.new (cell.component + 1) }
     ensures held { HoldsWords G.rules G.codec M.stands M.state slots.now held.new }
-    ensures other_words { (c : ℕ) → (c ≡ cell.component → ⊥) → found draft.new c ≡ found draft.old c }
-    ensures others { KeepsOthers cell.component memories.old memories.new ready.old.items ready.new.items changes.old changes.new }
+    ensures one { FindsOne cell.component draft.old draft.new memories.old memories.new ready.old.items ready.new.items changes.old changes.new }
     ensures found { OnOk result (IsFound G.codec rows.now.rows draft.new memories.new ready.new.items changes.new cell.cycle cell.component (run G.rules slots.now cell.cycle cell.component)) }
 {
     if cell.cycle > 1 && all_stay(rows, memories, cell.cycle - 1, near) {
@@ -282,8 +276,7 @@ fn find_all<G: Grid, M: WholeRow<G>>(
     requires run { HoldsRunBefore G.rules G.codec slots.now rows.now.rows memories.old cycle }
     requires components { length set.now ≡ G.rules.components slots.now }
     requires each { AreEach (G.rules.components slots.now) memories.old ready.old.items changes.old }
-    requires held { HoldsWords G.rules G.codec M.stands M.state slots.now held.old }
-    requires near { AreNear G.rules slots.now near.now }
+    requires near { HoldsNear G.rules G.codec M.stands M.state slots.now held.old near.now }
     ensures each { AreEach (G.rules.components slots.now) memories.new ready.new.items changes.new }
     ensures held { HoldsWords G.rules G.codec M.stands M.state slots.now held.new }
     ensures same { (c : ℕ) → list_at memories.new c ≡ list_at memories.old c }
@@ -354,8 +347,7 @@ pub(super) fn put_each<G: Grid, M: WholeRow<G>>(
 ) -> Result<(), NoMemory>
     requires at { IsSetAt (G.rules.components slots.now) rows.old.width (length rows.old.rows) cycle set.now }
     requires each { AreAllEach (G.rules.components slots.now) memories.old ready.old.items changes.old worded.old }
-    requires held { HoldsWords G.rules G.codec M.stands M.state slots.now held.old }
-    requires near { AreNear G.rules slots.now near.now }
+    requires near { HoldsNear G.rules G.codec M.stands M.state slots.now held.old near.now }
     requires run { HoldsRunBefore G.rules G.codec slots.now rows.old.rows memories.old cycle }
     ensures each { AreAllEach (G.rules.components slots.now) memories.new ready.new.items changes.new worded.new }
     ensures held { HoldsWords G.rules G.codec M.stands M.state slots.now held.new }

@@ -7,8 +7,8 @@ ghost use Rattle.cell_states.specs.Filling.{is_awake};
 ghost use Rattle.cell_states.specs.Kept.{IsLaterCycle, IsOtherMemory, AreAsMany};
 ghost use Rattle.cell_states.specs.Put.{IsSetAt};
 ghost use Rattle.cell_states.specs.PutCodes.{AreWordsPut, AreReworded, AreCodesPut};
-ghost use Rattle.cell_states.specs.Readied.{AreEach, AreAllEach, IsReadied, KeepsOthers};
-ghost use Rattle.cell_states.specs.Sets.{IsWide};
+ghost use Rattle.cell_states.specs.Readied.{AreEach, IsReadied, KeepsOthers};
+ghost use Rattle.cell_states.specs.Sets.{AreAllWide};
 
 use super::changed::put_memories;
 use super::memory::{Change, is_same, ready_memory};
@@ -269,13 +269,11 @@ pub(super) fn put_whole<G: Grid, M: WholeRow<G>>(
     cycle: u32,
 ) -> Result<(), NoMemory>
     requires at { IsSetAt (G.rules.components slots.now) rows.old.width (length rows.old.rows) cycle set.now }
-    requires each { AreAllEach (G.rules.components slots.now) memories.old ready.old.items changes.old worded.old }
-    requires sets { IsWide (length set.now) sets.old }
+    requires wide { AreAllWide (G.rules.components slots.now) set.now memories.old ready.old.items changes.old worded.old sets.old }
     requires stands { M.stands row.now slots.now }
     requires still { (c : ℕ) → is_awake set.now c ≡ true → M.is_still step.now slots.now c ≡ true → G.codec.words (M.state row.now c) ≡ words_at rows.old.rows (cycle - 1) c }
     requires kept { (c : ℕ) → is_awake set.now c ≡ true → M.has_written step.now slots.now c ≡ false → memory_at memories.old c (cycle - 1) ≡ G.codec.memory (M.state row.now c) }
-    ensures each { AreAllEach (G.rules.components slots.now) memories.new ready.new.items changes.new worded.new }
-    ensures sets { IsWide (length set.now) sets.new }
+    ensures wide { AreAllWide (G.rules.components slots.now) set.now memories.new ready.new.items changes.new worded.new sets.new }
     ensures put { OnOk result (AreCodesPut G.codec rows.old rows.new memories.old memories.new cycle set.now changes.new worded.new (M.state row.now)) }
     ensures err { OnErr result ((rows.new ≡ rows.old) × ((c t : ℕ) → memory_at memories.new c t ≡ memory_at memories.old c t)) }
 {

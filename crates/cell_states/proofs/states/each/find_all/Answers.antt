@@ -43,11 +43,11 @@ loop-component-preserved g c =
       within = omega (arith, at_cur.1);
       so_far = e.so_far;
       held = e.held;
-      same = λ d. e.others.same d ∙ inv.same d;
+      same = λ d. e.one.others.same d ∙ inv.same d;
       each = λ d. at_or_other (λ d. d < cur + 1 → is_awake set d ≡ true → IsFound C rows draft1 m1 r1 marks1 t d (states d)) cur d (λ h a. c.in_ok-find_one.ensures.found)
-          (λ n h a. found_along cur m m1 r r1 marks marks1 e.others C rows draft draft1 t d (states d) n (e.other_words d n) (inv.each d (below c.loop-component.next cur d set n h a at_cur.0.2) a));
-      no_words = λ d a. e.other_words d (not_cur d a) ∙ inv.no_words d a;
-      unmarked = λ d a. e.others.marked d (not_cur d a) ∙ inv.unmarked d a;
+          (λ n h a. found_along cur m m1 r r1 marks marks1 e.one.others C rows draft draft1 t d (states d) n (e.one.words d n) (inv.each d (below c.loop-component.next cur d set n h a at_cur.0.2) a));
+      no_words = λ d a. e.one.words d (not_cur d a) ∙ inv.no_words d a;
+      unmarked = λ d a. e.one.others.marked d (not_cur d a) ∙ inv.unmarked d a;
     }
 
 pub returns-clause-found : goal.returns-clause-found

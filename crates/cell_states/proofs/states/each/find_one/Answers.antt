@@ -37,8 +37,8 @@ returns-then-all_stay-clause-found g c =
     let rows = c.args.rows.now.rows in
     let memories = c.args.memories.now in
     let before = c.requires.run.before in
-    let there = c.requires.there in
-    let stay = subst (All (λ e. (words_at rows (t - 1 - 1) e ≡ words_at rows (t - 1) e) × (memory_at memories e (t - 1 - 1) ≡ memory_at memories e (t - 1)))) c.requires.near (c.all_stay.ensures c.if-all_stay.true) in
+    let there = c.requires.near.there in
+    let stay = subst (All (λ e. (words_at rows (t - 1 - 1) e ≡ words_at rows (t - 1) e) × (memory_at memories e (t - 1 - 1) ≡ memory_at memories e (t - 1)))) c.requires.near.list (c.all_stay.ensures c.if-all_stay.true) in
     let same = run_goes_on R C s rows memories g.G.Grid.laws t d (omega (arith, c.if-cell-gt1.true)) there before (c.requires.run.earlier (omega (arith, c.if-cell-gt1.true))) stay in
     on_ok_weaker c.ready_left.result
     (λ ready. record {

@@ -15,4 +15,4 @@ returns-then-has_words-clause-held g c =
     let near = c.args.held.now in
     let at = get_or_read near.at.items d c.index.result.now (omega (arith, c.requires.there, c.requires.held.each)) c.index.ensures 0 in
     known_more R C W.stands W.state s near (record { row = near.row; at = with_item near.at d (t + 1) }) d t c.requires.held refl refl
-    (still_held R C W.stands W.state s near c.args.rows.now.rows t d c.index.result.now c.requires.held c.requires.there at c.requires.told c.requires.words c.requires.earlier (c.has_words.ensures c.if-has_words.true))
+    (still_held R C W.stands W.state s near c.args.rows.now.rows t d c.index.result.now c.requires.held c.requires.there at c.requires.run.told c.requires.run.words c.requires.earlier (c.has_words.ensures c.if-has_words.true))

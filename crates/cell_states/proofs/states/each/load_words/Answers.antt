@@ -19,8 +19,8 @@ returns-clause-held g c =
     let s = c.args.slots.now in
     let t = c.args.cell.cycle in
     let d = c.args.cell.component in
-    let words = c.words.ensures ∙ c.requires.words in
-    let code = c.load.ensures.loaded c.if-not-load.false (run R s t d) c.requires.told (sym words) in
+    let words = c.words.ensures ∙ c.requires.run.words in
+    let code = c.load.ensures.loaded c.if-not-load.false (run R s t d) c.requires.run.told (sym words) in
     let less = known_less R C W.stands W.state s c.args.held.now (record { row = c.load.new.self; at = with_item c.args.held.now.at d 0 }) d c.requires.held c.load.ensures.stands refl c.load.ensures.others in
     known_more R C W.stands W.state s (record { row = c.load.new.self; at = with_item c.args.held.now.at d 0 }) (record { row = c.load.new.self; at = with_item (with_item c.args.held.now.at d 0) d (t + 1) }) d t less refl refl
-    (record { told = c.requires.told; row_told = c.is_told.ensures; words = code.words_are ∙ words })
+    (record { told = c.requires.run.told; row_told = c.is_told.ensures; words = code.words_are ∙ words })

@@ -39,23 +39,26 @@ pub returns-in-Err-put_words-clause-err : goal.returns-in-Err-put_words-clause-e
 returns-in-Err-put_words-clause-err g c = (c.in-Err-put_words.ensures.err, λ d t. memory_same c.args.memories.now c.ready_all.new.memories d t (c.ready_all.ensures.same d))
 
 pub add_words-requires : goal.add_words-requires
-add_words-requires g c = omega (arith, c.in-Ok-put_words.ensures.reworded.room, c.requires.at.components, c.requires.each.other, ap length c.clear_all.ensures, length-replicate (length c.args.worded.now) false, ap length c.as_slice.ensures.value)
+add_words-requires g c = omega (arith, c.in-Ok-put_words.ensures.reworded.room, c.requires.at.components, c.requires.wide.each.other, ap length c.clear_all.ensures, length-replicate (length c.args.worded.now) false, ap length c.as_slice.ensures.value)
 
 pub add-requires : goal.add-requires
 add-requires g c =
-    long_of c.args.worded.now c.clear_all.new.self c.add_words.new.self c.as_slice.result.now c.clear_all.ensures c.add_words.ensures ∙ c.requires.each.other ∙ sym c.ready_all.ensures.each.marked ∙ sym c.carry_all.ensures.many.marked
+    long_of c.args.worded.now c.clear_all.new.self c.add_words.new.self c.as_slice.result.now c.clear_all.ensures c.add_words.ensures ∙ c.requires.wide.each.other ∙ sym c.ready_all.ensures.each.marked ∙ sym c.carry_all.ensures.many.marked
 
-pub returns-clause-each : goal.returns-clause-each
-returns-clause-each g c =
+pub returns-clause-wide : goal.returns-clause-wide
+returns-clause-wide g c =
     let e = c.ready_all.ensures.each in
     let put = c.put_memories.ensures in
     record {
       each = record {
-        lists = c.carry_all.ensures.many.lists ∙ put.width ∙ e.lists;
-        places = put.len ∙ e.places;
-        marked = long_union c.carry_all.new.changes c.add_words.new.self c.add.new.self c.add.ensures ∙ c.carry_all.ensures.many.marked ∙ e.marked;
+        each = record {
+          lists = c.carry_all.ensures.many.lists ∙ put.width ∙ e.lists;
+          places = put.len ∙ e.places;
+          marked = long_union c.carry_all.new.changes c.add_words.new.self c.add.new.self c.add.ensures ∙ c.carry_all.ensures.many.marked ∙ e.marked;
+        };
+        other = long_of c.args.worded.now c.clear_all.new.self c.add_words.new.self c.as_slice.result.now c.clear_all.ensures c.add_words.ensures ∙ c.requires.wide.each.other;
       };
-      other = long_of c.args.worded.now c.clear_all.new.self c.add_words.new.self c.as_slice.result.now c.clear_all.ensures c.add_words.ensures ∙ c.requires.each.other;
+      sets = c.find_sets.ensures.wide;
     }
 
 pub returns-clause-put : goal.returns-clause-put
@@ -83,7 +86,7 @@ returns-clause-put g c =
     let worded1 = c.add_words.new.self in
     let marks3 = c.add.new.self in
     let long : length worded1 ≡ length worded = long_of worded c.clear_all.new.self worded1 c.as_slice.result.now c.clear_all.ensures c.add_words.ensures in
-    let wide : length worded ≡ length set = c.requires.each.other ∙ sym c.requires.at.components in
+    let wide : length worded ≡ length set = c.requires.wide.each.other ∙ sym c.requires.at.components in
     let wide2 : length marks2 ≡ length set = carried.many.marked ∙ each.marked ∙ sym c.requires.at.components in
     let bit = λ (d : ℕ) (h : d < length worded). marks_of worded c.clear_all.new.self worded1 c.as_slice.result.now c.clear_all.ensures c.add_words.ensures d h ∙ ap (λ (ws : List ℕ). is_in ws d) c.as_slice.ensures.value in
     let same = λ (d u : ℕ). memory_same m0 m1 d u (c.ready_all.ensures.same d) in
