@@ -1,5 +1,5 @@
 -- What the cells of a cycle have once those of a set of components are put.
-use Rattle.std.specs.Prelude.{◌≡◌, ◌↔◌, ℕ, ◌<◌, if◌then◌else◌, Bool, true, false, Some, List, length}
+use Rattle.std.specs.Prelude.{◌≡◌, ◌↔◌, ℕ, ◌-◌, ◌<◌, if◌then◌else◌, Bool, true, false, Some, is_some, List, length}
 use Rattle.grid_law.specs.Codec.{Codec}
 use Rattle.grid_law.specs.ByWords.{AreOfWords}
 use Rattle.cell_states.specs.Filling.{is_awake}
@@ -18,6 +18,13 @@ pub record AreMarks (count : ℕ) (changes worded : List Bool) : Type 0 where
   pub others : length worded ≡ count
 
 module _ {State Memory : Type 0} (C : Codec State Memory) where
+  -- what is known of a step to a cycle: of a set's components each had a state a cycle before, one that is still has it yet, and one that
+  -- hasn't written has its memory yet
+  pub record IsStepped (states : Stated State) (t : ℕ) (set : List Bool) (is_still has_written : ℕ → Bool) (state : ℕ → State) : Type 0 where
+    pub before : (c : ℕ) → is_awake set c ≡ true → is_some (state_at states (t - 1) c) ≡ true
+    pub still : (c : ℕ) (x : State) → is_awake set c ≡ true → state_at states (t - 1) c ≡ Some x → is_still c ≡ true → state c ≡ x
+    pub kept : (c : ℕ) (x : State) → is_awake set c ≡ true → state_at states (t - 1) c ≡ Some x → has_written c ≡ false → C.memory (state c) ≡ C.memory x
+
   -- the components of a set have these states at a cycle, and all other cells what they had; of the set those are marked that had another
   -- one, or none, and in `worded` those of them that had other words, or none
   pub record ArePut (olds news : Stated State) (t : ℕ) (set changes worded : List Bool) (states : ℕ → State) : Type 0 where

@@ -4,12 +4,11 @@ ghost use Rattle.grid_law.specs.declared.turn.Turn.TheVariants.{Ahead, Passed};
 ghost use Rattle.std.specs.Option.{option_copied};
 ghost use Rattle.grid_law.specs.Codec.{IsTold};
 ghost use Rattle.std.specs.Arc.{arc_value};
-ghost use Rattle.cell_states.specs.Stated.{state_at, IsAsMany, IsSameStates, IsOtherState};
+ghost use Rattle.cell_states.specs.Stated.{state_at, IsAsMany, IsSameStates, IsOtherState, AreStatesRepeated};
 ghost use Rattle.cell_states.specs.ReadsBy.{reads_by};
 ghost use Rattle.cell_states.specs.Filling.{is_awake};
-ghost use Rattle.cell_states.specs.Near.{AreNear};
-ghost use Rattle.cell_states.specs.NextWords.{HoldsWords};
-ghost use Rattle.cell_states.specs.Put.{IsSetAt, AreMarks, ArePut};
+ghost use Rattle.cell_states.specs.NextWords.{HoldsWords, HoldsNear};
+ghost use Rattle.cell_states.specs.Put.{IsSetAt, AreMarks, IsStepped, ArePut};
 ghost use Rattle.grid_law.specs.Run.{run};
 
 mod changed;
@@ -265,9 +264,7 @@ impl<G: Grid> States<G> {
         requires within { to ≤ length self.old.rows }
         requires width { length changes.now ≡ self.old.width }
         ensures many { IsAsMany self.old self.new }
-        ensures repeated { OnOk result ((t c : ℕ) → from ≤ t → t < to → state_at self.new t c ≡ state_at self.old (if is_awake changes.now c then from - 1 else t) c) }
-        ensures earlier { OnOk result ((t c : ℕ) → t < from → state_at self.new t c ≡ state_at self.old t c) }
-        ensures later { OnOk result ((t c : ℕ) → to ≤ t → state_at self.new t c ≡ state_at self.old t c) }
+        ensures repeated { OnOk result (AreStatesRepeated self.old self.new changes.now from to) }
         ensures err { OnErr result (IsSameStates self.old self.new) }
     {
         let alloc = *self.buffer.allocator();
@@ -330,9 +327,7 @@ impl<G: Grid> States<G> {
         requires at { IsSetAt (G.rules.components slots.now) self.old.width (length self.old.rows) cycle set.now }
         requires marks { AreMarks (length set.now) changes.old worded.old }
         requires stands { M.stands row.now slots.now }
-        requires before { (c : ℕ) → is_awake set.now c ≡ true → is_some (state_at self.old (cycle - 1) c) ≡ true }
-        requires still { (c : ℕ) (x : G.State) → is_awake set.now c ≡ true → state_at self.old (cycle - 1) c ≡ Some x → M.is_still step.now slots.now c ≡ true → M.state row.now c ≡ x }
-        requires kept { (c : ℕ) (x : G.State) → is_awake set.now c ≡ true → state_at self.old (cycle - 1) c ≡ Some x → M.has_written step.now slots.now c ≡ false → G.codec.memory (M.state row.now c) ≡ G.codec.memory x }
+        requires stepped { IsStepped G.codec self.old cycle set.now (M.is_still step.now slots.now) (M.has_written step.now slots.now) (M.state row.now) }
         ensures marks { AreMarks (length set.now) changes.new worded.new }
         ensures put { OnOk result (ArePut G.codec self.old self.new cycle set.now changes.new worded.new (M.state row.now)) }
         ensures err { OnErr result (IsSameStates self.old self.new) }
@@ -372,8 +367,7 @@ impl<G: Grid> States<G> {
     ) -> Result<(), NoMemory>
         requires at { IsSetAt (G.rules.components slots.now) self.old.width (length self.old.rows) cycle set.now }
         requires marks { AreMarks (length set.now) changes.old worded.old }
-        requires held { HoldsWords G.rules G.codec M.stands M.state slots.now held.old }
-        requires near { AreNear G.rules slots.now near.now }
+        requires near { HoldsNear G.rules G.codec M.stands M.state slots.now held.old near.now }
         requires before { (t c : ℕ) → t < cycle → c < length set.now → state_at self.old t c ≡ Some (run G.rules slots.now t c) }
         ensures marks { AreMarks (length set.now) changes.new worded.new }
         ensures held { HoldsWords G.rules G.codec M.stands M.state slots.now held.new }

@@ -38,7 +38,7 @@ returns-clause-earlier g c = λ t d h.
     let states1 = c.repeat_changed.new.self in
     let marks = marks_filled i.due c.clear_rows.new.due c.args.from c.args.to c.cells.invariant.1.marks r.cleared r.earlier r.later in
     let bounded1 = bounded_by states1 i.due (stated_along i.states states1 i.due i.due c.cells.invariant.0 c.repeat_changed.ensures.many refl refl) in
-    same_cell (state_at i.states) (state_at states1) i.due c.clear_rows.new.due (lists i.versions.items) c.args.cells.now (bounded_by i.states i.due c.cells.invariant.0) c.cells.invariant.1 c.cells.view_is bounded1 r.width r.len marks t d (c.in-Ok.ensures.earlier t d h) (r.earlier t h)
+    same_cell (state_at i.states) (state_at states1) i.due c.clear_rows.new.due (lists i.versions.items) c.args.cells.now (bounded_by i.states i.due c.cells.invariant.0) c.cells.invariant.1 c.cells.view_is bounded1 r.width r.len marks t d (c.in-Ok.ensures.repeated.earlier t d h) (r.earlier t h)
 
 pub returns-clause-later : goal.returns-clause-later
 returns-clause-later g c = λ t d h.
@@ -47,7 +47,7 @@ returns-clause-later g c = λ t d h.
     let states1 = c.repeat_changed.new.self in
     let marks = marks_filled i.due c.clear_rows.new.due c.args.from c.args.to c.cells.invariant.1.marks r.cleared r.earlier r.later in
     let bounded1 = bounded_by states1 i.due (stated_along i.states states1 i.due i.due c.cells.invariant.0 c.repeat_changed.ensures.many refl refl) in
-    same_cell (state_at i.states) (state_at states1) i.due c.clear_rows.new.due (lists i.versions.items) c.args.cells.now (bounded_by i.states i.due c.cells.invariant.0) c.cells.invariant.1 c.cells.view_is bounded1 r.width r.len marks t d (c.in-Ok.ensures.later t d h) (r.later t h)
+    same_cell (state_at i.states) (state_at states1) i.due c.clear_rows.new.due (lists i.versions.items) c.args.cells.now (bounded_by i.states i.due c.cells.invariant.0) c.cells.invariant.1 c.cells.view_is bounded1 r.width r.len marks t d (c.in-Ok.ensures.repeated.later t d h) (r.later t h)
 
 pub returns-clause-repeated : goal.returns-clause-repeated
 returns-clause-repeated g c = λ t d h k l.
@@ -59,5 +59,5 @@ returns-clause-repeated g c = λ t d h k l.
     let some : 0 < length c.args.cells.now = omega (arith, c.requires.later, c.requires.after, c.requires.within) in
     let at = cond (is_awake c.args.changes.now d) (c.args.from - 1) t in
     let wide : d < i.due.width = omega (arith, h, width_each i.states i.due (lists i.versions.items) c.args.cells.now (length c.args.changes.now) c.cells.invariant.0 c.cells.view_is some c.requires.width, c.cells.invariant.0.width) in
-    cleared_cell (state_at i.states) (state_at states1) i.due c.clear_rows.new.due (lists i.versions.items) c.args.cells.now (bounded_by i.states i.due c.cells.invariant.0) c.cells.invariant.1 c.cells.view_is bounded1 r.width r.len marks t d _ wide (r.cleared t k l) (c.in-Ok.ensures.repeated t d k l)
+    cleared_cell (state_at i.states) (state_at states1) i.due c.clear_rows.new.due (lists i.versions.items) c.args.cells.now (bounded_by i.states i.due c.cells.invariant.0) c.cells.invariant.1 c.cells.view_is bounded1 r.width r.len marks t d _ wide (r.cleared t k l) (c.in-Ok.ensures.repeated.repeated t d k l)
     ∙ ap cleared (sym (seen_state (state_at i.states) i.due (lists i.versions.items) c.args.cells.now c.cells.view_is (bounded_by i.states i.due c.cells.invariant.0) c.cells.invariant.1 at d))

@@ -39,7 +39,7 @@ put_whole-requires-clause-still g c = λ d a s.
     let C = g.G.Grid.codec in
     let u = c.args.cycle - 1 in
     let seen = seen_at C i.words i.memories c.args.self.now c.self.view_is c.self.invariant.0.whole u d in
-    words_of_state C g.G.Grid.codec_laws _ _ (c.self.invariant.0.codes u d) (ap is_some (sym seen) ∙ c.requires.before d a) (g.M.WholeRow.state c.args.row.now d) (λ x e. c.requires.still d x a (seen ∙ e) s)
+    words_of_state C g.G.Grid.codec_laws _ _ (c.self.invariant.0.codes u d) (ap is_some (sym seen) ∙ c.requires.stepped.before d a) (g.M.WholeRow.state c.args.row.now d) (λ x e. c.requires.stepped.still d x a (seen ∙ e) s)
 
 pub put_whole-requires-clause-kept : goal.put_whole-requires-clause-kept
 put_whole-requires-clause-kept g c = λ d a s.
@@ -47,7 +47,7 @@ put_whole-requires-clause-kept g c = λ d a s.
     let C = g.G.Grid.codec in
     let u = c.args.cycle - 1 in
     let seen = seen_at C i.words i.memories c.args.self.now c.self.view_is c.self.invariant.0.whole u d in
-    memory_of_state C g.G.Grid.codec_laws _ _ (c.self.invariant.0.codes u d) (ap is_some (sym seen) ∙ c.requires.before d a) (g.M.WholeRow.state c.args.row.now d) (λ x e. c.requires.kept d x a (seen ∙ e) s)
+    memory_of_state C g.G.Grid.codec_laws _ _ (c.self.invariant.0.codes u d) (ap is_some (sym seen) ∙ c.requires.stepped.before d a) (g.M.WholeRow.state c.args.row.now d) (λ x e. c.requires.stepped.kept d x a (seen ∙ e) s)
 
 pub invariant_of-self : goal.invariant_of-self
 invariant_of-self g c =

@@ -60,14 +60,8 @@ returns-clause-many g c =
 pub returns-clause-repeated : goal.returns-clause-repeated
 returns-clause-repeated g c =
     let i = c.self.inside in
-    state_repeated g.G.Grid.codec i.words c.repeat_changed.new.rows i.memories c.repeat_changed.new.memories c.self.invariant.0 c.args.changes.now c.args.from c.args.to c.in-Ok.ensures.ok c.args.self.now c.self.view_is
-
-pub returns-clause-earlier : goal.returns-clause-earlier
-returns-clause-earlier g c =
-    let i = c.self.inside in
-    earlier_kept g.G.Grid.codec i.words c.repeat_changed.new.rows i.memories c.repeat_changed.new.memories c.self.invariant.0 c.args.changes.now c.args.from c.args.to c.in-Ok.ensures.ok c.args.self.now c.self.view_is
-
-pub returns-clause-later : goal.returns-clause-later
-returns-clause-later g c =
-    let i = c.self.inside in
-    later_kept g.G.Grid.codec i.words c.repeat_changed.new.rows i.memories c.repeat_changed.new.memories c.self.invariant.0 c.args.changes.now c.args.from c.args.to c.in-Ok.ensures.ok c.args.self.now c.self.view_is
+    record {
+      repeated = state_repeated g.G.Grid.codec i.words c.repeat_changed.new.rows i.memories c.repeat_changed.new.memories c.self.invariant.0 c.args.changes.now c.args.from c.args.to c.in-Ok.ensures.ok c.args.self.now c.self.view_is;
+      earlier = earlier_kept g.G.Grid.codec i.words c.repeat_changed.new.rows i.memories c.repeat_changed.new.memories c.self.invariant.0 c.args.changes.now c.args.from c.args.to c.in-Ok.ensures.ok c.args.self.now c.self.view_is;
+      later = later_kept g.G.Grid.codec i.words c.repeat_changed.new.rows i.memories c.repeat_changed.new.memories c.self.invariant.0 c.args.changes.now c.args.from c.args.to c.in-Ok.ensures.ok c.args.self.now c.self.view_is;
+    }

@@ -1,4 +1,4 @@
-use Rattle.std.proofs.Common.{◌≡◌, ℕ, ◌+◌, ◌-◌, ◌<◌, ◌≤◌, ◌∙◌, sym, ap, arith, length, inl, inr, ◌⊎◌, Some, is_some, refl}
+use Rattle.std.proofs.Common.{◌≡◌, ℕ, ◌+◌, ◌-◌, ◌<◌, ◌≤◌, ◌∙◌, sym, ap, arith, true, length, inl, inr, ◌⊎◌, Some, is_some, refl}
 use Rattle.std.proofs.lemmas.Bool.{cases_lt}
 use Rattle.grid_law.specs.Run.{run}
 use Rattle.cell_marks.specs.Marked.{row_at as marks_at}
@@ -31,31 +31,21 @@ put_whole-requires-clause-marks g c = record {
   others = c.requires.marks.others ∙ sym c.requires.ready.wide;
 }
 
-pub put_whole-requires-clause-before : goal.put_whole-requires-clause-before
-put_whole-requires-clause-before g c = λ d a.
-    let i = c.cells.inside in
-    let later = c.requires.ready.later in
-    let seen = seen_state (state_at i.states) i.due (lists i.versions.items) c.args.cells.now c.cells.view_is (bounded_by i.states i.due c.cells.invariant.0) c.cells.invariant.1 (c.args.cycle - 1) d in
-    ap is_some (sym seen ∙ c.requires.ready.before (c.args.cycle - 1) d (omega (arith, later)) (omega (arith, awake_within c.args.set.now d a, c.requires.ready.wide)))
-
-pub put_whole-requires-clause-still : goal.put_whole-requires-clause-still
-put_whole-requires-clause-still g c = λ d x a e s.
-    let i = c.cells.inside in
-    let R = g.G.Grid.rules in
-    let later = c.requires.ready.later in
-    let h : d < R.components c.args.slots.now = omega (arith, awake_within c.args.set.now d a, c.requires.ready.wide) in
-    let seen = seen_state (state_at i.states) i.due (lists i.versions.items) c.args.cells.now c.cells.view_is (bounded_by i.states i.due c.cells.invariant.0) c.cells.invariant.1 (c.args.cycle - 1) d in
-    c.requires.row.states d h ∙ c.requires.known.still d h s ∙ same_value (run R c.args.slots.now (c.args.cycle - 1) d) x (sym (c.requires.ready.before (c.args.cycle - 1) d (omega (arith, later)) h) ∙ seen ∙ e)
-
-pub put_whole-requires-clause-kept : goal.put_whole-requires-clause-kept
-put_whole-requires-clause-kept g c = λ d x a e s.
+pub put_whole-requires-clause-stepped : goal.put_whole-requires-clause-stepped
+put_whole-requires-clause-stepped g c =
     let i = c.cells.inside in
     let R = g.G.Grid.rules in
     let C = g.G.Grid.codec in
     let later = c.requires.ready.later in
-    let h : d < R.components c.args.slots.now = omega (arith, awake_within c.args.set.now d a, c.requires.ready.wide) in
-    let seen = seen_state (state_at i.states) i.due (lists i.versions.items) c.args.cells.now c.cells.view_is (bounded_by i.states i.due c.cells.invariant.0) c.cells.invariant.1 (c.args.cycle - 1) d in
-    ap C.memory (c.requires.row.states d h) ∙ c.requires.known.kept d h s ∙ ap C.memory (same_value (run R c.args.slots.now (c.args.cycle - 1) d) x (sym (c.requires.ready.before (c.args.cycle - 1) d (omega (arith, later)) h) ∙ seen ∙ e))
+    let inside : (d : ℕ) → is_awake c.args.set.now d ≡ true → d < R.components c.args.slots.now = λ d a. omega (arith, awake_within c.args.set.now d a, c.requires.ready.wide) in
+    let seen = λ (d : ℕ). seen_state (state_at i.states) i.due (lists i.versions.items) c.args.cells.now c.cells.view_is (bounded_by i.states i.due c.cells.invariant.0) c.cells.invariant.1 (c.args.cycle - 1) d in
+    let before = λ (d : ℕ) (h : d < R.components c.args.slots.now). c.requires.ready.before (c.args.cycle - 1) d (omega (arith, later)) h in
+    let same = λ (d : ℕ) (x : g.row.G-State.Denot) (h : d < R.components c.args.slots.now) (e : state_at i.states (c.args.cycle - 1) d ≡ Some x). same_value (run R c.args.slots.now (c.args.cycle - 1) d) x (sym (before d h) ∙ seen d ∙ e) in
+    record {
+      before = λ d a. ap is_some (sym (seen d) ∙ before d (inside d a));
+      still = λ d x a e s. c.requires.row.states d (inside d a) ∙ c.requires.known.still d (inside d a) s ∙ same d x (inside d a) e;
+      kept = λ d x a e s. ap C.memory (c.requires.row.states d (inside d a)) ∙ c.requires.known.kept d (inside d a) s ∙ ap C.memory (same d x (inside d a) e);
+    }
 
 pub clear_rows-requires-clause-end : goal.clear_rows-requires-clause-end
 clear_rows-requires-clause-end g c =
