@@ -3,7 +3,7 @@ use Rattle.std.specs.Prelude.{◌≡◌, ℕ, ◌<◌, Bool, true, is_some, List
 use Rattle.cell_marks.specs.Marked.{is_set, row_at}
 use Rattle.grid_law.specs.Rules.{Rules}
 use Rattle.cell_states.specs.Near.{has, near_at}
-use Rattle.due_cells.specs.Seen.{Held, held_at}
+use Rattle.due_cells.specs.Seen.{Held, held_at, row_at as cells_at}
 
 -- the list for a component
 abbrev pub readers_at : List (List ℕ) → ℕ → List ℕ
@@ -25,6 +25,12 @@ module _ {State Slots Slot : Type 0} (R : Rules State Slots Slot) where
     pub one_each : length lists ≡ R.components s
     pub readers : (c k : ℕ) → c < R.components s → k < R.components s → has (readers_at lists c) k ≡ has (R.near s k) c
     pub within : (c : ℕ) → c < R.components s → All (λ k. k < R.components s) (readers_at lists c)
+
+  -- one of the cycles of a table, each of which has a cell for each component, and lists of the components that read each
+  pub record IsIndexed (s : Slots) (rows : List (List (Held State))) (t : ℕ) (lists : List (List ℕ)) : Type 0 where
+    pub cycle : t < length rows
+    pub whole : (u : ℕ) → u < length rows → length (cells_at rows u) ≡ R.components s
+    pub index : IsIndex s lists
 
   -- each cell before a cycle holds a state
   abbrev pub AreHeld : Slots → List (List (Held State)) → ℕ → Type 0

@@ -5,12 +5,18 @@ use Rattle.grid_law.specs.Codec.{Codec}
 use Rattle.grid_law.specs.Run.{run}
 use Rattle.due_cells.specs.Seen.{Held, Seen, held_at}
 use Rattle.cell_states.specs.Filling.{is_awake}
+use Rattle.cell_states.specs.Put.{AreMarks}
 use Rattle.cell_states.specs.Versions.{any_changes}
 use Rattle.due_cells.specs.WholeRows.{HoldsRow}
 use Rattle.due_cells.specs.Beside.{AreBeside}
 use Rattle.due_cells.specs.declared.along.Along.{Along}
 use Rattle.due_cells.specs.declared.beside.Beside.{Beside}
 use Rattle.due_cells.specs.declared.spare.Spare.{Spare}
+
+-- marks of all components: of those that change, and of those of them that got other words
+pub record AreWorded (count : ℕ) (changes worded : List Bool) : Type 0 where
+  pub marks : AreMarks count changes worded
+  pub among : (c : ℕ) → is_awake worded c ≡ true → is_awake changes c ≡ true
 
 -- the marks are of all components
 pub record IsWide (count : ℕ) (spare : Spare) : Type 0 where
@@ -25,6 +31,11 @@ module _ {State Slots Slot : Type 0} (R : Rules State Slots Slot) where
   pub record GoesAlong {Whole : Type 0} (stands : Whole → Slots → Type 0) (state : Whole → ℕ → State) (s : Slots) (a : Along Whole) : Type 0 where
     pub holds : HoldsRow R stands state s a.row a.cycle
     pub width : length a.changed ≡ R.components s
+
+  -- the rows that are kept stand for these slots, and one that goes along holds the run
+  pub record AreRowsOf {Memory Whole : Type 0} (C : Codec State Memory) (stands : Whole → Slots → Type 0) (state : Whole → ℕ → State) (s : Slots) (row : Option (Along Whole)) (rows : Beside Whole) : Type 0 where
+    pub along : IfSome row (GoesAlong stands state s)
+    pub beside : AreBeside R C stands state s rows
 
   -- where the rows that are kept aren't forgotten, they stand for these slots, one holds what is known of it, and the one that goes along
   -- holds the run

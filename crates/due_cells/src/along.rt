@@ -4,7 +4,7 @@ ghost use Rattle.cell_states.specs.Filling.{is_awake};
 ghost use Rattle.grid_law.specs.Run.{run};
 ghost use Rattle.due_cells.specs.Seen.{held_at, row_at};
 ghost use Rattle.due_cells.specs.Beside.{AreBeside};
-ghost use Rattle.due_cells.specs.Spares.{GoesAlong};
+ghost use Rattle.due_cells.specs.Spares.{GoesAlong, AreRowsOf};
 ghost use Rattle.due_cells.specs.WholeRows.{HoldsRow, IsKnown};
 
 use crate::beside::Beside;
@@ -96,9 +96,8 @@ fn start_along<G: Grid, M: WholeRow<G>>(
 ) -> bool
     requires held { (c : ℕ) → c < G.rules.components slots.now → (held_at cells.now cycle c).state ≡ Some (run G.rules slots.now cycle c) }
     requires beside { AreBeside G.rules G.codec M.stands M.state slots.now beside.old }
-    ensures along { IfSome along.new (GoesAlong G.rules M.stands M.state slots.now) }
+    ensures rows { AreRowsOf G.rules G.codec M.stands M.state slots.now along.new beside.new }
     ensures there { result ≡ true → MatchOption along.new ⊥ (λ a. a.cycle ≡ cycle) }
-    ensures beside { AreBeside G.rules G.codec M.stands M.state slots.now beside.new }
 {
     let alloc = cells.allocator();
     let Ok(changed) = Row::new(alloc, G::components(slots), false) else {
@@ -138,8 +137,7 @@ fn keep_idle<G: Grid, M: WholeRow<G>>(
     along: Option<Along<M>>,
     beside: &mut Beside<M>,
 )
-    requires along { IfSome along (GoesAlong G.rules M.stands M.state slots.now) }
-    requires beside { AreBeside G.rules G.codec M.stands M.state slots.now beside.old }
+    requires { AreRowsOf G.rules G.codec M.stands M.state slots.now along beside.old }
     ensures { AreBeside G.rules G.codec M.stands M.state slots.now beside.new }
 {
     let _ = slots;
@@ -234,12 +232,10 @@ pub(crate) fn go_along<G: Grid, M: WholeRow<G>>(
     requires within { cycle ≤ length cells.now }
     requires whole { length (row_at cells.now 0) ≡ G.rules.components slots.now }
     requires before { (t c : ℕ) → t < cycle → c < G.rules.components slots.now → (held_at cells.now t c).state ≡ Some (run G.rules slots.now t c) }
-    requires along { IfSome along.old (GoesAlong G.rules M.stands M.state slots.now) }
-    requires beside { AreBeside G.rules G.codec M.stands M.state slots.now beside.old }
-    ensures along { IfSome along.new (GoesAlong G.rules M.stands M.state slots.now) }
+    requires rows { AreRowsOf G.rules G.codec M.stands M.state slots.now along.old beside.old }
+    ensures rows { AreRowsOf G.rules G.codec M.stands M.state slots.now along.new beside.new }
     ensures there { IfSome result (λ step. MatchOption along.new ⊥ (λ a. a.cycle ≡ cycle)) }
     ensures known { IfSome result (λ step. IsKnown G.rules G.codec (M.is_still step slots.now) (M.has_written step slots.now) slots.now cycle) }
-    ensures beside { AreBeside G.rules G.codec M.stands M.state slots.now beside.new }
 {
     if is_past(along, cycle - 1) {
         keep_idle::<G, M>(slots, along.take(), beside);

@@ -1,10 +1,10 @@
 //! The due cells of a cycle get what the run has there: many of them by a step of all components, few by a step of each.
-ghost use Rattle.std.specs.Prelude.{◌≡◌, IfSome, true, false};
+ghost use Rattle.std.specs.Prelude.{◌≡◌, true, false};
 ghost use Rattle.cell_states.specs.Near.{AreNear};
 ghost use Rattle.cell_states.specs.Put.{AreMarks};
 ghost use Rattle.due_cells.specs.Beside.{AreBeside};
 ghost use Rattle.due_cells.specs.DuePut.{IsDuePut};
-ghost use Rattle.due_cells.specs.Spares.{GoesAlong};
+ghost use Rattle.due_cells.specs.Spares.{AreRowsOf};
 ghost use Rattle.due_cells.specs.WholeRows.{IsToPut};
 
 use crate::along::{Along, go_along};
@@ -47,13 +47,11 @@ fn put_stepped<G: Grid, M: WholeRow<G>>(
 ) -> bool
     requires ready { IsToPut G.rules slots.now cells.old cycle set.now }
     requires marks { AreMarks (G.rules.components slots.now) changes.old worded.old }
-    requires along { IfSome along.old (GoesAlong G.rules M.stands M.state slots.now) }
-    requires beside { AreBeside G.rules G.codec M.stands M.state slots.now beside.old }
+    requires rows { AreRowsOf G.rules G.codec M.stands M.state slots.now along.old beside.old }
     ensures marks { AreMarks (G.rules.components slots.now) changes.new worded.new }
     ensures put { result ≡ true → IsDuePut G.rules G.codec slots.now cells.old cells.new cycle changes.new worded.new }
     ensures err { result ≡ false → cells.new ≡ cells.old }
-    ensures along { IfSome along.new (GoesAlong G.rules M.stands M.state slots.now) }
-    ensures beside { AreBeside G.rules G.codec M.stands M.state slots.now beside.new }
+    ensures rows { AreRowsOf G.rules G.codec M.stands M.state slots.now along.new beside.new }
 {
     let step = match go_along::<G, M>(cells, slots, along, beside, cycle) {
         Some(step) => step,
@@ -117,13 +115,11 @@ pub fn put_row<G: Grid, M: WholeRow<G>>(
     requires ready { IsToPut G.rules slots.now cells.old cycle set.now }
     requires marks { AreMarks (G.rules.components slots.now) changes.old worded.old }
     requires near { AreNear G.rules slots.now near.now }
-    requires along { IfSome along.old (GoesAlong G.rules M.stands M.state slots.now) }
-    requires beside { AreBeside G.rules G.codec M.stands M.state slots.now beside.old }
+    requires rows { AreRowsOf G.rules G.codec M.stands M.state slots.now along.old beside.old }
     ensures marks { AreMarks (G.rules.components slots.now) changes.new worded.new }
     ensures put { result ≡ true → IsDuePut G.rules G.codec slots.now cells.old cells.new cycle changes.new worded.new }
     ensures err { result ≡ false → cells.new ≡ cells.old }
-    ensures along { IfSome along.new (GoesAlong G.rules M.stands M.state slots.now) }
-    ensures beside { AreBeside G.rules G.codec M.stands M.state slots.now beside.new }
+    ensures rows { AreRowsOf G.rules G.codec M.stands M.state slots.now along.new beside.new }
 {
     if set.count() >= least_due(along, cycle) {
         put_stepped::<G, M>(cells, slots, along, beside, cycle, set, changes, worded)

@@ -5,7 +5,7 @@ ghost use Rattle.due_cells.specs.Seen.{held_at, row_at, marked, fresh};
 ghost use Rattle.cell_states.specs.Filling.{is_awake};
 ghost use Rattle.due_cells.specs.Woken.{woken};
 ghost use Rattle.cell_states.specs.Near.{has};
-ghost use Rattle.due_cells.specs.Readers.{readers_at, IsIndex};
+ghost use Rattle.due_cells.specs.Readers.{readers_at, IsIndex, IsIndexed};
 ghost use Rattle.due_cells.specs.Stores.{Stores};
 ghost use Rattle.cell_states.specs.Versions.{any_changes};
 
@@ -63,9 +63,7 @@ pub fn mark_changed<G: Grid>(
     clock: u64,
     room: &mut Room,
 )
-    requires cycle { cycle < length cells.old }
-    requires whole { (t : ℕ) → t < length cells.old → length (row_at cells.old t) ≡ G.rules.components slots.now }
-    requires index { IsIndex G.rules slots.now readers.now }
+    requires there { IsIndexed G.rules slots.now cells.old cycle readers.now }
     requires width { (length changes.now ≡ G.rules.components slots.now) × (length reached.now ≡ G.rules.components slots.now) × (length changes.now ≤ room.old) }
     requires reached { (c : ℕ) → c < G.rules.components slots.now → is_awake reached.now c ≡ any_changes changes.now (G.rules.near slots.now c) (G.rules.components slots.now) }
     requires fits { clock + length changes.now < 2 ^ 64 }
@@ -118,11 +116,9 @@ pub fn store_in<G: Grid>(
     version: u64,
     room: &mut Room,
 ) -> Result<(), Arc<G::State>>
-    requires cycle { cell.cycle < length cells.old }
+    requires there { IsIndexed G.rules slots.now cells.old cell.cycle readers.now }
     requires component { cell.component < G.rules.components slots.now }
     requires room { changed ≡ true → G.rules.components slots.now ≤ room.old }
-    requires whole { (t : ℕ) → t < length cells.old → length (row_at cells.old t) ≡ G.rules.components slots.now }
-    requires index { IsIndex G.rules slots.now readers.now }
     requires changes { (changed ≡ false) ↔ ((held_at cells.old cell.cycle cell.component).state ≡ Some (arc_value state)) }
     ensures ok { OnOk result (Stores G.rules slots.now cells.old cells.new cell (arc_value state) changed version) }
     ensures err { OnErr result (cells.new ≡ cells.old) }
@@ -154,12 +150,10 @@ pub fn repeat_in<G: Grid>(
     version: u64,
     room: &mut Room,
 ) -> Result<(), NoMemory>
-    requires cycle { cell.cycle < length cells.old }
+    requires there { IsIndexed G.rules slots.now cells.old cell.cycle readers.now }
     requires later { 0 < cell.cycle }
     requires component { cell.component < G.rules.components slots.now }
     requires room { changed ≡ true → G.rules.components slots.now ≤ room.old }
-    requires whole { (t : ℕ) → t < length cells.old → length (row_at cells.old t) ≡ G.rules.components slots.now }
-    requires index { IsIndex G.rules slots.now readers.now }
     requires stays { stays ≡ true → (held_at cells.old (cell.cycle - 1) cell.component).state ≡ (held_at cells.old cell.cycle cell.component).state }
     requires kept { stays ≡ true → changed ≡ false }
     ensures ok { OnOk result ((x : G.State) → (held_at cells.old (cell.cycle - 1) cell.component).state ≡ Some x

@@ -3,9 +3,8 @@ ghost use Rattle.std.specs.Prelude.{◌≡◌, ℕ, ◌+◌, ◌≤◌, ◌<◌,
 ghost use Rattle.cell_states.specs.Filling.{is_awake};
 ghost use Rattle.cell_states.specs.Put.{AreMarks};
 ghost use Rattle.cell_states.specs.Versions.{any_changes};
-ghost use Rattle.due_cells.specs.Seen.{row_at};
-ghost use Rattle.due_cells.specs.Readers.{IsIndex};
-ghost use Rattle.due_cells.specs.Spares.{IsLeftOut, IsWide};
+ghost use Rattle.due_cells.specs.Readers.{IsIndex, IsIndexed};
+ghost use Rattle.due_cells.specs.Spares.{AreWorded, IsLeftOut, IsWide};
 
 use crate::cells::Cells;
 use crate::readers::Readers;
@@ -82,10 +81,9 @@ fn reach_by_words<G: Grid>(
     known: &mut Row,
 )
     requires index { IsIndex G.rules slots.now readers.now }
-    requires marks { AreMarks (G.rules.components slots.now) changes.now worded.now }
+    requires worded { AreWorded (G.rules.components slots.now) changes.now worded.now }
     requires left { length left.old ≡ G.rules.components slots.now }
     requires readers { AreMarks (G.rules.components slots.now) reached.old known.old }
-    requires among { (c : ℕ) → is_awake worded.now c ≡ true → is_awake changes.now c ≡ true }
     ensures left { length left.new ≡ length left.old }
     ensures readers { AreMarks (G.rules.components slots.now) reached.new known.new }
     ensures reached { (c : ℕ) → c < G.rules.components slots.now
@@ -111,9 +109,7 @@ pub fn find_reached<G: Grid>(
     cycle: u32,
     spare: &mut Spare,
 )
-    requires there { cycle < length cells.now }
-    requires whole { (t : ℕ) → t < length cells.now → length (row_at cells.now t) ≡ G.rules.components slots.now }
-    requires index { IsIndex G.rules slots.now readers.now }
+    requires there { IsIndexed G.rules slots.now cells.now cycle readers.now }
     requires wide { IsWide (G.rules.components slots.now) spare.old }
     requires among { (c : ℕ) → is_awake spare.old.worded c ≡ true → is_awake spare.old.changes c ≡ true }
     ensures wide { IsWide (G.rules.components slots.now) spare.new }

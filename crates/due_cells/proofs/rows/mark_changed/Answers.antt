@@ -15,7 +15,7 @@ note-requires-clause-reached g c = λ d h.
     let n = R.components s in
     let changes = c.args.changes.now in
     let width = c.requires.width.0 in
-    let index = c.requires.index in
+    let index = c.requires.there.index in
     let near = near_at (arc_value c.near.result.now) d in
     let inside : d < n = omega (arith, h, width) in
     let same : (k : ℕ) → k < n → has (R.near s d) k ≡ has near k = λ k l. sym (index.readers k d l inside) ∙ sym (c.near.ensures k d (omega (arith, l, index.one_each)) (omega (arith, inside, index.one_each))) in
@@ -31,7 +31,7 @@ returns-clause-marked g c = λ m d inside.
     let t = c.args.cycle in
     let changes = c.args.changes.now in
     let width = c.requires.width.0 in
-    let index = c.requires.index in
+    let index = c.requires.there.index in
     let near = near_at (arc_value c.near.result.now) d in
     let same : (k : ℕ) → k < n → has near k ≡ has (R.near s d) k = λ k l. c.near.ensures k d (omega (arith, l, index.one_each)) (omega (arith, inside, index.one_each)) ∙ index.readers k d l inside in
     c.note.ensures.noted d (omega (arith, inside, width))

@@ -5,7 +5,7 @@ use Rattle.due_cells.proofs.Taken.{long_copied, long_union, copied_at, any_left,
 use Rattle.due_cells.proofs.spare.reach_by_words.Goals as goal
 
 pub remove-requires : goal.remove-requires
-remove-requires g c = c.requires.marks.others ∙ sym c.requires.left ∙ sym (long_copied c.clear_all.new.self c.args.changes.now c.add.new.self (length c.args.left.now) c.clear_all.ensures c.add.ensures)
+remove-requires g c = c.requires.worded.marks.others ∙ sym c.requires.left ∙ sym (long_copied c.clear_all.new.self c.args.changes.now c.add.new.self (length c.args.left.now) c.clear_all.ensures c.add.ensures)
 
 pub reach_in-requires-2-clause-width : goal.reach_in-requires-2-clause-width
 reach_in-requires-2-clause-width g c = c.remove.ensures.len ∙ long_copied c.clear_all.new.self c.args.changes.now c.add.new.self (length c.args.left.now) c.clear_all.ensures c.add.ensures ∙ c.requires.left
@@ -27,9 +27,9 @@ returns-clause-reached g c = λ d h.
     let worded = c.args.worded.now in
     let left = c.remove.new.self in
     let long = long_copied c.clear_all.new.self changes c.add.new.self (length c.args.left.now) c.clear_all.ensures c.add.ensures ∙ c.requires.left in
-    let copied : (k : ℕ) → is_awake c.add.new.self k ≡ is_awake changes k = copied_at c.clear_all.new.self changes c.add.new.self (length c.args.left.now) c.clear_all.ensures c.add.ensures (c.requires.marks.marks ∙ sym c.requires.left) in
+    let copied : (k : ℕ) → is_awake c.add.new.self k ≡ is_awake changes k = copied_at c.clear_all.new.self changes c.add.new.self (length c.args.left.now) c.clear_all.ensures c.add.ensures (c.requires.worded.marks.marks ∙ sym c.requires.left) in
     joined_reads c.reach_in.new.reached c.add-2.new.self c.reach_in-2.new.reached c.remove-2.new.self n d
     (any_changes worded near n) (any_changes left near n) (any_changes changes near n) h
     (c.reach_in.ensures.len ∙ c.requires.readers.marks) c.add-2.ensures (c.reach_in.ensures.reached d h) (c.reach_in-2.ensures.reached d h)
     (c.remove-2.ensures.marks d (omega (arith, h, c.reach_in-2.ensures.len, c.requires.readers.others)))
-    (any_left changes worded left near n c.requires.among (λ k l. c.remove.ensures.marks k (omega (arith, l, long)) ∙ ap (λ b. b && not (is_awake worded k)) (copied k)))
+    (any_left changes worded left near n c.requires.worded.among (λ k l. c.remove.ensures.marks k (omega (arith, l, long)) ∙ ap (λ b. b && not (is_awake worded k)) (copied k)))

@@ -219,6 +219,6 @@ returns-clause-workspace g c =
             let other = other_states R g.G.Grid.laws v table s there none changes width rows1 row_put rows2 clock few c.no_versions.ensures is_clock room whole others behind (s + 1) d there_now (λ e. absurd (omega (arith, e))) in
             subst (λ t. (held_at rows2 t d).state ≡ Some (run R i.slots t d)) (sym at.0) (other ∙ holds);
       };
-      along = c.put_row.ensures.along;
-      beside = c.put_row.ensures.beside;
+      along = c.put_row.ensures.rows.along;
+      beside = c.put_row.ensures.rows.beside;
     }
