@@ -1,7 +1,8 @@
 -- How a table keeps its cells: the state of each, and by cycle marks of the due cells and versions.
-use Rattle.std.specs.Prelude.{◌≡◌, ℕ, ◌<◌, ◌≤◌, ◌==◌, ◌&&◌, ◌^◌, if◌then◌else◌, Bool, Option, None, false, List, [], map, length, slice_index_or}
+use Rattle.std.specs.Prelude.{◌≡◌, ℕ, ◌-◌, ◌<◌, ◌≤◌, ◌==◌, ◌&&◌, ◌^◌, if◌then◌else◌, Bool, Option, None, false, List, [], map, length, slice_index_or}
 use Rattle.std.specs.List.{range_with_len}
 use Rattle.cell_marks.specs.Marked.{Marked, has as has_mark}
+use Rattle.cell_states.specs.Filling.{is_awake}
 use Rattle.cell_states.specs.Stated.{Stated}
 use Rattle.cell_states.specs.Versions.{version_at}
 use Rattle.due_cells.specs.Seen.{Held, row_at, held_at}
@@ -41,6 +42,19 @@ module _ {State : Type 0} where
     pub len : length news ≡ length olds
     pub lens : (t1 : ℕ) → length (row_at news t1) ≡ length (row_at olds t1)
     pub at : (t1 c1 : ℕ) → held_at news t1 c1 ≡ (if (t1 == t) && (c1 == c) then held else held_at olds t1 c1)
+
+  -- other things are held for cells of one cycle
+  pub record IsOtherCycle (olds news : List (List (Held State))) (t : ℕ) : Type 0 where
+    pub len : length news ≡ length olds
+    pub lens : (u : ℕ) → length (row_at news u) ≡ length (row_at olds u)
+    pub others : (u c : ℕ) → (u ≡ t → ⊥) → held_at news u c ≡ held_at olds u c
+
+  -- the components that are marked keep from one cycle on to before another the state of the cycle before, and no cell there is due; all
+  -- other cells hold what they held
+  pub record AreCellsRepeated (olds news : List (List (Held State))) (changes : List Bool) (from to : ℕ) : Type 0 where
+    pub repeated : (t c : ℕ) → c < length changes → from ≤ t → t < to → held_at news t c ≡ cleared (held_at olds (if is_awake changes c then from - 1 else t) c).state
+    pub earlier : (t c : ℕ) → t < from → held_at news t c ≡ held_at olds t c
+    pub later : (t c : ℕ) → to ≤ t → held_at news t c ≡ held_at olds t c
 
   -- states are those of the same cells as the marks
   pub record IsStated (states : Stated State) (due : Marked) : Type 0 where

@@ -5,10 +5,10 @@ ghost use Rattle.due_cells.specs.Seen.{fresh, stored, marked, held_at, row_at, d
 ghost use Rattle.due_cells.specs.Inputs.{states_of};
 ghost use Rattle.cell_states.specs.Near.{has, near_at};
 ghost use Rattle.due_cells.specs.NextDue.{IsNextDueInRow};
-ghost use Rattle.due_cells.specs.Layout.{cleared, IsOtherCell};
+ghost use Rattle.due_cells.specs.Layout.{cleared, IsOtherCell, IsOtherCycle, AreCellsRepeated};
 ghost use Rattle.cell_states.specs.Versions.{version_at, room_at, lists, IsOtherRow, any_changes};
 ghost use Rattle.due_cells.specs.Noted.{noted};
-ghost use Rattle.due_cells.specs.Ranges.{is_marked, AreLater, IsWithin};
+ghost use Rattle.due_cells.specs.Ranges.{is_marked, AreBetween, AreLater};
 ghost use Rattle.cell_marks.specs.Marked.{has as has_mark};
 ghost use Rattle.cell_states.specs.Filling.{is_awake};
 
@@ -255,8 +255,7 @@ impl<G: Grid> Cells<G> {
     ) -> Result<(), NoMemory>
         requires some { 0 < to }
         requires to { to ≤ length self.old }
-        requires within { All (IsWithin to (length row.now)) ranges.now }
-        requires after { All (λ range. from ≤ range.from) ranges.now }
+        requires between { AreBetween from to (length row.now) ranges.now }
         requires whole { (t : ℕ) → t < length self.old → length (row_at self.old t) ≡ length row.now }
         requires later { AreLater ranges.now to row.now list.now }
         ensures marked { OnOk result ((t c : ℕ) → held_at self.new t c
@@ -288,9 +287,7 @@ impl<G: Grid> Cells<G> {
         requires reached { (c : ℕ) → c < length changes.now → is_awake reached.now c ≡ any_changes changes.now (near_at (arc_value near.now) c) (length changes.now) }
         requires fits { clock + length changes.now < 2 ^ 64 }
         requires room { length changes.now ≤ room.old }
-        ensures len { length self.new ≡ length self.old }
-        ensures lens { (t : ℕ) → length (row_at self.new t) ≡ length (row_at self.old t) }
-        ensures others { (t c : ℕ) → (t ≡ cycle → ⊥) → held_at self.new t c ≡ held_at self.old t c }
+        ensures other { IsOtherCycle self.old self.new cycle }
         ensures noted { (c : ℕ) → c < length changes.now
             → held_at self.new cycle c ≡ noted (held_at self.old cycle c) changes.now (near_at (arc_value near.now) c) clock (length changes.now) }
     {
@@ -481,9 +478,7 @@ pub fn repeat_cells<G: Grid>(
     requires width { (t : ℕ) → t < length cells.old → length (row_at cells.old t) ≡ length changes.now }
     ensures len { length cells.new ≡ length cells.old }
     ensures lens { (t : ℕ) → t < length cells.old → length (row_at cells.new t) ≡ length changes.now }
-    ensures repeated { OnOk result ((t c : ℕ) → c < length changes.now → from ≤ t → t < to → held_at cells.new t c ≡ cleared (held_at cells.old (if is_awake changes.now c then from - 1 else t) c).state) }
-    ensures earlier { OnOk result ((t c : ℕ) → t < from → held_at cells.new t c ≡ held_at cells.old t c) }
-    ensures later { OnOk result ((t c : ℕ) → to ≤ t → held_at cells.new t c ≡ held_at cells.old t c) }
+    ensures repeated { OnOk result (AreCellsRepeated cells.old cells.new changes.now from to) }
     ensures err { OnErr result (cells.new ≡ cells.old) }
 {
     match cells.states.repeat_changed(changes, from, to) {

@@ -1,9 +1,9 @@
 //! Following an edit: the cells that it marks, and the cycles up to its horizon.
 ghost use Rattle.std.specs.Prelude.{IsTrue, ◌↔◌, ◌≡◌, ℕ, ◌+◌, ◌<◌, ◌≤◌, OnOk, OnErr, length, take, replicate, All, Some, if◌then◌else◌, nat_lt, ◌^◌, ◌&&◌, ◌||◌, ◌==◌, nat_le};
-ghost use Rattle.due_cells.specs.Seen.{held_at, row_at, fresh};
+ghost use Rattle.due_cells.specs.Seen.{row_at, fresh};
 ghost use Rattle.cell_states.specs.Near.{has};
 ghost use Rattle.cell_states.specs.Filling.{is_awake};
-ghost use Rattle.due_cells.specs.Ranges.{GoesOn, covers, is_later, has_later, is_marked, IsWithin, held_marked};
+ghost use Rattle.due_cells.specs.Ranges.{GoesOn, covers, is_later, has_later, is_marked, IsWithin, AreRetouched};
 
 use crate::cells::Cells;
 use cell_marks::Row;
@@ -148,10 +148,7 @@ pub fn retouch<G: Grid>(
     requires last { last < length cells.old }
     requires last_kept { last ≤ horizon }
     requires whole { (t : ℕ) → t < length cells.old → length (row_at cells.old t) ≡ count }
-    ensures len { OnOk result (length cells.new ≡ horizon + 1) }
-    ensures whole { OnOk result ((t : ℕ) → t ≤ horizon → length (row_at cells.new t) ≡ count) }
-    ensures at { OnOk result ((t c : ℕ) → t ≤ horizon → c < count → held_at cells.new t c
-        ≡ held_marked cells.old ranges.now version t c) }
+    ensures ok { OnOk result (AreRetouched cells.old cells.new ranges.now horizon count version) }
     ensures err { OnErr result (cells.new ≡ cells.old) }
 {
     let alloc = cells.allocator();

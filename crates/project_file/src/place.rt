@@ -178,6 +178,7 @@ impl fmt::Display for EntryAt {
 }
 
 /// A table of a file: where its memory comes from, the file's text, and which table it is.
+// Its names are no `&'static str`: the borrow checker covers no call that has one and takes a `format_args!`.
 #[derive(Clone, Copy)]
 struct At<'a> {
     alloc: Global,

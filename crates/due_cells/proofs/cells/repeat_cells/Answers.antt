@@ -31,33 +31,21 @@ returns-clause-lens g c = λ t h.
     length_row (state_at c.repeat_changed.new.self) c.clear_rows.new.due (lists i.versions.items) t (omega (arith, h, seen_cycles (state_at i.states) i.due (lists i.versions.items) c.args.cells.now c.cells.view_is, c.clear_rows.ensures.len))
     ∙ c.clear_rows.ensures.width ∙ sym c.cells.invariant.0.width ∙ width_each i.states i.due (lists i.versions.items) c.args.cells.now (length c.args.changes.now) c.cells.invariant.0 c.cells.view_is some c.requires.width
 
-pub returns-clause-earlier : goal.returns-clause-earlier
-returns-clause-earlier g c = λ t d h.
-    let i = c.cells.inside in
-    let r = c.clear_rows.ensures in
-    let states1 = c.repeat_changed.new.self in
-    let marks = marks_filled i.due c.clear_rows.new.due c.args.from c.args.to c.cells.invariant.1.marks r.cleared r.earlier r.later in
-    let bounded1 = bounded_by states1 i.due (stated_along i.states states1 i.due i.due c.cells.invariant.0 c.repeat_changed.ensures.many refl refl) in
-    same_cell (state_at i.states) (state_at states1) i.due c.clear_rows.new.due (lists i.versions.items) c.args.cells.now (bounded_by i.states i.due c.cells.invariant.0) c.cells.invariant.1 c.cells.view_is bounded1 r.width r.len marks t d (c.in-Ok.ensures.repeated.earlier t d h) (r.earlier t h)
-
-pub returns-clause-later : goal.returns-clause-later
-returns-clause-later g c = λ t d h.
-    let i = c.cells.inside in
-    let r = c.clear_rows.ensures in
-    let states1 = c.repeat_changed.new.self in
-    let marks = marks_filled i.due c.clear_rows.new.due c.args.from c.args.to c.cells.invariant.1.marks r.cleared r.earlier r.later in
-    let bounded1 = bounded_by states1 i.due (stated_along i.states states1 i.due i.due c.cells.invariant.0 c.repeat_changed.ensures.many refl refl) in
-    same_cell (state_at i.states) (state_at states1) i.due c.clear_rows.new.due (lists i.versions.items) c.args.cells.now (bounded_by i.states i.due c.cells.invariant.0) c.cells.invariant.1 c.cells.view_is bounded1 r.width r.len marks t d (c.in-Ok.ensures.repeated.later t d h) (r.later t h)
-
 pub returns-clause-repeated : goal.returns-clause-repeated
-returns-clause-repeated g c = λ t d h k l.
+returns-clause-repeated g c =
     let i = c.cells.inside in
     let r = c.clear_rows.ensures in
     let states1 = c.repeat_changed.new.self in
+    let now = c.in-Ok.ensures.repeated in
     let marks = marks_filled i.due c.clear_rows.new.due c.args.from c.args.to c.cells.invariant.1.marks r.cleared r.earlier r.later in
+    let bounded = bounded_by i.states i.due c.cells.invariant.0 in
     let bounded1 = bounded_by states1 i.due (stated_along i.states states1 i.due i.due c.cells.invariant.0 c.repeat_changed.ensures.many refl refl) in
     let some : 0 < length c.args.cells.now = omega (arith, c.requires.later, c.requires.after, c.requires.within) in
-    let at = cond (is_awake c.args.changes.now d) (c.args.from - 1) t in
-    let wide : d < i.due.width = omega (arith, h, width_each i.states i.due (lists i.versions.items) c.args.cells.now (length c.args.changes.now) c.cells.invariant.0 c.cells.view_is some c.requires.width, c.cells.invariant.0.width) in
-    cleared_cell (state_at i.states) (state_at states1) i.due c.clear_rows.new.due (lists i.versions.items) c.args.cells.now (bounded_by i.states i.due c.cells.invariant.0) c.cells.invariant.1 c.cells.view_is bounded1 r.width r.len marks t d _ wide (r.cleared t k l) (c.in-Ok.ensures.repeated.repeated t d k l)
-    ∙ ap cleared (sym (seen_state (state_at i.states) i.due (lists i.versions.items) c.args.cells.now c.cells.view_is (bounded_by i.states i.due c.cells.invariant.0) c.cells.invariant.1 at d))
+    let width = width_each i.states i.due (lists i.versions.items) c.args.cells.now (length c.args.changes.now) c.cells.invariant.0 c.cells.view_is some c.requires.width in
+    record {
+      repeated = λ t d h k l.
+          cleared_cell (state_at i.states) (state_at states1) i.due c.clear_rows.new.due (lists i.versions.items) c.args.cells.now bounded c.cells.invariant.1 c.cells.view_is bounded1 r.width r.len marks t d _ (omega (arith, h, width, c.cells.invariant.0.width)) (r.cleared t k l) (now.repeated t d k l)
+          ∙ ap cleared (sym (seen_state (state_at i.states) i.due (lists i.versions.items) c.args.cells.now c.cells.view_is bounded c.cells.invariant.1 (cond (is_awake c.args.changes.now d) (c.args.from - 1) t) d));
+      earlier = λ t d h. same_cell (state_at i.states) (state_at states1) i.due c.clear_rows.new.due (lists i.versions.items) c.args.cells.now bounded c.cells.invariant.1 c.cells.view_is bounded1 r.width r.len marks t d (now.earlier t d h) (r.earlier t h);
+      later = λ t d h. same_cell (state_at i.states) (state_at states1) i.due c.clear_rows.new.due (lists i.versions.items) c.args.cells.now bounded c.cells.invariant.1 c.cells.view_is bounded1 r.width r.len marks t d (now.later t d h) (r.later t h);
+    }

@@ -89,17 +89,17 @@ invariant_of-self-2 g c =
     let behind : e ≤ i.horizon → (d : ℕ) → d < n → held_at rows2 e d ≡ woken R i.slots rows1 (λ t k. is_awake changes k) before (e - 1) n d = λ h d k. subst (λ u. held_at rows2 u d ≡ woken R i.slots rows1 (λ t k. is_awake changes k) before (e - 1) n d) last_one (c.mark_changed.ensures.marked (omega (arith, h, last_one, c.repeat_cells.ensures.len, table.whole.cycles)) d k) in
     record {
       table = stays_table R g.G.Grid.laws v table s e there end none changes begins stays alike after width rows1 rows2 clock before few c.no_versions.ensures is_clock is_before room whole
-          (λ t d k h l. c.in-Ok-repeat_cells.ensures.repeated t d (omega (arith, k, width)) h l)
-          c.in-Ok-repeat_cells.ensures.earlier
-          c.in-Ok-repeat_cells.ensures.later
+          (λ t d k h l. c.in-Ok-repeat_cells.ensures.repeated.repeated t d (omega (arith, k, width)) h l)
+          c.in-Ok-repeat_cells.ensures.repeated.earlier
+          c.in-Ok-repeat_cells.ensures.repeated.later
           (λ t d h p. c.mark_changed.ensures.others t d (omega (arith, h, c.repeat_cells.ensures.len, table.whole.cycles)) (λ q. p (omega (arith, q, last_one))))
           behind (begins_at R g.G.Grid.laws v table s none (omega arith));
       index = c.self.invariant.index;
       near = c.self.invariant.near;
       states = λ t d h k.
           let same = λ (h : t < i.held). kept_alike R i.slots i.held i.cells rows1 changes s e
-          (λ t d k h l. c.in-Ok-repeat_cells.ensures.repeated t d (omega (arith, k, width)) h l)
-          c.in-Ok-repeat_cells.ensures.earlier c.in-Ok-repeat_cells.ensures.later c.self.invariant.states t d h k in
+          (λ t d k h l. c.in-Ok-repeat_cells.ensures.repeated.repeated t d (omega (arith, k, width)) h l)
+          c.in-Ok-repeat_cells.ensures.repeated.earlier c.in-Ok-repeat_cells.ensures.repeated.later c.self.invariant.states t d h k in
           kept_behind R i.slots i.held e rows1 rows2 t d (same h)
           (λ p. c.mark_changed.ensures.others t d (omega (arith, h, c.self.invariant.within, c.repeat_cells.ensures.len, table.whole.cycles)) (λ q. p (omega (arith, q, last_one))))
           (λ p. subst (λ u. (held_at rows2 u d).state ≡ (held_at rows1 u d).state) (sym p) (ap (λ (r : Held g.row.G-State.Denot). r.state) (behind (omega (arith, p, h, c.self.invariant.within)) d k) ∙ woken_state R (record { slots = i.slots; horizon = i.horizon; clock = i.clock; rows = rows1 }) (λ t k. is_awake changes k) 0 before (e - 1) n d ∙ ap (λ u. (held_at rows1 u d).state) last_one));
@@ -149,18 +149,18 @@ returns-clause-passes g c =
     let comes : s + (e - s) ≡ e = omega (arith, after) in
     let advances : Advances R c.args.end v now s 0 e 0 (c.from.result * c.from-2.result) = record {
       on = λ first k at. subst (λ m. IsAt R first now e 0 (k + m)) number (subst (λ u. IsAt R first now u 0 (k + (e - s) * due_in_row (row_at i.cells s))) comes (goes_on_to R g.G.Grid.laws v table s e there end none changes begins stays alike after width rows1 rows2 clock before few c.no_versions.ensures is_clock is_before room whole
-          (λ t d k h l. c.in-Ok-repeat_cells.ensures.repeated t d (omega (arith, k, width)) h l)
-          c.in-Ok-repeat_cells.ensures.earlier
-          c.in-Ok-repeat_cells.ensures.later
+          (λ t d k h l. c.in-Ok-repeat_cells.ensures.repeated.repeated t d (omega (arith, k, width)) h l)
+          c.in-Ok-repeat_cells.ensures.repeated.earlier
+          c.in-Ok-repeat_cells.ensures.repeated.later
           (λ t d h p. c.mark_changed.ensures.others t d (omega (arith, h, c.repeat_cells.ensures.len, table.whole.cycles)) (λ q. p (omega (arith, q, last_one))))
           behind first k at));
       further = further_cycle i.horizon s 0 e after end;
       before = (omega (arith, c.alike_end-end.ensures.before, c.due_alike_to-end.ensures.before), λ q. omega arith);
     } in
     let but : HoldsBut R v now c.ranges_of.new.ranges.items = holds_but R g.G.Grid.laws v table s e there end none changes begins stays alike after width rows1 rows2 clock before few c.no_versions.ensures is_clock is_before room whole
-    (λ t d k h l. c.in-Ok-repeat_cells.ensures.repeated t d (omega (arith, k, width)) h l)
-    c.in-Ok-repeat_cells.ensures.earlier
-    c.in-Ok-repeat_cells.ensures.later
+    (λ t d k h l. c.in-Ok-repeat_cells.ensures.repeated.repeated t d (omega (arith, k, width)) h l)
+    c.in-Ok-repeat_cells.ensures.repeated.earlier
+    c.in-Ok-repeat_cells.ensures.repeated.later
     (λ t d h p. c.mark_changed.ensures.others t d (omega (arith, h, c.repeat_cells.ensures.len, table.whole.cycles)) (λ q. p (omega (arith, q, last_one))))
     behind c.ranges_of.new.ranges.items (ranges_within c.ranges_of.new.ranges.items e (i.horizon + 1) (length changes) n end width c.in-Ok.ensures.within) c.in-Ok.ensures.marked in
     let passes : PassesCycles R c.args.end v now s e 0 (c.from.result * c.from-2.result) c.ranges_of.new.ranges.items = record { on = advances; begins = refl; but = but } in

@@ -37,13 +37,13 @@ pub mark_later-requires-clause-ready : goal.mark_later-requires-clause-ready
 mark_later-requires-clause-ready g c = λ t some low high.
     let list = c.args.list.now in
     let first = get_or list 0 0 in
-    let early = later_from c.args.ranges.now c.args.from c.args.to first c.requires.after (sym (c.requires.later.listed first) ∙ first_listed list some) in
+    let early = later_from c.args.ranges.now c.args.from c.args.to first c.requires.between.after (sym (c.requires.later.listed first) ∙ first_listed list some) in
     c.in_ok-make_rooms.ensures.ready c.args.version t (omega (arith, early, low)) high
 
 pub mark_others-requires-clause-within : goal.mark_others-requires-clause-within
 mark_others-requires-clause-within g c = λ k d h.
     let i = c.self.inside in
-    let r = c.requires.within k d h in
+    let r = c.requires.between.within k d h in
     let are = c.mark_later.ensures in
     let cycles = seen_cycles (state_at i.states) i.due (lists i.versions.items) c.args.self.now c.self.view_is in
     let width = sym (c.requires.whole 0 (omega (arith, c.requires.some, c.requires.to))) ∙ seen_length (state_at i.states) i.due (lists i.versions.items) c.args.self.now c.self.view_is 0 (omega (arith, c.requires.some, c.requires.to, cycles)) in (
@@ -58,8 +58,8 @@ mark_others-requires-clause-ready g c = λ k d h t low high.
     let rooms = c.in_ok-make_rooms.ensures in
     let cycles = seen_cycles (state_at i.states) i.due (lists i.versions.items) c.args.self.now c.self.view_is in
     let layout = layout_versions (state_at i.states) i.due (lists i.versions.items) (lists c.make_rooms.new.versions.items) (bounded_by i.states i.due c.self.invariant.0) c.self.invariant.1 rooms.len rooms.lens in
-    let to : t < c.args.to = omega (arith, high, (c.requires.within k d h).1) in
-    ready_kept c.args.version i.due c.mark_later.new.due c.make_rooms.new.versions.items c.mark_later.new.versions.items _ layout c.mark_later.ensures t (omega (arith, to, c.requires.to, cycles)) (rooms.ready c.args.version t (omega (arith, low, c.requires.after k d h)) to)
+    let to : t < c.args.to = omega (arith, high, (c.requires.between.within k d h).1) in
+    ready_kept c.args.version i.due c.mark_later.new.due c.make_rooms.new.versions.items c.mark_later.new.versions.items _ layout c.mark_later.ensures t (omega (arith, to, c.requires.to, cycles)) (rooms.ready c.args.version t (omega (arith, low, c.requires.between.after k d h)) to)
 
 pub returns-clause-marked : goal.returns-clause-marked
 returns-clause-marked g c = λ t d.

@@ -5,7 +5,7 @@ use Rattle.std.specs.Arc.{arc_value}
 use Rattle.cell_states.specs.Near.{near_at}
 use Rattle.cell_states.specs.Stated.{state_at}
 use Rattle.cell_states.specs.Versions.{lists}
-use Rattle.due_cells.proofs.Keeping.{seen_cycle, seen_length}
+use Rattle.due_cells.proofs.Keeping.{seen_cycle, seen_cycles, seen_length}
 use Rattle.due_cells.proofs.MarkedRow.{layout_joined, rows_lens}
 use Rattle.due_cells.proofs.NotedRows.{noted_others, noted_row}
 use Rattle.cell_states.proofs.Rooms.{length_lists}
@@ -44,19 +44,16 @@ invariant_of-self g c =
       layout_joined (state_at i.states) i.due c.set_all.new.self (lists i.versions.items) (lists c.note_in.new.rows.items) (bounded_by i.states i.due c.self.invariant.0) c.self.invariant.1 c.args.self.now c.self.view_is c.args.cycle c.args.reached.now 0 there wide c.set_all.ensures (c.note_in.ensures.row.len ∙ c.begin_idle.ensures.row.len) (λ u. c.note_in.ensures.row.lens u ∙ c.begin_idle.ensures.row.lens u),
     )
 
-pub returns-clause-lens : goal.returns-clause-lens
-returns-clause-lens g c = λ t.
+pub returns-clause-other : goal.returns-clause-other
+returns-clause-other g c =
     let i = c.self.inside in
     let there = seen_cycle (state_at i.states) i.due (lists i.versions.items) c.args.self.now c.self.view_is c.args.cycle c.requires.cycle in
     let wide = c.requires.reached_width ∙ seen_length (state_at i.states) i.due (lists i.versions.items) c.args.self.now c.self.view_is c.args.cycle there ∙ sym (c.self.invariant.1.marks c.args.cycle there) in
-    rows_lens (state_at i.states) i.due c.set_all.new.self (lists i.versions.items) (lists c.note_in.new.rows.items) (bounded_by i.states i.due c.self.invariant.0) c.self.invariant.1 c.args.self.now c.self.view_is c.args.cycle c.args.reached.now 0 there wide c.set_all.ensures (c.note_in.ensures.row.len ∙ c.begin_idle.ensures.row.len) (λ u. c.note_in.ensures.row.lens u ∙ c.begin_idle.ensures.row.lens u) t
-
-pub returns-clause-others : goal.returns-clause-others
-returns-clause-others g c = λ t d ne.
-    let i = c.self.inside in
-    let there = seen_cycle (state_at i.states) i.due (lists i.versions.items) c.args.self.now c.self.view_is c.args.cycle c.requires.cycle in
-    let wide = c.requires.reached_width ∙ seen_length (state_at i.states) i.due (lists i.versions.items) c.args.self.now c.self.view_is c.args.cycle there ∙ sym (c.self.invariant.1.marks c.args.cycle there) in
-    noted_others (state_at i.states) i.due c.set_all.new.self (lists i.versions.items) (lists c.begin_idle.new.versions.items) (lists c.note_in.new.rows.items) (bounded_by i.states i.due c.self.invariant.0) c.self.invariant.1 c.args.self.now c.self.view_is c.args.cycle c.args.reached.now there wide c.set_all.ensures (c.note_in.ensures.row.len ∙ c.begin_idle.ensures.row.len) (λ u. c.note_in.ensures.row.lens u ∙ c.begin_idle.ensures.row.lens u) c.begin_idle.ensures.due c.note_in.ensures.row.others t d ne
+    record {
+      len = seen_cycles (state_at i.states) c.set_all.new.self (lists c.note_in.new.rows.items) _ refl ∙ ap (λ (m : Marked). length m.rows) c.set_all.ensures ∙ length-set i.due.rows c.args.cycle _ ∙ sym (seen_cycles (state_at i.states) i.due (lists i.versions.items) c.args.self.now c.self.view_is);
+      lens = λ t. rows_lens (state_at i.states) i.due c.set_all.new.self (lists i.versions.items) (lists c.note_in.new.rows.items) (bounded_by i.states i.due c.self.invariant.0) c.self.invariant.1 c.args.self.now c.self.view_is c.args.cycle c.args.reached.now 0 there wide c.set_all.ensures (c.note_in.ensures.row.len ∙ c.begin_idle.ensures.row.len) (λ u. c.note_in.ensures.row.lens u ∙ c.begin_idle.ensures.row.lens u) t;
+      others = λ t d ne. noted_others (state_at i.states) i.due c.set_all.new.self (lists i.versions.items) (lists c.begin_idle.new.versions.items) (lists c.note_in.new.rows.items) (bounded_by i.states i.due c.self.invariant.0) c.self.invariant.1 c.args.self.now c.self.view_is c.args.cycle c.args.reached.now there wide c.set_all.ensures (c.note_in.ensures.row.len ∙ c.begin_idle.ensures.row.len) (λ u. c.note_in.ensures.row.lens u ∙ c.begin_idle.ensures.row.lens u) c.begin_idle.ensures.due c.note_in.ensures.row.others t d ne;
+    }
 
 pub returns-clause-noted : goal.returns-clause-noted
 returns-clause-noted g c = λ d h.
