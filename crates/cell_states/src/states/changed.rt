@@ -2,7 +2,7 @@
 ghost use Rattle.std.specs.Prelude.{◌≡◌, ℕ, ◌-◌, ◌<◌, ◌≤◌, OnOk, OnErr, length, true, false, None, slice_index_or};
 ghost use Rattle.change_lists.specs.Changes.{held_at as memory_at};
 ghost use Rattle.cell_states.specs.Filling.{is_awake};
-ghost use Rattle.cell_states.specs.Kept.{IsOtherMemory, AreRepeated};
+ghost use Rattle.cell_states.specs.Kept.{IsLaterCycle, IsOtherMemory, AreRepeated};
 ghost use Rattle.cell_states.specs.Readied.{AreEach};
 ghost use Rattle.cell_states.specs.Ready.{value_in, IsReady};
 
@@ -16,8 +16,7 @@ use std::alloc::Global;
 
 /// The cells of a component from one cycle on to before another have the memory of the cell before them.
 fn go_on_changed<M: Drop>(memories: &mut Lists<M>, changes: &Row, from: u32, to: u32, end: u32)
-    requires later { 0 < from }
-    requires some { from < to }
+    requires cycle { IsLaterCycle from to }
     requires width { length changes.now ≡ length memories.old }
     ensures width { length memories.new ≡ length memories.old }
     ensures repeated { (c t : ℕ) → is_awake changes.now c ≡ true → from ≤ t → t < to → memory_at memories.new c t ≡ memory_at memories.old c (from - 1) }
@@ -44,8 +43,7 @@ pub(super) fn repeat_changed<M: Drop>(
     from: u32,
     to: u32,
 ) -> Result<(), NoMemory>
-    requires later { 0 < from }
-    requires some { from < to }
+    requires cycle { IsLaterCycle from to }
     requires within { to ≤ length rows.old.rows }
     requires width { length changes.now ≡ rows.old.width }
     requires memories { length memories.old ≡ rows.old.width }

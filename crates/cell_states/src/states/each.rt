@@ -1,7 +1,6 @@
 //! The states that a step gives the components of a set, one after another, each out of the words near it.
 ghost use Rattle.std.specs.Prelude.{◌≡◌, ℕ, ◌+◌, ◌-◌, ◌^◌, ◌<◌, ◌≤◌, ◌||◌, ◌⊎◌, All, OnOk, OnErr, length, true, false, None, Some, is_some, slice_index_or, unwrap_or};
 ghost use Rattle.std.specs.Option.{option_or};
-ghost use Rattle.grid_law.specs.Codec.{IsTold};
 ghost use Rattle.grid_law.specs.Run.{run};
 ghost use Rattle.change_rows.specs.Rows.{words_at};
 ghost use Rattle.change_rows.specs.Cells.{end_of, found};
@@ -110,8 +109,7 @@ fn load_near<G: Grid, M: WholeRow<G>>(
     requires held { HoldsWords G.rules G.codec M.stands M.state slots.now held.old }
     requires within { All (λ d. d < G.rules.components slots.now) near.now }
     requires fits { cycle + 1 < 2 ^ 32 }
-    requires told { (d : ℕ) → d < G.rules.components slots.now → IsTold G.codec (run G.rules slots.now cycle d) }
-    requires words { (d : ℕ) → d < G.rules.components slots.now → words_at rows.now.rows cycle d ≡ G.codec.words (run G.rules slots.now cycle d) }
+    requires run { (d : ℕ) → d < G.rules.components slots.now → HasRunWords G.rules G.codec slots.now rows.now.rows cycle d }
     requires earlier { 0 < cycle → (d : ℕ) → d < G.rules.components slots.now → words_at rows.now.rows (cycle - 1) d ≡ G.codec.words (run G.rules slots.now (cycle - 1) d) }
     ensures held { HoldsWords G.rules G.codec M.stands M.state slots.now held.new }
     ensures loaded { result ≡ true → All (IsOfWords G.codec (M.state held.new.row) (run G.rules slots.now cycle)) near.now }

@@ -5,8 +5,7 @@ ghost use Rattle.std.specs.Option.{option_copied};
 ghost use Rattle.grid_law.specs.Codec.{IsTold};
 ghost use Rattle.grid_law.specs.Run.{run};
 ghost use Rattle.due_cells.specs.Seen.{held_at, row_at};
-ghost use Rattle.cell_states.specs.Near.{AreNear};
-ghost use Rattle.cell_states.specs.NextWords.{HoldsWords};
+ghost use Rattle.cell_states.specs.NextWords.{HoldsWords, HoldsNear};
 ghost use Rattle.cell_states.specs.Put.{AreMarks};
 ghost use Rattle.due_cells.specs.DuePut.{IsDuePut};
 ghost use Rattle.due_cells.specs.WholeRows.{HoldsRow, IsKnown, IsToPut};
@@ -107,8 +106,7 @@ pub(crate) fn put_each<G: Grid, M: WholeRow<G>>(
 ) -> Result<(), NoMemory>
     requires ready { IsToPut G.rules slots.now cells.old cycle set.now }
     requires marks { AreMarks (G.rules.components slots.now) changes.old worded.old }
-    requires near { AreNear G.rules slots.now near.now }
-    requires held { HoldsWords G.rules G.codec M.stands M.state slots.now held.old }
+    requires near { HoldsNear G.rules G.codec M.stands M.state slots.now held.old near.now }
     ensures held { HoldsWords G.rules G.codec M.stands M.state slots.now held.new }
     ensures marks { AreMarks (G.rules.components slots.now) changes.new worded.new }
     ensures put { OnOk result (IsDuePut G.rules G.codec slots.now cells.old cells.new cycle changes.new worded.new) }

@@ -20,7 +20,7 @@ loop-c-preserved g c =
     record {
       within = omega (arith, found.1);
       width = e.width ∙ inv.width;
-      repeated = λ d u. at_or_other (λ d. d < cur + 1 → is_awake c.args.changes.now d ≡ true → c.args.from ≤ u → u < c.args.to → memory_at m1 d u ≡ memory_at m0 d (c.args.from - 1)) cur d (λ h a k l. e.written.here u k l ∙ before_is (list_at c.loop-c.memories cur) c.args.from c.requires.later ∙ was (c.args.from - 1)) (λ n h a k l. at d u n ∙ inv.repeated d u (below c.loop-c.next cur d c.args.changes.now n h a found.0.2) a k l);
+      repeated = λ d u. at_or_other (λ d. d < cur + 1 → is_awake c.args.changes.now d ≡ true → c.args.from ≤ u → u < c.args.to → memory_at m1 d u ≡ memory_at m0 d (c.args.from - 1)) cur d (λ h a k l. e.written.here u k l ∙ before_is (list_at c.loop-c.memories cur) c.args.from c.requires.cycle.later ∙ was (c.args.from - 1)) (λ n h a k l. at d u n ∙ inv.repeated d u (below c.loop-c.next cur d c.args.changes.now n h a found.0.2) a k l);
       earlier = λ d u. at_or_other (λ d. u < c.args.from → memory_at m1 d u ≡ memory_at m0 d u) cur d (λ h. e.written.earlier u h ∙ inv.earlier cur u h) (λ n h. at d u n ∙ inv.earlier d u h);
       behind = λ d u. at_or_other (λ d. c.args.to ≤ u → u < c.args.end → memory_at m1 d u ≡ memory_at m0 d u) cur d (λ h k. e.written.later u h k ∙ inv.behind cur u h k) (λ n h k. at d u n ∙ inv.behind d u h k);
       rest = λ d h. e.others d (λ p. absurd (omega (arith, h, p))) ∙ inv.rest d (omega (arith, h, found.0.0));
