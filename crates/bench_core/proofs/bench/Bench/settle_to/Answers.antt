@@ -7,7 +7,7 @@ use Rattle.whole_rows.specs.Rows.{AreRowsOf}
 use Rattle.bench_core.proofs.bench.Bench.settle_to.Goals as goal
 
 pub settle_rows_to-requires : goal.settle_rows_to-requires
-settle_rows_to-requires c = record { watched = (c.self.invariant.0.short, c.self.invariant.1); beside = c.self.invariant.4 }
+settle_rows_to-requires c = record { tended = record { watched = (c.self.invariant.0.short, c.self.invariant.1); beside = c.self.invariant.4 } }
 
 pub invariant_of-self : goal.invariant_of-self
 invariant_of-self c =
