@@ -15,7 +15,7 @@ use Rattle.machine_cells.specs.Run.{run}
 use Rattle.machine_cells.specs.Runs.{state_in}
 use Rattle.saturation.proofs.Below.{map-next}
 use Rattle.saturation.specs.Levels.{level}
-use Rattle.saturation.specs.Towards.{is_full, is_full_on}
+use Rattle.saturation.specs.Towards.{is_full, is_full_on, queues_at}
 use Rattle.flat_row.specs.Looks.{length_forward}
 use Rattle.flat_row.specs.Row.{Arrays, state_of}
 use Rattle.experiments.specs.declared.map.Kept.{Kept}
@@ -23,7 +23,7 @@ use Rattle.experiments.specs.declared.map.Scope.{Scope}
 use Rattle.experiments.specs.declared.map.Window.{Window}
 use Rattle.run_reports.specs.declared.runner.Runner.{Runner}
 use Rattle.experiments.specs.Lengths.{cycles_of, length_there, lengths_now, lengths_of, states_from, AreLengths, IsKept}
-use Rattle.experiments.specs.Maps.{has_served, length_in, length_on, queues_at}
+use Rattle.experiments.specs.Maps.{has_served, length_in, length_on}
 use Rattle.run_reports.specs.Runners.{IsAt}
 use Rattle.experiments.proofs.Lines.{switch_there}
 use Rattle.experiments.proofs.Places.{length_stands}

@@ -12,7 +12,7 @@ use Rattle.omega_net.specs.Wires.{below}
 use Rattle.machine_cells.specs.declared.state.MachineState.{MachineState}
 use Rattle.machine_cells.proofs.Runs.{length-below, below-get}
 use Rattle.experiments.specs.Lengths.{all_lengths, length_there, lengths_now, stage_now}
-use Rattle.experiments.specs.Maps.{queues_at}
+use Rattle.saturation.specs.Towards.{queues_at}
 use Rattle.experiments.proofs.Waits.{flat-next}
 use Rattle.std.specs.Prelude.{Option}
 

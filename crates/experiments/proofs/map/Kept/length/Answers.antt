@@ -1,6 +1,6 @@
 use Rattle.std.proofs.Common.{ℕ, ap, ◌∙◌, arith}
 use Rattle.omega_net.specs.Numbers.{lines}
-use Rattle.experiments.specs.Maps.{queues_at}
+use Rattle.saturation.specs.Towards.{queues_at}
 use Rattle.experiments.proofs.Keeping.{found}
 use Rattle.experiments.proofs.map.Kept.length.Goals as goal
 
