@@ -1,9 +1,8 @@
 //! The queues towards a module, and what they hold.
-ghost use Rattle.std.specs.Prelude.{◌≡◌, ◌<◌, ◌≤◌, ◌+◌, ◌-◌, ◌*◌, ◌/◌, ◌^◌, Some, map};
+ghost use Rattle.std.specs.Prelude.{◌≡◌, ◌<◌, Some, map};
 ghost use Rattle.std.specs.Arc.{arc_value};
 ghost use Rattle.std.specs.Option.{option_copied};
 ghost use Rattle.omega_net.specs.Numbers.{lines};
-ghost use Rattle.page_map.specs.Limits.{max_k};
 ghost use Rattle.machine_cells.specs.declared.state.MachineState.TheVariants.{Module};
 ghost use Rattle.machine_cells.specs.Runs.{state_in};
 ghost use Rattle.mem_module.specs.MemModule.{is_net, other_net};
